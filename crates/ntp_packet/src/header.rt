@@ -1,0 +1,216 @@
+//! The fields of a header, and a reader for each.
+ghost use Rattle.std.specs.Prelude.{◌≡◌, ◌≤◌, length};
+
+use ntp_time::{Short, Stamp};
+use std::marker::Model;
+
+/// How many octets a header has (RFC 5905, 7.3).
+pub const HEADER_OCTETS: usize = 48;
+
+/// An NTP packet header (RFC 5905, 7.3), of version 1 to 4 alike. Contracts see its thirteen fields.
+#[derive(Clone, Copy, Debug, PartialEq, Eq)]
+pub struct Header {
+    leap: u8,
+    version: u8,
+    mode: u8,
+    stratum: u8,
+    poll: i8,
+    precision: i8,
+    root_delay: Short,
+    root_dispersion: Short,
+    reference_id: [u8; 4],
+    reference: Stamp,
+    origin: Stamp,
+    receive: Stamp,
+    transmit: Stamp,
+}
+
+impl Model for Header {
+    ghost use Rattle.std.specs.Prelude.{◌≤◌};
+    ghost use Rattle.ntp_packet.specs.Header.{HeaderFields};
+
+    ghost Value = { HeaderFields };
+
+    ghost view = { λ h. record {
+      leap = h.leap;
+      version = h.version;
+      mode = h.mode;
+      stratum = h.stratum;
+      poll = h.poll;
+      precision = h.precision;
+      root_delay = h.root_delay;
+      root_dispersion = h.root_dispersion;
+      reference_id = h.reference_id;
+      reference = h.reference;
+      origin = h.origin;
+      receive = h.receive;
+      transmit = h.transmit;
+    } };
+
+    ghost invariant = { λ h. (h.leap ≤ 3) × (h.version ≤ 7) × (h.mode ≤ 7) };
+
+    ghost inverse = { λ h. record {
+      leap = h.leap;
+      version = h.version;
+      mode = h.mode;
+      stratum = h.stratum;
+      poll = h.poll;
+      precision = h.precision;
+      root_delay = h.root_delay;
+      root_dispersion = h.root_dispersion;
+      reference_id = h.reference_id;
+      reference = h.reference;
+      origin = h.origin;
+      receive = h.receive;
+      transmit = h.transmit;
+    } };
+}
+
+impl Header {
+    /// A header of these fields, in the order of the packet. Leap has two bits, version and mode three.
+    pub fn new(
+        leap: u8,
+        version: u8,
+        mode: u8,
+        stratum: u8,
+        poll: i8,
+        precision: i8,
+        root_delay: Short,
+        root_dispersion: Short,
+        reference_id: [u8; 4],
+        reference: Stamp,
+        origin: Stamp,
+        receive: Stamp,
+        transmit: Stamp,
+    ) -> Header
+        requires leap_fits { leap ≤ 3 }
+        requires version_fits { version ≤ 7 }
+        requires mode_fits { mode ≤ 7 }
+        ensures { result ≡ record {
+          leap = leap;
+          version = version;
+          mode = mode;
+          stratum = stratum;
+          poll = poll;
+          precision = precision;
+          root_delay = root_delay;
+          root_dispersion = root_dispersion;
+          reference_id = reference_id;
+          reference = reference;
+          origin = origin;
+          receive = receive;
+          transmit = transmit;
+        } }
+    {
+        Header {
+            leap,
+            version,
+            mode,
+            stratum,
+            poll,
+            precision,
+            root_delay,
+            root_dispersion,
+            reference_id,
+            reference,
+            origin,
+            receive,
+            transmit,
+        }
+    }
+
+    /// The leap indicator: 0 no warning, 1 the last minute has 61 seconds, 2 it has 59, 3 unsynchronised.
+    pub fn leap(&self) -> u8
+        ensures value { result ≡ self.now.leap }
+        ensures fits { result ≤ 3 }
+    {
+        self.leap
+    }
+
+    /// The version number.
+    pub fn version(&self) -> u8
+        ensures value { result ≡ self.now.version }
+        ensures fits { result ≤ 7 }
+    {
+        self.version
+    }
+
+    /// The mode: 3 is a client's, 4 a server's.
+    pub fn mode(&self) -> u8
+        ensures value { result ≡ self.now.mode }
+        ensures fits { result ≤ 7 }
+    {
+        self.mode
+    }
+
+    /// The stratum: 1 is primary, 2 to 15 secondary; a packet has 0 for unsynchronised, and in a kiss.
+    pub fn stratum(&self) -> u8
+        ensures { result ≡ self.now.stratum }
+    {
+        self.stratum
+    }
+
+    /// The longest time between messages, as the binary logarithm of seconds.
+    pub fn poll(&self) -> i8
+        ensures { result ≡ self.now.poll }
+    {
+        self.poll
+    }
+
+    /// The clock's precision, as the binary logarithm of seconds.
+    pub fn precision(&self) -> i8
+        ensures { result ≡ self.now.precision }
+    {
+        self.precision
+    }
+
+    /// The round trip delay to the reference clock.
+    pub fn root_delay(&self) -> Short
+        ensures { result ≡ self.now.root_delay }
+    {
+        self.root_delay
+    }
+
+    /// The dispersion to the reference clock.
+    pub fn root_dispersion(&self) -> Short
+        ensures { result ≡ self.now.root_dispersion }
+    {
+        self.root_dispersion
+    }
+
+    /// The reference identifier: of the server or the reference clock, or a kiss code.
+    pub fn reference_id(&self) -> [u8; 4]
+        ensures value { result ≡ self.now.reference_id }
+        ensures four { length result ≡ 4 }
+    {
+        self.reference_id
+    }
+
+    /// When the system clock was last set.
+    pub fn reference(&self) -> Stamp
+        ensures { result ≡ self.now.reference }
+    {
+        self.reference
+    }
+
+    /// In a reply, when the request departed, by the client's clock.
+    pub fn origin(&self) -> Stamp
+        ensures { result ≡ self.now.origin }
+    {
+        self.origin
+    }
+
+    /// When the request arrived, by the server's clock.
+    pub fn receive(&self) -> Stamp
+        ensures { result ≡ self.now.receive }
+    {
+        self.receive
+    }
+
+    /// When this packet departed.
+    pub fn transmit(&self) -> Stamp
+        ensures { result ≡ self.now.transmit }
+    {
+        self.transmit
+    }
+}

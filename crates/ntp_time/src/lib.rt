@@ -4,8 +4,10 @@
 //! era 0 began on 1900-01-01 at 00:00 UTC. Nothing here reads a clock.
 #![tactic(auto)]
 
+mod free_stamp;
 mod moment;
 mod stamp;
 
+pub use free_stamp::fresh;
 pub use moment::Moment;
 pub use stamp::{Short, Stamp};

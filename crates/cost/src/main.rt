@@ -1,0 +1,22 @@
+//! What a datagram costs: a program to be run under a counter of instructions, as docs/PERFORMANCE.md says.
+//!
+//! `cost query md5 N` answers N signed queries of one customer; `cost digests md5 N` computes the two digests of
+//! each alone; `cost fields F N` reads a request with F extension fields N times. It prints how many were answered,
+//! computed or read.
+#![tactic(auto)]
+
+mod work;
+
+use std::{env, io};
+
+fn main(rt: HostRuntime) -> io::Result<()> {
+    let mut words = [0u64; 3];
+    for (place, word) in env::args(&rt)?.enumerate() {
+        if let Some(slot) = words.get_mut(place.saturating_sub(1)) {
+            *slot = work::number_of(word.as_str());
+        }
+    }
+    let [kind, which, count] = words;
+    let done = work::done(rt.alloc(), kind, which, count);
+    println!(rt; "{done}")
+}

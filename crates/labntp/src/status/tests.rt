@@ -1,0 +1,93 @@
+use super::*;
+use std::alloc::Global;
+use std::io;
+
+// The status of a replay, what it writes, and what it tells of a fault.
+fn told(alloc: Global, script: &[u8]) -> (u8, Vec<u8>) {
+    let mut faults = Vec::new(alloc);
+    let status = replay_status(alloc, script, Vec::new(alloc), &mut faults);
+    (status, faults)
+}
+
+#[test]
+fn each_fault_has_its_line_and_its_status(rt: HostRuntime) {
+    for (script, status, line) in [
+        (b"".as_slice(), DONE, b"".as_slice()),
+        (b"enrol 192.0.2.10 7 md5 6b6579 10\n", DONE, b""),
+        (b"\nenroll 192.0.2.10\n", TEXT_FAULTY, b"line 2: word\n"),
+        (b"revoke", TEXT_FAULTY, b"line 1: count\n"),
+        (
+            b"enrol 192.0.2.10 7 md5 6b6579 10\nrevoke 192.0.2.300\n",
+            TEXT_FAULTY,
+            b"line 2: address\n",
+        ),
+        (
+            b"enrol 192.0.2.10 0 md5 6b6579 10\n",
+            TEXT_FAULTY,
+            b"line 1: number\n",
+        ),
+        (
+            b"enrol 192.0.2.10 7 sha2 6b6579 10\n",
+            TEXT_FAULTY,
+            b"line 1: algorithm\n",
+        ),
+        (
+            b"enrol 192.0.2.10 7 md5 6b657 10\n",
+            TEXT_FAULTY,
+            b"line 1: key\n",
+        ),
+        (
+            b"enrol 192.0.2.10 7 md5 6b6579 +1\n",
+            TEXT_FAULTY,
+            b"line 1: budget\n",
+        ),
+        (b"#\n\xff\n", TEXT_FAULTY, b"line 2: not utf-8\n"),
+    ] {
+        let (ended, faults) = told(rt.alloc(), script);
+        assert_eq!(rt; ended, status);
+        assert_eq!(rt; faults.as_slice(), line);
+    }
+}
+
+#[test]
+fn a_long_line_is_told(rt: HostRuntime) {
+    let script = [b'#'; 4097];
+    let (ended, faults) = told(rt.alloc(), &script);
+    assert_eq!(rt; ended, TEXT_FAULTY);
+    assert_eq!(rt; faults.as_slice(), b"line 1: long\n".as_slice());
+}
+
+// Fails at once.
+#[derive(Drop)]
+struct Broken;
+
+impl Read for Broken {
+    fn read(&mut self, _buf: &mut [u8]) -> io::Result<usize> {
+        Err(io::Error::from(io::ErrorKind::Other))
+    }
+}
+
+impl Write for Broken {
+    fn write(&mut self, _octets: &[u8]) -> io::Result<usize> {
+        Err(io::Error::from(io::ErrorKind::Other))
+    }
+
+    fn flush(&mut self) -> io::Result<()> {
+        Ok(())
+    }
+}
+
+#[test]
+fn a_failed_read_or_write_is_told_where_it_can_be(rt: HostRuntime) {
+    let mut faults = Vec::new(rt.alloc());
+    let read = replay_status(rt.alloc(), Broken, Vec::new(rt.alloc()), &mut faults);
+    assert_eq!(rt; read, IO_FAILED);
+    let script = b"enrol 192.0.2.10 7 md5 6b6579 10\n".as_slice();
+    let written = replay_status(rt.alloc(), script, Broken, &mut faults);
+    assert_eq!(rt; written, IO_FAILED);
+    assert_eq!(rt; faults.as_slice(), b"read\nwrite\n".as_slice());
+    assert_eq!(rt;
+        replay_status(rt.alloc(), script, Broken, &mut Broken),
+        IO_FAILED
+    );
+}

@@ -1,0 +1,64 @@
+-- The line that is printed for what an event is answered.
+use Rattle.std.specs.Prelude.{ℕ, List, [], ◌∷◌, ◌++◌, codes}
+use Rattle.std.specs.Fmt.{decimal}
+use Rattle.std.specs.Int.{w64, to_be_bytes}
+use Rattle.hex.specs.Hex.{encode_lower}
+use Rattle.ntp_time.specs.declared.stamp.Stamp.{Stamp}
+use Rattle.ntp_tail.specs.declared.malformed.Malformed.{Malformed}
+use Rattle.ntp_tail.specs.declared.malformed.Malformed.TheVariants as malformed
+use Rattle.ntp_register.specs.declared.refusal.Refusal.{Refusal}
+use Rattle.ntp_register.specs.declared.refusal.Refusal.TheVariants as refusal
+use Rattle.ntp_reply.specs.declared.answers.Answer.{Answer}
+use Rattle.ntp_reply.specs.declared.answers.Answer.TheVariants as answer
+use Rattle.ntp_reply.specs.declared.answers.Reason.{Reason}
+use Rattle.ntp_reply.specs.declared.answers.Reason.TheVariants as reason
+use Rattle.ntp_admin.specs.declared.outcome.Outcome.{Outcome}
+use Rattle.ntp_admin.specs.declared.outcome.Outcome.TheVariants as outcome
+
+-- a stamp: 16 digits (profile)
+unfoldable pub stamp_text : Stamp → List ℕ
+stamp_text stamp = encode_lower (to_be_bytes w64 stamp.0)
+
+-- why octets are no packet, with the place of the fault (profile)
+abbrev pub malformed_text : Malformed → List ℕ
+malformed_text malformed.Short = codes "short"
+malformed_text malformed.Long = codes "long"
+malformed_text (malformed.FieldShort place) = codes "field-short " ++ decimal place
+malformed_text (malformed.FieldUnaligned place) = codes "field-unaligned " ++ decimal place
+malformed_text (malformed.FieldPastEnd place) = codes "field-past-end " ++ decimal place
+malformed_text (malformed.Rest place) = codes "rest " ++ decimal place
+
+-- why there is no reply (profile)
+abbrev pub reason_text : Reason → List ℕ
+reason_text reason.Unregistered = codes "unregistered"
+reason_text (reason.Malformed fault) = malformed_text fault
+reason_text reason.Version = codes "version"
+reason_text reason.Mode = codes "mode"
+reason_text reason.Bare = codes "bare"
+reason_text reason.Muted = codes "muted"
+reason_text reason.OverBudget = codes "over-budget"
+
+-- the answer to a datagram, a reply's octets in lower-case hexadecimal (profile)
+abbrev pub answer_text : Answer → List ℕ
+answer_text (answer.Time reply saved) = codes "time " ++ stamp_text saved ++ codes " " ++ encode_lower reply
+answer_text (answer.Rate reply) = codes "rate " ++ encode_lower reply
+answer_text (answer.Deny reply) = codes "deny " ++ encode_lower reply
+answer_text (answer.Nak reply) = codes "nak " ++ encode_lower reply
+answer_text (answer.Silent why) = codes "silent " ++ reason_text why
+
+-- why a command was refused (profile)
+abbrev pub refusal_text : Refusal → List ℕ
+refusal_text refusal.AlreadyEnrolled = codes "already-enrolled"
+refusal_text refusal.KeyTaken = codes "key-taken"
+refusal_text refusal.NoMemory = codes "no-memory"
+refusal_text refusal.NotEnrolled = codes "not-enrolled"
+
+-- the end of a line
+abbrev pub line_feed : List ℕ
+line_feed = 10 ∷ []
+
+-- the line of an outcome (profile)
+unfoldable pub text_of : Outcome → List ℕ
+text_of (outcome.Datagram answer) = answer_text answer ++ line_feed
+text_of outcome.Done = codes "done" ++ line_feed
+text_of (outcome.Refused why) = codes "refused " ++ refusal_text why ++ line_feed

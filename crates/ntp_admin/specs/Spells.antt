@@ -1,0 +1,79 @@
+-- What a line of a script says, or the first fault in it.
+use Rattle.std.specs.Prelude.{◌≡◌, ℕ, if◌then◌else◌, List, [], ◌∷◌, codes, Result, Ok, Err}
+use Rattle.std.specs.Option.{ok_or}
+use Rattle.std.specs.Str.{bytes_eq}
+use Rattle.ntp_admin.specs.Words.{words, address_in, number_in, algorithm_in, key_in, moment_in, reference_in, octets_in}
+use Rattle.ntp_admin.specs.declared.command.Command.{Command}
+use Rattle.ntp_admin.specs.declared.command.Command.TheVariants as command
+use Rattle.ntp_admin.specs.declared.event.Event.{Event}
+use Rattle.ntp_admin.specs.declared.event.Event.TheVariants as event
+use Rattle.ntp_admin.specs.declared.line_fault.LineFault.{LineFault}
+use Rattle.ntp_admin.specs.declared.line_fault.LineFault.TheVariants as fault
+
+-- the second step, where the first gave a value; otherwise its fault is the line's
+infixl 10 ◌>>=◌
+abbrev pub ◌>>=◌ : {X Y : Type 0} → Result X LineFault → (X → Result Y LineFault) → Result Y LineFault
+Ok x >>= f = f x
+Err e >>= f = Err e
+
+-- the words behind `enrol` (profile)
+abbrev pub enrolment_in : List (List ℕ) → Result Command LineFault
+enrolment_in (address ∷ number ∷ algorithm ∷ key ∷ budget ∷ []) = do
+  a ← ok_or (address_in address) fault.Address
+  n ← ok_or (number_in number) fault.Number
+  h ← ok_or (algorithm_in algorithm) fault.Algorithm
+  k ← ok_or (key_in key) fault.KeyText
+  b ← ok_or (number_in budget) fault.Budget
+  Ok (command.Enrol a n (record { algorithm = h; octets = k }) b)
+enrolment_in other = Err fault.Count
+
+-- the word behind `revoke` (profile)
+abbrev pub revocation_in : List (List ℕ) → Result Command LineFault
+revocation_in (address ∷ []) = do
+  a ← ok_or (address_in address) fault.Address
+  Ok (command.Revoke a)
+revocation_in other = Err fault.Count
+
+-- a command, by its first word (profile)
+unfoldable pub command_in : List (List ℕ) → Result Command LineFault
+command_in [] = Err fault.Word
+command_in (first ∷ others) =
+    if bytes_eq first (codes "enrol") then enrolment_in others
+    else if bytes_eq first (codes "revoke") then revocation_in others
+    else Err fault.Word
+
+-- the words behind `datagram` (profile)
+abbrev pub datagram_in : {A : Type 0} → List (List ℕ) → Result (Event A) LineFault
+datagram_in (address ∷ receipt ∷ transmit ∷ reference ∷ octets ∷ []) = do
+  a ← ok_or (address_in address) fault.Address
+  r ← ok_or (moment_in receipt) fault.Moment
+  t ← ok_or (moment_in transmit) fault.Moment
+  s ← ok_or (reference_in reference) fault.Reference
+  o ← ok_or (octets_in octets) fault.Hex
+  Ok (event.Datagram a r t s o)
+datagram_in other = Err fault.Count
+
+-- an event, by its first word (profile)
+unfoldable pub event_in : {A : Type 0} → List (List ℕ) → Result (Event A) LineFault
+event_in [] = Err fault.Word
+event_in (first ∷ others) =
+    if bytes_eq first (codes "datagram") then datagram_in others
+    else do
+      c ← command_in (first ∷ others)
+      Ok (event.Command c)
+
+-- the line's words are the command's (profile)
+abbrev pub SpellsCommand : List ℕ → Command → Type 0
+SpellsCommand line c = command_in (words line) ≡ Ok c
+
+-- the first fault of a line that should be a command (profile)
+abbrev pub HasCommandFault : List ℕ → LineFault → Type 0
+HasCommandFault line f = command_in (words line) ≡ Err f
+
+-- the line's words are the event's (profile)
+abbrev pub Spells : {A : Type 0} → List ℕ → Event A → Type 0
+Spells line e = event_in (words line) ≡ Ok e
+
+-- the first fault of a line that should be an event in memory of this allocator, which makes no difference (profile)
+abbrev pub HasFault : Type 0 → List ℕ → LineFault → Type 0
+HasFault A line f = event_in {A = A} (words line) ≡ Err f

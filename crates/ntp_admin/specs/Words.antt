@@ -1,0 +1,132 @@
+-- The words of a line, and what each kind of word says.
+use Rattle.std.specs.Prelude.{ℕ, zero, suc, ◌-◌, ◌^◌, ◌==◌, ◌&&◌, ◌||◌, Bool, not, nat_le, nat_lt, if◌then◌else◌, List, [], ◌∷◌, length, slice_index, codes, Option, Some, None}
+use Rattle.std.specs.List.{list_all, slice_split, slice_range}
+use Rattle.std.specs.Option.{option_map}
+use Rattle.std.specs.Result.{result_ok}
+use Rattle.std.specs.Char.{is_ascii_digit}
+use Rattle.std.specs.Str.{bytes_eq}
+use Rattle.std.specs.Str.Parse.{digits_value}
+use Rattle.std.specs.Int.{w8, w32, w64, cast_signed, from_be_bytes}
+use Rattle.std.specs.declared.num.NonZeroU16.{NonZeroU16}
+use Rattle.std.proofs.Math.Nat.{zero-lt-suc}
+use Rattle.hex.specs.Hex.{decode_of, decode_sized}
+use Rattle.ntp_time.specs.declared.stamp.Stamp.{Stamp}
+use Rattle.ntp_time.specs.declared.stamp.Short.{Short}
+use Rattle.ntp_time.specs.declared.moment.Moment.{Moment}
+use Rattle.ntp_mac.specs.declared.key.Algorithm.{Algorithm}
+use Rattle.ntp_mac.specs.declared.key.Algorithm.TheVariants.{Md5, Sha1}
+use Rattle.ntp_register.specs.declared.address.Address.{Address}
+use Rattle.ntp_reply.specs.Reference.{ReferenceState}
+
+-- the parts of a text that stand between separators; an empty text is one empty part (profile)
+abbrev pub parts : ℕ → List ℕ → List (List ℕ)
+parts separator text = slice_split (λ c. c == separator) text
+
+-- the words of a line: what stands between its spaces (profile)
+abbrev pub words : List ℕ → List (List ℕ)
+words line = parts 32 line
+
+-- the second step, where the first gave a value
+infixl 10 ◌>>=◌
+abbrev pub ◌>>=◌ : {X Y : Type 0} → Option X → (X → Option Y) → Option Y
+Some x >>= f = f x
+None >>= f = None
+
+-- digits and no sign, one digit at least, and no zero in front of others (profile)
+abbrev pub is_decimal : List ℕ → Bool
+is_decimal word = list_all is_ascii_digit word && nat_lt 0 (length word) && (not (slice_index word 0 == 48) || (length word == 1))
+
+-- the number that a decimal word writes, where it is from `least` to `most` (profile)
+abbrev pub decimal_in : ℕ → ℕ → List ℕ → Option ℕ
+decimal_in least most word =
+    let n = digits_value 10 word in if is_decimal word && nat_le least n && nat_le n most then Some n else None
+
+-- four numbers from 0 to 255 (profile)
+abbrev pub address_of : List (List ℕ) → Option Address
+address_of (first ∷ second ∷ third ∷ fourth ∷ []) = do
+  a ← decimal_in 0 255 first
+  b ← decimal_in 0 255 second
+  c ← decimal_in 0 255 third
+  d ← decimal_in 0 255 fourth
+  Some (record { 0 = a ∷ b ∷ c ∷ d ∷ [] })
+address_of other = None
+
+-- an address: its numbers, with dots between them (profile)
+abbrev pub address_in : List ℕ → Option Address
+address_in word = address_of (parts 46 word)
+
+-- a number that is not 0
+abbrev pub non_zero : ℕ → Option NonZeroU16
+non_zero zero = None
+non_zero (suc n) = Some (record { value = suc n; ok = zero-lt-suc n })
+
+-- a key number or a budget: from 1 to 65,535 (profile)
+abbrev pub number_in : List ℕ → Option NonZeroU16
+number_in word = decimal_in 1 65535 word >>= non_zero
+
+-- a digest algorithm (profile)
+abbrev pub algorithm_in : List ℕ → Option Algorithm
+algorithm_in word = if bytes_eq word (codes "md5") then Some Md5 else if bytes_eq word (codes "sha1") then Some Sha1 else None
+
+-- the octets that a word spells in hexadecimal digits of either case, two for each (profile)
+abbrev pub hex_in : List ℕ → Option (List ℕ)
+hex_in word = result_ok (decode_of word)
+
+-- the same, where there are just so many octets
+abbrev pub sized_hex_in : ℕ → List ℕ → Option (List ℕ)
+sized_hex_in octets word = result_ok (decode_sized word octets)
+
+-- the octets of a key: 1 to 32 (profile)
+abbrev pub key_in : List ℕ → Option (List ℕ)
+key_in word = if nat_le 2 (length word) && nat_le (length word) 64 then hex_in word else None
+
+-- the octets of a datagram: one at least, or `-` for none (profile)
+abbrev pub octets_in : List ℕ → Option (List ℕ)
+octets_in word = if bytes_eq word (codes "-") then Some [] else if nat_lt 0 (length word) then hex_in word else None
+
+-- the numbers of octets, the most significant first (RFC 5905, 7.3)
+abbrev pub short_of : List ℕ → Short
+short_of octets = record { 0 = from_be_bytes w32 octets }
+
+abbrev pub stamp_of : List ℕ → Stamp
+stamp_of octets = record { 0 = from_be_bytes w64 octets }
+
+-- a stamp: 16 digits (profile)
+abbrev pub stamp_in : List ℕ → Option Stamp
+stamp_in word = option_map stamp_of (sized_hex_in 8 word)
+
+-- an era and a stamp (profile)
+abbrev pub moment_of : List (List ℕ) → Option Moment
+moment_of (era ∷ stamp ∷ []) = do
+  e ← decimal_in 0 (2 ^ 32 - 1) era
+  s ← stamp_in stamp
+  Some (record { era = e; stamp = s })
+moment_of other = None
+
+-- a moment: its era and its stamp, with a colon between them (profile)
+abbrev pub moment_in : List ℕ → Option Moment
+moment_in word = moment_of (parts 58 word)
+
+-- a reference state as 23 octets, the precision in two's complement (profile)
+abbrev pub state_of : List ℕ → ReferenceState
+state_of octets = record {
+  leap = slice_index octets 0;
+  stratum = slice_index octets 1;
+  precision = cast_signed w8 (slice_index octets 2);
+  root_delay = short_of (slice_range octets 3 7);
+  root_dispersion = short_of (slice_range octets 7 11);
+  id = slice_range octets 11 15;
+  reference = stamp_of (slice_range octets 15 23);
+}
+
+-- leap 0 to 3, stratum 1 to 16, and unsynchronised in both or in neither, as a test (RFC 5905, 7.3; together: profile)
+abbrev pub is_state : ReferenceState → Bool
+is_state r =
+    nat_le r.leap 3 && nat_le 1 r.stratum && nat_le r.stratum 16
+    && (if r.leap == 3 then r.stratum == 16 else not (r.stratum == 16))
+
+-- a reference state: 46 digits (profile)
+abbrev pub reference_in : List ℕ → Option ReferenceState
+reference_in word = do
+  octets ← sized_hex_in 23 word
+  if is_state (state_of octets) then Some (state_of octets) else None

@@ -1,0 +1,21 @@
+//! What an administrator orders.
+
+use ntp_mac::Key;
+use ntp_register::Address;
+use std::num::NonZero;
+
+/// A command. Numbers and budgets are from 1 to 65,535, by their type.
+#[derive(Clone, Copy, Debug, PartialEq, Eq)]
+pub enum Command {
+    /// Enrols an address with a key, the key's number, and a budget of signed queries in a window.
+    Enrol {
+        address: Address,
+        number: NonZero<u16>,
+        key: Key,
+        budget: NonZero<u16>,
+    },
+    /// Ends the enrolment of an address.
+    Revoke {
+        address: Address,
+    },
+}

@@ -1,0 +1,22 @@
+//! What happens to a service, one step at a time.
+
+use crate::{Command, Octets};
+use ntp_register::Address;
+use ntp_reply::Reference;
+use ntp_time::Moment;
+use std::alloc::{Allocator, Global};
+
+/// One event. Each names one address.
+#[derive(Debug, Drop)]
+pub enum Event<A: Allocator = Global> {
+    /// A datagram came from an address at `receipt`; the reply to it, if any, departs at `transmit`.
+    Datagram {
+        address: Address,
+        receipt: Moment,
+        transmit: Moment,
+        reference: Reference,
+        octets: Octets<A>,
+    },
+    /// An administrator gave a command.
+    Command(Command),
+}

@@ -1,0 +1,24 @@
+//! Events, commands and outcomes, and the texts that stand for them.
+#![tactic(auto)]
+
+mod command;
+mod event;
+mod line_fault;
+mod no_memory;
+mod octets;
+mod outcome;
+mod parts;
+mod printing;
+mod reading;
+#[cfg(test)]
+mod tests;
+mod words;
+
+pub use command::Command;
+pub use event::Event;
+pub use line_fault::LineFault;
+pub use no_memory::NoMemory;
+pub use octets::Octets;
+pub use outcome::Outcome;
+pub use printing::print_answer;
+pub use reading::{parse_command, parse_event};

@@ -1,0 +1,30 @@
+//! What is wrong with a line of a script.
+
+/// The first thing that is wrong with a line, in this order (profile).
+#[derive(Clone, Copy, Debug, PartialEq, Eq)]
+pub enum LineFault {
+    /// The first word is none of those that begin a line.
+    Word = 1,
+    /// There are too few words, or too many.
+    Count = 2,
+    /// An address is not four numbers from 0 to 255 joined by dots.
+    Address = 3,
+    /// A key number is not from 1 to 65,535.
+    Number = 4,
+    /// An algorithm is neither `md5` nor `sha1`.
+    Algorithm = 5,
+    /// A key is not 2 to 64 hexadecimal digits, an even number.
+    KeyText = 6,
+    /// A budget is not from 1 to 65,535.
+    Budget = 7,
+    /// Memory ran out.
+    NoMemory = 8,
+    /// A moment is not an era, a colon and a stamp.
+    Moment = 9,
+    /// A stamp is not 16 hexadecimal digits.
+    Stamp = 10,
+    /// A reference is not 46 hexadecimal digits, or no reference state has these fields.
+    Reference = 11,
+    /// Octets are not an even number of hexadecimal digits, at least 2, nor `-`.
+    Hex = 12,
+}

@@ -1,0 +1,15 @@
+//! What an event is answered.
+
+use ntp_register::Refusal;
+use ntp_reply::Answer;
+
+/// The answer to an event.
+#[derive(Clone, Debug, PartialEq, Eq, Drop)]
+pub enum Outcome {
+    /// To a datagram.
+    Datagram(Answer),
+    /// The command was carried out.
+    Done,
+    /// The command was refused, and changed nothing.
+    Refused(Refusal),
+}

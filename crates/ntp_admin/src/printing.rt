@@ -1,0 +1,122 @@
+//! Outcomes to lines.
+ghost use Rattle.std.specs.Prelude.{◌≡◌, ◌++◌, IfOk, codes, string_bytes};
+ghost use Rattle.hex.specs.Hex.{encode_lower};
+ghost use Rattle.ntp_admin.specs.Answers.{malformed_text, reason_text, answer_text, stamp_text, refusal_text, text_of};
+
+use crate::{NoMemory, Outcome};
+use ntp_mac::Reply;
+use ntp_register::Refusal;
+use ntp_reply::{Answer, Reason};
+use ntp_tail::Malformed;
+use ntp_time::Stamp;
+use std::alloc::{AllocError, Allocator};
+
+/// The line that is printed for an outcome, with its line feed. Its words are separated by one space,
+/// stamps and octets are in lower-case hexadecimal, and places in decimal.
+#[tactic(auto, unfolding(crate::specs::Answers::text_of))]
+pub fn print_answer<A: Allocator + Copy>(alloc: A, outcome: &Outcome) -> Result<String<A>, NoMemory>
+    ensures { IfOk result (λ text. string_bytes text ≡ text_of outcome.now) }
+{
+    let line = match outcome {
+        Outcome::Datagram(answer) => {
+            let answer = answer_text(alloc, answer)?;
+            format!(in alloc; "{answer}\n")?
+        }
+        Outcome::Done => String::from_str(alloc, "done\n")?,
+        Outcome::Refused(refusal) => {
+            let refusal = refusal_word(*refusal);
+            format!(in alloc; "refused {refusal}\n")?
+        }
+    };
+    Ok(line)
+}
+
+// The answer to a datagram.
+fn answer_text<A: Allocator + Copy>(alloc: A, answer: &Answer) -> Result<String<A>, AllocError>
+    ensures { IfOk result (λ text. string_bytes text ≡ answer_text answer.now) }
+{
+    match answer {
+        Answer::Time { reply, saved } => time_text(alloc, reply, *saved),
+        Answer::Rate(reply) => reply_text(alloc, "rate", reply),
+        Answer::Deny(reply) => reply_text(alloc, "deny", reply),
+        Answer::Nak(reply) => reply_text(alloc, "nak", reply),
+        Answer::Silent(reason) => {
+            let reason = reason_text(alloc, *reason)?;
+            format!(in alloc; "silent {reason}")
+        }
+    }
+}
+
+// A time reply, with the receive stamp that was saved.
+fn time_text<A: Allocator + Copy>(
+    alloc: A,
+    reply: &Reply,
+    saved: Stamp,
+) -> Result<String<A>, AllocError>
+    ensures { IfOk result (λ text. string_bytes text ≡ answer_text (Answer.Time reply.now saved)) }
+{
+    let saved = stamp_text(alloc, saved)?;
+    let reply = hex::encode(alloc, reply.octets())?;
+    format!(in alloc; "time {saved} {reply}")
+}
+
+// A stamp in 16 digits.
+#[tactic(auto, unfolding(crate::specs::Answers::stamp_text))]
+fn stamp_text<A: Allocator + Copy>(alloc: A, stamp: Stamp) -> Result<String<A>, AllocError>
+    ensures { IfOk result (λ text. string_bytes text ≡ stamp_text stamp) }
+{
+    hex::encode(alloc, stamp.0.to_be_bytes())
+}
+
+// A reply of another kind.
+fn reply_text<A: Allocator + Copy>(
+    alloc: A,
+    kind: &str,
+    reply: &Reply,
+) -> Result<String<A>, AllocError>
+    ensures { IfOk result (λ text. string_bytes text ≡ kind.now ++ codes " " ++ encode_lower reply.now) }
+{
+    let reply = hex::encode(alloc, reply.octets())?;
+    format!(in alloc; "{kind} {reply}")
+}
+
+// Why there is no reply.
+fn reason_text<A: Allocator + Copy>(alloc: A, reason: Reason) -> Result<String<A>, AllocError>
+    ensures { IfOk result (λ text. string_bytes text ≡ reason_text reason) }
+{
+    match reason {
+        Reason::Unregistered => String::from_str(alloc, "unregistered"),
+        Reason::Malformed(fault) => malformed_text(alloc, fault),
+        Reason::Version => String::from_str(alloc, "version"),
+        Reason::Mode => String::from_str(alloc, "mode"),
+        Reason::Bare => String::from_str(alloc, "bare"),
+        Reason::Muted => String::from_str(alloc, "muted"),
+        Reason::OverBudget => String::from_str(alloc, "over-budget"),
+    }
+}
+
+// Why octets are no packet.
+fn malformed_text<A: Allocator + Copy>(alloc: A, fault: Malformed) -> Result<String<A>, AllocError>
+    ensures { IfOk result (λ text. string_bytes text ≡ malformed_text fault) }
+{
+    match fault {
+        Malformed::Short => String::from_str(alloc, "short"),
+        Malformed::Long => String::from_str(alloc, "long"),
+        Malformed::FieldShort { at } => format!(in alloc; "field-short {at}"),
+        Malformed::FieldUnaligned { at } => format!(in alloc; "field-unaligned {at}"),
+        Malformed::FieldPastEnd { at } => format!(in alloc; "field-past-end {at}"),
+        Malformed::Rest { at } => format!(in alloc; "rest {at}"),
+    }
+}
+
+// Why a command was refused.
+fn refusal_word(refusal: Refusal) -> &'static str
+    ensures { result.now ≡ refusal_text refusal }
+{
+    match refusal {
+        Refusal::AlreadyEnrolled => "already-enrolled",
+        Refusal::KeyTaken => "key-taken",
+        Refusal::NoMemory => "no-memory",
+        Refusal::NotEnrolled => "not-enrolled",
+    }
+}

@@ -1,0 +1,113 @@
+//! Lines to commands and events.
+ghost use Rattle.std.specs.Prelude.{◌≡◌, ◌⊎◌, IfOk, IfErr, ◌∷◌, Err};
+ghost use Rattle.ntp_admin.specs.Words.{words};
+ghost use Rattle.ntp_admin.specs.Spells.{enrolment_in, revocation_in, command_in, datagram_in, event_in, SpellsCommand, HasCommandFault, Spells, HasFault};
+
+use crate::parts::Parts;
+use crate::{Command, Event, LineFault, words};
+use std::alloc::Allocator;
+
+/// The command that a line says. A line is words with one space between each two, in one of these forms:
+///
+/// ```text
+/// enrol ADDRESS NUMBER ALGORITHM KEY BUDGET
+/// revoke ADDRESS
+/// ```
+///
+/// The fault is the first in this order: the first word, the number of words, then the words from left to
+/// right.
+#[tactic(auto, unfolding(crate::specs::Spells::command_in))]
+pub fn parse_command(line: &str) -> Result<Command, LineFault>
+    ensures only { IfOk result (λ command. SpellsCommand line.now command) }
+    ensures fault { IfErr result (λ fault. HasCommandFault line.now fault) }
+{
+    let mut words = Parts::new(line, ' ');
+    let first = words.next().ok_or(LineFault::Word)?;
+    command(first, words)
+}
+
+/// The event that a line says: a command, or the form
+///
+/// ```text
+/// datagram ADDRESS RECEIPT TRANSMIT REFERENCE OCTETS
+/// ```
+///
+/// The fault is the first in the order of `parse_command`, or want of memory. A command takes no memory.
+#[tactic(auto, unfolding(crate::specs::Spells::event_in, crate::specs::Spells::command_in))]
+pub fn parse_event<A: Allocator + Copy>(alloc: A, line: &str) -> Result<Event<A>, LineFault>
+    ensures only { IfOk result (λ event. Spells line.now event) }
+    ensures fault { IfErr result (λ fault. (fault ≡ LineFault.NoMemory) ⊎ HasFault A line.now fault) }
+    ensures command { (c : Command) → SpellsCommand line.now c → result ≡ Ok (Event.Command c) }
+{
+    let mut words = Parts::new(line, ' ');
+    let first = words.next().ok_or(LineFault::Word)?;
+    match first {
+        "datagram" => datagram(alloc, words),
+        _ => Ok(Event::Command(command(first, words)?)),
+    }
+}
+
+// The command that begins with a word.
+#[tactic(auto, unfolding(crate::specs::Spells::command_in))]
+fn command(first: &str, others: Parts<'_>) -> Result<Command, LineFault>
+    ensures { result ≡ command_in (first.now ∷ others.entry) }
+{
+    match first {
+        "enrol" => enrolment(others),
+        "revoke" => revocation(others),
+        _ => Err(LineFault::Word),
+    }
+}
+
+// What stands behind `enrol`.
+fn enrolment(mut words: Parts<'_>) -> Result<Command, LineFault>
+    ensures { result ≡ enrolment_in words.entry }
+{
+    let address = words.word()?;
+    let number = words.word()?;
+    let algorithm = words.word()?;
+    let key = words.word()?;
+    let budget = words.word()?;
+    words.end()?;
+    let address = words::address(address).ok_or(LineFault::Address)?;
+    let number = words::number(number).ok_or(LineFault::Number)?;
+    let algorithm = words::algorithm(algorithm).ok_or(LineFault::Algorithm)?;
+    let key = words::key(algorithm, key).ok_or(LineFault::KeyText)?;
+    let budget = words::number(budget).ok_or(LineFault::Budget)?;
+    Ok(Command::Enrol {
+        address,
+        number,
+        key,
+        budget,
+    })
+}
+
+// What stands behind `revoke`.
+fn revocation(mut words: Parts<'_>) -> Result<Command, LineFault>
+    ensures { result ≡ revocation_in words.entry }
+{
+    let address = words.word()?;
+    words.end()?;
+    let address = words::address(address).ok_or(LineFault::Address)?;
+    Ok(Command::Revoke { address })
+}
+
+// What stands behind `datagram`.
+fn datagram<A: Allocator + Copy>(alloc: A, mut words: Parts<'_>) -> Result<Event<A>, LineFault>
+    ensures only { IfOk result (λ event. datagram_in words.entry ≡ Ok event) }
+    ensures fault { IfErr result (λ fault. (fault ≡ LineFault.NoMemory) ⊎ (datagram_in {A = A} words.entry ≡ Err fault)) }
+{
+    let address = words.word()?;
+    let receipt = words.word()?;
+    let transmit = words.word()?;
+    let reference = words.word()?;
+    let octets = words.word()?;
+    words.end()?;
+    Ok(Event::Datagram {
+        address: words::address(address).ok_or(LineFault::Address)?,
+        receipt: words::moment(receipt).ok_or(LineFault::Moment)?,
+        transmit: words::moment(transmit).ok_or(LineFault::Moment)?,
+        reference: words::reference(reference).ok_or(LineFault::Reference)?,
+        octets: words::octets(alloc, octets)?,
+    })
+}

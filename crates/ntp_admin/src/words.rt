@@ -1,0 +1,197 @@
+//! What each kind of word says.
+ghost use Rattle.std.specs.Prelude.{◌≡◌, ◌+◌, ◌≤◌, ◌⊎◌, length, IfOk, IfErr, IfSome, None};
+ghost use Rattle.std.specs.Char.{is_ascii_digit};
+ghost use Rattle.std.specs.List.{list_all, slice_range};
+ghost use Rattle.std.specs.Option.{option_map};
+ghost use Rattle.ntp_admin.specs.Words.{is_decimal, decimal_in, address_in, number_in, algorithm_in, key_in, octets_in, short_of, stamp_of, stamp_in, moment_in, reference_in};
+
+use crate::parts::Parts;
+use crate::{LineFault, Octets};
+use hex::{FromHex, FromHexError};
+use ntp_mac::{Algorithm, Key};
+use ntp_register::Address;
+use ntp_reply::Reference;
+use ntp_time::{Moment, Short, Stamp};
+use std::alloc::Allocator;
+use std::num::NonZero;
+
+/// How many octets a key has at most (profile).
+const MOST_KEY_OCTETS: usize = 32;
+
+/// How many octets spell a reference state (profile).
+const REFERENCE_OCTETS: usize = 23;
+
+// Whether a word is digits alone, with no zero in front of others.
+fn is_decimal(word: &str) -> bool
+    ensures { result ≡ is_decimal word.now }
+{
+    let digits = word.as_bytes();
+    are_digits(digits) && !digits.is_empty() && (digits[0] != b'0' || digits.len() == 1)
+}
+
+// Whether octets are decimal digits alone.
+fn are_digits(octets: &[u8]) -> bool
+    ensures { result ≡ list_all is_ascii_digit octets.now }
+{
+    octets.iter().all(|octet| octet.is_ascii_digit())
+}
+
+// The number of a decimal word, where it is from `least` to `most`.
+fn decimal(word: &str, least: u32, most: u32) -> Option<u32>
+    ensures number { result ≡ decimal_in least most word.now }
+    ensures range { IfSome result (λ number. (least ≤ number) × (number ≤ most)) }
+{
+    if !is_decimal(word) {
+        return None;
+    }
+    let number = word.parse::<u32>().ok()?;
+    if least <= number && number <= most {
+        Some(number)
+    } else {
+        None
+    }
+}
+
+// A number of an address.
+fn octet(word: &str) -> Option<u8>
+    ensures { result ≡ decimal_in 0 255 word.now }
+{
+    let number = decimal(word, 0, 255)?;
+    Some(number as u8)
+}
+
+/// An address: four numbers from 0 to 255 with dots between them.
+pub(crate) fn address(word: &str) -> Option<Address>
+    ensures { result ≡ address_in word.now }
+{
+    let mut parts = Parts::new(word, '.');
+    let first = parts.next()?;
+    let second = parts.next()?;
+    let third = parts.next()?;
+    let fourth = parts.next()?;
+    if parts.next().is_some() {
+        return None;
+    }
+    Some(Address([octet(first)?, octet(second)?, octet(third)?, octet(fourth)?]))
+}
+
+/// A key number or a budget: from 1 to 65,535.
+pub(crate) fn number(word: &str) -> Option<NonZero<u16>>
+    ensures { result ≡ number_in word.now }
+{
+    let number = decimal(word, 1, 65_535)?;
+    NonZero::<u16>::new(number as u16)
+}
+
+/// A digest algorithm: `md5` or `sha1`.
+pub(crate) fn algorithm(word: &str) -> Option<Algorithm>
+    ensures { result ≡ algorithm_in word.now }
+{
+    match word {
+        "md5" => Some(Algorithm::Md5),
+        "sha1" => Some(Algorithm::Sha1),
+        _ => None,
+    }
+}
+
+/// A key for an algorithm: 2 to 64 hexadecimal digits, an even number.
+pub(crate) fn key(algorithm: Algorithm, word: &str) -> Option<Key>
+    ensures { result ≡ option_map (λ octets. record { algorithm = algorithm; octets = octets }) (key_in word.now) }
+{
+    let len = word.len() / 2;
+    if len > MOST_KEY_OCTETS {
+        return None;
+    }
+    let mut octets = [0; MOST_KEY_OCTETS];
+    hex::decode_to_slice(word, &mut octets[..len]).ok()?;
+    Key::new(algorithm, &octets[..len]).ok()
+}
+
+/// A stamp: 16 hexadecimal digits.
+pub(crate) fn stamp(word: &str) -> Option<Stamp>
+    ensures { result ≡ stamp_in word.now }
+{
+    let octets = <[u8; 8]>::from_hex(word).ok()?;
+    Some(Stamp(u64::from_be_bytes(octets)))
+}
+
+/// A moment: an era from 0 to 4,294,967,295, a colon, and a stamp.
+pub(crate) fn moment(word: &str) -> Option<Moment>
+    ensures { result ≡ moment_in word.now }
+{
+    let mut parts = Parts::new(word, ':');
+    let era = parts.next()?;
+    let within = parts.next()?;
+    if parts.next().is_some() {
+        return None;
+    }
+    Some(Moment {
+        era: decimal(era, 0, u32::MAX)?,
+        stamp: stamp(within)?,
+    })
+}
+
+/// A reference state: 46 hexadecimal digits, which spell leap (1 octet), stratum (1), precision (1), root
+/// delay (4), root dispersion (4), identifier (4) and reference stamp (8).
+pub(crate) fn reference(word: &str) -> Option<Reference>
+    ensures { result ≡ reference_in word.now }
+{
+    let octets = <[u8; REFERENCE_OCTETS]>::from_hex(word).ok()?;
+    Reference::new(
+        octets[0],
+        octets[1],
+        octets[2].cast_signed(),
+        short_at(&octets, 3),
+        short_at(&octets, 7),
+        four_at(&octets, 11),
+        stamp_at(&octets, 15),
+    )
+    .ok()
+}
+
+// The short format at a place.
+fn short_at(octets: &[u8], at: usize) -> Short
+    requires { at + 4 ≤ length octets.now }
+    ensures { result ≡ short_of (slice_range octets.now at (at + 4)) }
+{
+    Short(u32::from_be_bytes(four_at(octets, at)))
+}
+
+// The stamp at a place.
+fn stamp_at(octets: &[u8], at: usize) -> Stamp
+    requires { at + 8 ≤ length octets.now }
+    ensures { result ≡ stamp_of (slice_range octets.now at (at + 8)) }
+{
+    let part = &octets[at..at + 8];
+    Stamp(u64::from_be_bytes([
+        part[0], part[1], part[2], part[3], part[4], part[5], part[6], part[7],
+    ]))
+}
+
+// The four octets from a place on.
+fn four_at(octets: &[u8], at: usize) -> [u8; 4]
+    requires { at + 4 ≤ length octets.now }
+    ensures { result ≡ slice_range octets.now at (at + 4) }
+{
+    let part = &octets[at..at + 4];
+    [part[0], part[1], part[2], part[3]]
+}
+
+/// The octets of a datagram: an even number of hexadecimal digits, at least 2, or `-` for none. `Hex` where
+/// the word is neither, `NoMemory` where memory runs out.
+pub(crate) fn octets<A: Allocator + Copy>(alloc: A, word: &str) -> Result<Octets<A>, LineFault>
+    ensures found { IfOk result (λ octets. octets_in word.now ≡ Some octets) }
+    ensures fault { IfErr result (λ f. (f ≡ LineFault.NoMemory) ⊎ ((octets_in word.now ≡ None) × (f ≡ LineFault.Hex))) }
+{
+    if word == "-" {
+        return Ok(Octets::new(Vec::new(alloc)));
+    }
+    if word.is_empty() {
+        return Err(LineFault::Hex);
+    }
+    match hex::decode(alloc, word) {
+        Ok(octets) => Ok(Octets::new(octets)),
+        Err(FromHexError::OutOfMemory) => Err(LineFault::NoMemory),
+        Err(_) => Err(LineFault::Hex),
+    }
+}

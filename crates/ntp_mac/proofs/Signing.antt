@@ -1,0 +1,54 @@
+-- What the comparison of a request's tail with a MAC tells.
+use Rattle.std.proofs.Common.{◌≡◌, ℕ, List, Bool, true, false, ◌==◌, ◌&&◌, ap, sym, ◌∙◌, refl, nat_eq, eqb-true, eq-eqb}
+use Rattle.std.specs.Prelude.{◌↔◌, IsTrue}
+use Rattle.std.specs.Cmp.Lexicographic.{pointwise, bytes_decides}
+use Rattle.ntp_tail.specs.Tail.{TailValue}
+use Rattle.ntp_tail.specs.Tail.TailValue.{NoTail, BareTail, Md5Tail, Sha1Tail}
+use Rattle.ntp_tail.specs.Request.{RequestValue}
+use Rattle.ntp_mac.specs.declared.digests.Digest.{Digest}
+use Rattle.ntp_mac.specs.declared.digests.Digest.TheVariants.{Md5, Sha1}
+use Rattle.ntp_mac.specs.Key.{SymmetricKey}
+use Rattle.ntp_mac.specs.Digest.{digest_of}
+use Rattle.ntp_mac.specs.Signed.{mac_tail, IsSigned, is_mac, is_signed}
+
+both-hold : (a b : Bool) → IsTrue (a && b) → IsTrue a × IsTrue b
+both-hold true b h = (refl, h)
+both-hold false b h = (h, absurd (cc))
+
+-- a number and octets that pass the comparison, and those that are equal
+same-mac : (found number : ℕ) (octets digest : List ℕ) → IsTrue ((found == number) && pointwise nat_eq octets digest) → (found ≡ number) × (octets ≡ digest)
+same-mac found number octets digest h =
+    let both = both-hold (found == number) (pointwise nat_eq octets digest) h in
+    (eqb-true found number both.0, (bytes_decides octets digest).0 both.1)
+
+passes : (found number : ℕ) (octets digest : List ℕ) → found ≡ number → octets ≡ digest → IsTrue ((found == number) && pointwise nat_eq octets digest)
+passes found number octets digest n d = rw (eq-eqb found number n, (bytes_decides octets digest).1 d) refl
+
+-- a tail passes the comparison exactly where it is the MAC
+is-mac : (tail : TailValue) (number : ℕ) (digest : Digest) → IsTrue (is_mac tail number digest) ↔ (tail ≡ mac_tail number digest)
+is-mac NoTail number (Md5 digest) = (λ h. absurd (cc), λ e. absurd (cc))
+is-mac NoTail number (Sha1 digest) = (λ h. absurd (cc), λ e. absurd (cc))
+is-mac (BareTail found) number (Md5 digest) = (λ h. absurd (cc), λ e. absurd (cc))
+is-mac (BareTail found) number (Sha1 digest) = (λ h. absurd (cc), λ e. absurd (cc))
+is-mac (Md5Tail found octets) number (Md5 digest) =
+    (λ h. let same = same-mac found number octets digest h in cc, λ e. passes found number octets digest (cc) (cc))
+is-mac (Md5Tail found octets) number (Sha1 digest) = (λ h. absurd (cc), λ e. absurd (cc))
+is-mac (Sha1Tail found octets) number (Md5 digest) = (λ h. absurd (cc), λ e. absurd (cc))
+is-mac (Sha1Tail found octets) number (Sha1 digest) =
+    (λ h. let same = same-mac found number octets digest h in cc, λ e. passes found number octets digest (cc) (cc))
+
+-- a request passes the comparison exactly where it is signed
+pub is-signed : (key : SymmetricKey) (number : ℕ) (request : RequestValue) → IsTrue (is_signed key number request) ↔ IsSigned key number request
+unfolding IsSigned is_signed
+is-signed key number request = is-mac request.tail number (digest_of key request.signed)
+
+-- the comparison of the parts of a request
+pub compared : (key : SymmetricKey) (number : ℕ) (parts request : RequestValue) (r : Bool) → parts ≡ request
+    → r ≡ is_mac parts.tail number (digest_of key parts.signed) → r ≡ is_signed key number request
+unfolding is_signed
+compared key number parts request r same e = e ∙ ap (λ (q : RequestValue). is_mac q.tail number (digest_of key q.signed)) same
+
+-- what the comparison tells
+pub told : (key : SymmetricKey) (number : ℕ) (request : RequestValue) (r : Bool) → r ≡ is_signed key number request → IsTrue r ↔ IsSigned key number request
+told key number request r e =
+    (λ h. (is-signed key number request).0 (sym e ∙ h), λ s. e ∙ (is-signed key number request).1 s)

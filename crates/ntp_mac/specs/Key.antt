@@ -1,0 +1,8 @@
+-- A symmetric key.
+use Rattle.std.specs.Prelude.{ℕ, List}
+use Rattle.ntp_mac.specs.declared.key.Algorithm.{Algorithm}
+
+-- a key that is shared with one peer: the digest algorithm that it is for, and its octets (RFC 5905, 7.3)
+pub record SymmetricKey : Type 0 where
+  pub algorithm : Algorithm
+  pub octets : List ℕ

@@ -1,0 +1,4 @@
+pub mod Key
+pub mod Digest
+pub mod Mac
+pub mod Signed

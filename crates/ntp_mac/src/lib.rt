@@ -1,0 +1,17 @@
+//! Symmetric keys, digests under them, and replies that are sealed by one (RFC 5905, 7.3). The digests
+//! are MD5's (RFC 1321) and, by profile, SHA-1's (FIPS 180-4).
+#![tactic(auto)]
+
+mod digests;
+mod hashing;
+mod key;
+mod reply;
+#[cfg(test)]
+mod tests;
+mod verifying;
+
+pub use digests::Digest;
+pub use hashing::digest;
+pub use key::{Algorithm, Key, KeyFault};
+pub use reply::{Reply, add_nak, seal};
+pub use verifying::verifies;

@@ -1,0 +1,104 @@
+//! What a register does on commands. A refused command changes nothing. Each asks that the customers and
+//! the holders agree: a customer is enrolled with a number exactly where that number's holder is its
+//! address. Each keeps that.
+ghost use Rattle.std.specs.Prelude.{◌≡◌, ◌≢◌, ◌↔◌, ◌<◌, Some, None, OnOk, OnErr, IfErr, IsSome, IsNone};
+ghost use Rattle.ntp_register.specs.Registry.{Agrees, customer_at, number_at, holder_of, after_enrol, after_revoke};
+
+use crate::{Address, Customer, Refusal, Register};
+use ntp_mac::Key;
+use std::alloc::{AllocError, Allocator};
+
+impl<A: Allocator + Copy> Register<A> {
+    /// Enrols an address with a key, its number and a budget (profile). A revoked address may be enrolled
+    /// again, and begins as a new customer.
+    ///
+    /// Refused in this order: `AlreadyEnrolled`, `KeyTaken`, `NoMemory`.
+    pub fn enrol(
+        &mut self,
+        address: Address,
+        number: u16,
+        key: Key,
+        budget: u16,
+    ) -> Result<(), Refusal>
+        requires number_given { 0 < number }
+        requires budget_given { 0 < budget }
+        requires agrees { Agrees self.old }
+
+        // Where the address is not enrolled, the holder of the number is another address.
+        ensures already { (result ≡ Err Refusal.AlreadyEnrolled) ↔ IsSome (number_at self.old address) }
+        ensures taken { (result ≡ Err Refusal.KeyTaken) ↔ (IsNone (number_at self.old address) × IsSome (holder_of self.old number)) }
+        ensures never { result ≢ Err Refusal.NotEnrolled }
+
+        ensures ok { OnOk result (self.new ≡ after_enrol self.old address number key budget) }
+        ensures err { OnErr result (self.new ≡ self.old) }
+        ensures agrees { Agrees self.new }
+    {
+        if self.number(address).is_some() {
+            return Err(Refusal::AlreadyEnrolled);
+        }
+        if self.holder(number).is_some() {
+            return Err(Refusal::KeyTaken);
+        }
+        self.admit(address, number, key, budget)?;
+        Ok(())
+    }
+
+    /// Revokes an enrolled address: its key number is free again (profile).
+    ///
+    /// Refused with `NotEnrolled` alone.
+    pub fn revoke(&mut self, address: Address) -> Result<(), Refusal>
+        requires { Agrees self.old }
+
+        ensures refused { (result ≡ Err Refusal.NotEnrolled) ↔ IsNone (number_at self.old address) }
+        ensures only { IfErr result (λ e. e ≡ Refusal.NotEnrolled) }
+
+        ensures ok { OnOk result (self.new ≡ after_revoke self.old address) }
+        ensures err { OnErr result (self.new ≡ self.old) }
+        ensures agrees { Agrees self.new }
+    {
+        let Some(customer) = self.customer_mut(address) else {
+            return Err(Refusal::NotEnrolled);
+        };
+        let Some(freed) = customer.revoke() else {
+            return Err(Refusal::NotEnrolled);
+        };
+        self.take_holder(freed);
+        Ok(())
+    }
+
+    // Enrols an address that is not enrolled, with a number that is free. Where the customer finds no
+    // memory, the number is freed again.
+    fn admit(
+        &mut self,
+        address: Address,
+        number: u16,
+        key: Key,
+        budget: u16,
+    ) -> Result<(), AllocError>
+        requires number_given { 0 < number }
+        requires budget_given { 0 < budget }
+        requires new { number_at self.old address ≡ None }
+        requires free { holder_of self.old number ≡ None }
+        requires agrees { Agrees self.old }
+
+        ensures ok { OnOk result (self.new ≡ after_enrol self.old address number key budget) }
+        ensures err { OnErr result (self.new ≡ self.old) }
+        ensures agrees { Agrees self.new }
+    {
+        self.put_holder(number, address)?;
+        match self.put_customer(address, Customer::new(number, key, budget)) {
+            Ok(()) => Ok(()),
+            Err(error) => {
+                self.take_holder(number);
+                Err(error)
+            }
+        }
+    }
+
+    // The key number with which an address is enrolled now, if it is.
+    fn number(&self, address: Address) -> Option<u16>
+        ensures { result ≡ number_at self.now address }
+    {
+        self.customer(address)?.enrolled_number()
+    }
+}

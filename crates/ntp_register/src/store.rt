@@ -1,0 +1,145 @@
+//! The two lists of a register: its customers, and the holders of key numbers. Nothing else opens them.
+ghost use Rattle.std.specs.Prelude.{◌≡◌, None, IsSome, IsOk, OnOk, OnErr, position, option_copied, filter, not, nat_eq};
+ghost use Rattle.std.specs.Option.{option_copied_mut};
+ghost use Rattle.std.specs.Borrow.{sem};
+ghost use Rattle.std.specs.Map.{lookup};
+ghost use Rattle.ntp_register.specs.Address.{address_eq};
+
+use crate::{Address, Customer};
+use std::alloc::{AllocError, Allocator, Global};
+use std::marker::Model;
+
+/// The customers of a service by address, and who holds each key number. It is kept in `A`.
+#[derive(Drop)]
+pub struct Register<A: Allocator = Global> {
+    customers: Vec<(Address, Customer<A>), A>,
+    holders: Vec<(u16, Address), A>,
+}
+
+impl<A: Allocator> Model for Register<A> {
+    ghost use Rattle.std.specs.FinMap as map;
+    ghost use Rattle.ntp_register.specs.Registry.{Registry};
+    ghost use Rattle.ntp_register.specs.Codes.{coded_registry};
+
+    ghost Value = { Registry };
+
+    ghost coded = { coded_registry };
+
+    ghost view = { λ r. record {
+      customers = map.from_entries r.customers.items;
+      holders = map.from_entries r.holders.items;
+    } };
+}
+
+impl<A: Allocator + Copy> Register<A> {
+    ghost use Rattle.ntp_register.specs.Registry.{Agrees, empty_registry, customer_at, holder_of, with_customer, with_holder, without_holder};
+    ghost use Rattle.ntp_register.specs.Lends.{lends_customer};
+
+    /// An empty register, which will take its memory from `alloc`.
+    pub fn new(alloc: A) -> Self
+        ensures empty { result ≡ empty_registry }
+        ensures agrees { Agrees result }
+    {
+        Register {
+            customers: Vec::new(alloc),
+            holders: Vec::new(alloc),
+        }
+    }
+
+    /// The address that is enrolled with a key number, if one is.
+    pub fn holder(&self, number: u16) -> Option<Address>
+        ensures { result ≡ holder_of self.now number }
+    {
+        holder_in(&self.holders, number)
+    }
+
+    /// The customer at an address: none exactly where the address was never enrolled.
+    pub fn customer(&self, address: Address) -> Option<&Customer<A>>
+        ensures { option_copied result ≡ customer_at self.now address }
+    {
+        match place_of(&self.customers, address) {
+            Some(place) => Some(&self.customers[place].1),
+            None => None,
+        }
+    }
+
+    /// The customer at an address, to be written to: none exactly where the address was never enrolled.
+    /// All other customers and all holders stay as they are.
+    pub fn customer_mut(&mut self, address: Address) -> Option<&mut Customer<A>>
+        ensures* writes_back { sem 𝓛 (lends_customer A.row A.Allocator self.entry address result) }
+        ensures value { option_copied_mut result ≡ customer_at self.old address }
+    {
+        match place_of(&self.customers, address) {
+            Some(place) => Some(&mut self.customers[place].1),
+            None => None,
+        }
+    }
+
+    // Puts a customer at an address. One that is there already is replaced, which takes no memory.
+    pub(crate) fn put_customer(
+        &mut self,
+        address: Address,
+        customer: Customer<A>,
+    ) -> Result<(), AllocError>
+        ensures replaced { IsSome (customer_at self.old address) → IsOk result }
+        ensures ok { OnOk result (self.new ≡ with_customer self.old address customer) }
+        ensures err { OnErr result (self.new ≡ self.old) }
+    {
+        match place_of(&self.customers, address) {
+            Some(place) => {
+                self.customers[place].1 = customer;
+                Ok(())
+            }
+            None => {
+                self.customers.push((address, customer))?;
+                Ok(())
+            }
+        }
+    }
+
+    // Makes the address the holder of a number that is free.
+    pub(crate) fn put_holder(&mut self, number: u16, address: Address) -> Result<(), AllocError>
+        requires { holder_of self.old number ≡ None }
+        ensures ok { OnOk result (self.new ≡ with_holder self.old number address) }
+        ensures err { OnErr result (self.new ≡ self.old) }
+    {
+        self.holders.push((number, address))?;
+        Ok(())
+    }
+
+    // Frees a number.
+    pub(crate) fn take_holder(&mut self, number: u16)
+        ensures { self.new ≡ without_holder self.old number }
+    {
+        take_number(&mut self.holders, number);
+    }
+}
+
+// Where the address stands in the list.
+fn place_of<A: Allocator>(
+    customers: &Vec<(Address, Customer<A>), A>,
+    address: Address,
+) -> Option<usize>
+    ensures { result ≡ position (λ e. address_eq address e.0) customers.now.items }
+{
+    customers.iter().position(|entry| address == entry.0)
+}
+
+// The first address with the number in the list.
+fn holder_in<A: Allocator>(holders: &Vec<(u16, Address), A>, number: u16) -> Option<Address>
+    ensures { result ≡ lookup (nat_eq number) holders.now.items }
+{
+    for entry in holders {
+        if number == entry.0 {
+            return Some(entry.1);
+        }
+    }
+    None
+}
+
+// Takes each entry with the number out of the list.
+fn take_number<A: Allocator>(holders: &mut Vec<(u16, Address), A>, number: u16)
+    ensures { holders.new.items ≡ filter (λ e. not (nat_eq number e.0)) holders.old.items }
+{
+    holders.retain(|entry| number != entry.0);
+}

@@ -1,0 +1,2 @@
+pub mod ReadAs
+mod Lengths

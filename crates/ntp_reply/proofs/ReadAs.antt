@@ -1,0 +1,48 @@
+-- What octets are read as.
+use Rattle.std.proofs.Common.{◌≡◌, ℕ, suc, ◌%◌, ◌<◌, List, [], ◌∷◌, Result, Ok, Err, ◌⊎◌, inl, inr, refl, sym, ap, subst, ◌∙◌, arith}
+use Rattle.ntp_tail.specs.Request.{RequestValue, IsRequest}
+use Rattle.ntp_tail.specs.Faults.{Fails}
+use Rattle.ntp_tail.specs.OneAnswer.{HasOneReading, HasOneFault}
+use Rattle.ntp_tail.specs.declared.malformed.Malformed.{Malformed}
+use Rattle.ntp_tail.proofs.Octets.{AreOctets}
+use Rattle.ntp_tail.proofs.Answered.{one-answer}
+use Rattle.ntp_reply.specs.Reading.{Reads, low, AreOctets-low, the_one, reading_of}
+
+-- octets are their own low bits
+low-same : (octets : List ℕ) → AreOctets octets → low octets ≡ octets
+low-same [] are = refl
+low-same (o ∷ os) are =
+    let first : o % 256 ≡ o = let lt = are 0 in omega arith in
+    ap (λ x. x ∷ low os) first ∙ ap (λ xs. o ∷ xs) (low-same os (λ i. are (suc i)))
+
+Reads-the_one : (octets : List ℕ) (a : HasOneReading octets ⊎ HasOneFault octets) → Reads octets (the_one octets a)
+Reads-the_one octets (inl reading) = reading.is_request
+Reads-the_one octets (inr fault) = fault.fails
+
+-- octets are what they are read as
+pub Reads-reading_of : (octets : List ℕ) → AreOctets octets → Reads octets (reading_of octets)
+unfolding reading_of
+Reads-reading_of octets are =
+    let answer = one-answer (low octets) (AreOctets-low octets) in
+    subst (λ o. Reads o (the_one (low octets) answer)) (low-same octets are) (Reads-the_one (low octets) answer)
+
+-- what answers every request and every fault with itself answers as the octets are read
+pub answers-so : (octets : List ℕ) (result : Result RequestValue Malformed) → AreOctets octets → ((r : RequestValue) → IsRequest octets r → result ≡ Ok r)
+    → ((f : Malformed) → Fails octets f → result ≡ Err f) → result ≡ reading_of octets
+answers-so octets result are only exact = chosen (reading_of octets) (Reads-reading_of octets are)
+  where
+    chosen : (a : Result RequestValue Malformed) → Reads octets a → result ≡ a
+    chosen (Ok r) is = only r is
+    chosen (Err f) is = exact f is
+
+only-the_one : (octets : List ℕ) (a : HasOneReading octets ⊎ HasOneFault octets) (r : Result RequestValue Malformed) → Reads octets r → r ≡ the_one octets a
+only-the_one octets (inl reading) (Ok r) is = ap Ok (reading.only r is)
+only-the_one octets (inl reading) (Err f) is = absurd (reading.sound f is)
+only-the_one octets (inr fault) (Ok r) is = absurd (fault.unread r is)
+only-the_one octets (inr fault) (Err f) is = ap Err (fault.only f is)
+
+-- and nothing else
+pub only-reading_of : (octets : List ℕ) (r : Result RequestValue Malformed) → AreOctets octets → Reads octets r → r ≡ reading_of octets
+unfolding reading_of
+only-reading_of octets r are is =
+    only-the_one (low octets) (one-answer (low octets) (AreOctets-low octets)) r (subst (λ o. Reads o r) (sym (low-same octets are)) is)

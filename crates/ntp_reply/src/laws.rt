@@ -1,0 +1,12 @@
+//! What holds of the definitions, whatever code meets them.
+ghost use Rattle.std.specs.Prelude.{◌≡◌, ℕ, ◌<◌, List, All, Result};
+ghost use Rattle.ntp_tail.specs.Request.{RequestValue};
+ghost use Rattle.ntp_tail.specs.declared.malformed.Malformed.{Malformed};
+ghost use Rattle.ntp_reply.specs.Reading.{Reads, reading_of};
+
+/// Octets are what they are read as, and nothing else. This is a law, and does nothing when it is called.
+pub fn octets_are_what_they_are_read_as()
+    ensures reads { (octets : List ℕ) → All (λ octet. octet < 256) octets → Reads octets (reading_of octets) }
+    ensures only { (octets : List ℕ) (answer : Result RequestValue Malformed) → All (λ octet. octet < 256) octets
+        → Reads octets answer → answer ≡ reading_of octets }
+{}

@@ -1,0 +1,59 @@
+-- The model of one customer: what the events of one address are answered. There is no table and no neighbour in it.
+use Rattle.std.specs.Prelude.{List, [], ◌∷◌}
+use Rattle.std.specs.Int.NonZero.{non_zero_u16_get}
+use Rattle.ntp_register.specs.declared.refusal.Refusal.TheVariants.{AlreadyEnrolled, NotEnrolled}
+use Rattle.ntp_reply.specs.Life.{Life, Unregistered, Revoked, Enrolled, Enrolment}
+use Rattle.ntp_reply.specs.Replies.{occasion_of}
+use Rattle.ntp_reply.specs.Verdict.{verdict}
+use Rattle.ntp_admin.specs.declared.command.Command.{Command}
+use Rattle.ntp_admin.specs.declared.command.Command.TheVariants.{Enrol, Revoke}
+use Rattle.ntp_admin.specs.declared.event.Event.{Event}
+use Rattle.ntp_admin.specs.declared.event.Event.TheVariants as event
+use Rattle.ntp_admin.specs.declared.outcome.Outcome.{Outcome}
+use Rattle.ntp_admin.specs.declared.outcome.Outcome.TheVariants as outcome
+
+-- the answer to a command (profile)
+abbrev pub command_answer : Life → Command → Outcome
+command_answer (Enrolled e) (Enrol address number key budget) = outcome.Refused AlreadyEnrolled
+command_answer Unregistered (Enrol address number key budget) = outcome.Done
+command_answer Revoked (Enrol address number key budget) = outcome.Done
+command_answer (Enrolled e) (Revoke address) = outcome.Done
+command_answer Unregistered (Revoke address) = outcome.Refused NotEnrolled
+command_answer Revoked (Revoke address) = outcome.Refused NotEnrolled
+
+-- the life after a command (profile)
+abbrev pub after_command : Life → Command → Life
+after_command (Enrolled e) (Enrol address number key budget) = Enrolled e
+after_command Unregistered (Enrol address number key budget) = Enrolled (record { key = key; number = non_zero_u16_get number; budget = non_zero_u16_get budget })
+after_command Revoked (Enrol address number key budget) = Enrolled (record { key = key; number = non_zero_u16_get number; budget = non_zero_u16_get budget })
+after_command (Enrolled e) (Revoke address) = Revoked
+after_command Unregistered (Revoke address) = Unregistered
+after_command Revoked (Revoke address) = Revoked
+
+-- the answer to an event (profile)
+abbrev pub answer_to : {A : Type 0} → Life → Event A → Outcome
+answer_to life (event.Datagram address receipt transmit reference octets) = outcome.Datagram (verdict life (occasion_of receipt transmit reference) octets)
+answer_to life (event.Command command) = command_answer life command
+
+-- the life after an event (profile)
+abbrev pub after : {A : Type 0} → Life → Event A → Life
+after life (event.Datagram address receipt transmit reference octets) = life
+after life (event.Command command) = after_command life command
+
+-- the life after events, from a life on
+abbrev pub life_after : {A : Type 0} → Life → List (Event A) → Life
+life_after life [] = life
+life_after life (e ∷ events) = life_after (after life e) events
+
+-- the life that events leave
+abbrev pub life_of : {A : Type 0} → List (Event A) → Life
+life_of events = life_after Unregistered events
+
+-- what events are answered, from a life on: each in the life that the events before it left
+abbrev pub says_after : {A : Type 0} → Life → List (Event A) → List Outcome
+says_after life [] = []
+says_after life (e ∷ events) = answer_to life e ∷ says_after (after life e) events
+
+-- what events are answered
+abbrev pub says : {A : Type 0} → List (Event A) → List Outcome
+says events = says_after Unregistered events

@@ -1,0 +1,26 @@
+-- The text of a script: its lines, and which of them are events.
+use Rattle.std.specs.Prelude.{ℕ, ◌≤◌, ◌==◌, Bool, true, not, List, [], ◌∷◌, length, filter, if◌then◌else◌, IsUtf8}
+
+-- an octet, and then lines: it begins the first of them
+abbrev pub begin_line : ℕ → List (List ℕ) → List (List ℕ)
+begin_line x [] = (x ∷ []) ∷ []
+begin_line x (line ∷ lines) = (x ∷ line) ∷ lines
+
+-- the lines of a text: each ends at a line feed, and what follows the last one is a line unless it is empty (profile)
+abbrev pub lines_of : List ℕ → List (List ℕ)
+lines_of [] = []
+lines_of (x ∷ xs) = if x == 10 then [] ∷ lines_of xs else begin_line x (lines_of xs)
+
+-- a line that a replay takes (profile)
+pub record IsReadable (line : List ℕ) : Type 0 where
+  pub short : length line ≤ 4096
+  pub text : IsUtf8 line
+
+-- whether a line is no event: it is empty, or begins with `#` (profile)
+abbrev pub is_passed_over : List ℕ → Bool
+is_passed_over [] = true
+is_passed_over (x ∷ xs) = x == 35
+
+-- the lines that are events
+abbrev pub event_lines : List (List ℕ) → List (List ℕ)
+event_lines lines = filter (λ line. not (is_passed_over line)) lines

@@ -1,0 +1,29 @@
+//! What stops a replay.
+
+use ntp_admin::LineFault;
+
+/// Why a replay stopped, in this order (profile).
+#[derive(Clone, Copy, Debug, PartialEq, Eq)]
+pub enum ReplayFaultKind {
+    /// The line spells no event.
+    Line(LineFault),
+    /// A read failed, or 4,294,967,295 reads did not reach the end.
+    Read,
+    /// A write failed, or took no octet.
+    Write,
+    /// A growth was refused, for the line or for its answer.
+    NoMemory,
+    /// The line has more than 4,096 octets.
+    LineLong,
+    /// The octets of the line are not UTF-8.
+    NotUtf8,
+}
+
+/// Why a replay stopped, and at which line.
+#[derive(Clone, Copy, Debug, PartialEq, Eq)]
+pub struct ReplayFault {
+    /// The line, counted from 1. Lines that are no event are counted too.
+    pub line: u64,
+    /// Why it was not answered.
+    pub kind: ReplayFaultKind,
+}

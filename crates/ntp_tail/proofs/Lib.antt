@@ -1,0 +1,12 @@
+pub mod Octets
+pub mod Spelling
+pub mod Spelled
+pub mod Headers
+pub mod Places
+pub mod Tails
+pub mod Ends
+pub mod Unique
+pub mod Found
+pub mod Padding
+pub mod Composed
+pub mod Answered

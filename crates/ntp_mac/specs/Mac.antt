@@ -8,6 +8,6 @@ use Rattle.ntp_mac.specs.Digest.{digest_of, digest_octets}
 unfoldable pub mac_of : SymmetricKey → ℕ → List ℕ → List ℕ
 mac_of key number octets = to_be_bytes w32 number ++ digest_octets (digest_of key octets)
 
--- what stands in the place of a MAC in a crypto-NAK: four zeros (RFC 5905, 7.3)
+-- what stands in the place of a MAC in a crypto-NAK: four zeros (RFC 5905, A.5.1)
 abbrev pub nak_octets : List ℕ
 nak_octets = 0 ∷ 0 ∷ 0 ∷ 0 ∷ []

@@ -106,7 +106,7 @@ pub fn seal(key: &Key, number: u16, reply: &mut Reply)
     reply.append(digest.octets());
 }
 
-/// Appends the four zeros of a crypto-NAK to a reply that is a header (RFC 5905, 7.3). The reply then has
+/// Appends the four zeros of a crypto-NAK to a reply that is a header (RFC 5905, A.5.1). The reply then has
 /// 52 octets.
 pub fn add_nak(reply: &mut Reply)
     requires { length reply.old ≡ 48 }

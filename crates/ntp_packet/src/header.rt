@@ -7,7 +7,7 @@ use std::marker::Model;
 /// How many octets a header has (RFC 5905, 7.3).
 pub const HEADER_OCTETS: usize = 48;
 
-/// An NTP packet header (RFC 5905, 7.3), of version 1 to 4 alike. Contracts see its thirteen fields.
+/// An NTP packet header (RFC 5905, 7.3), of any version. Contracts see its thirteen fields.
 #[derive(Clone, Copy, Debug, PartialEq, Eq)]
 pub struct Header {
     leap: u8,

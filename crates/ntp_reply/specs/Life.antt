@@ -15,15 +15,15 @@ pub data Life : Type 0 where
   Revoked : Life
   Enrolled : Enrolment → Life
 
--- what the register keeps of an enrolment
+-- what the register keeps of an enrolment (profile)
 abbrev pub terms_of : Enrolment → Terms
 terms_of e = record { key = e.key; number = e.number; budget = e.budget }
 
--- the enrolment of which the register keeps this
+-- the enrolment of which the register keeps this (profile)
 abbrev pub enrolment_of : Terms → Enrolment
 enrolment_of t = record { key = t.key; number = t.number; budget = t.budget }
 
--- what the register keeps of a life: nothing of an address that was never enrolled
+-- what the register keeps of a life: nothing of an address that was never enrolled (profile)
 abbrev pub short : Life → Option CustomerState
 short Unregistered = None
 short Revoked = Some (record { terms = None })

@@ -13,20 +13,22 @@ abbrev pub Reads : List ℕ → Result RequestValue Malformed → Type 0
 Reads octets (Ok request) = IsRequest octets request
 Reads octets (Err fault) = Fails octets fault
 
--- the low eight bits of each number; octets are their own
+-- the low eight bits of each number; octets are their own (profile)
 abbrev pub low : List ℕ → List ℕ
 low octets = map (λ o. o % 256) octets
 
+-- they are octets
 pub AreOctets-low : (octets : List ℕ) → AreOctets (low octets)
 AreOctets-low [] i = omega arith
 AreOctets-low (o ∷ os) zero = omega arith
 AreOctets-low (o ∷ os) (suc i) = AreOctets-low os i
 
--- the reading or the fault
+-- the reading or the fault (profile)
 abbrev pub the_one : (octets : List ℕ) → HasOneReading octets ⊎ HasOneFault octets → Result RequestValue Malformed
 the_one octets (inl reading) = Ok reading.request
 the_one octets (inr fault) = Err fault.fault
 
--- what octets are read as: the one reading or the one fault that they have, by the law that they have exactly one
+-- what octets are read as: the one reading or the one fault that they have. On octets it is the one answer that `Reads` has, by
+-- the law `octets_are_what_they_are_read_as`, so a reader need not look into it (profile)
 unfoldable pub reading_of : List ℕ → Result RequestValue Malformed
 reading_of octets = the_one (low octets) (one-answer (low octets) (AreOctets-low octets))

@@ -12,13 +12,13 @@ use Rattle.ntp_reply.specs.Life.{Enrolment}
 use Rattle.ntp_reply.specs.declared.answers.Kiss.{Kiss}
 use Rattle.ntp_reply.specs.declared.answers.Kiss.TheVariants.{Rate, Deny}
 
--- what is handed in with a datagram: when it came, when its reply departs, and the state of the clock
+-- what is handed in with a datagram: when it came, when its reply departs, and the state of the clock (profile)
 pub record Occasion : Type 0 where
   pub receipt : Moment
   pub transmit : Moment
   pub reference : ReferenceState
 
--- the occasion of these
+-- the occasion of these (profile)
 abbrev pub occasion_of : Moment → Moment → ReferenceState → Occasion
 occasion_of receipt transmit reference = record { receipt = receipt; transmit = transmit; reference = reference }
 
@@ -30,11 +30,11 @@ receive_stamp o = fresh o.receipt.stamp []
 abbrev pub transmit_stamp : Occasion → Stamp
 transmit_stamp o = fresh o.transmit.stamp (receive_stamp o ∷ [])
 
--- a packet has stratum 0 where the clock is unsynchronised (RFC 5905, 11.1)
+-- the stratum in a packet: 0 where the clock is unsynchronised (RFC 5905, 7.3)
 abbrev pub shown_stratum : ReferenceState → ℕ
 shown_stratum r = if r.stratum == 16 then 0 else r.stratum
 
--- and then shows no identifier, which would be read as a kiss code (RFC 5905, 7.4; profile)
+-- the identifier in a packet: none where the stratum is 0, since it would be read as a kiss code (RFC 5905, 7.4; profile)
 abbrev pub shown_id : ReferenceState → List ℕ
 shown_id r = if r.stratum == 16 then 0 ∷ 0 ∷ 0 ∷ 0 ∷ [] else r.id
 
@@ -61,10 +61,11 @@ abbrev pub kiss_code : Kiss → List ℕ
 kiss_code Rate = 82 ∷ 65 ∷ 84 ∷ 69 ∷ []
 kiss_code Deny = 68 ∷ 69 ∷ 78 ∷ 89 ∷ []
 
--- no time
+-- the stamp of unknown time (RFC 5905, 6)
 abbrev pub no_stamp : Stamp
 no_stamp = record { 0 = 0 }
 
+-- no delay and no dispersion (profile)
 abbrev pub no_short : Short
 no_short = record { 0 = 0 }
 
@@ -94,14 +95,14 @@ kiss_fields kiss request = record {
 abbrev pub sealed : Enrolment → List ℕ → List ℕ
 sealed e octets = octets ++ mac_of e.key e.number octets
 
--- a time reply: signed
+-- a time reply: signed (RFC 5905, 7.3 and 9.2)
 abbrev pub time_octets : Enrolment → Occasion → HeaderFields → List ℕ
 time_octets e o request = sealed e (header_octets (basic_fields o request))
 
--- a crypto-NAK: four zeros in the place of the MAC (RFC 5905, 7.3)
+-- a crypto-NAK: four zeros in the place of the MAC (RFC 5905, A.5.1)
 abbrev pub crypto_nak_octets : Occasion → HeaderFields → List ℕ
 crypto_nak_octets o request = header_octets (basic_fields o request) ++ nak_octets
 
--- a DENY: unsigned
+-- a DENY: unsigned (RFC 5905, 7.4; profile)
 abbrev pub deny_octets : HeaderFields → List ℕ
 deny_octets request = header_octets (kiss_fields Deny request)

@@ -34,7 +34,8 @@ client_answer Unregistered o r = answer.Silent reason.Unregistered
 client_answer Revoked o r = answer.Deny (deny_octets r.header)
 client_answer (Enrolled e) o r = admitted e o r r.tail
 
--- the answer to a packet; the first case that applies decides (profile)
+-- the answer to a packet; the first case that applies decides (profile); that an address was never enrolled is decided before
+-- its octets are read, by `verdict`
 abbrev pub packet_answer : Life → Occasion → RequestValue → Answer
 packet_answer life o r =
     if (r.header.version == 3) || (r.header.version == 4)

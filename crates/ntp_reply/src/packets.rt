@@ -12,7 +12,7 @@ const SERVER_MODE: u8 = 4;
 /// The leap indicator of an unsynchronised clock (RFC 5905, 7.3).
 const UNSYNCHRONISED_LEAP: u8 = 3;
 
-/// The stratum of an unsynchronised clock, which a packet shows as 0 (RFC 5905, 11.1).
+/// The stratum of an unsynchronised clock, which a packet shows as 0 (RFC 5905, 7.3).
 const UNSYNCHRONISED_STRATUM: u8 = 16;
 
 // The header of a basic time reply, and of a crypto-NAK, with new receive and transmit stamps.

@@ -9,7 +9,7 @@ use std::marker::Model;
 #[derive(Clone, Copy, Debug, PartialEq, Eq)]
 pub struct BadReference;
 
-/// The reference state that a server hands in with a datagram (RFC 5905, 7.3 and 11.1). Leap 3 and stratum
+/// The reference state that a server hands in with a datagram (RFC 5905, 7.3). Leap 3 and stratum
 /// 16 both mean that the clock is unsynchronised, and stand only together (profile).
 #[derive(Clone, Copy, Debug, PartialEq, Eq)]
 pub struct Reference {

@@ -7,7 +7,7 @@ use Rattle.ntp_admin.specs.declared.command.Command.TheVariants.{Enrol, Revoke}
 use Rattle.ntp_admin.specs.declared.event.Event.{Event}
 use Rattle.ntp_admin.specs.declared.event.Event.TheVariants as event
 
--- the address that a command names
+-- the address that a command names (profile)
 abbrev pub address_of_command : Command → Address
 address_of_command (Enrol address number key budget) = address
 address_of_command (Revoke address) = address
@@ -17,10 +17,10 @@ abbrev pub address_of : {A : Type 0} → Event A → Address
 address_of (event.Datagram address receipt transmit reference octets) = address
 address_of (event.Command command) = address_of_command command
 
--- whether an event names an address
+-- whether an event names an address (profile)
 abbrev pub names : {A : Type 0} → Address → Event A → Bool
 names address e = address_eq address (address_of e)
 
--- the events that name an address, in their order
+-- the events that name an address, in their order (profile)
 abbrev pub own : {A : Type 0} → Address → List (Event A) → List (Event A)
 own address history = filter (names address) history

@@ -41,24 +41,24 @@ is_struck (event.Datagram address receipt transmit reference octets) o = false
 is_struck (event.Command (Enrol address number key budget)) o = is_refused_enrolment o
 is_struck (event.Command (Revoke address)) o = false
 
--- the outcome of a command
+-- the outcome of a command (profile)
 abbrev pub command_outcome : Result (Unit {0}) Refusal → Outcome
 command_outcome (Ok done) = outcome.Done
 command_outcome (Err refusal) = outcome.Refused refusal
 
--- the events with these outcomes, without those that are struck out
+-- the events with these outcomes, without those that are struck out (profile)
 abbrev pub kept : {A : Type 0} → List (Event A) → List Outcome → List (Event A)
 kept [] outcomes = []
 kept (e ∷ events) [] = []
 kept (e ∷ events) (o ∷ outcomes) = if is_struck e o then kept events outcomes else e ∷ kept events outcomes
 
--- what an address was told: the outcomes of the events that name it, without those that are struck out
+-- what an address was told: the outcomes of the events that name it, without those that are struck out (profile)
 abbrev pub told : {A : Type 0} → Address → List (Event A) → List Outcome → List Outcome
 told address [] outcomes = []
 told address (e ∷ events) [] = []
 told address (e ∷ events) (o ∷ outcomes) = if not (is_struck e o) && names address e then o ∷ told address events outcomes else told address events outcomes
 
--- the last n members of a list
+-- the last n members of a list (profile)
 abbrev pub last : {X : Type 0} → ℕ → List X → List X
 last n xs = drop (length xs - n) xs
 

@@ -40,20 +40,20 @@ abbrev pub after : {A : Type 0} → Life → Event A → Life
 after life (event.Datagram address receipt transmit reference octets) = life
 after life (event.Command command) = after_command life command
 
--- the life after events, from a life on
+-- the life after events, from a life on (profile)
 abbrev pub life_after : {A : Type 0} → Life → List (Event A) → Life
 life_after life [] = life
 life_after life (e ∷ events) = life_after (after life e) events
 
--- the life that events leave
+-- the life that events leave (profile)
 abbrev pub life_of : {A : Type 0} → List (Event A) → Life
 life_of events = life_after Unregistered events
 
--- what events are answered, from a life on: each in the life that the events before it left
+-- what events are answered, from a life on: each in the life that the events before it left (profile)
 abbrev pub says_after : {A : Type 0} → Life → List (Event A) → List Outcome
 says_after life [] = []
 says_after life (e ∷ events) = answer_to life e ∷ says_after (after life e) events
 
--- what events are answered
+-- what events are answered (profile)
 abbrev pub says : {A : Type 0} → List (Event A) → List Outcome
 says events = says_after Unregistered events

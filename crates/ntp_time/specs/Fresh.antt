@@ -11,7 +11,8 @@ later s k = record { 0 = (s.0 + k) % 2 ^ 64 }
 unfoldable pub is_free : List Stamp → Stamp → Bool
 is_free avoid s = not (s.0 == 0) && not (list_any (λ a. a.0 == s.0) avoid)
 
--- the first of s, s + 1, s + 2, .. modulo 2^64 that is free; of length avoid + 2 stamps one is free (profile)
+-- the first of s, s + 1, s + 2, .. modulo 2^64 that is free; where fewer than 2^64 - 1 are to be avoided, one of length avoid + 2
+-- stamps is (profile)
 unfoldable pub fresh : Stamp → List Stamp → Stamp
 fresh s avoid = unwrap_or (find (is_free avoid) (map (later s) (range_with_len 0 (length avoid + 2)))) s
 

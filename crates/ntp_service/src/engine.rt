@@ -51,6 +51,7 @@ impl<A: Allocator + Copy> Engine<A> {
     fn answer<W: Write>(&mut self, writer: &mut Watched<W>) -> Result<(), ReplayFaultKind>
         ensures ok { OnOk result ((written : List ℕ) × Answers A self.old.service (self.old.line.items ∷ []) written self.new.service
             × Wrote W.contents writer.old writer.new written) }
+        ensures well { OnOk result (has_failed writer.new ≡ has_failed writer.old) }
         ensures same { self.new.done ≡ self.old.done }
         ensures err { IfErr result (λ kind. (part : List ℕ) × Fails A kind self.old.service (self.old.line.items ∷ []) part
             × Wrote W.contents writer.old writer.new part) }
@@ -76,6 +77,7 @@ impl<A: Allocator + Copy> Engine<A> {
         requires { self.old.done + 1 < 2 ^ 64 }
         ensures ok { OnOk result ((written : List ℕ) × Fed self.old self.new (octet ∷ []) written
             × Wrote W.contents writer.old writer.new written) }
+        ensures well { OnOk result (has_failed writer.new ≡ has_failed writer.old) }
         ensures bound { self.new.done ≤ self.old.done + 1 }
         ensures err { IfErr result (λ kind. (written : List ℕ) × Stops kind self.old self.new (octet ∷ []) written
             × Wrote W.contents writer.old writer.new written) }
@@ -105,6 +107,7 @@ impl<A: Allocator + Copy> Engine<A> {
         requires { self.old.done + length octets.now < 2 ^ 64 }
         ensures ok { OnOk result ((written : List ℕ) × Fed self.old self.new octets.now written
             × Wrote W.contents writer.old writer.new written) }
+        ensures well { OnOk result (has_failed writer.new ≡ has_failed writer.old) }
         ensures bound { self.new.done ≤ self.old.done + length octets.now }
         ensures err { IfErr result (λ kind. (written : List ℕ) × Stops kind self.old self.new octets.now written
             × Wrote W.contents writer.old writer.new written) }
@@ -123,6 +126,7 @@ impl<A: Allocator + Copy> Engine<A> {
     ) -> Result<(), ReplayFaultKind>
         ensures ok { OnOk result ((written : List ℕ) × Answers A self.old.service (lines_of self.old.line.items) written self.new.service
             × Wrote W.contents writer.old writer.new written) }
+        ensures well { OnOk result (has_failed writer.new ≡ has_failed writer.old) }
         ensures same { self.new.done ≡ self.old.done }
         ensures err { IfErr result (λ kind. (part : List ℕ) × Fails A kind self.old.service (lines_of self.old.line.items) part
             × Wrote W.contents writer.old writer.new part) }

@@ -52,6 +52,7 @@ pub(crate) fn write_answer<A: Allocator + Copy, W: Write>(
     writer: &mut Watched<W>,
 ) -> Result<(), ReplayFaultKind>
     ensures ok { OnOk result (Wrote W.contents writer.old writer.new (text_of outcome.now)) }
+    ensures well { OnOk result (has_failed writer.new ≡ has_failed writer.old) }
     ensures err { IfErr result (λ kind. (part : List ℕ) × CutsShort kind (text_of outcome.now) part
         × Wrote W.contents writer.old writer.new part) }
     ensures told { IfErr result (IsPastReading (has_failed writer.new)) }

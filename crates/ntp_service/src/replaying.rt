@@ -38,6 +38,10 @@ pub fn replay<A: Allocator + Copy, R: Read, W: Write>(
         × Replays A (lines_of text) written service × Wrote W.contents writer.old writer.new written)) }
     ensures end { OnOk result (IsAtEnd (R.remaining (inner_of reader.new))) }
 
+    // No read and no write had failed, whatever the reader and the writer tell.
+    ensures reader_well { OnOk result (has_failed reader.new ≡ false) }
+    ensures writer_well { OnOk result (has_failed writer.new ≡ false) }
+
     // The lines before the one that the fault names were replayed.
     ensures stopped { IfErr result (λ fault. IfSome (R.remaining (inner_of reader.old)) (λ text. (written : List ℕ)
         × StopsAt A fault (lines_of text) written × Wrote W.contents writer.old writer.new written)) }
@@ -69,6 +73,8 @@ fn feed_all<A: Allocator + Copy, R: Read, W: Write>(
     ensures ok { OnOk result (IfSome (R.remaining (inner_of reader.old)) (λ text. (written : List ℕ) × (service : Registry)
         × Replays A (lines_of text) written service × Wrote W.contents writer.old writer.new written)) }
     ensures end { OnOk result (IsAtEnd (R.remaining (inner_of reader.new))) }
+    ensures reader_well { OnOk result (has_failed reader.new ≡ has_failed reader.old) }
+    ensures writer_well { OnOk result (has_failed writer.new ≡ has_failed writer.old) }
     ensures stopped { IfErr result (λ kind. IfSome (R.remaining (inner_of reader.old)) (λ text. (written : List ℕ)
         × StopsAt A (record { line = engine.new.done + 1; kind = kind }) (lines_of text) written
         × Wrote W.contents writer.old writer.new written)) }

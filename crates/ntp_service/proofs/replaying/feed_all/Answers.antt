@@ -1,4 +1,4 @@
-use Rattle.std.proofs.Common.{arith, rules, append-nil, take, [], ◌++◌}
+use Rattle.std.proofs.Common.{refl, ◌∙◌, arith, rules, append-nil, take, [], ◌++◌}
 use Rattle.std.proofs.KnownBytes.{Appends-nil, Appends-trans, Consumes-nil, Consumes-trans, Consumes-kept}
 use Rattle.std.proofs.lemmas.Result.{on_ok_weaker, IfErr-weaker, err_from_is_err_and}
 use Rattle.ntp_service.proofs.Feeding.{Fed-nil, Fed-trans, Fed-stops}
@@ -9,6 +9,8 @@ pub loop-turn-init : goal.loop-turn-init
 loop-turn-init g c = record {
   reads = c.requires.unread;
   bound = omega (arith, c.requires.fresh.done);
+  reader_well = refl;
+  writer_well = refl;
   so_far = ([], [], Fed-nil _, Consumes-nil _, Appends-nil _);
 }
 
@@ -58,5 +60,7 @@ loop-turn-preserved g c =
     record {
       reads = search rules;
       bound = search rules;
+      reader_well = c.in-Ok.ensures.well ∙ c.loop-turn.invariant.reader_well;
+      writer_well = c.in_ok-feed-in-Ok.ensures.well ∙ c.loop-turn.invariant.writer_well;
       so_far = (s.0 ++ octets, s.1 ++ e.0, Fed-trans _ _ _ _ _ _ _ s.2 e.1, Consumes-trans _ _ _ _ _ s.3 c.in-Ok.ensures.octets, Appends-trans _ _ _ _ _ s.4 e.2);
     }

@@ -1,4 +1,4 @@
-use Rattle.std.proofs.Common.{arith, ◌++◌, ◌+◌, [], drop}
+use Rattle.std.proofs.Common.{refl, ◌∙◌, arith, ◌++◌, ◌+◌, [], drop}
 use Rattle.std.proofs.KnownBytes.{Appends-nil, Appends-trans}
 use Rattle.std.proofs.lemmas.List.{take_more}
 use Rattle.std.proofs.lemmas.Result.{err_from_is_err_and}
@@ -6,7 +6,7 @@ use Rattle.ntp_service.proofs.Feeding.{Fed-nil, Fed-trans, Fed-stops, Stops-more
 use Rattle.ntp_service.proofs.engine.Engine.feed.Goals as goal
 
 pub loop-octet-init : goal.loop-octet-init
-loop-octet-init g c = record { bound = omega arith; so_far = ([], Fed-nil _, Appends-nil _) }
+loop-octet-init g c = record { bound = omega arith; well = refl; so_far = ([], Fed-nil _, Appends-nil _) }
 
 pub returns-in_err-take_octet-clause-err : goal.returns-in_err-take_octet-clause-err
 returns-in_err-take_octet-clause-err g c =
@@ -21,6 +21,7 @@ loop-octet-preserved g c =
     let s = c.loop-octet.invariant.so_far in let e = c.in_ok-take_octet.ensures.ok in
     record {
       bound = omega (arith, c.take_octet.ensures.bound, c.loop-octet.invariant.bound);
+      well = c.in_ok-take_octet.ensures.well ∙ c.loop-octet.invariant.well;
       so_far = (
         s.0 ++ e.0,
         rw (take_more c.args.octets.now c.loop-octet.octet-index 0 c.loop-octet-test.true) (Fed-trans _ _ _ _ _ _ _ s.1 e.1),

@@ -1,4 +1,6 @@
 //! What a run ends with: its status, and the line that tells a fault.
+ghost use Rattle.std.specs.Prelude.{◌≡◌, IfSome};
+ghost use Rattle.labntp.specs.Ends.{Ends, status_of};
 
 use ntp_admin::LineFault;
 use ntp_service::{ReplayFault, ReplayFaultKind, Watched, replay};
@@ -21,13 +23,18 @@ pub const IO_FAILED: u8 = 3;
 pub const MEMORY_OUT: u8 = 4;
 
 /// Replays a script from a reader to a writer. A fault is told in one line to `faults`, where a failed write
-/// is passed over. Gives the exit status.
+/// is passed over.
+///
+/// Gives the exit status: 0 only where the whole script was replayed, and else that of the fault that stopped it, 1
+/// for the text, 3 for a read or a write and 4 for want of memory.
 pub fn replay_status<A: Allocator + Copy, R: Read + Drop, W: Write + Drop, F: Write>(
     alloc: A,
     reader: R,
     writer: W,
     faults: &mut F,
-) -> u8 {
+) -> u8
+    ensures { IfSome (R.remaining reader) (λ text. Ends A text result) }
+{
     let mut reader = Watched::new(reader);
     let mut writer = Watched::new(writer);
     match replay(alloc, &mut reader, &mut writer) {
@@ -37,7 +44,9 @@ pub fn replay_status<A: Allocator + Copy, R: Read + Drop, W: Write + Drop, F: Wr
 }
 
 // Tells a fault, and gives its status.
-fn tell<F: Write>(fault: ReplayFault, faults: &mut F) -> u8 {
+fn tell<F: Write>(fault: ReplayFault, faults: &mut F) -> u8
+    ensures { result ≡ status_of fault.kind }
+{
     let line = fault.line;
     match fault.kind {
         ReplayFaultKind::Line(LineFault::NoMemory) | ReplayFaultKind::NoMemory => {

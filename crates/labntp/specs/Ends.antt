@@ -1,0 +1,41 @@
+-- What a replay by the program ends with.
+use Rattle.std.specs.Prelude.{◌≡◌, ◌⊎◌, ℕ, List}
+use Rattle.ntp_register.specs.Registry.{Registry}
+use Rattle.ntp_admin.specs.declared.line_fault.LineFault.{LineFault}
+use Rattle.ntp_admin.specs.declared.line_fault.LineFault.TheVariants as line_fault
+use Rattle.ntp_service.specs.declared.faults.ReplayFault.{ReplayFault}
+use Rattle.ntp_service.specs.declared.faults.ReplayFaultKind.{ReplayFaultKind}
+use Rattle.ntp_service.specs.declared.faults.ReplayFaultKind.TheVariants.{Line, Read, Write, NoMemory, LineLong, NotUtf8}
+use Rattle.ntp_service.specs.Script.{lines_of}
+use Rattle.ntp_service.specs.Replay.{Replays, StopsAt}
+
+-- the status for a line that spells no event: 1, and 4 for want of memory (profile)
+abbrev pub line_status : LineFault → ℕ
+line_status line_fault.Word = 1
+line_status line_fault.Count = 1
+line_status line_fault.Address = 1
+line_status line_fault.Number = 1
+line_status line_fault.Algorithm = 1
+line_status line_fault.KeyText = 1
+line_status line_fault.Budget = 1
+line_status line_fault.NoMemory = 4
+line_status line_fault.Moment = 1
+line_status line_fault.Stamp = 1
+line_status line_fault.Reference = 1
+line_status line_fault.Hex = 1
+
+-- the status for what stopped a replay: 1 for the text, 3 for a read or a write, 4 for want of memory (profile)
+abbrev pub status_of : ReplayFaultKind → ℕ
+status_of (Line fault) = line_status fault
+status_of Read = 3
+status_of Write = 3
+status_of NoMemory = 4
+status_of LineLong = 1
+status_of NotUtf8 = 1
+
+-- a replay of a text ends with a status: with 0 where the whole text was replayed, and else with that of a fault that
+-- stopped it (profile)
+abbrev pub Ends : (A : Type 0) → List ℕ → ℕ → Type 0
+Ends A text status =
+    ((status ≡ 0) × (written : List ℕ) × (service : Registry) × Replays A (lines_of text) written service)
+    ⊎ ((fault : ReplayFault) × (status ≡ status_of fault.kind) × (written : List ℕ) × StopsAt A fault (lines_of text) written)

@@ -5,18 +5,19 @@
 //! computed or read.
 #![tactic(auto)]
 
+mod words;
 mod work;
 
 use std::{env, io};
+use words::Word;
 
 fn main(rt: HostRuntime) -> io::Result<()> {
-    let mut words = [0u64; 3];
-    for (place, word) in env::args(&rt)?.enumerate() {
-        if let Some(slot) = words.get_mut(place.saturating_sub(1)) {
-            *slot = work::number_of(word.as_str());
+    let mut words = [Word::Other; 3];
+    for (place, word) in env::args(&rt)?.skip(1).enumerate() {
+        if let Some(slot) = words.get_mut(place) {
+            *slot = Word::of(word.as_str());
         }
     }
-    let [kind, which, count] = words;
-    let done = work::done(rt.alloc(), kind, which, count);
+    let done = work::done(rt.alloc(), words);
     println!(rt; "{done}")
 }

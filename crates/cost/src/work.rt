@@ -2,6 +2,7 @@
 
 ghost use Rattle.std.specs.Prelude.{◌≤◌};
 
+use crate::words::Word;
 use ntp_admin::Command;
 use ntp_mac::{Algorithm, Key, digest};
 use ntp_register::Address;
@@ -20,37 +21,21 @@ const HEADER: [u8; 48] = [
     0, 0, 0, 0, 0, 0, 0, 0, 0, 0xec, 0, 0, 0x10, 0x80, 0, 0, 0,
 ];
 
-/// A word as a number: what is counted, by which algorithm, or how often.
-pub fn number_of(word: &str) -> u64 {
-    match word {
-        "query" => 1,
-        "digests" => 2,
-        "fields" => 3,
-        "md5" => 5,
-        "sha1" => 1,
-        digits => digits.parse::<u64>().unwrap_or(0),
-    }
-}
-
-/// Does the work that the words ask for, and counts it.
-pub fn done(alloc: Global, kind: u64, which: u64, count: u64) -> u64 {
-    let algorithm = if which == 5 {
-        Algorithm::Md5
-    } else {
-        Algorithm::Sha1
-    };
-    let Ok(key) = Key::new(algorithm, b"key") else {
-        return 0;
-    };
-    match kind {
-        1 => queries(alloc, key, count),
-        2 => digests(key, count),
-        _ => fields(which, count),
+// Does the work that the words ask for, and counts it; none where they ask for nothing.
+pub(crate) fn done(alloc: Global, words: [Word; 3]) -> u64 {
+    match words {
+        [Word::Query, Word::By(algorithm), Word::Number(count)] => queries(alloc, algorithm, count),
+        [Word::Digests, Word::By(algorithm), Word::Number(count)] => digests(algorithm, count),
+        [Word::Fields, Word::Number(many), Word::Number(count)] => fields(many, count),
+        _ => 0,
     }
 }
 
 // Signed queries that were answered with the time.
-fn queries(alloc: Global, key: Key, count: u64) -> u64 {
+fn queries(alloc: Global, algorithm: Algorithm, count: u64) -> u64 {
+    let Ok(key) = Key::new(algorithm, b"key") else {
+        return 0;
+    };
     let Ok(reference) = Reference::new(
         0,
         1,
@@ -115,7 +100,10 @@ fn moment(units: u64) -> Moment {
 }
 
 // The two digests of a query and its reply, and no more.
-fn digests(key: Key, count: u64) -> u64 {
+fn digests(algorithm: Algorithm, count: u64) -> u64 {
+    let Ok(key) = Key::new(algorithm, b"key") else {
+        return 0;
+    };
     let mut computed = 0u64;
     for _ in 0..count {
         let query = digest(&key, &HEADER);

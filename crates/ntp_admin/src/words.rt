@@ -8,15 +8,12 @@ ghost use Rattle.ntp_admin.specs.Words.{is_decimal, decimal_in, address_in, numb
 use crate::parts::Parts;
 use crate::{LineFault, Octets};
 use hex::{FromHex, FromHexError};
-use ntp_mac::{Algorithm, Key};
+use ntp_mac::{Algorithm, Key, MOST_KEY_OCTETS};
 use ntp_register::Address;
 use ntp_reply::Reference;
 use ntp_time::{Moment, Short, Stamp};
 use std::alloc::Allocator;
 use std::num::NonZero;
-
-/// How many octets a key has at most (profile).
-const MOST_KEY_OCTETS: usize = 32;
 
 /// How many octets spell a reference state (profile).
 const REFERENCE_OCTETS: usize = 23;

@@ -5,7 +5,7 @@ use std::fmt;
 use std::marker::Model;
 
 /// How many octets a key has at most (profile).
-const MOST_KEY_OCTETS: usize = 32;
+pub const MOST_KEY_OCTETS: usize = 32;
 
 /// The algorithm of a digest.
 #[derive(Clone, Copy, Debug, PartialEq, Eq)]

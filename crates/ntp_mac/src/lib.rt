@@ -12,6 +12,6 @@ mod verifying;
 
 pub use digests::Digest;
 pub use hashing::digest;
-pub use key::{Algorithm, Key, KeyFault};
+pub use key::{Algorithm, Key, KeyFault, MOST_KEY_OCTETS};
 pub use reply::{Reply, add_nak, seal};
 pub use verifying::verifies;

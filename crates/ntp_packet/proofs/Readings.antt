@@ -1,7 +1,7 @@
 -- Every 48 octets are read as one header.
-use Rattle.std.proofs.Common.{◌≡◌, ℕ, ℤ, ◌+◌, ◌*◌, ◌/◌, ◌%◌, ◌^◌, ◌≤◌, ◌<◌, List, [], ◌∷◌, ◌++◌, length, get_or, take, drop, refl, sym, ap, subst, ◌∙◌, inl, inr, arith, rules}
-use Rattle.std.specs.Prelude.{All, FitsSigned}
-use Rattle.std.specs.Int.{w8, w32, w64, cast_unsigned, cast_signed, to_be_bytes, from_be_bytes}
+use Rattle.std.proofs.Common.{◌≡◌, ℕ, ◌+◌, ◌*◌, ◌/◌, ◌%◌, ◌^◌, ◌≤◌, ◌<◌, List, [], ◌∷◌, length, get_or, take, drop, refl, sym, ap, subst, ◌∙◌, inl, inr, arith, rules}
+use Rattle.std.specs.Prelude.{All}
+use Rattle.std.specs.Int.{w8, w32, w64, cast_signed, to_be_bytes, from_be_bytes}
 use Rattle.std.proofs.lemmas.Int.{of_z-to_z, to_z-of_z}
 use Rattle.std.proofs.Math.Facts.{sfits_to_z}
 use Rattle.std.proofs.lemmas.List.{take_all, length-take, length-drop, get_or-take, get_or-drop, get_or_past, get_or_default}
@@ -10,7 +10,7 @@ use Rattle.std.proofs.lemmas.Nat.{be_bytes_4, be_bytes_8, from_be_bytes-to_be_by
 use Rattle.ntp_time.specs.declared.stamp.Stamp.{Stamp}
 use Rattle.ntp_time.specs.declared.stamp.Short.{Short}
 use Rattle.ntp_packet.specs.Header.{HeaderFields, first_octets, header_octets, IsHeader}
-use Rattle.ntp_packet.proofs.Parts.{read-parts, first-fields, four-cells, first-octet}
+use Rattle.ntp_packet.proofs.Parts.{read-parts, first-fields, four-cells}
 
 -- the numbers in four and in eight octets
 abbrev short_in : List ℕ → Short

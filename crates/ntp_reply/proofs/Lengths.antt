@@ -1,12 +1,10 @@
 -- How many octets requests and replies have.
-use Rattle.std.proofs.Common.{◌≡◌, ℕ, ◌+◌, ◌≤◌, List, ◌⊎◌, inl, inr, length, refl, sym, ap, ◌∙◌, subst, arith}
-use Rattle.std.proofs.lemmas.List.{length-append}
-use Rattle.std.specs.Int.{w32, to_be_bytes}
-use Rattle.ntp_tail.specs.Tail.{TailValue, NoTail, BareTail, Md5Tail, Sha1Tail, tail_octets, IsTail}
+use Rattle.std.proofs.Common.{◌≡◌, ℕ, ◌+◌, ◌≤◌, List, ◌⊎◌, inl, inr, length, ap, ◌∙◌, subst, arith}
+use Rattle.ntp_tail.specs.Tail.{TailValue, Md5Tail, Sha1Tail, tail_octets, IsTail}
 use Rattle.ntp_tail.specs.Request.{RequestValue, IsReading}
 use Rattle.ntp_tail.proofs.Headers.{length-signed}
 use Rattle.ntp_mac.specs.Key.{SymmetricKey}
-use Rattle.ntp_mac.specs.Digest.{digest_of, digest_length, hash}
+use Rattle.ntp_mac.specs.Digest.{digest_length, hash}
 use Rattle.ntp_mac.specs.Signed.{IsSigned, mac_tail}
 use Rattle.ntp_mac.specs.declared.key.Algorithm.{Algorithm}
 use Rattle.ntp_mac.specs.declared.key.Algorithm.TheVariants.{Md5, Sha1}

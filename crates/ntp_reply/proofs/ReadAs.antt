@@ -1,5 +1,5 @@
 -- What octets are read as.
-use Rattle.std.proofs.Common.{◌≡◌, ℕ, suc, ◌%◌, ◌<◌, List, [], ◌∷◌, Result, Ok, Err, ◌⊎◌, inl, inr, refl, sym, ap, subst, ◌∙◌, arith}
+use Rattle.std.proofs.Common.{◌≡◌, ℕ, suc, ◌%◌, List, [], ◌∷◌, Result, Ok, Err, ◌⊎◌, inl, inr, refl, sym, ap, subst, ◌∙◌, arith}
 use Rattle.ntp_tail.specs.Request.{RequestValue, IsRequest}
 use Rattle.ntp_tail.specs.Faults.{Fails}
 use Rattle.ntp_tail.specs.OneAnswer.{HasOneReading, HasOneFault}

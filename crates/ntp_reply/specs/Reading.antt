@@ -1,5 +1,5 @@
 -- The one answer to octets: the request that they are, or what is wrong with them.
-use Rattle.std.specs.Prelude.{ℕ, zero, suc, ◌%◌, ◌<◌, List, [], ◌∷◌, map, Result, Ok, Err}
+use Rattle.std.specs.Prelude.{ℕ, zero, suc, ◌%◌, List, [], ◌∷◌, map, Result, Ok, Err}
 use Rattle.std.proofs.Common.{◌⊎◌, inl, inr, arith}
 use Rattle.ntp_tail.specs.Request.{RequestValue, IsRequest}
 use Rattle.ntp_tail.specs.Faults.{Fails}

@@ -1,11 +1,10 @@
 -- The octets of the replies.
-use Rattle.std.specs.Prelude.{ℕ, pos, List, [], ◌∷◌, ◌++◌, ◌==◌, if◌then◌else◌, length}
+use Rattle.std.specs.Prelude.{ℕ, pos, List, [], ◌∷◌, ◌++◌, ◌==◌, if◌then◌else◌}
 use Rattle.ntp_time.specs.declared.stamp.Stamp.{Stamp}
 use Rattle.ntp_time.specs.declared.stamp.Short.{Short}
 use Rattle.ntp_time.specs.declared.moment.Moment.{Moment}
 use Rattle.ntp_time.specs.Fresh.{fresh}
 use Rattle.ntp_packet.specs.Header.{HeaderFields, header_octets}
-use Rattle.ntp_mac.specs.Key.{SymmetricKey}
 use Rattle.ntp_mac.specs.Mac.{mac_of, nak_octets}
 use Rattle.ntp_reply.specs.Reference.{ReferenceState}
 use Rattle.ntp_reply.specs.Life.{Enrolment}

@@ -10,7 +10,6 @@ use Rattle.ntp_reply.specs.Life.{Life, Unregistered, Revoked, Enrolled, Enrolmen
 use Rattle.ntp_reply.specs.Replies.{Occasion, receive_stamp, time_octets, crypto_nak_octets, deny_octets}
 use Rattle.ntp_reply.specs.declared.answers.Answer.{Answer}
 use Rattle.ntp_reply.specs.declared.answers.Answer.TheVariants as answer
-use Rattle.ntp_reply.specs.declared.answers.Reason.{Reason}
 use Rattle.ntp_reply.specs.declared.answers.Reason.TheVariants as reason
 
 -- a signed query gets the time (profile)

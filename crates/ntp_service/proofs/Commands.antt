@@ -1,5 +1,5 @@
 -- One command, by what the register answered.
-use Rattle.std.proofs.Common.{◌≡◌, ◌≢◌, ℕ, true, false, Option, Some, None, Result, Ok, Err, IsSome, IsNone, IsErr, List, refl, sym, ap, ◌∙◌, subst, true≢false, [], ◌∷◌, ◌++◌}
+use Rattle.std.proofs.Common.{◌≡◌, ℕ, false, Option, Some, None, Result, Ok, Err, IsSome, IsNone, List, refl, sym, ap, ◌∙◌, subst, true≢false, [], ◌∷◌, ◌++◌}
 use Rattle.std.specs.Prelude.{◌↔◌, OnOk, OnErr, IfErr}
 use Rattle.std.specs.Option.{option_and_then}
 use Rattle.std.specs.NonZero.{non_zero_u16_get}
@@ -9,7 +9,7 @@ use Rattle.ntp_mac.specs.Key.{SymmetricKey}
 use Rattle.ntp_register.specs.declared.address.Address.{Address}
 use Rattle.ntp_register.specs.declared.refusal.Refusal.{Refusal}
 use Rattle.ntp_register.specs.declared.refusal.Refusal.TheVariants.{AlreadyEnrolled, KeyTaken, NoMemory, NotEnrolled}
-use Rattle.ntp_register.specs.Customer.{CustomerState, new_customer, number_of, revoked}
+use Rattle.ntp_register.specs.Customer.{new_customer, number_of}
 use Rattle.ntp_register.specs.Registry.{Registry, Agrees, customer_at, number_at, holder_of, after_enrol, after_revoke}
 use Rattle.ntp_register.proofs.Lookups.{customer_at-after_enrol, customer_at-after_enrol-other, customer_at-after_revoke, customer_at-after_revoke-other}
 use Rattle.ntp_reply.specs.Life.{Life, Unregistered, Revoked, Enrolled, Enrolment, short, terms_of}
@@ -17,9 +17,8 @@ use Rattle.ntp_admin.specs.declared.command.Command.{Command}
 use Rattle.ntp_admin.specs.declared.command.Command.TheVariants.{Enrol, Revoke}
 use Rattle.ntp_admin.specs.declared.event.Event.{Event}
 use Rattle.ntp_admin.specs.declared.event.Event.TheVariants as event
-use Rattle.ntp_admin.specs.declared.outcome.Outcome.{Outcome}
 use Rattle.ntp_admin.specs.declared.outcome.Outcome.TheVariants.{Done, Refused}
-use Rattle.ntp_service.specs.Events.{own, address_of_command}
+use Rattle.ntp_service.specs.Events.{own}
 use Rattle.ntp_service.specs.Model.{life_of, command_answer, after_command}
 use Rattle.ntp_service.specs.Headline.{StandsFor, TellsOne, IsAnswered, IsTaken, is_struck, is_enrolled, command_outcome}
 use Rattle.ntp_service.proofs.Histories.{stands-step, stands-same}

@@ -1,5 +1,5 @@
 -- One datagram, by what the register has at its address.
-use Rattle.std.proofs.Common.{◌≡◌, ℕ, false, Option, Some, None, Result, List, refl, sym, ap, ◌∙◌}
+use Rattle.std.proofs.Common.{◌≡◌, ℕ, false, Some, None, Result, List, refl, sym, ap, ◌∙◌}
 use Rattle.std.proofs.lemmas.Option.{none-some}
 use Rattle.ntp_time.specs.declared.moment.Moment.{Moment}
 use Rattle.ntp_register.specs.declared.address.Address.{Address}

@@ -1,5 +1,5 @@
 -- Who holds a number.
-use Rattle.std.proofs.Common.{◌≡◌, ◌≢◌, ℕ, true, false, Option, Some, None, Result, Ok, Err, IsSome, IsNone, List, refl, sym, ap, ◌∙◌, subst, true≢false}
+use Rattle.std.proofs.Common.{◌≡◌, ℕ, false, Option, Some, None, Result, Err, IsSome, IsNone, List, refl, sym, ap, ◌∙◌, subst, true≢false}
 use Rattle.std.specs.Prelude.{◌↔◌, IfErr}
 use Rattle.std.specs.Option.{option_and_then}
 use Rattle.std.specs.Int.NonZero.{non_zero_u16_get}
@@ -10,7 +10,7 @@ use Rattle.ntp_register.specs.declared.address.Address.{Address}
 use Rattle.ntp_register.specs.declared.refusal.Refusal.{Refusal}
 use Rattle.ntp_register.specs.declared.refusal.Refusal.TheVariants.{KeyTaken, NotEnrolled}
 use Rattle.ntp_register.specs.Customer.{number_of}
-use Rattle.ntp_register.specs.Registry.{Registry, customer_at, number_at, holder_of}
+use Rattle.ntp_register.specs.Registry.{Registry, number_at, holder_of}
 use Rattle.ntp_register.proofs.Agreement.{one-holder, other-holder}
 use Rattle.ntp_reply.specs.Life.{Life, Unregistered, Revoked, Enrolled, short}
 use Rattle.ntp_admin.specs.declared.command.Command.TheVariants.{Enrol}

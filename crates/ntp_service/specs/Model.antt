@@ -2,7 +2,7 @@
 use Rattle.std.specs.Prelude.{List, [], ◌∷◌}
 use Rattle.std.specs.Int.NonZero.{non_zero_u16_get}
 use Rattle.ntp_register.specs.declared.refusal.Refusal.TheVariants.{AlreadyEnrolled, NotEnrolled}
-use Rattle.ntp_reply.specs.Life.{Life, Unregistered, Revoked, Enrolled, Enrolment}
+use Rattle.ntp_reply.specs.Life.{Life, Unregistered, Revoked, Enrolled}
 use Rattle.ntp_reply.specs.Replies.{occasion_of}
 use Rattle.ntp_reply.specs.Verdict.{verdict}
 use Rattle.ntp_admin.specs.declared.command.Command.{Command}

@@ -1,4 +1,4 @@
-use Rattle.std.proofs.Common.{rules, arith, ap, ◌∙◌, ◌≡◌, ◌<◌, get_or, length}
+use Rattle.std.proofs.Common.{arith, ap, ◌∙◌, ◌≡◌, get_or}
 use Rattle.std.specs.Int.{w8, cast_unsigned}
 use Rattle.ntp_packet.specs.Header.{HeaderFields}
 use Rattle.ntp_packet.proofs.Parts.{read-parts, first-fields, handed-on}

@@ -1,5 +1,5 @@
-use Rattle.std.proofs.Common.{◌≡◌, ◌≤◌, inl, inr, length, arith, ap, subst}
-use Rattle.ntp_tail.specs.Tail.{tail_value, IsTail, tail_octets}
+use Rattle.std.proofs.Common.{◌≤◌, inl, inr, length, arith, ap}
+use Rattle.ntp_tail.specs.Tail.{tail_value, tail_octets}
 use Rattle.ntp_reply.proofs.Lengths.{signed-long, mac-long}
 use Rattle.ntp_reply.proofs.deciding.answer.Goals as goal
 

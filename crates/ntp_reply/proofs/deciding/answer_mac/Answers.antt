@@ -1,6 +1,4 @@
-use Rattle.std.proofs.Common.{◌≡◌, ◌≤◌, length, arith, refl, sym, ap, ◌∙◌, subst}
-use Rattle.ntp_tail.specs.Request.{IsReading}
-use Rattle.ntp_reply.specs.Verdict.{request_length}
+use Rattle.std.proofs.Common.{arith, refl}
 use Rattle.ntp_reply.proofs.Lengths.{signed-long, signed-fits}
 use Rattle.ntp_reply.proofs.deciding.answer_mac.Goals as goal
 

@@ -1,4 +1,4 @@
-use Rattle.std.proofs.Common.{◌≡◌, ◌<◌, ℕ, get_or, Ok, Err, sym, ap, ◌∙◌, arith}
+use Rattle.std.proofs.Common.{Ok, Err, sym, ◌∙◌, arith}
 use Rattle.ntp_reply.proofs.ReadAs.{answers-so}
 use Rattle.ntp_service.proofs.Datagrams.{verdict-read}
 use Rattle.ntp_service.proofs.service.answer_octets.Goals as goal

@@ -1,4 +1,3 @@
-use Rattle.std.proofs.Common.{rules}
 use Rattle.ntp_service.proofs.service.Service.apply.Goals as goal
 
 pub returns-in-Command : goal.returns-in-Command

@@ -1,4 +1,4 @@
-use Rattle.std.proofs.Common.{◌≡◌, sym, ap, ◌∙◌}
+use Rattle.std.proofs.Common.{sym, ap, ◌∙◌}
 use Rattle.ntp_register.specs.Customer.{number_of}
 use Rattle.ntp_register.specs.Registry.{with_customer}
 use Rattle.ntp_register.proofs.Lookups.{with_customer-present}

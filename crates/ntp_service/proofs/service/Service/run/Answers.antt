@@ -1,4 +1,4 @@
-use Rattle.std.proofs.Common.{◌≡◌, ◌+◌, ◌++◌, ◌∷◌, [], arith, sym, ap, ◌∙◌, subst, take}
+use Rattle.std.proofs.Common.{◌+◌, ◌++◌, ◌∷◌, [], arith, sym, ap, ◌∙◌, subst, take}
 use Rattle.std.proofs.lemmas.List.{take_more, take_all}
 use Rattle.ntp_service.proofs.Runs.{Goes, Goes-nil, Goes-push, Goes-tells}
 use Rattle.ntp_service.proofs.service.Service.run.Goals as goal

@@ -1,4 +1,4 @@
-use Rattle.std.proofs.Common.{List, take, ◌+◌, ◌≤◌, ◌≡◌, length}
+use Rattle.std.proofs.Common.{List, take, ◌≤◌, ◌≡◌, length}
 use Rattle.std.specs.Prelude.{vec_len, vec_capacity}
 use Rattle.ntp_admin.specs.declared.event.Event.{Event}
 use Rattle.ntp_service.specs.Headline.{StandsFor}

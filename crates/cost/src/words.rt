@@ -2,7 +2,7 @@
 
 use ntp_mac::Algorithm;
 
-/// A word: what is counted, by which algorithm, or how often.
+/// A word: what is counted, by which algorithm, how many fields, or how often.
 #[derive(Clone, Copy)]
 pub(crate) enum Word {
     Query,

@@ -9,7 +9,7 @@ use Rattle.ntp_service.specs.declared.faults.ReplayFaultKind.TheVariants.{Line, 
 use Rattle.ntp_service.specs.Script.{lines_of}
 use Rattle.ntp_service.specs.Replay.{Replays, StopsAt}
 
--- the status for a line that spells no event: 1, and 4 for want of memory (profile)
+-- the status for the fault of a line: 1, and 4 for want of memory (profile)
 abbrev pub line_status : LineFault → ℕ
 line_status line_fault.Word = 1
 line_status line_fault.Count = 1
@@ -33,9 +33,9 @@ status_of NoMemory = 4
 status_of LineLong = 1
 status_of NotUtf8 = 1
 
--- a replay of a text ends with a status: with 0 where the whole text was replayed, and else with that of a fault that
--- stopped it (profile)
-abbrev pub Ends : (A : Type 0) → List ℕ → ℕ → Type 0
-Ends A text status =
-    ((status ≡ 0) × (written : List ℕ) × (service : Registry) × Replays A (lines_of text) written service)
-    ⊎ ((fault : ReplayFault) × (status ≡ status_of fault.kind) × (written : List ℕ) × StopsAt A fault (lines_of text) written)
+-- a replay of a text ends with a status, and wrote this: with 0 only where the whole text was replayed, and else with that
+-- of a fault that stopped it (profile)
+abbrev pub Ends : (A : Type 0) → List ℕ → List ℕ → ℕ → Type 0
+Ends A text written status =
+    ((status ≡ 0) × (service : Registry) × Replays A (lines_of text) written service)
+    ⊎ ((fault : ReplayFault) × (status ≡ status_of fault.kind) × StopsAt A fault (lines_of text) written)

@@ -3,6 +3,7 @@
 
 mod status;
 
+use ntp_service::Watched;
 use status::{USAGE_REFUSED, replay_status};
 use std::process::ExitCode;
 use std::{env, io};
@@ -12,7 +13,9 @@ fn main(rt: HostRuntime) -> ExitCode {
         let _ = eprintln!(rt; "usage");
         return ExitCode::from(USAGE_REFUSED);
     }
-    ExitCode::from(replay_status(rt.alloc(), rt.stdin(), rt.stdout(), &mut rt.stderr()))
+    let mut reader = Watched::new(rt.stdin());
+    let mut writer = Watched::new(rt.stdout());
+    ExitCode::from(replay_status(rt.alloc(), &mut reader, &mut writer, &mut rt.stderr()))
 }
 
 // Whether the command line is the one word `replay`.

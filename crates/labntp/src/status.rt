@@ -1,5 +1,6 @@
 //! What a run ends with: its status, and the line that tells a fault.
-ghost use Rattle.std.specs.Prelude.{◌≡◌, IfSome};
+ghost use Rattle.std.specs.Prelude.{◌≡◌, ◌⊎◌, ◌-◌, ◌^◌, ℕ, List, true, false, IfSome};
+ghost use Rattle.ntp_service.specs.Watched.{inner_of, has_failed, read_count, Wrote};
 ghost use Rattle.labntp.specs.Ends.{Ends, status_of};
 
 use ntp_admin::LineFault;
@@ -25,19 +26,27 @@ pub const MEMORY_OUT: u8 = 4;
 /// Replays a script from a reader to a writer. A fault is told in one line to `faults`, where a failed write
 /// is passed over.
 ///
-/// Gives the exit status: 0 only where the whole script was replayed, and else that of the fault that stopped it, 1
-/// for the text, 3 for a read or a write and 4 for want of memory.
-pub fn replay_status<A: Allocator + Copy, R: Read + Drop, W: Write + Drop, F: Write>(
+/// Gives the exit status: 0 only where the whole script was replayed, 1 only where its text has a fault, 3 only
+/// where a read or a write failed, and 4 for want of memory.
+pub fn replay_status<A: Allocator + Copy, R: Read, W: Write, F: Write>(
     alloc: A,
-    reader: R,
-    writer: W,
+    reader: &mut Watched<R>,
+    writer: &mut Watched<W>,
     faults: &mut F,
 ) -> u8
-    ensures { IfSome (R.remaining reader) (λ text. Ends A text result) }
+    requires reader_well { has_failed reader.old ≡ false }
+    requires unread { read_count reader.old ≡ 0 }
+    requires writer_well { has_failed writer.old ≡ false }
+
+    // What the status says of the script, and what was written.
+    ensures ends { IfSome (R.remaining (inner_of reader.old)) (λ text. (written : List ℕ)
+        × Ends A text written result × Wrote W.contents writer.old writer.new written) }
+
+    // Whatever the reader and the writer tell.
+    ensures done { result ≡ 0 → (has_failed reader.new ≡ false) × (has_failed writer.new ≡ false) }
+    ensures failed { result ≡ 3 → (has_failed reader.new ≡ true) ⊎ (read_count reader.new ≡ 2 ^ 32 - 1) ⊎ (has_failed writer.new ≡ true) }
 {
-    let mut reader = Watched::new(reader);
-    let mut writer = Watched::new(writer);
-    match replay(alloc, &mut reader, &mut writer) {
+    match replay(alloc, reader, writer) {
         Ok(()) => DONE,
         Err(fault) => tell(fault, faults),
     }

@@ -85,7 +85,7 @@ impl<R: Read> Watched<R> {
 }
 
 impl<W: Write> Watched<W> {
-    ghost use Rattle.ntp_service.specs.Watched.{inner_of, has_failed, read_count, Wrote};
+    ghost use Rattle.ntp_service.specs.Watched.{inner_of, has_failed, Wrote};
 
     // Writes the octets. Where that fails, a part from their front was written.
     pub(crate) fn write_all(&mut self, octets: &[u8]) -> Result<(), Failed>
@@ -93,7 +93,6 @@ impl<W: Write> Watched<W> {
         ensures well { OnOk result (has_failed self.new ≡ has_failed self.old) }
         ensures err { OnErr result ((part rest : List ℕ) × (octets.now ≡ part ++ rest) × Wrote W.contents self.old self.new part) }
         ensures failed { OnErr result (has_failed self.new ≡ true) }
-        ensures uncounted { read_count self.new ≡ read_count self.old }
     {
         let mut at = 0;
         while at < octets.len() {

@@ -95,6 +95,70 @@ fn a_failed_read_is_told(rt: HostRuntime) {
     );
 }
 
+// Fails at the first call, and then reads or writes as what it holds does.
+#[derive(Drop)]
+struct FailingOnce<T> {
+    has_failed: bool,
+    inner: T,
+}
+
+impl<T> FailingOnce<T> {
+    fn new(inner: T) -> FailingOnce<T> {
+        FailingOnce {
+            has_failed: false,
+            inner,
+        }
+    }
+
+    // Whether this call is the one that fails.
+    fn fails(&mut self) -> bool {
+        let fails = !self.has_failed;
+        self.has_failed = true;
+        fails
+    }
+}
+
+impl<R: Read> Read for FailingOnce<R> {
+    fn read(&mut self, buf: &mut [u8]) -> io::Result<usize> {
+        if self.fails() {
+            return Err(io::Error::from(io::ErrorKind::Other));
+        }
+        self.inner.read(buf)
+    }
+}
+
+impl<W: Write> Write for FailingOnce<W> {
+    fn write(&mut self, buf: &[u8]) -> io::Result<usize> {
+        if self.fails() {
+            return Err(io::Error::from(io::ErrorKind::Other));
+        }
+        self.inner.write(buf)
+    }
+
+    fn flush(&mut self) -> io::Result<()> {
+        Ok(())
+    }
+}
+
+#[test]
+fn what_failed_is_not_tried_again(rt: HostRuntime) {
+    let text = b"revoke 192.0.2.10\n".as_slice();
+    let mut reader = Watched::new(FailingOnce::new(text));
+    let mut writer = Watched::new(Vec::new(rt.alloc()));
+    let end = replay(rt.alloc(), &mut reader, &mut writer);
+    assert_eq!(rt; end, stopped(1, ReplayFaultKind::Read));
+    assert!(rt; reader.failed());
+    assert_eq!(rt; reader.reads(), 1);
+    assert!(rt; writer.into_inner().is_empty());
+
+    let mut reader = Watched::new(text);
+    let mut writer = Watched::new(FailingOnce::new(Vec::new(rt.alloc())));
+    let end = replay(rt.alloc(), &mut reader, &mut writer);
+    assert_eq!(rt; end, stopped(1, ReplayFaultKind::Write));
+    assert!(rt; writer.failed());
+    assert!(rt; writer.into_inner().inner.is_empty());
+}
+
 // Takes one octet at a time while there is room, and then fails, or takes none.
 #[derive(Drop)]
 struct FailingWriter {

@@ -10,7 +10,6 @@ loop-at-preserved g c =
     record {
       within = search rules;
       well = c.loop-at.invariant.well;
-      reads = c.loop-at.invariant.reads;
       written = rw take-add (Appends-trans _ _ _ _ _ c.loop-at.invariant.written took);
     }
 

@@ -1,12 +1,11 @@
 use Rattle.std.proofs.Common.{◌≡◌, ◌-◌, ◌≤◌, length, take}
-use Rattle.ntp_service.specs.Watched.{has_failed, read_count, Wrote}
+use Rattle.ntp_service.specs.Watched.{has_failed, Wrote}
 use Rattle.ntp_service.proofs.watch.Watched.write_all.Given as goal
 
 abbrev pub invariant-loop-at : goal.invariant-loop-at
 invariant-loop-at g l = record {
   within : l.at ≤ length l.octets;
   well : has_failed l.self ≡ has_failed l.fn.self;
-  reads : read_count l.self ≡ read_count l.fn.self;
   written : Wrote g.W.Write.contents l.fn.self l.self (take l.at l.octets);
 }
 

@@ -11,10 +11,9 @@ use std::{env, io};
 fn main(rt: HostRuntime) -> ExitCode {
     let (line, status) = match asks_for_replay(&rt) {
         Ok(true) => return ExitCode::from(replay_streams(&rt)),
-        Ok(false) => ("usage", USAGE_REFUSED),
         Err(error) if error.kind() == io::ErrorKind::OutOfMemory => ("memory", MEMORY_OUT),
-        // A word that is no text is none of ours.
-        Err(_) => ("usage", USAGE_REFUSED),
+        // A word that is no text is an `Err` too, and none of ours.
+        Ok(false) | Err(_) => ("usage", USAGE_REFUSED),
     };
     let _ = eprintln!(rt; "{line}");
     ExitCode::from(status)

@@ -27,7 +27,7 @@ pub const MEMORY_OUT: u8 = 4;
 /// is passed over.
 ///
 /// Gives the exit status: 0 only where the whole script was replayed, 1 only where its text has a fault, 3 only
-/// where a read or a write failed, and 4 for want of memory.
+/// where a read or a write failed or the reads ran out, and 4 for want of memory.
 pub fn replay_status<A: Allocator + Copy, R: Read, W: Write, F: Write>(
     alloc: A,
     reader: &mut Watched<R>,

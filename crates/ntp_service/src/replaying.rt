@@ -38,7 +38,7 @@ pub fn replay<A: Allocator + Copy, R: Read, W: Write>(
         × Replays A (lines_of text) written service × Wrote W.contents writer.old writer.new written)) }
     ensures end { OnOk result (IsAtEnd (R.remaining (inner_of reader.new))) }
 
-    // No read and no write had failed, whatever the reader and the writer tell.
+    // Neither has noted a failure, whatever the reader and the writer tell.
     ensures reader_well { OnOk result (has_failed reader.new ≡ false) }
     ensures writer_well { OnOk result (has_failed writer.new ≡ false) }
 

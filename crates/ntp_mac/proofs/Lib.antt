@@ -1,3 +1,4 @@
 pub mod Keeping
 pub mod Sealing
 pub mod Signing
+pub mod ReadAs

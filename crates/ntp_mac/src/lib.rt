@@ -5,6 +5,7 @@
 mod digests;
 mod hashing;
 mod key;
+mod laws;
 mod reply;
 #[cfg(test)]
 mod tests;
@@ -13,5 +14,6 @@ mod verifying;
 pub use digests::Digest;
 pub use hashing::digest;
 pub use key::{Algorithm, Key, KeyFault, MOST_KEY_OCTETS};
+pub use laws::octets_are_what_they_are_read_as;
 pub use reply::{Reply, add_nak, seal};
 pub use verifying::verifies;

@@ -1,2 +1,1 @@
-pub mod ReadAs
 mod Lengths

@@ -3,7 +3,7 @@ use Rattle.std.specs.Prelude.{ℕ, List, ◌==◌, ◌||◌, if◌then◌else◌
 use Rattle.ntp_packet.specs.Header.{HeaderFields}
 use Rattle.ntp_tail.specs.Tail.{TailValue, NoTail, BareTail, Md5Tail, Sha1Tail, tail_octets}
 use Rattle.ntp_tail.specs.Request.{RequestValue}
-use Rattle.ntp_reply.specs.Reading.{reading_of}
+use Rattle.ntp_mac.specs.Reading.{reading_of}
 use Rattle.ntp_tail.specs.declared.malformed.Malformed.{Malformed}
 use Rattle.ntp_mac.specs.Signed.{is_signed}
 use Rattle.ntp_reply.specs.Life.{Life, Unregistered, Revoked, Enrolled, Enrolment}

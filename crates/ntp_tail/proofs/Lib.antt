@@ -10,3 +10,4 @@ pub mod Found
 pub mod Padding
 pub mod Composed
 pub mod Answered
+pub mod TheReading

@@ -6,7 +6,8 @@ use Rattle.ntp_tail.specs.OneAnswer.{HasOneReading, HasOneFault}
 use Rattle.ntp_tail.specs.declared.malformed.Malformed.{Malformed}
 use Rattle.ntp_tail.proofs.Octets.{AreOctets}
 use Rattle.ntp_tail.proofs.Answered.{one-answer}
-use Rattle.ntp_reply.specs.Reading.{Reads, low, AreOctets-low, the_one, reading_of}
+use Rattle.ntp_mac.specs.Reading.{Reads, reading_of}
+use Rattle.ntp_tail.proofs.TheReading.{low, AreOctets-low, the_one}
 
 -- octets are their own low bits
 low-same : (octets : List ℕ) → AreOctets octets → low octets ≡ octets

@@ -2,7 +2,7 @@
 ghost use Rattle.std.specs.Prelude.{◌≡◌, ℕ, ◌<◌, List, All, Result};
 ghost use Rattle.ntp_tail.specs.Request.{RequestValue};
 ghost use Rattle.ntp_tail.specs.declared.malformed.Malformed.{Malformed};
-ghost use Rattle.ntp_reply.specs.Reading.{Reads, reading_of};
+ghost use Rattle.ntp_mac.specs.Reading.{Reads, reading_of};
 
 /// Octets are what they are read as, and nothing else. This is a law, and does nothing when it is called.
 pub fn octets_are_what_they_are_read_as()

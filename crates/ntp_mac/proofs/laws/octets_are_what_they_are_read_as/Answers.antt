@@ -1,6 +1,6 @@
 use Rattle.ntp_tail.proofs.Octets.{AreOctets-all}
-use Rattle.ntp_reply.proofs.ReadAs.{Reads-reading_of, only-reading_of}
-use Rattle.ntp_reply.proofs.laws.octets_are_what_they_are_read_as.Goals as goal
+use Rattle.ntp_mac.proofs.ReadAs.{Reads-reading_of, only-reading_of}
+use Rattle.ntp_mac.proofs.laws.octets_are_what_they_are_read_as.Goals as goal
 
 pub returns-clause-reads : goal.returns-clause-reads
 returns-clause-reads c = λ octets all. Reads-reading_of octets (AreOctets-all octets all)

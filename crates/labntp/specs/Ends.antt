@@ -3,9 +3,9 @@ use Rattle.std.specs.Prelude.{◌≡◌, ◌⊎◌, ℕ, List}
 use Rattle.ntp_register.specs.Registry.{Registry}
 use Rattle.ntp_admin.specs.declared.line_fault.LineFault.{LineFault}
 use Rattle.ntp_admin.specs.declared.line_fault.LineFault.TheVariants as line_fault
-use Rattle.ntp_service.specs.declared.faults.ReplayFault.{ReplayFault}
-use Rattle.ntp_service.specs.declared.faults.ReplayFaultKind.{ReplayFaultKind}
-use Rattle.ntp_service.specs.declared.faults.ReplayFaultKind.TheVariants.{Line, Read, Write, NoMemory, LineLong, NotUtf8}
+use Rattle.ntp_service.specs.faults.ReplayFault.{ReplayFault}
+use Rattle.ntp_service.specs.faults.ReplayFaultKind.{ReplayFaultKind}
+use Rattle.ntp_service.specs.faults.ReplayFaultKind.TheVariants.{Line, Read, Write, NoMemory, LineLong, NotUtf8}
 use Rattle.ntp_service.specs.Script.{lines_of}
 use Rattle.ntp_service.specs.Replay.{Replays, StopsAt}
 

@@ -1,8 +1,7 @@
-pub mod Events
-pub mod Model
-pub mod Headline
-pub mod Watched
-pub mod Script
-pub mod Replay
-pub mod Lines
-pub mod Engine
+pub use Rattle.ntp_service_run.specs.Events
+pub use Rattle.ntp_service_run.specs.Model
+pub use Rattle.ntp_service_run.specs.Headline
+pub use Rattle.ntp_service_replay.specs.Watched
+pub use Rattle.ntp_service_replay.specs.Script
+pub use Rattle.ntp_service_replay.specs.Replay
+pub use Rattle.ntp_service_replay.specs.declared.faults

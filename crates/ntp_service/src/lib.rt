@@ -1,17 +1,6 @@
-//! The service: events in, outcomes out.
+//! The service: events in, outcomes out. Its layers are crates of their own, and this one passes on what they
+//! make public: `ntp_service_run` has the service and its promise, `ntp_service_replay` the replay of scripts.
 #![tactic(auto)]
 
-mod engine;
-mod faults;
-mod laws;
-mod lines;
-mod replaying;
-mod running;
-mod service;
-mod watch;
-
-pub use faults::{ReplayFault, ReplayFaultKind};
-pub use laws::{a_number_has_one_holder, no_neighbour_is_felt};
-pub use replaying::replay;
-pub use service::Service;
-pub use watch::Watched;
+pub use ntp_service_replay::{ReplayFault, ReplayFaultKind, Watched, replay};
+pub use ntp_service_run::{Service, a_number_has_one_holder, no_neighbour_is_felt};

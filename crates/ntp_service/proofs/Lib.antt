@@ -1,9 +1,0 @@
-mod Histories
-mod Datagrams
-mod Commands
-mod Runs
-mod Holders
-mod LineFeeds
-mod LinesReplayed
-mod Feeding
-mod Whole

@@ -1,5 +1,0 @@
-use Rattle.ntp_service.proofs.Holders.{one-enrolled}
-use Rattle.ntp_service.proofs.laws.a_number_has_one_holder.Goals as goal
-
-pub returns : goal.returns
-returns g c = one-enrolled

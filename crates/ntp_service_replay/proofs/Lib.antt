@@ -1,0 +1,4 @@
+mod LineFeeds
+mod LinesReplayed
+mod Feeding
+mod Whole

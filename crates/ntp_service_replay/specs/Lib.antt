@@ -1,0 +1,5 @@
+pub mod Watched
+pub mod Script
+pub mod Replay
+pub mod Lines
+pub mod Engine

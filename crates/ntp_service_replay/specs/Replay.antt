@@ -1,0 +1,54 @@
+-- What a replay of a script's lines writes, and where it stops.
+use Rattle.std.specs.Prelude.{◌≡◌, ◌⊎◌, ℕ, ◌+◌, ◌≤◌, ◌<◌, false, List, [], ◌∷◌, ◌++◌, length, All, flat_map, IsUtf8}
+use Rattle.std.specs.List.{AllZip}
+use Rattle.ntp_register.specs.Registry.{Registry}
+use Rattle.ntp_admin.specs.declared.event.Event.{Event}
+use Rattle.ntp_admin.specs.declared.outcome.Outcome.{Outcome}
+use Rattle.ntp_admin.specs.declared.line_fault.LineFault.TheVariants as line_fault
+use Rattle.ntp_admin.specs.Spells.{Spells, HasFault}
+use Rattle.ntp_admin.specs.Answers.{text_of}
+use Rattle.ntp_service_replay.specs.declared.faults.ReplayFault.{ReplayFault}
+use Rattle.ntp_service_replay.specs.declared.faults.ReplayFaultKind.{ReplayFaultKind}
+use Rattle.ntp_service_replay.specs.declared.faults.ReplayFaultKind.TheVariants.{Line, Read, Write, NoMemory, LineLong, NotUtf8}
+use Rattle.ntp_service_run.specs.Headline.{Tells}
+use Rattle.ntp_service_replay.specs.Script.{IsReadable, is_passed_over, event_lines}
+
+-- the lines were replayed: those that are events spell events, to which a service that began with no customers
+-- tells these outcomes, and what was written is the outcomes' texts, one after another
+pub record Replays (A : Type 0) (lines : List (List ℕ)) (written : List ℕ) (service : Registry) : Type 0 where
+  pub events : List (Event A)
+  pub outcomes : List Outcome
+  pub readable : All IsReadable lines
+  pub spelled : AllZip Spells (event_lines lines) events
+  pub tells : Tells [] events outcomes service
+  pub texts : written ≡ flat_map text_of outcomes
+
+-- why no more lines were answered, where some were replayed before and others follow; `part` was written for
+-- the first of those
+abbrev pub Causes : (A : Type 0) → ReplayFaultKind → List (List ℕ) → List ℕ → List (List ℕ) → List ℕ → Type 0
+Causes A (Line fault) before so_far [] part = ⊥
+Causes A (Line fault) before so_far (line ∷ lines) part = (part ≡ []) × IsReadable line × (is_passed_over line ≡ false)
+    × ((fault ≡ line_fault.NoMemory) ⊎ HasFault A line fault)
+Causes A Read before so_far lines part = part ≡ []
+Causes A Write before so_far [] part = ⊥
+Causes A Write before so_far (line ∷ lines) part = (answer rest : List ℕ) × (service : Registry)
+    × Replays A (before ++ line ∷ []) (so_far ++ answer) service × (answer ≡ part ++ rest)
+Causes A NoMemory before so_far lines part = part ≡ []
+Causes A LineLong before so_far [] part = ⊥
+Causes A LineLong before so_far (line ∷ lines) part = (part ≡ []) × (4096 < length line)
+Causes A NotUtf8 before so_far [] part = ⊥
+Causes A NotUtf8 before so_far (line ∷ lines) part = (part ≡ []) × (length line ≤ 4096) × (IsUtf8 line → ⊥)
+
+-- the lines before the one that the fault names were replayed, and the fault is why no more were answered
+pub record StopsAt (A : Type 0) (fault : ReplayFault) (lines : List (List ℕ)) (written : List ℕ) : Type 0 where
+  pub before : List (List ℕ)
+  pub others : List (List ℕ)
+  -- what was written for the lines before, and for the one that is named
+  pub so_far : List ℕ
+  pub part : List ℕ
+  pub service : Registry
+  pub split : lines ≡ before ++ others
+  pub named : fault.line ≡ length before + 1
+  pub replays : Replays A before so_far service
+  pub cause : Causes A fault.kind before so_far others part
+  pub wrote : written ≡ so_far ++ part

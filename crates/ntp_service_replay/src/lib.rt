@@ -1,0 +1,13 @@
+//! The replay of a script: its lines are applied to a service, and each answer is written before the next line
+//! is applied. It is a layer of `ntp_service`, which passes its calls on.
+#![tactic(auto)]
+
+mod engine;
+mod faults;
+mod lines;
+mod replaying;
+mod watch;
+
+pub use faults::{ReplayFault, ReplayFaultKind};
+pub use replaying::replay;
+pub use watch::Watched;

@@ -1,0 +1,67 @@
+//! One line of a script, and one answer line.
+ghost use Rattle.std.specs.Prelude.{◌≡◌, ℕ, ◌≤◌, Bool, List, [], ◌∷◌, length, OnOk, IfOk, IfErr};
+ghost use Rattle.ntp_admin.specs.declared.event.Event.{Event};
+ghost use Rattle.ntp_admin.specs.Answers.{text_of};
+ghost use Rattle.ntp_service_replay.specs.Script.{is_passed_over};
+ghost use Rattle.ntp_service_replay.specs.Replay.{Causes};
+ghost use Rattle.ntp_service_replay.specs.Lines.{Judges, CutsShort, IsPastReading};
+ghost use Rattle.ntp_service_replay.specs.Watched.{has_failed, Wrote};
+
+use crate::faults::ReplayFaultKind;
+use crate::watch::Watched;
+use ntp_admin::{Event, Outcome, parse_event, print_answer};
+use std::alloc::Allocator;
+use std::io::Write;
+
+// Whether a line is no event.
+fn is_passed_over(line: &[u8]) -> bool
+    ensures { result ≡ is_passed_over line.now }
+{
+    match line {
+        [] => true,
+        [first, ..] => *first == b'#',
+    }
+}
+
+// The event that a line spells, or none where the line is passed over.
+pub(crate) fn judge<A: Allocator + Copy>(
+    alloc: A,
+    line: &[u8],
+) -> Result<Option<Event<A>>, ReplayFaultKind>
+    requires { length line.now ≤ 4096 }
+    ensures ok { IfOk result (Judges line.now) }
+    ensures err { IfErr result (λ kind. (before : List (List ℕ)) (so_far : List ℕ) → Causes A kind before so_far (line.now ∷ []) []) }
+    ensures told { IfErr result (λ kind. (failed : Bool) → IsPastReading failed kind) }
+{
+    let Ok(text) = str::from_utf8(line) else {
+        return Err(ReplayFaultKind::NotUtf8);
+    };
+    if is_passed_over(line) {
+        return Ok(None);
+    }
+    match parse_event(alloc, text) {
+        Ok(event) => Ok(Some(event)),
+        Err(fault) => Err(ReplayFaultKind::Line(fault)),
+    }
+}
+
+// Writes the text of an outcome.
+pub(crate) fn write_answer<A: Allocator + Copy, W: Write>(
+    alloc: A,
+    outcome: &Outcome,
+    writer: &mut Watched<W>,
+) -> Result<(), ReplayFaultKind>
+    ensures ok { OnOk result (Wrote W.contents writer.old writer.new (text_of outcome.now)) }
+    ensures well { OnOk result (has_failed writer.new ≡ has_failed writer.old) }
+    ensures err { IfErr result (λ kind. (part : List ℕ) × CutsShort kind (text_of outcome.now) part
+        × Wrote W.contents writer.old writer.new part) }
+    ensures told { IfErr result (IsPastReading (has_failed writer.new)) }
+{
+    let Ok(text) = print_answer(alloc, outcome) else {
+        return Err(ReplayFaultKind::NoMemory);
+    };
+    match writer.write_all(text.as_bytes()) {
+        Ok(()) => Ok(()),
+        Err(_) => Err(ReplayFaultKind::Write),
+    }
+}

@@ -1,0 +1,98 @@
+//! The replay of a script.
+ghost use Rattle.std.specs.Prelude.{◌≡◌, ◌⊎◌, ℕ, ◌+◌, ◌-◌, ◌≤◌, ◌<◌, ◌^◌, List, [], true, false, OnOk, IfErr, IfSome};
+ghost use Rattle.std.specs.Io.KnownBytes.{IsAtEnd};
+ghost use Rattle.ntp_register.specs.Registry.{Registry};
+ghost use Rattle.ntp_service_replay.specs.Script.{lines_of};
+ghost use Rattle.ntp_service_replay.specs.Replay.{Replays, StopsAt};
+ghost use Rattle.ntp_service_replay.specs.Engine.{IsFresh};
+ghost use Rattle.ntp_service_replay.specs.Watched.{inner_of, has_failed, read_count, Wrote};
+
+use crate::engine::Engine;
+use crate::faults::{ReplayFault, ReplayFaultKind};
+use crate::watch::Watched;
+use std::alloc::Allocator;
+use std::io::{Read, Write};
+
+/// How many octets are read at once, at most.
+const CHUNK: usize = 4096;
+
+/// Applies a script to a service that begins with no customers. The answer to each line is written before the
+/// next line is applied. There are at most 4,294,967,295 reads; how much memory is taken does not depend on how
+/// many lines there are.
+///
+/// Where the reader and the writer tell their octets: at `Ok` the whole text was read, each line of it that is
+/// an event spells an event, and what was written is the texts of the outcomes that the service tells to those
+/// events. At an `Err` the lines before the one that the fault names were replayed so; after `Write` a part from
+/// the front of that line's answer was written too, and after any other fault nothing more.
+pub fn replay<A: Allocator + Copy, R: Read, W: Write>(
+    alloc: A,
+    reader: &mut Watched<R>,
+    writer: &mut Watched<W>,
+) -> Result<(), ReplayFault>
+    requires reader_well { has_failed reader.old ≡ false }
+    requires unread { read_count reader.old ≡ 0 }
+    requires writer_well { has_failed writer.old ≡ false }
+
+    // The whole text was read and replayed.
+    ensures ok { OnOk result (IfSome (R.remaining (inner_of reader.old)) (λ text. (written : List ℕ) × (service : Registry)
+        × Replays A (lines_of text) written service × Wrote W.contents writer.old writer.new written)) }
+    ensures end { OnOk result (IsAtEnd (R.remaining (inner_of reader.new))) }
+
+    // Neither has noted a failure, whatever the reader and the writer tell.
+    ensures reader_well { OnOk result (has_failed reader.new ≡ false) }
+    ensures writer_well { OnOk result (has_failed writer.new ≡ false) }
+
+    // The lines before the one that the fault names were replayed.
+    ensures stopped { IfErr result (λ fault. IfSome (R.remaining (inner_of reader.old)) (λ text. (written : List ℕ)
+        × StopsAt A fault (lines_of text) written × Wrote W.contents writer.old writer.new written)) }
+
+    // Whatever the reader and the writer tell.
+    ensures read { IfErr result (λ fault. fault.kind ≡ ReplayFaultKind.Read
+        → (has_failed reader.new ≡ true) ⊎ (read_count reader.new ≡ 2 ^ 32 - 1)) }
+    ensures write { IfErr result (λ fault. fault.kind ≡ ReplayFaultKind.Write → has_failed writer.new ≡ true) }
+    ensures bound { read_count reader.new ≤ 2 ^ 32 - 1 }
+{
+    let mut engine = Engine::new(alloc);
+    match feed_all(&mut engine, reader, writer) {
+        Ok(()) => Ok(()),
+        Err(kind) => Err(ReplayFault {
+            line: engine.done() + 1,
+            kind,
+        }),
+    }
+}
+
+// Feeds an engine all that a reader gives, and ends the last line.
+fn feed_all<A: Allocator + Copy, R: Read, W: Write>(
+    engine: &mut Engine<A>,
+    reader: &mut Watched<R>,
+    writer: &mut Watched<W>,
+) -> Result<(), ReplayFaultKind>
+    requires fresh { IsFresh engine.old }
+    requires unread { read_count reader.old ≡ 0 }
+    ensures ok { OnOk result (IfSome (R.remaining (inner_of reader.old)) (λ text. (written : List ℕ) × (service : Registry)
+        × Replays A (lines_of text) written service × Wrote W.contents writer.old writer.new written)) }
+    ensures end { OnOk result (IsAtEnd (R.remaining (inner_of reader.new))) }
+    ensures reader_well { OnOk result (has_failed reader.new ≡ has_failed reader.old) }
+    ensures writer_well { OnOk result (has_failed writer.new ≡ has_failed writer.old) }
+    ensures stopped { IfErr result (λ kind. IfSome (R.remaining (inner_of reader.old)) (λ text. (written : List ℕ)
+        × StopsAt A (record { line = engine.new.done + 1; kind = kind }) (lines_of text) written
+        × Wrote W.contents writer.old writer.new written)) }
+    ensures counted { engine.new.done + 1 < 2 ^ 64 }
+    ensures read { result ≡ Err ReplayFaultKind.Read → (has_failed reader.new ≡ true) ⊎ (read_count reader.new ≡ 2 ^ 32 - 1) }
+    ensures write { result ≡ Err ReplayFaultKind.Write → has_failed writer.new ≡ true }
+    ensures bound { read_count reader.new ≤ 2 ^ 32 - 1 }
+{
+    let mut chunk = [0; CHUNK];
+    for _turn in 0..u32::MAX {
+        match reader.read_chunk(&mut chunk) {
+            Err(_) => return Err(ReplayFaultKind::Read),
+            Ok(0) => return engine.finish(writer),
+            Ok(n) => engine.feed(&chunk[..n], writer)?,
+        }
+    }
+    Err(ReplayFaultKind::Read)
+}
+
+#[cfg(test)]
+mod tests;

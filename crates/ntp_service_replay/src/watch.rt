@@ -1,0 +1,113 @@
+//! A reader or a writer, and whether it failed.
+ghost use Rattle.std.specs.Prelude.{◌≡◌, ℕ, ◌+◌, ◌-◌, ◌<◌, ◌≤◌, ◌^◌, ◌++◌, List, length, take, min, true, false, IfOk, OnOk, OnErr};
+ghost use Rattle.std.specs.Io.KnownBytes.{Keeps, Consumes, IsAtEnd};
+
+use std::io::{Read, Write};
+
+/// A reader or a writer that is watched: whether a call through it failed, and how many reads there were.
+#[derive(Debug, Drop)]
+pub struct Watched<T> {
+    inner: T,
+    failed: bool,
+    reads: u64,
+}
+
+/// A call through a `Watched` failed.
+#[derive(Clone, Copy, Debug, PartialEq, Eq)]
+pub(crate) struct Failed;
+
+impl<T> Watched<T> {
+    ghost use Rattle.ntp_service_replay.specs.Watched.{inner_of, has_failed, read_count};
+
+    /// Watches a reader or a writer from here on.
+    pub fn new(inner: T) -> Watched<T>
+        ensures inner { inner_of result ≡ inner }
+        ensures failed { has_failed result ≡ false }
+        ensures reads { read_count result ≡ 0 }
+    {
+        Watched {
+            inner,
+            failed: false,
+            reads: 0,
+        }
+    }
+
+    /// Whether a read or a write through it failed, or a write of one or more octets took none.
+    pub fn failed(&self) -> bool
+        ensures { result ≡ has_failed self.now }
+    {
+        self.failed
+    }
+
+    /// What was watched.
+    pub fn into_inner(self) -> T
+        ensures { result ≡ inner_of self }
+    {
+        let Watched {
+            inner,
+            failed: _,
+            reads: _,
+        } = self;
+        inner
+    }
+
+    /// How many reads were made through it, at most 2^64 - 1.
+    pub fn reads(&self) -> u64
+        ensures { result ≡ read_count self.now }
+    {
+        self.reads
+    }
+}
+
+impl<R: Read> Watched<R> {
+    ghost use Rattle.ntp_service_replay.specs.Watched.{inner_of, has_failed, read_count};
+
+    // One read. It gives no octet only at the end of the input.
+    pub(crate) fn read_chunk(&mut self, chunk: &mut [u8]) -> Result<usize, Failed>
+        requires { 0 < length chunk.old }
+        ensures bound { IfOk result (λ n. n ≤ length chunk.new) }
+        ensures octets { IfOk result (λ n. Consumes (R.remaining (inner_of self.old)) (R.remaining (inner_of self.new)) (take n chunk.new)) }
+        ensures end { IfOk result (λ n. n ≡ 0 → IsAtEnd (R.remaining (inner_of self.new))) }
+        ensures well { OnOk result (has_failed self.new ≡ has_failed self.old) }
+        ensures none { OnErr result (Keeps (R.remaining (inner_of self.old)) (R.remaining (inner_of self.new))) }
+        ensures failed { OnErr result (has_failed self.new ≡ true) }
+        ensures counted { read_count self.new ≡ min (read_count self.old + 1) (2 ^ 64 - 1) }
+    {
+        self.reads = self.reads.saturating_add(1);
+        match self.inner.read(chunk) {
+            Ok(n) => Ok(n),
+            Err(_) => {
+                self.failed = true;
+                Err(Failed)
+            }
+        }
+    }
+}
+
+impl<W: Write> Watched<W> {
+    ghost use Rattle.ntp_service_replay.specs.Watched.{inner_of, has_failed, Wrote};
+
+    // Writes the octets. Where that fails, a part from their front was written.
+    pub(crate) fn write_all(&mut self, octets: &[u8]) -> Result<(), Failed>
+        ensures ok { OnOk result (Wrote W.contents self.old self.new octets.now) }
+        ensures well { OnOk result (has_failed self.new ≡ has_failed self.old) }
+        ensures err { OnErr result ((part rest : List ℕ) × (octets.now ≡ part ++ rest) × Wrote W.contents self.old self.new part) }
+        ensures failed { OnErr result (has_failed self.new ≡ true) }
+    {
+        let mut at = 0;
+        while at < octets.len() {
+            match self.inner.write(&octets[at..]) {
+                Ok(0) => {
+                    self.failed = true;
+                    return Err(Failed);
+                }
+                Ok(n) => at += n,
+                Err(_) => {
+                    self.failed = true;
+                    return Err(Failed);
+                }
+            }
+        }
+        Ok(())
+    }
+}

@@ -1,0 +1,5 @@
+pub mod Histories
+mod Datagrams
+mod Commands
+pub mod Runs
+mod Holders

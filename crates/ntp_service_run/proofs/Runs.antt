@@ -1,0 +1,137 @@
+-- A list of events, one after another.
+use Rattle.std.proofs.Common.{◌≡◌, suc, ◌-◌, Bool, true, false, not, ◌&&◌, List, [], ◌∷◌, ◌++◌, length, refl, sym, ap, ◌∙◌, subst, append_assoc, append-nil, arith, ⊎_elim}
+use Rattle.std.specs.Prelude.{if◌then◌else◌}
+use Rattle.std.proofs.lemmas.List.{drop_at, length-append}
+use Rattle.ntp_register.specs.declared.address.Address.{Address}
+use Rattle.ntp_register.specs.Address.{address_eq}
+use Rattle.ntp_register.specs.Registry.{Registry}
+use Rattle.ntp_register.proofs.AddressLaws.{address_eq_equiv, same_or_other_address}
+use Rattle.ntp_reply.specs.Life.{Life, Unregistered}
+use Rattle.ntp_admin.specs.declared.event.Event.{Event}
+use Rattle.ntp_admin.specs.declared.outcome.Outcome.{Outcome}
+use Rattle.ntp_service_run.specs.Events.{address_of, names, own}
+use Rattle.ntp_service_run.specs.Model.{answer_to, after, life_after, life_of, says_after, says}
+use Rattle.ntp_service_run.specs.Headline.{StandsFor, Tells, TellsOne, IsAnswered, AreAnswered, is_struck, kept, told, last}
+use Rattle.ntp_service_run.proofs.Histories.{own-append, life_after-append, other-address}
+
+module _ {A : Type 0} where
+  -- ---- what is said of some events and then of others
+  says_after-append : (life : Life) (xs ys : List (Event A)) → says_after life (xs ++ ys) ≡ says_after life xs ++ says_after (life_after life xs) ys
+  says_after-append life [] ys = refl
+  says_after-append life (x ∷ xs) ys = ap (λ os. answer_to life x ∷ os) (says_after-append (after life x) xs ys)
+
+  length-says_after : (life : Life) (xs : List (Event A)) → length (says_after life xs) ≡ length xs
+  length-says_after life [] = refl
+  length-says_after life (x ∷ xs) = ap suc (length-says_after (after life x) xs)
+
+  -- the last answers, as many as events came last
+  pub says-last : (a : Address) (history events : List (Event A)) → last (length (own a events)) (says (own a (history ++ events))) ≡ says_after (life_of (own a history)) (own a events)
+  says-last a history events =
+      let before = says (own a history) in
+      let behind = says_after (life_of (own a history)) (own a events) in
+      let whole : says (own a (history ++ events)) ≡ before ++ behind = ap says (own-append a history events) ∙ says_after-append Unregistered (own a history) (own a events) in
+      let count : length (before ++ behind) - length (own a events) ≡ length before = omega (arith, length-append before behind, length-says_after (life_of (own a history)) (own a events)) in
+      ap (last (length (own a events))) whole ∙ drop_at before behind (length (before ++ behind) - length (own a events)) (sym count)
+
+  -- ---- outcomes of some events and then of others
+  kept-append : (xs ys : List (Event A)) (os ps : List Outcome) → length os ≡ length xs → kept (xs ++ ys) (os ++ ps) ≡ kept xs os ++ kept ys ps
+  kept-append [] ys [] ps e = refl
+  kept-append [] ys (o ∷ os) ps e = absurd (omega arith)
+  kept-append (x ∷ xs) ys [] ps e = absurd (omega arith)
+  kept-append (x ∷ xs) ys (o ∷ os) ps e = chosen (kept-append xs ys os ps (omega arith)) (is_struck x o)
+    where
+      chosen : kept (xs ++ ys) (os ++ ps) ≡ kept xs os ++ kept ys ps → (b : Bool) → (if b then kept (xs ++ ys) (os ++ ps) else x ∷ kept (xs ++ ys) (os ++ ps)) ≡ (if b then kept xs os else x ∷ kept xs os) ++ kept ys ps
+      chosen more true = more
+      chosen more false = ap (λ l. x ∷ l) more
+
+  told-append : (a : Address) (xs ys : List (Event A)) (os ps : List Outcome) → length os ≡ length xs → told a (xs ++ ys) (os ++ ps) ≡ told a xs os ++ told a ys ps
+  told-append a [] ys [] ps e = refl
+  told-append a [] ys (o ∷ os) ps e = absurd (omega arith)
+  told-append a (x ∷ xs) ys [] ps e = absurd (omega arith)
+  told-append a (x ∷ xs) ys (o ∷ os) ps e = chosen (told-append a xs ys os ps (omega arith)) (not (is_struck x o) && names a x)
+    where
+      chosen : told a (xs ++ ys) (os ++ ps) ≡ told a xs os ++ told a ys ps → (b : Bool) → (if b then o ∷ told a (xs ++ ys) (os ++ ps) else told a (xs ++ ys) (os ++ ps)) ≡ (if b then o ∷ told a xs os else told a xs os) ++ told a ys ps
+      chosen more true = ap (λ l. o ∷ l) more
+      chosen more false = more
+
+  -- ---- one event more
+  module _ (history : List (Event A)) (e : Event A) (o : Outcome) (s : Registry) (t : TellsOne history e o s) where
+    one-stands : StandsFor s (history ++ kept (e ∷ []) (o ∷ []))
+    one-stands = chosen (is_struck e o) t.stands
+      where
+        chosen : (b : Bool) → StandsFor s (if b then history else history ++ e ∷ []) → StandsFor s (history ++ (if b then [] else e ∷ []))
+        chosen true h = subst (λ l. StandsFor s l) (sym (append-nil history)) h
+        chosen false h = h
+
+    one-told : (a : Address) → told a (e ∷ []) (o ∷ []) ≡ says_after (life_of (own a history)) (own a (kept (e ∷ []) (o ∷ [])))
+    one-told a = chosen (is_struck e o) refl
+      where
+        here : is_struck e o ≡ false → a ≡ address_of e → o ∷ [] ≡ says_after (life_of (own a history)) (own a (e ∷ []))
+        here plain same =
+            let mine : own a (e ∷ []) ≡ e ∷ [] = ap (λ (b : Bool). if b then e ∷ [] else []) (ap (λ x. address_eq a x) (sym same) ∙ address_eq_equiv.refl a) in
+            ap (λ x. x ∷ []) (t.answered.told plain ∙ ap (λ x. answer_to (life_of (own x history)) e) (sym same)) ∙ ap (says_after (life_of (own a history))) (sym mine)
+
+        chosen : (b : Bool) → is_struck e o ≡ b → (if not b && names a e then o ∷ [] else []) ≡ says_after (life_of (own a history)) (own a (if b then [] else e ∷ []))
+        chosen true is = refl
+        chosen false is = ⊎_elim
+            (λ same. ap (λ (b : Bool). if b then o ∷ [] else []) (ap (λ x. address_eq a x) (sym same) ∙ address_eq_equiv.refl a) ∙ here is same)
+            (λ other. ap (λ (b : Bool). if b then o ∷ [] else []) (other-address a (address_of e) other)
+            ∙ ap (λ (b : Bool). says_after (life_of (own a history)) (if b then e ∷ [] else [])) (sym (other-address a (address_of e) other)))
+            (same_or_other_address a (address_of e))
+
+-- each is answered, and then one more
+AreAnswered-push : {A : Type 0} (history events : List (Event A)) (outcomes : List Outcome) (e : Event A) (o : Outcome) → length outcomes ≡ length events
+    → AreAnswered history events outcomes → IsAnswered (history ++ kept events outcomes) e o → AreAnswered history (events ++ e ∷ []) (outcomes ++ o ∷ [])
+AreAnswered-push history [] [] e o same all one = (subst (λ h. IsAnswered h e o) (append-nil history) one, tt)
+AreAnswered-push history [] (p ∷ ps) e o same all one = absurd (omega arith)
+AreAnswered-push history (x ∷ xs) [] e o same all one = absurd (omega arith)
+AreAnswered-push history (x ∷ xs) (p ∷ ps) e o same all one =
+    (all.0, AreAnswered-push (if is_struck x p then history else history ++ x ∷ []) xs ps e o (omega arith) all.1 (subst (λ h. IsAnswered h e o) (sym (regrouped (is_struck x p))) one))
+  where
+    regrouped : (b : Bool) → (if b then history else history ++ x ∷ []) ++ kept xs ps ≡ history ++ (if b then kept xs ps else x ∷ kept xs ps)
+    regrouped true = refl
+    regrouped false = append_assoc history (x ∷ []) (kept xs ps)
+
+-- what was told so far, in the words in which it grows
+pub record Goes {A : Type 0} (history events : List (Event A)) (outcomes : List Outcome) (s : Registry) : Type 0 where
+  pub each : length outcomes ≡ length events
+  pub told : (a : Address) → told a events outcomes ≡ says_after (life_of (own a history)) (own a (kept events outcomes))
+  pub answered : AreAnswered history events outcomes
+  pub stands : StandsFor s (history ++ kept events outcomes)
+
+pub Goes-nil : {A : Type 0} (history : List (Event A)) (s : Registry) → StandsFor s history → Goes history [] [] s
+Goes-nil history s stands = record { each = refl; told = λ a. refl; answered = tt; stands = subst (λ l. StandsFor s l) (sym (append-nil history)) stands }
+
+pub Goes-push : {A : Type 0} (history events : List (Event A)) (outcomes : List Outcome) (r s : Registry) (e : Event A) (o : Outcome)
+    → Goes history events outcomes r → (StandsFor r (history ++ kept events outcomes) → TellsOne (history ++ kept events outcomes) e o s)
+    → Goes history (events ++ e ∷ []) (outcomes ++ o ∷ []) s
+Goes-push history events outcomes r s e o g step =
+    let t = step g.stands in
+    let done = kept events outcomes in
+    let new = kept (e ∷ []) (o ∷ []) in
+    let all : kept (events ++ e ∷ []) (outcomes ++ o ∷ []) ≡ done ++ new = kept-append events (e ∷ []) outcomes (o ∷ []) g.each in
+    record {
+      each = omega (arith, g.each, length-append events (e ∷ []), length-append outcomes (o ∷ []));
+      told = λ a.
+          told-append a events (e ∷ []) outcomes (o ∷ []) g.each
+          ∙ ap (λ l. l ++ told a (e ∷ []) (o ∷ [])) (g.told a)
+          ∙ ap (λ l. says_after (life_of (own a history)) (own a done) ++ l) (one-told (history ++ done) e o s t a)
+          ∙ ap (λ life. says_after (life_of (own a history)) (own a done) ++ says_after life (own a new)) (ap life_of (own-append a history done) ∙ life_after-append Unregistered (own a history) (own a done))
+          ∙ sym (says_after-append (life_of (own a history)) (own a done) (own a new))
+          ∙ ap (says_after (life_of (own a history))) (sym (own-append a done new) ∙ ap (own a) (sym all));
+      answered = AreAnswered-push history events outcomes e o g.each g.answered t.answered;
+      stands = subst (λ l. StandsFor s l) (append_assoc history done new ∙ ap (λ l. history ++ l) (sym all)) (one-stands (history ++ done) e o s t);
+    }
+
+-- and at the end
+pub Goes-tells : {A : Type 0} (history events : List (Event A)) (outcomes : List Outcome) (s : Registry) → Goes history events outcomes s → Tells history events outcomes s
+Goes-tells history events outcomes s g = record { each = g.each; told = λ a. g.told a ∙ sym (says-last a history (kept events outcomes)); answered = g.answered; stands = g.stands }
+
+-- two services that were told the same of an address tell it the same
+pub alike : {A : Type 0} (a : Address) (h h' xs ys : List (Event A)) (os ps : List Outcome) (r s : Registry) → Tells h xs os r → Tells h' ys ps s
+    → own a h ≡ own a h' → own a (kept xs os) ≡ own a (kept ys ps) → told a xs os ≡ told a ys ps
+alike a h h' xs ys os ps r s t u before now =
+    t.told a ∙ says-last a h (kept xs os)
+    ∙ ap (λ own_before. says_after (life_of own_before) (own a (kept xs os))) before
+    ∙ ap (says_after (life_of (own a h'))) now
+    ∙ sym (says-last a h' (kept ys ps)) ∙ sym (u.told a)

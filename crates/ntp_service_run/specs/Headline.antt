@@ -1,0 +1,117 @@
+-- What a service is, and what it tells each address.
+use Rattle.std.specs.Prelude.{◌≡◌, ◌≢◌, ◌↔◌, ℕ, ◌-◌, Bool, true, false, not, ◌&&◌, if◌then◌else◌, Result, Ok, Err, List, [], ◌∷◌, ◌++◌, length, drop}
+use Rattle.std.specs.Int.NonZero.{non_zero_u16_get}
+use Rattle.ntp_register.specs.declared.address.Address.{Address}
+use Rattle.ntp_register.specs.declared.refusal.Refusal.{Refusal}
+use Rattle.ntp_register.specs.declared.refusal.Refusal.TheVariants.{AlreadyEnrolled, KeyTaken, NoMemory, NotEnrolled}
+use Rattle.ntp_register.specs.Registry.{Registry, Agrees, customer_at}
+use Rattle.ntp_reply.specs.Life.{Life, Unregistered, Revoked, Enrolled, Enrolment, short}
+use Rattle.ntp_admin.specs.declared.command.Command.{Command}
+use Rattle.ntp_admin.specs.declared.command.Command.TheVariants.{Enrol, Revoke}
+use Rattle.ntp_admin.specs.declared.event.Event.{Event}
+use Rattle.ntp_admin.specs.declared.event.Event.TheVariants as event
+use Rattle.ntp_admin.specs.declared.outcome.Outcome.{Outcome}
+use Rattle.ntp_admin.specs.declared.outcome.Outcome.TheVariants as outcome
+use Rattle.ntp_service_run.specs.Events.{address_of, names, own}
+use Rattle.ntp_service_run.specs.Model.{life_of, says, answer_to}
+
+-- a service stands for a history: each address has what its own events leave, and a number has a holder exactly where that
+-- address is enrolled with it (profile)
+pub record StandsFor {A : Type 0} (service : Registry) (history : List (Event A)) : Type 0 where
+  pub entries : (address : Address) → customer_at service address ≡ short (life_of (own address history))
+  pub agrees : Agrees service
+
+-- the refusals that a neighbour, or want of memory, can cause (profile)
+abbrev pub is_foreign : Refusal → Bool
+is_foreign AlreadyEnrolled = false
+is_foreign KeyTaken = true
+is_foreign NoMemory = true
+is_foreign NotEnrolled = false
+
+-- whether an enrolment with an outcome is struck out: it was refused for want of memory, or for a key number that another
+-- address holds (profile)
+abbrev pub is_refused_enrolment : Outcome → Bool
+is_refused_enrolment (outcome.Datagram answer) = false
+is_refused_enrolment outcome.Done = false
+is_refused_enrolment (outcome.Refused refusal) = is_foreign refusal
+
+-- whether an event with an outcome is struck out; only an enrolment ever is (profile)
+abbrev pub is_struck : {A : Type 0} → Event A → Outcome → Bool
+is_struck (event.Datagram address receipt transmit reference octets) o = false
+is_struck (event.Command (Enrol address number key budget)) o = is_refused_enrolment o
+is_struck (event.Command (Revoke address)) o = false
+
+-- the outcome of a command (profile)
+abbrev pub command_outcome : Result (Unit {0}) Refusal → Outcome
+command_outcome (Ok done) = outcome.Done
+command_outcome (Err refusal) = outcome.Refused refusal
+
+-- the events with these outcomes, without those that are struck out (profile)
+abbrev pub kept : {A : Type 0} → List (Event A) → List Outcome → List (Event A)
+kept [] outcomes = []
+kept (e ∷ events) [] = []
+kept (e ∷ events) (o ∷ outcomes) = if is_struck e o then kept events outcomes else e ∷ kept events outcomes
+
+-- what an address was told: the outcomes of the events that name it, without those that are struck out (profile)
+abbrev pub told : {A : Type 0} → Address → List (Event A) → List Outcome → List Outcome
+told address [] outcomes = []
+told address (e ∷ events) [] = []
+told address (e ∷ events) (o ∷ outcomes) = if not (is_struck e o) && names address e then o ∷ told address events outcomes else told address events outcomes
+
+-- the last n members of a list (profile)
+abbrev pub last : {X : Type 0} → ℕ → List X → List X
+last n xs = drop (length xs - n) xs
+
+-- a life is enrolled with a number (profile)
+pub record IsEnrolledWith (life : Life) (number : ℕ) : Type 0 where
+  pub enrolment : Enrolment
+  pub enrolled : life ≡ Enrolled enrolment
+  pub with : enrolment.number ≡ number
+
+-- whether a life is enrolled (profile)
+abbrev pub is_enrolled : Life → Bool
+is_enrolled Unregistered = false
+is_enrolled Revoked = false
+is_enrolled (Enrolled e) = true
+
+-- a command is an enrolment of an address that is not enrolled, with a number with which another address is (profile)
+abbrev pub IsTaken : {A : Type 0} → List (Event A) → Command → Type 0
+IsTaken history (Enrol address number key budget) =
+    (is_enrolled (life_of (own address history)) ≡ false)
+    × (other : Address) × (other ≢ address) × IsEnrolledWith (life_of (own other history)) (non_zero_u16_get number)
+IsTaken history (Revoke address) = ⊥
+
+-- an event is such a command; a datagram never is (profile)
+abbrev pub IsTakenBy : {A : Type 0} → List (Event A) → Event A → Type 0
+IsTakenBy history (event.Datagram address receipt transmit reference octets) = ⊥
+IsTakenBy history (event.Command command) = IsTaken history command
+
+-- the outcome of one event, after a history: unless it is struck out, the answer of the model to the address's own events; and
+-- what is struck out is so for a reason (profile)
+pub record IsAnswered {A : Type 0} (history : List (Event A)) (e : Event A) (o : Outcome) : Type 0 where
+  pub told : is_struck e o ≡ false → o ≡ answer_to (life_of (own (address_of e) history)) e
+  -- KeyTaken exactly where another address is enrolled with the number
+  pub taken : (o ≡ outcome.Refused KeyTaken) ↔ IsTakenBy history e
+  -- NoMemory only where nothing else refuses
+  pub memory : o ≡ outcome.Refused NoMemory → is_enrolled (life_of (own (address_of e) history)) ≡ false
+
+-- one event, after which the service stands for one event more, unless it is struck out (profile)
+pub record TellsOne {A : Type 0} (history : List (Event A)) (e : Event A) (o : Outcome) (service : Registry) : Type 0 where
+  pub answered : IsAnswered history e o
+  pub stands : StandsFor service (if is_struck e o then history else history ++ e ∷ [])
+
+-- each event is answered so, after those before it that are not struck out (profile)
+abbrev pub AreAnswered : {A : Type 0} → List (Event A) → List (Event A) → List Outcome → Type 0
+AreAnswered history [] outcomes = Unit {0}
+AreAnswered history (e ∷ events) [] = ⊥
+AreAnswered history (e ∷ events) (o ∷ outcomes) = IsAnswered history e o × AreAnswered (if is_struck e o then history else history ++ e ∷ []) events outcomes
+
+-- the headline: to each address the outcomes of its own events are those that the model of one customer gives to its own
+-- events alone, once what is struck out is left out of the list; and the service then stands for what it stood for, followed by
+-- those events (profile)
+pub record Tells {A : Type 0} (history events : List (Event A)) (outcomes : List Outcome) (service : Registry) : Type 0 where
+  pub each : length outcomes ≡ length events
+  pub told : (address : Address) → told address events outcomes
+      ≡ last (length (own address (kept events outcomes))) (says (own address (history ++ kept events outcomes)))
+  pub answered : AreAnswered history events outcomes
+  pub stands : StandsFor service (history ++ kept events outcomes)

@@ -1,0 +1,29 @@
+//! What holds of the definitions, whatever code meets them.
+ghost use Rattle.std.specs.Prelude.{◌≡◌, ℕ, List, ◌++◌};
+ghost use Rattle.ntp_register.specs.Registry.{Registry};
+ghost use Rattle.ntp_register.specs.declared.address.Address.{Address};
+ghost use Rattle.ntp_admin.specs.declared.event.Event.{Event};
+ghost use Rattle.ntp_admin.specs.declared.outcome.Outcome.{Outcome};
+ghost use Rattle.ntp_service_run.specs.Events.{own};
+ghost use Rattle.ntp_service_run.specs.Model.{life_of};
+ghost use Rattle.ntp_service_run.specs.Headline.{StandsFor, Tells, IsEnrolledWith, kept, told};
+
+use std::alloc::Allocator;
+
+/// No neighbour is felt: where two services were told of an address the same before and the same now,
+/// whatever they were told of others, they give that address the same outcomes. This is a law, and does
+/// nothing when it is called.
+pub fn no_neighbour_is_felt<A: Allocator>()
+    ensures { (address : Address) (history other_history events other_events : List (Event A)) (outcomes other_outcomes : List Outcome)
+        (service other_service : Registry)
+        → Tells history events outcomes service → Tells other_history other_events other_outcomes other_service
+        → own address history ≡ own address other_history
+        → own address (kept events outcomes) ≡ own address (kept other_events other_outcomes)
+        → told address events outcomes ≡ told address other_events other_outcomes }
+{}
+
+/// No two addresses are enrolled with one key number. This is a law, and does nothing when it is called.
+pub fn a_number_has_one_holder<A: Allocator>()
+    ensures { (service : Registry) (history : List (Event A)) (one two : Address) (number : ℕ) → StandsFor service history
+        → IsEnrolledWith (life_of (own one history)) number → IsEnrolledWith (life_of (own two history)) number → one ≡ two }
+{}

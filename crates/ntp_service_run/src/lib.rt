@@ -1,0 +1,10 @@
+//! A service for registered customers: one event at a time, or a list of them, and what is promised of its
+//! answers. It is the first layer of `ntp_service`, which passes its calls on.
+#![tactic(auto)]
+
+mod laws;
+mod running;
+mod service;
+
+pub use laws::{a_number_has_one_holder, no_neighbour_is_felt};
+pub use service::Service;

@@ -1,0 +1,34 @@
+//! A service over a list of events, and what no neighbour can change.
+ghost use Rattle.std.specs.Prelude.{◌≡◌, List, IfOk, OnErr};
+ghost use Rattle.ntp_register.specs.Registry.{Registry};
+ghost use Rattle.ntp_register.specs.declared.address.Address.{Address};
+ghost use Rattle.ntp_admin.specs.declared.event.Event.{Event};
+ghost use Rattle.ntp_admin.specs.declared.outcome.Outcome.{Outcome};
+ghost use Rattle.ntp_service_run.specs.Events.{own};
+ghost use Rattle.ntp_service_run.specs.Headline.{StandsFor, Tells, kept, told};
+
+use crate::Service;
+use ntp_admin::{Event, NoMemory, Outcome};
+use std::alloc::Allocator;
+
+impl<A: Allocator + Copy> Service<A> {
+    /// The outcomes of events, one after another. Room for all of them is taken first; where it is
+    /// refused, no event was applied.
+    ///
+    /// To each address the outcomes are those that the model of one customer gives to that address's own
+    /// events alone, once the commands that were refused for want of memory, or for a key number that
+    /// another address holds, are left out of the list.
+    pub fn run(&mut self, events: &[Event<A>]) -> Result<Vec<Outcome, A>, NoMemory>
+        ensures tells { IfOk result (λ outcomes. (history : List (Event A)) → StandsFor self.old history
+            → Tells history events.now outcomes.items self.new) }
+        ensures refused { OnErr result (self.new ≡ self.old) }
+    {
+        let Ok(mut outcomes) = Vec::with_capacity(self.allocator(), events.len()) else {
+            return Err(NoMemory);
+        };
+        for event in events {
+            outcomes.push_reserved(self.apply(event));
+        }
+        Ok(outcomes)
+    }
+}

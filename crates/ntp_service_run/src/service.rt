@@ -1,0 +1,150 @@
+//! A service, one event at a time.
+ghost use Rattle.std.specs.Prelude.{◌≡◌, ◌↔◌, ◌≤◌, List, [], ◌∷◌, ◌++◌, length, Some, IsNone, OnOk, OnErr};
+ghost use Rattle.ntp_register.specs.Registry.{customer_at};
+ghost use Rattle.ntp_reply.specs.Life.{Life, short};
+ghost use Rattle.ntp_reply.specs.Replies.{occasion_of};
+ghost use Rattle.ntp_reply.specs.Verdict.{verdict, reply_length};
+ghost use Rattle.ntp_admin.specs.declared.event.Event.{Event};
+ghost use Rattle.ntp_service_run.specs.Events.{own};
+ghost use Rattle.ntp_service_run.specs.Model.{life_of};
+ghost use Rattle.ntp_service_run.specs.Headline.{StandsFor, TellsOne, IsTaken, command_outcome};
+
+use ntp_admin::{Command, Event, Outcome};
+use ntp_register::{Address, Customer, Refusal, Register};
+use ntp_reply::{Answer, Reason, Reference, answer};
+use ntp_tail::read_request;
+use ntp_time::Moment;
+use std::alloc::{Allocator, Global};
+use std::marker::Model;
+
+/// A service for registered customers. Contracts see what each address has, and who holds each number.
+#[derive(Drop)]
+pub struct Service<A: Allocator = Global> {
+    alloc: A,
+    register: Register<A>,
+}
+
+impl<A: Allocator> Model for Service<A> {
+    ghost use Rattle.ntp_register.specs.Registry.{Registry, Agrees};
+    ghost use Rattle.ntp_register.specs.Codes.{coded_registry};
+
+    ghost Value = { Registry };
+
+    ghost coded = { coded_registry };
+
+    ghost view = { λ s. s.register };
+
+    ghost invariant = { λ s. Agrees s.register };
+}
+
+impl<A: Allocator + Copy> Service<A> {
+    /// A service with no customers.
+    pub fn new(alloc: A) -> Service<A>
+        ensures { StandsFor {A = A} result [] }
+    {
+        Service {
+            alloc,
+            register: Register::new(alloc),
+        }
+    }
+
+    /// The allocator from which the service takes its memory.
+    pub fn allocator(&self) -> A {
+        self.alloc
+    }
+
+    /// The answer to a datagram that came from an address at `receipt`, to which a reply departs at
+    /// `transmit`. It takes no memory. An address that was never enrolled gets no answer and no entry.
+    pub fn datagram(
+        &mut self,
+        address: Address,
+        receipt: Moment,
+        transmit: Moment,
+        reference: &Reference,
+        octets: &[u8],
+    ) -> Answer
+        // The answer is that of the customer's own events, and the service goes on to stand for one more.
+        ensures tells { (history : List (Event A)) → StandsFor self.old history
+            → TellsOne history (Event.Datagram address receipt transmit reference.now octets.now) (Outcome.Datagram result) self.new }
+        ensures no_entry { IsNone (customer_at self.old address) → self.new ≡ self.old }
+        ensures no_longer { reply_length result ≤ length octets.now }
+    {
+        let Some(customer) = self.register.customer_mut(address) else {
+            return Answer::Silent(Reason::Unregistered);
+        };
+        answer_octets(customer, receipt, transmit, reference, octets)
+    }
+
+    /// Carries a command out, or refuses it and changes nothing. `NoMemory` comes last, and of an
+    /// enrolment alone.
+    pub fn command(&mut self, command: &Command) -> Result<(), Refusal>
+        ensures tells { (history : List (Event A)) → StandsFor self.old history
+            → TellsOne history (Event.Command command.now) (command_outcome result) self.new }
+        ensures taken { (history : List (Event A)) → StandsFor self.old history
+            → (result ≡ Err Refusal.KeyTaken) ↔ IsTaken history command.now }
+        ensures refused { OnErr result (self.new ≡ self.old) }
+    {
+        match command {
+            Command::Enrol {
+                address,
+                number,
+                key,
+                budget,
+            } => self
+                .register
+                .enrol(*address, number.get(), *key, budget.get()),
+            Command::Revoke { address } => self.register.revoke(*address),
+        }
+    }
+
+    /// The outcome of one event: what `datagram` or `command` answers to it.
+    pub fn apply(&mut self, event: &Event<A>) -> Outcome
+        ensures { (history : List (Event A)) → StandsFor self.old history → TellsOne history event.now result self.new }
+    {
+        match event {
+            Event::Datagram {
+                address,
+                receipt,
+                transmit,
+                reference,
+                octets,
+            } => Outcome::Datagram(self.datagram(
+                *address,
+                *receipt,
+                *transmit,
+                reference,
+                octets.as_slice(),
+            )),
+            Event::Command(command) => outcome_of(self.command(command)),
+        }
+    }
+}
+
+// The outcome of a command.
+fn outcome_of(answer: Result<(), Refusal>) -> Outcome
+    ensures { result ≡ command_outcome answer }
+{
+    match answer {
+        Ok(()) => Outcome::Done,
+        Err(refusal) => Outcome::Refused(refusal),
+    }
+}
+
+// The answer to octets from a customer.
+fn answer_octets<A: Allocator + Copy>(
+    customer: &mut Customer<A>,
+    receipt: Moment,
+    transmit: Moment,
+    reference: &Reference,
+    octets: &[u8],
+) -> Answer
+    ensures answer { (life : Life) → short life ≡ Some customer.old
+        → result ≡ verdict life (occasion_of receipt transmit reference.now) octets.now }
+    ensures after { customer.new ≡ customer.old }
+    ensures no_longer { reply_length result ≤ length octets.now }
+{
+    match read_request(octets) {
+        Ok(request) => answer(customer, &request, receipt, transmit, reference),
+        Err(fault) => Answer::Silent(Reason::Malformed(fault)),
+    }
+}

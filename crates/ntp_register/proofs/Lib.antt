@@ -2,6 +2,7 @@ mod Keys
 mod Entries
 mod Loans
 pub mod AddressLaws
+pub mod Members
 mod Lists
 pub mod Lookups
 pub mod Agreement

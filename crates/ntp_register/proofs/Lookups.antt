@@ -1,14 +1,18 @@
 -- What a register answers after each change: at the address or the number that was changed, and at all others.
-use Rattle.std.proofs.Common.{◌≡◌, ◌≢◌, ℕ, Option, Some, None, refl, ap, ◌∙◌}
-use Rattle.std.specs.Option.{option_and_then}
+use Rattle.std.proofs.Common.{◌≡◌, ◌≢◌, ℕ, List, [], ◌∷◌, Option, Some, None, Contains, refl, sym, ap, ◌∙◌, ⊎_elim, arith}
+use Rattle.std.specs.Option.{option_map_or}
 use Rattle.std.proofs.lemmas.Cmp.{nat_cmp_total}
 use Rattle.std.specs.FinMap.{nat_cmp-IsAntisymmetric}
-use Rattle.ntp_mac.specs.Key.{SymmetricKey}
 use Rattle.ntp_register.specs.declared.address.Address.{Address}
-use Rattle.ntp_register.specs.Customer.{CustomerState, new_customer, revoked, number_of}
-use Rattle.ntp_register.specs.Registry.{Registry, customer_at, number_at, holder_of, with_customer, with_holder, without_holder, free_number, revoke_customer, after_enrol, after_revoke}
+use Rattle.ntp_register.specs.Customer.{Enrolment, CustomerState, new_customer, revoked, numbers_of}
+use Rattle.ntp_register.specs.Registry.{Registry, customer_at, numbers_at, holder_of, with_customer, with_holder, without_holder, without_holders, after_enrol, after_revoke}
 use Rattle.ntp_register.proofs.Keys.{get-insert-here, get-insert-there, get-remove-here, get-remove-there, insert-present, remove-insert}
-use Rattle.ntp_register.proofs.AddressLaws.{address_cmp_total, address_cmp-IsAntisymmetric}
+use Rattle.ntp_register.proofs.AddressLaws.{address_cmp_total, address_cmp-IsAntisymmetric, same_or_other_number}
+use Rattle.ntp_register.proofs.Members.{Contains-here, Contains-there, Contains-cases}
+
+-- the numbers that an address has by its customer, if it has one
+abbrev pub numbers_held : Option CustomerState → List ℕ
+numbers_held o = option_map_or numbers_of o []
 
 -- ---- a customer was written
 module _ (r : Registry) (address : Address) (c : CustomerState) where
@@ -18,11 +22,11 @@ module _ (r : Registry) (address : Address) (c : CustomerState) where
   pub customer_at-with_customer-other : (other : Address) → other ≢ address → customer_at (with_customer r address c) other ≡ customer_at r other
   customer_at-with_customer-other other ne = get-insert-there address_cmp_total address_cmp-IsAntisymmetric r.customers address c other ne
 
-  pub number_at-with_customer : number_at (with_customer r address c) address ≡ number_of c
-  number_at-with_customer = ap (option_and_then number_of) customer_at-with_customer
+  pub numbers_at-with_customer : numbers_at (with_customer r address c) address ≡ numbers_of c
+  numbers_at-with_customer = ap numbers_held customer_at-with_customer
 
-  pub number_at-with_customer-other : (other : Address) → other ≢ address → number_at (with_customer r address c) other ≡ number_at r other
-  number_at-with_customer-other other ne = ap (option_and_then number_of) (customer_at-with_customer-other other ne)
+  pub numbers_at-with_customer-other : (other : Address) → other ≢ address → numbers_at (with_customer r address c) other ≡ numbers_at r other
+  numbers_at-with_customer-other other ne = ap numbers_held (customer_at-with_customer-other other ne)
 
   -- to write what is there
   pub with_customer-present : customer_at r address ≡ Some c → with_customer r address c ≡ r
@@ -46,56 +50,77 @@ module _ (r : Registry) (number : ℕ) where
   pub without_holder-with_holder : (address : Address) → holder_of r number ≡ None → without_holder (with_holder r number address) number ≡ r
   without_holder-with_holder address free = λ i. record { customers = r.customers; holders = remove-insert nat_cmp_total nat_cmp-IsAntisymmetric r.holders number address free i }
 
+-- ---- numbers were freed
+pub customers-without_holders : (r : Registry) (numbers : List ℕ) (a : Address) → customer_at (without_holders r numbers) a ≡ customer_at r a
+customers-without_holders r [] a = refl
+customers-without_holders r (n ∷ ns) a = customers-without_holders (without_holder r n) ns a
+
+-- a number that is free stays so
+stays-free : (r : Registry) (numbers : List ℕ) (n : ℕ) → holder_of r n ≡ None → holder_of (without_holders r numbers) n ≡ None
+stays-free r [] n free = free
+stays-free r (m ∷ ms) n free = stays-free (without_holder r m) ms n (⊎_elim
+    (λ e. ap (holder_of (without_holder r m)) e ∙ holder_of-without_holder r m)
+    (λ ne. holder_of-without_holder-other r m n ne ∙ free)
+    (same_or_other_number n m))
+
+pub holder_of-without_holders : (r : Registry) (numbers : List ℕ) (n : ℕ) → Contains numbers n → holder_of (without_holders r numbers) n ≡ None
+holder_of-without_holders r [] n is = absurd (omega (arith, is.1))
+holder_of-without_holders r (m ∷ ms) n is = ⊎_elim
+    (λ e. stays-free (without_holder r m) ms n (ap (holder_of (without_holder r m)) (sym e) ∙ holder_of-without_holder r m))
+    (λ more. holder_of-without_holders (without_holder r m) ms n more)
+    (Contains-cases m ms n is)
+
+pub holder_of-without_holders-other : (r : Registry) (numbers : List ℕ) (n : ℕ) → (Contains numbers n → ⊥) → holder_of (without_holders r numbers) n ≡ holder_of r n
+holder_of-without_holders-other r [] n never = refl
+holder_of-without_holders-other r (m ∷ ms) n never =
+    holder_of-without_holders-other (without_holder r m) ms n (λ is. never (Contains-there m ms n is))
+    ∙ holder_of-without_holder-other r m n (λ e. never (Contains-here m ms n (sym e)))
+
 -- ---- an address was enrolled
-module _ (r : Registry) (address : Address) (number : ℕ) (key : SymmetricKey) (budget : ℕ) where
-  pub customer_at-after_enrol : customer_at (after_enrol r address number key budget) address ≡ Some (new_customer number key budget)
-  customer_at-after_enrol = customer_at-with_customer (with_holder r number address) address (new_customer number key budget)
+module _ (r : Registry) (address : Address) (e : Enrolment) where
+  pub customer_at-after_enrol : customer_at (after_enrol r address e) address ≡ Some (new_customer e)
+  customer_at-after_enrol = customer_at-with_customer (with_holder r e.number address) address (new_customer e)
 
-  pub customer_at-after_enrol-other : (other : Address) → other ≢ address → customer_at (after_enrol r address number key budget) other ≡ customer_at r other
-  customer_at-after_enrol-other other ne = customer_at-with_customer-other (with_holder r number address) address (new_customer number key budget) other ne
+  pub customer_at-after_enrol-other : (other : Address) → other ≢ address → customer_at (after_enrol r address e) other ≡ customer_at r other
+  customer_at-after_enrol-other other ne = customer_at-with_customer-other (with_holder r e.number address) address (new_customer e) other ne
 
-  pub number_at-after_enrol : number_at (after_enrol r address number key budget) address ≡ Some number
-  number_at-after_enrol = ap (option_and_then number_of) customer_at-after_enrol
+  pub numbers_at-after_enrol : numbers_at (after_enrol r address e) address ≡ e.number ∷ []
+  numbers_at-after_enrol = ap numbers_held customer_at-after_enrol
 
-  pub number_at-after_enrol-other : (other : Address) → other ≢ address → number_at (after_enrol r address number key budget) other ≡ number_at r other
-  number_at-after_enrol-other other ne = ap (option_and_then number_of) (customer_at-after_enrol-other other ne)
+  pub numbers_at-after_enrol-other : (other : Address) → other ≢ address → numbers_at (after_enrol r address e) other ≡ numbers_at r other
+  numbers_at-after_enrol-other other ne = ap numbers_held (customer_at-after_enrol-other other ne)
 
-  pub holder_of-after_enrol : holder_of (after_enrol r address number key budget) number ≡ Some address
-  holder_of-after_enrol = holder_of-with_holder r number address
+  pub holder_of-after_enrol : holder_of (after_enrol r address e) e.number ≡ Some address
+  holder_of-after_enrol = holder_of-with_holder r e.number address
 
-  pub holder_of-after_enrol-other : (other : ℕ) → other ≢ number → holder_of (after_enrol r address number key budget) other ≡ holder_of r other
-  holder_of-after_enrol-other other ne = holder_of-with_holder-other r number address other ne
+  pub holder_of-after_enrol-other : (other : ℕ) → other ≢ e.number → holder_of (after_enrol r address e) other ≡ holder_of r other
+  holder_of-after_enrol-other other ne = holder_of-with_holder-other r e.number address other ne
 
 -- ---- an address was revoked, whose customer is c
 module _ (r : Registry) (address : Address) (c : CustomerState) (there : customer_at r address ≡ Some c) where
-  after_revoke-customer : after_revoke r address ≡ free_number (with_customer r address (revoked c)) (number_of c)
-  after_revoke-customer = ap (revoke_customer r address) there
-
-  customers_kept : (s : Registry) (number : Option ℕ) (a : Address) → customer_at (free_number s number) a ≡ customer_at s a
-  customers_kept s None a = refl
-  customers_kept s (Some n) a = refl
-
-  -- the register after, where the customer is enrolled with a number
-  pub after_revoke-enrolled : (number : ℕ) → number_of c ≡ Some number → after_revoke r address ≡ without_holder (with_customer r address (revoked c)) number
-  after_revoke-enrolled number has = after_revoke-customer ∙ ap (free_number (with_customer r address (revoked c))) has
+  pub after_revoke-customer : after_revoke r address ≡ without_holders (with_customer r address (revoked c)) (numbers_of c)
+  after_revoke-customer = ap (λ o. option_map_or (λ d. without_holders (with_customer r address (revoked d)) (numbers_of d)) o r) there
 
   pub customer_at-after_revoke : customer_at (after_revoke r address) address ≡ Some (revoked c)
   customer_at-after_revoke =
-      ap (λ s. customer_at s address) after_revoke-customer ∙ customers_kept (with_customer r address (revoked c)) (number_of c) address ∙ customer_at-with_customer r address (revoked c)
+      ap (λ s. customer_at s address) after_revoke-customer ∙ customers-without_holders (with_customer r address (revoked c)) (numbers_of c) address
+      ∙ customer_at-with_customer r address (revoked c)
 
   pub customer_at-after_revoke-other : (other : Address) → other ≢ address → customer_at (after_revoke r address) other ≡ customer_at r other
   customer_at-after_revoke-other other ne =
-      ap (λ s. customer_at s other) after_revoke-customer ∙ customers_kept (with_customer r address (revoked c)) (number_of c) other ∙ customer_at-with_customer-other r address (revoked c) other ne
+      ap (λ s. customer_at s other) after_revoke-customer ∙ customers-without_holders (with_customer r address (revoked c)) (numbers_of c) other
+      ∙ customer_at-with_customer-other r address (revoked c) other ne
 
-  pub number_at-after_revoke : number_at (after_revoke r address) address ≡ None
-  number_at-after_revoke = ap (option_and_then number_of) customer_at-after_revoke
+  pub numbers_at-after_revoke : numbers_at (after_revoke r address) address ≡ []
+  numbers_at-after_revoke = ap numbers_held customer_at-after_revoke
 
-  pub number_at-after_revoke-other : (other : Address) → other ≢ address → number_at (after_revoke r address) other ≡ number_at r other
-  number_at-after_revoke-other other ne = ap (option_and_then number_of) (customer_at-after_revoke-other other ne)
+  pub numbers_at-after_revoke-other : (other : Address) → other ≢ address → numbers_at (after_revoke r address) other ≡ numbers_at r other
+  numbers_at-after_revoke-other other ne = ap numbers_held (customer_at-after_revoke-other other ne)
 
-  module _ (number : ℕ) (has : number_of c ≡ Some number) where
-    pub holder_of-after_revoke : holder_of (after_revoke r address) number ≡ None
-    holder_of-after_revoke = ap (λ s. holder_of s number) (after_revoke-enrolled number has) ∙ holder_of-without_holder (with_customer r address (revoked c)) number
+  pub holder_of-after_revoke : (number : ℕ) → Contains (numbers_of c) number → holder_of (after_revoke r address) number ≡ None
+  holder_of-after_revoke number has =
+      ap (λ s. holder_of s number) after_revoke-customer ∙ holder_of-without_holders (with_customer r address (revoked c)) (numbers_of c) number has
 
-    pub holder_of-after_revoke-other : (other : ℕ) → other ≢ number → holder_of (after_revoke r address) other ≡ holder_of r other
-    holder_of-after_revoke-other other ne = ap (λ s. holder_of s other) (after_revoke-enrolled number has) ∙ holder_of-without_holder-other (with_customer r address (revoked c)) number other ne
+  pub holder_of-after_revoke-other : (number : ℕ) → (Contains (numbers_of c) number → ⊥) → holder_of (after_revoke r address) number ≡ holder_of r number
+  holder_of-after_revoke-other number never =
+      ap (λ s. holder_of s number) after_revoke-customer ∙ holder_of-without_holders-other (with_customer r address (revoked c)) (numbers_of c) number never

@@ -8,7 +8,7 @@ use Rattle.ntp_mac.specs.declared.key.Algorithm.{Algorithm}
 use Rattle.ntp_mac.specs.declared.key.Algorithm.TheVariants.{Md5, Sha1}
 use Rattle.ntp_register.specs.declared.address.Address.{Address}
 use Rattle.ntp_register.specs.Address.{address_cmp}
-use Rattle.ntp_register.specs.Customer.{Terms, CustomerState}
+use Rattle.ntp_register.specs.Customer.{Enrolment, CustomerState}
 use Rattle.ntp_register.specs.Registry.{Registry}
 
 -- an address as the list of its octets
@@ -36,15 +36,15 @@ coded_key =
     code_by (Bool × List ℕ) (coded× coded_bool (coded_list coded_ℕ)) (λ k. (is_sha1 k.algorithm, k.octets))
     (λ p. record { algorithm = algorithm_of p.0; octets = p.1 }) (λ k i. record { algorithm = algorithm_of-is_sha1 k.algorithm i; octets = k.octets })
 
--- terms as the key, and the number with the budget
-abbrev pub coded_terms : Coded Terms
-coded_terms =
-    code_by (SymmetricKey × (ℕ × ℕ)) (coded× coded_key (coded× coded_ℕ coded_ℕ)) (λ t. (t.key, (t.number, t.budget)))
+-- an enrolment as the key, and the number with the budget
+abbrev pub coded_enrolment : Coded Enrolment
+coded_enrolment =
+    code_by (SymmetricKey × (ℕ × ℕ)) (coded× coded_key (coded× coded_ℕ coded_ℕ)) (λ e. (e.key, (e.number, e.budget)))
     (λ p. record { key = p.0; number = p.1.0; budget = p.1.1 }) (λ _. refl)
 
--- a customer as its terms
+-- a customer as its enrolment
 abbrev pub coded_customer : Coded CustomerState
-coded_customer = code_by (Option Terms) (coded_option coded_terms) (λ c. c.terms) (λ terms. record { terms = terms }) (λ _. refl)
+coded_customer = code_by (Option Enrolment) (coded_option coded_enrolment) (λ c. c.enrolment) (λ e. record { enrolment = e }) (λ _. refl)
 
 -- a register as its two maps
 abbrev pub coded_registry : Coded Registry

@@ -1,29 +1,38 @@
 -- One customer, as contracts see it.
-use Rattle.std.specs.Prelude.{ℕ, Option, Some, None, option_map}
+use Rattle.std.specs.Prelude.{ℕ, Bool, Option, Some, None, is_some, List, [], ◌∷◌}
+use Rattle.std.specs.Option.{option_map_or}
 use Rattle.ntp_mac.specs.Key.{SymmetricKey}
 
--- what a customer has while it is enrolled: the key, its number, and the signed queries that a window may have (profile)
-pub record Terms : Type 0 where
+-- what stays while an address is enrolled: its key, the key's number, and how many signed queries of a window get the time (profile)
+pub record Enrolment : Type 0 where
   pub key : SymmetricKey
   pub number : ℕ
   pub budget : ℕ
 
--- an address that was enrolled once: its terms while it is enrolled, and none after it is revoked (profile)
+-- the enrolment with these
+abbrev pub enrolment_of : ℕ → SymmetricKey → ℕ → Enrolment
+enrolment_of number key budget = record { key = key; number = number; budget = budget }
+
+-- the key numbers of an enrolment (profile)
+abbrev pub numbers_in : Enrolment → List ℕ
+numbers_in e = e.number ∷ []
+
+-- an address that was enrolled once: its enrolment, and none after it is revoked (profile)
 pub record CustomerState : Type 0 where
-  pub terms : Option Terms
+  pub enrolment : Option Enrolment
 
 -- a customer at its enrolment (profile)
-abbrev pub new_customer : ℕ → SymmetricKey → ℕ → CustomerState
-new_customer number key budget = record { terms = Some (record { key = key; number = number; budget = budget }) }
+abbrev pub new_customer : Enrolment → CustomerState
+new_customer e = record { enrolment = Some e }
 
--- a customer after it is revoked: its terms go (profile)
+-- a customer after it is revoked (profile)
 abbrev pub revoked : CustomerState → CustomerState
-revoked c = record c { terms = None }
+revoked c = record c { enrolment = None }
 
--- the key number in the terms (profile)
-abbrev pub number_in : Terms → ℕ
-number_in t = t.number
+-- whether a customer is enrolled (profile)
+abbrev pub is_enrolled : CustomerState → Bool
+is_enrolled c = is_some c.enrolment
 
--- the key number of a customer, if it is enrolled (profile)
-abbrev pub number_of : CustomerState → Option ℕ
-number_of c = option_map number_in c.terms
+-- the key numbers that a customer holds: none after it is revoked (profile)
+abbrev pub numbers_of : CustomerState → List ℕ
+numbers_of c = option_map_or numbers_in c.enrolment []

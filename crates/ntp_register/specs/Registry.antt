@@ -1,12 +1,11 @@
 -- A register, as contracts see it: two finite maps.
-use Rattle.std.specs.Prelude.{◌≡◌, ℕ, Option, Some, None}
-use Rattle.std.specs.Option.{option_and_then}
+use Rattle.std.specs.Prelude.{◌≡◌, ℕ, Bool, false, Option, Some, List, [], ◌∷◌, Contains}
+use Rattle.std.specs.Option.{option_map_or}
 use Rattle.std.specs.Ordering.{nat_cmp}
 use Rattle.std.specs.FinMap as map
-use Rattle.ntp_mac.specs.Key.{SymmetricKey}
 use Rattle.ntp_register.specs.declared.address.Address.{Address}
 use Rattle.ntp_register.specs.Address.{address_cmp}
-use Rattle.ntp_register.specs.Customer.{CustomerState, new_customer, revoked, number_of}
+use Rattle.ntp_register.specs.Customer.{Enrolment, CustomerState, new_customer, revoked, is_enrolled, numbers_of}
 
 -- the customers by address, and the holder of each key number that is held (profile)
 pub record Registry : Type 0 where
@@ -25,14 +24,18 @@ customer_at r address = map.get r.customers address
 abbrev pub holder_of : Registry → ℕ → Option Address
 holder_of r number = map.get r.holders number
 
--- the key number with which an address is enrolled now, if it is (profile)
-abbrev pub number_at : Registry → Address → Option ℕ
-number_at r address = option_and_then number_of (customer_at r address)
+-- whether an address is enrolled now (profile)
+abbrev pub is_enrolled_at : Registry → Address → Bool
+is_enrolled_at r address = option_map_or is_enrolled (customer_at r address) false
+
+-- the key numbers with which an address is enrolled now (profile)
+abbrev pub numbers_at : Registry → Address → List ℕ
+numbers_at r address = option_map_or numbers_of (customer_at r address) []
 
 -- a customer is enrolled with a number exactly where that number's holder is its address (profile)
 pub record Agrees (r : Registry) : Type 0 where
-  pub held : (address : Address) (number : ℕ) → number_at r address ≡ Some number → holder_of r number ≡ Some address
-  pub enrolled : (address : Address) (number : ℕ) → holder_of r number ≡ Some address → number_at r address ≡ Some number
+  pub held : (address : Address) (number : ℕ) → Contains (numbers_at r address) number → holder_of r number ≡ Some address
+  pub enrolled : (address : Address) (number : ℕ) → holder_of r number ≡ Some address → Contains (numbers_at r address) number
 
 -- with c as the customer at the address, and all else as it was (profile)
 abbrev pub with_customer : Registry → Address → CustomerState → Registry
@@ -46,20 +49,15 @@ with_holder r number address = record r { holders = map.insert r.holders number 
 abbrev pub without_holder : Registry → ℕ → Registry
 without_holder r number = record r { holders = map.remove r.holders number }
 
+-- with these numbers free, and all else as it was (profile)
+abbrev pub without_holders : Registry → List ℕ → Registry
+without_holders r [] = r
+without_holders r (number ∷ numbers) = without_holders (without_holder r number) numbers
+
 -- after an address is enrolled: it is a new customer and holds its number (profile)
-abbrev pub after_enrol : Registry → Address → ℕ → SymmetricKey → ℕ → Registry
-after_enrol r address number key budget = with_customer (with_holder r number address) address (new_customer number key budget)
+abbrev pub after_enrol : Registry → Address → Enrolment → Registry
+after_enrol r address e = with_customer (with_holder r e.number address) address (new_customer e)
 
--- with a number free, if there is one (profile)
-abbrev pub free_number : Registry → Option ℕ → Registry
-free_number r None = r
-free_number r (Some number) = without_holder r number
-
--- after the customer that an address has is revoked: its terms go and its number is free again (profile)
-abbrev pub revoke_customer : Registry → Address → Option CustomerState → Registry
-revoke_customer r address None = r
-revoke_customer r address (Some c) = free_number (with_customer r address (revoked c)) (number_of c)
-
--- after an address is revoked (profile)
+-- after an address is revoked: its enrolment goes, and its numbers are free again (profile)
 abbrev pub after_revoke : Registry → Address → Registry
-after_revoke r address = revoke_customer r address (customer_at r address)
+after_revoke r address = option_map_or (λ c. without_holders (with_customer r address (revoked c)) (numbers_of c)) (customer_at r address) r

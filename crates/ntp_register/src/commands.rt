@@ -1,8 +1,9 @@
 //! What a register does on commands. A refused command changes nothing. Each asks that the customers and
 //! the holders agree: a customer is enrolled with a number exactly where that number's holder is its
 //! address. Each keeps that.
-ghost use Rattle.std.specs.Prelude.{◌≡◌, ◌≢◌, ◌↔◌, ◌<◌, Some, None, OnOk, OnErr, IfErr, IsSome, IsNone};
-ghost use Rattle.ntp_register.specs.Registry.{Agrees, customer_at, number_at, holder_of, after_enrol, after_revoke};
+ghost use Rattle.std.specs.Prelude.{◌≡◌, ◌≢◌, ◌↔◌, ◌<◌, true, false, None, OnOk, OnErr, IfErr, IsSome};
+ghost use Rattle.ntp_register.specs.Customer.{enrolment_of};
+ghost use Rattle.ntp_register.specs.Registry.{Agrees, is_enrolled_at, holder_of, after_enrol, after_revoke};
 
 use crate::{Address, Customer, Refusal, Register};
 use ntp_mac::Key;
@@ -25,15 +26,15 @@ impl<A: Allocator + Copy> Register<A> {
         requires agrees { Agrees self.old }
 
         // Where the address is not enrolled, the holder of the number is another address.
-        ensures already { (result ≡ Err Refusal.AlreadyEnrolled) ↔ IsSome (number_at self.old address) }
-        ensures taken { (result ≡ Err Refusal.KeyTaken) ↔ (IsNone (number_at self.old address) × IsSome (holder_of self.old number)) }
+        ensures already { (result ≡ Err Refusal.AlreadyEnrolled) ↔ (is_enrolled_at self.old address ≡ true) }
+        ensures taken { (result ≡ Err Refusal.KeyTaken) ↔ ((is_enrolled_at self.old address ≡ false) × IsSome (holder_of self.old number)) }
         ensures never { result ≢ Err Refusal.NotEnrolled }
 
-        ensures ok { OnOk result (self.new ≡ after_enrol self.old address number key budget) }
+        ensures ok { OnOk result (self.new ≡ after_enrol self.old address (enrolment_of number key budget)) }
         ensures err { OnErr result (self.new ≡ self.old) }
         ensures agrees { Agrees self.new }
     {
-        if self.number(address).is_some() {
+        if self.is_enrolled(address) {
             return Err(Refusal::AlreadyEnrolled);
         }
         if self.holder(number).is_some() {
@@ -49,7 +50,7 @@ impl<A: Allocator + Copy> Register<A> {
     pub fn revoke(&mut self, address: Address) -> Result<(), Refusal>
         requires { Agrees self.old }
 
-        ensures refused { (result ≡ Err Refusal.NotEnrolled) ↔ IsNone (number_at self.old address) }
+        ensures refused { (result ≡ Err Refusal.NotEnrolled) ↔ (is_enrolled_at self.old address ≡ false) }
         ensures only { IfErr result (λ e. e ≡ Refusal.NotEnrolled) }
 
         ensures ok { OnOk result (self.new ≡ after_revoke self.old address) }
@@ -77,11 +78,11 @@ impl<A: Allocator + Copy> Register<A> {
     ) -> Result<(), AllocError>
         requires number_given { 0 < number }
         requires budget_given { 0 < budget }
-        requires new { number_at self.old address ≡ None }
+        requires new { is_enrolled_at self.old address ≡ false }
         requires free { holder_of self.old number ≡ None }
         requires agrees { Agrees self.old }
 
-        ensures ok { OnOk result (self.new ≡ after_enrol self.old address number key budget) }
+        ensures ok { OnOk result (self.new ≡ after_enrol self.old address (enrolment_of number key budget)) }
         ensures err { OnErr result (self.new ≡ self.old) }
         ensures agrees { Agrees self.new }
     {
@@ -95,10 +96,13 @@ impl<A: Allocator + Copy> Register<A> {
         }
     }
 
-    // The key number with which an address is enrolled now, if it is.
-    fn number(&self, address: Address) -> Option<u16>
-        ensures { result ≡ number_at self.now address }
+    // Whether an address is enrolled now.
+    fn is_enrolled(&self, address: Address) -> bool
+        ensures { result ≡ is_enrolled_at self.now address }
     {
-        self.customer(address)?.enrolled_number()
+        match self.customer(address) {
+            Some(customer) => customer.is_enrolled(),
+            None => false,
+        }
     }
 }

@@ -1,6 +1,6 @@
 //! One customer.
-ghost use Rattle.std.specs.Prelude.{◌≡◌, ◌<◌, IfSome, IsSome, is_some};
-ghost use Rattle.ntp_register.specs.Customer.{new_customer, revoked, number_of};
+ghost use Rattle.std.specs.Prelude.{◌≡◌, ◌<◌, [], ◌∷◌, IfSome, IsSome, is_some};
+ghost use Rattle.ntp_register.specs.Customer.{enrolment_of, new_customer, revoked, is_enrolled, numbers_of};
 
 use ntp_mac::Key;
 use std::alloc::{Allocator, Global};
@@ -18,12 +18,12 @@ pub(crate) struct Enrolment<A: Allocator = Global> {
 
 impl<A: Allocator> Model for Enrolment<A> {
     ghost use Rattle.std.specs.Prelude.{◌<◌};
-    ghost use Rattle.ntp_register.specs.Customer.{Terms};
-    ghost use Rattle.ntp_register.specs.Codes.{coded_terms};
+    ghost use Rattle.ntp_register.specs.Customer.{Enrolment};
+    ghost use Rattle.ntp_register.specs.Codes.{coded_enrolment};
 
-    ghost Value = { Terms };
+    ghost Value = { Enrolment };
 
-    ghost coded = { coded_terms };
+    ghost coded = { coded_enrolment };
 
     ghost view = { λ e. record { key = e.key; number = e.number; budget = e.budget } };
 
@@ -44,7 +44,7 @@ impl<A: Allocator> Model for Customer<A> {
 
     ghost coded = { coded_customer };
 
-    ghost view = { λ c. record { terms = c.enrolment } };
+    ghost view = { λ c. record { enrolment = c.enrolment } };
 }
 
 impl<A: Allocator> Customer<A> {
@@ -52,7 +52,7 @@ impl<A: Allocator> Customer<A> {
     pub(crate) fn new(number: u16, key: Key, budget: u16) -> Self
         requires number_given { 0 < number }
         requires budget_given { 0 < budget }
-        ensures { result ≡ new_customer number key budget }
+        ensures { result ≡ new_customer (enrolment_of number key budget) }
     {
         Customer {
             enrolment: Some(Enrolment {
@@ -66,15 +66,15 @@ impl<A: Allocator> Customer<A> {
 
     /// Whether the customer is enrolled, and not revoked.
     pub fn is_enrolled(&self) -> bool
-        ensures { result ≡ is_some self.now.terms }
+        ensures { result ≡ is_enrolled self.now }
     {
         self.enrolment.is_some()
     }
 
     /// The key number of an enrolled customer, from 1 to 65,535.
     pub fn number(&self) -> u16
-        requires { IsSome self.now.terms }
-        ensures number { IfSome self.now.terms (λ t. result ≡ t.number) }
+        requires { IsSome self.now.enrolment }
+        ensures number { IfSome self.now.enrolment (λ e. result ≡ e.number) }
         ensures positive { 0 < result }
     {
         let enrolment = self.enrolment.as_ref().unwrap();
@@ -83,8 +83,8 @@ impl<A: Allocator> Customer<A> {
 
     /// The key of an enrolled customer.
     pub fn key(&self) -> &Key
-        requires { IsSome self.now.terms }
-        ensures { IfSome self.now.terms (λ t. result.now ≡ t.key) }
+        requires { IsSome self.now.enrolment }
+        ensures { IfSome self.now.enrolment (λ e. result.now ≡ e.key) }
     {
         let enrolment = self.enrolment.as_ref().unwrap();
         &enrolment.key
@@ -93,24 +93,18 @@ impl<A: Allocator> Customer<A> {
     /// The budget of an enrolled customer: how many signed queries of one window are answered with time,
     /// from 1 to 65,535 (profile).
     pub fn budget(&self) -> u16
-        requires { IsSome self.now.terms }
-        ensures budget { IfSome self.now.terms (λ t. result ≡ t.budget) }
+        requires { IsSome self.now.enrolment }
+        ensures budget { IfSome self.now.enrolment (λ e. result ≡ e.budget) }
         ensures positive { 0 < result }
     {
         let enrolment = self.enrolment.as_ref().unwrap();
         enrolment.budget
     }
 
-    // The key number, if the customer is enrolled.
-    pub(crate) fn enrolled_number(&self) -> Option<u16>
-        ensures { result ≡ number_of self.now }
-    {
-        self.enrolment.as_ref().map(|enrolment| enrolment.number)
-    }
-
     // Ends the enrolment, if there is one, and gives its key number.
     pub(crate) fn revoke(&mut self) -> Option<u16>
-        ensures number { result ≡ number_of self.old }
+        ensures enrolled { is_some result ≡ is_enrolled self.old }
+        ensures number { IfSome result (λ number. numbers_of self.old ≡ number ∷ []) }
         ensures revoked { self.new ≡ revoked self.old }
     {
         self.enrolment.take().map(|ended| ended.number)

@@ -1,5 +1,5 @@
 use Rattle.std.proofs.Common.{ap, ◌∙◌}
-use Rattle.ntp_register.specs.Customer.{CustomerState}
+use Rattle.ntp_register.specs.Customer.{CustomerState, enrolment_of}
 use Rattle.ntp_register.specs.Registry.{with_customer, with_holder, without_holder}
 use Rattle.ntp_register.proofs.Agreement.{agrees-after_enrol}
 use Rattle.ntp_register.proofs.Lookups.{without_holder-with_holder}
@@ -23,4 +23,4 @@ returns-in-Ok-clause-ok g c =
 pub returns-in-Ok-clause-agrees : goal.returns-in-Ok-clause-agrees
 returns-in-Ok-clause-agrees g c =
     rw (returns-in-Ok-clause-ok g c)
-    (agrees-after_enrol c.args.self.now c.args.address c.args.number c.args.key c.args.budget c.requires.new c.requires.free c.requires.agrees)
+    (agrees-after_enrol c.args.self.now c.args.address (enrolment_of c.args.number c.args.key c.args.budget) c.requires.new c.requires.free c.requires.agrees)

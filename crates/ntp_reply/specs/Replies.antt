@@ -5,29 +5,32 @@ use Rattle.ntp_time.specs.declared.stamp.Short.{Short}
 use Rattle.ntp_time.specs.declared.moment.Moment.{Moment}
 use Rattle.ntp_time.specs.Fresh.{fresh}
 use Rattle.ntp_packet.specs.Header.{HeaderFields, header_octets}
+use Rattle.ntp_mac.specs.Key.{SymmetricKey}
 use Rattle.ntp_mac.specs.Mac.{mac_of, nak_octets}
 use Rattle.ntp_reply.specs.Reference.{ReferenceState}
-use Rattle.ntp_reply.specs.Life.{Enrolment}
+use Rattle.ntp_reply.specs.declared.occasion.Occasion.{Occasion}
+use Rattle.ntp_reply.specs.declared.occasion.NewStamps.{NewStamps}
 use Rattle.ntp_reply.specs.declared.answers.Kiss.{Kiss}
 use Rattle.ntp_reply.specs.declared.answers.Kiss.TheVariants.{Rate, Deny}
 
--- what is handed in with a datagram: when it came, when its reply departs, and the state of the clock (profile)
-pub record Occasion : Type 0 where
-  pub receipt : Moment
-  pub transmit : Moment
-  pub reference : ReferenceState
-
--- the occasion of these (profile)
+-- the occasion of these: when a datagram came, when its reply departs, and the state of the clock (profile)
 abbrev pub occasion_of : Moment → Moment → ReferenceState → Occasion
 occasion_of receipt transmit reference = record { receipt = receipt; transmit = transmit; reference = reference }
 
--- the new receive stamp (profile)
-abbrev pub receive_stamp : Occasion → Stamp
-receive_stamp o = fresh o.receipt.stamp []
+-- the new receive stamp, where these stamps are saved (profile)
+abbrev pub receive_stamp : Occasion → List Stamp → Stamp
+receive_stamp o saved = fresh o.receipt.stamp saved
 
--- the new transmit stamp: no reply has it as its receive stamp too (profile)
-abbrev pub transmit_stamp : Occasion → Stamp
-transmit_stamp o = fresh o.transmit.stamp (receive_stamp o ∷ [])
+-- the new transmit stamp, where these receive stamps are in use, the new one with them (profile)
+abbrev pub transmit_stamp : Occasion → List Stamp → Stamp
+transmit_stamp o receives = fresh o.transmit.stamp receives
+
+-- the new stamps of a reply, where these receive stamps and these transmit stamps are saved (profile)
+abbrev pub new_stamps : Occasion → List Stamp → List Stamp → NewStamps
+new_stamps o receives transmits = record {
+  receive = receive_stamp o (receives ++ transmits);
+  transmit = transmit_stamp o (receives ++ receive_stamp o (receives ++ transmits) ∷ []);
+}
 
 -- the stratum in a packet: 0 where the clock is unsynchronised (RFC 5905, 7.3)
 abbrev pub shown_stratum : ReferenceState → ℕ
@@ -37,23 +40,27 @@ shown_stratum r = if r.stratum == 16 then 0 else r.stratum
 abbrev pub shown_id : ReferenceState → List ℕ
 shown_id r = if r.stratum == 16 then 0 ∷ 0 ∷ 0 ∷ 0 ∷ [] else r.id
 
--- the header of a basic time reply, and of a crypto-NAK (RFC 5905, 9.2)
-abbrev pub basic_fields : Occasion → HeaderFields → HeaderFields
-basic_fields o request = record {
-  leap = o.reference.leap;
+-- the header of a time reply and of a crypto-NAK, with these stamps (RFC 5905, 9.2)
+abbrev pub reply_fields : ReferenceState → HeaderFields → Stamp → NewStamps → HeaderFields
+reply_fields reference request origin stamps = record {
+  leap = reference.leap;
   version = request.version;
   mode = 4;
-  stratum = shown_stratum o.reference;
+  stratum = shown_stratum reference;
   poll = request.poll;
-  precision = o.reference.precision;
-  root_delay = o.reference.root_delay;
-  root_dispersion = o.reference.root_dispersion;
-  reference_id = shown_id o.reference;
-  reference = o.reference.reference;
-  origin = request.transmit;
-  receive = receive_stamp o;
-  transmit = transmit_stamp o;
+  precision = reference.precision;
+  root_delay = reference.root_delay;
+  root_dispersion = reference.root_dispersion;
+  reference_id = shown_id reference;
+  reference = reference.reference;
+  origin = origin;
+  receive = stamps.receive;
+  transmit = stamps.transmit;
 }
+
+-- the basic one: its origin is the request's transmit stamp (RFC 5905, 9.2)
+abbrev pub basic_fields : Occasion → HeaderFields → NewStamps → HeaderFields
+basic_fields o request stamps = reply_fields o.reference request request.transmit stamps
 
 -- the kiss codes (RFC 5905, 7.4)
 abbrev pub kiss_code : Kiss → List ℕ
@@ -90,17 +97,17 @@ kiss_fields kiss request = record {
   transmit = kiss_transmit request.transmit;
 }
 
--- octets with the MAC of an enrolment's key behind them (RFC 5905, 7.3)
-abbrev pub sealed : Enrolment → List ℕ → List ℕ
-sealed e octets = octets ++ mac_of e.key e.number octets
+-- octets with the MAC of a key and its number behind them (RFC 5905, 7.3)
+abbrev pub sealed : SymmetricKey → ℕ → List ℕ → List ℕ
+sealed key number octets = octets ++ mac_of key number octets
 
 -- a time reply: signed (RFC 5905, 7.3 and 9.2)
-abbrev pub time_octets : Enrolment → Occasion → HeaderFields → List ℕ
-time_octets e o request = sealed e (header_octets (basic_fields o request))
+abbrev pub time_octets : SymmetricKey → ℕ → HeaderFields → List ℕ
+time_octets key number fields = sealed key number (header_octets fields)
 
--- a crypto-NAK: four zeros in the place of the MAC (RFC 5905, A.5.1)
-abbrev pub crypto_nak_octets : Occasion → HeaderFields → List ℕ
-crypto_nak_octets o request = header_octets (basic_fields o request) ++ nak_octets
+-- a crypto-NAK: four zeros in the place of the MAC (RFC 5905)
+abbrev pub crypto_nak_octets : HeaderFields → List ℕ
+crypto_nak_octets fields = header_octets fields ++ nak_octets
 
 -- a DENY: unsigned (RFC 5905, 7.4; profile)
 abbrev pub deny_octets : HeaderFields → List ℕ

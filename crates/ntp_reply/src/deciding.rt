@@ -1,28 +1,52 @@
 //! The decision, in its order.
 ghost use Rattle.std.specs.Prelude.{◌≡◌, ◌≤◌, ◌||◌, ◌==◌, Some, length, IsSome, IfSome};
-ghost use Rattle.ntp_packet.specs.Header.{header_octets};
 ghost use Rattle.ntp_tail.specs.Tail.{tail_octets};
-ghost use Rattle.ntp_reply.specs.Life.{Life, short, enrolment_of};
+ghost use Rattle.ntp_register.specs.Customer.{numbers_of};
+ghost use Rattle.ntp_reply.specs.Life.{Life, short};
+ghost use Rattle.ntp_reply.specs.Kind.{mac_kind};
 ghost use Rattle.ntp_reply.specs.Replies.{occasion_of, deny_octets};
-ghost use Rattle.ntp_reply.specs.Verdict.{packet_answer, mac_answer, reply_length, request_length};
+ghost use Rattle.ntp_reply.specs.Verdict.{packet_answer, after_packet, verdict, after_datagram, kind_answer, reply_length, request_length};
 
-use crate::packets::{basic_header, kiss_header};
+use crate::occasion::{Occasion, new_stamps};
+use crate::packets::{basic_fields, kiss_fields};
 use crate::{Answer, Kiss, Reason, Reference};
 use ntp_mac::{Reply, add_nak, seal, verifies};
 use ntp_packet::Header;
 use ntp_register::Customer;
-use ntp_tail::{Request, Tail};
+use ntp_tail::{Request, Tail, read_request};
 use ntp_time::Moment;
 use std::alloc::Allocator;
 
 /// The mode of a packet from a client (RFC 5905, 7.3).
 const CLIENT_MODE: u8 = 3;
 
+/// The answer to a datagram from a customer: silence where its octets are no packet, else that of `answer`. It
+/// takes no memory, and no reply is longer than the datagram.
+pub fn answer_octets<A: Allocator + Copy>(
+    customer: &mut Customer<A>,
+    receipt: Moment,
+    transmit: Moment,
+    reference: &Reference,
+    octets: &[u8],
+) -> Answer
+    ensures answer { (life : Life) → short life ≡ Some customer.old
+        → result ≡ verdict life (occasion_of receipt transmit reference.now) octets.now }
+    ensures after { (life : Life) → short life ≡ Some customer.old
+        → Some customer.new ≡ short (after_datagram life (occasion_of receipt transmit reference.now) octets.now) }
+    ensures numbers { numbers_of customer.new ≡ numbers_of customer.old }
+    ensures no_longer { reply_length result ≤ length octets.now }
+{
+    match read_request(octets) {
+        Ok(request) => answer(customer, &request, receipt, transmit, reference),
+        Err(fault) => Answer::Silent(Reason::Malformed(fault)),
+    }
+}
+
 /// The answer to a request of a customer. The first case that applies decides (profile):
 ///
 /// 1. the version is neither 3 nor 4, or the mode is not a client's: silence;
 /// 2. the customer is revoked, or the packet has no MAC: DENY;
-/// 3. the tail is a bare identifier: silence;
+/// 3. the tail is a bare key number: silence;
 /// 4. the MAC is not the customer's: a crypto-NAK;
 /// 5. otherwise the time, signed.
 ///
@@ -36,7 +60,9 @@ pub fn answer<A: Allocator + Copy>(
 ) -> Answer
     ensures answer { (life : Life) → short life ≡ Some customer.old
         → result ≡ packet_answer life (occasion_of receipt transmit reference.now) request.now }
-    ensures after { customer.new ≡ customer.old }
+    ensures after { (life : Life) → short life ≡ Some customer.old
+        → Some customer.new ≡ short (after_packet life (occasion_of receipt transmit reference.now) request.now) }
+    ensures numbers { numbers_of customer.new ≡ numbers_of customer.old }
     ensures no_longer { reply_length result ≤ request_length request.now }
 {
     if !is_served(request.header.version()) {
@@ -52,7 +78,12 @@ pub fn answer<A: Allocator + Copy>(
         Tail::Absent => deny(&request.header),
         Tail::Bare(_) => Answer::Silent(Reason::Bare),
         Tail::Md5 { .. } | Tail::Sha1 { .. } => {
-            answer_mac(customer, request, receipt, transmit, reference)
+            let occasion = Occasion {
+                receipt,
+                transmit,
+                reference: *reference,
+            };
+            answer_mac(customer, request, &occasion)
         }
     }
 }
@@ -68,24 +99,22 @@ fn is_served(version: u8) -> bool
 fn answer_mac<A: Allocator + Copy>(
     customer: &Customer<A>,
     request: &Request<'_>,
-    receipt: Moment,
-    transmit: Moment,
-    reference: &Reference,
+    occasion: &Occasion,
 ) -> Answer
-    requires enrolled { IsSome customer.now.terms }
+    requires enrolled { IsSome customer.now.enrolment }
     requires mac { 20 ≤ length (tail_octets request.now.tail) }
-    ensures answer { IfSome customer.now.terms (λ t. result ≡ mac_answer (enrolment_of t) (occasion_of receipt transmit reference.now) request.now) }
+    ensures answer { (life : Life) → IfSome customer.now.enrolment (λ e. result ≡ kind_answer life occasion.now (mac_kind e request.now)) }
     ensures no_longer { reply_length result ≤ request_length request.now }
 {
-    let header = basic_header(&request.header, receipt, transmit, reference);
-    let mut reply = Reply::from_header(&header);
+    let stamps = new_stamps(occasion);
+    let mut reply = Reply::from_header(&basic_fields(occasion, &request.header, stamps));
     let key = customer.key();
     let number = customer.number();
     if verifies(key, number, request) {
         seal(key, number, &mut reply);
         Answer::Time {
             reply,
-            saved: header.receive(),
+            saved: stamps.receive,
         }
     } else {
         add_nak(&mut reply);
@@ -98,5 +127,5 @@ fn deny(request: &Header) -> Answer
     ensures kiss { result ≡ Answer.Deny (deny_octets request.now) }
     ensures octets { reply_length result ≡ 48 }
 {
-    Answer::Deny(Reply::from_header(&kiss_header(Kiss::Deny, request)))
+    Answer::Deny(Reply::from_header(&kiss_fields(Kiss::Deny, request)))
 }

@@ -3,9 +3,10 @@
 
 mod answers;
 mod deciding;
+mod occasion;
 mod packets;
 mod reference;
 
 pub use answers::{Answer, Kiss, Reason};
-pub use deciding::answer;
+pub use deciding::{answer, answer_octets};
 pub use reference::{BadReference, Reference};

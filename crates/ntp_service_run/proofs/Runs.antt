@@ -38,7 +38,7 @@ module _ {A : Type 0} where
   kept-append [] ys [] ps e = refl
   kept-append [] ys (o ∷ os) ps e = absurd (omega arith)
   kept-append (x ∷ xs) ys [] ps e = absurd (omega arith)
-  kept-append (x ∷ xs) ys (o ∷ os) ps e = chosen (kept-append xs ys os ps (omega arith)) (is_struck x o)
+  kept-append (x ∷ xs) ys (o ∷ os) ps e = chosen (kept-append xs ys os ps (omega arith)) (is_struck o)
     where
       chosen : kept (xs ++ ys) (os ++ ps) ≡ kept xs os ++ kept ys ps → (b : Bool) → (if b then kept (xs ++ ys) (os ++ ps) else x ∷ kept (xs ++ ys) (os ++ ps)) ≡ (if b then kept xs os else x ∷ kept xs os) ++ kept ys ps
       chosen more true = more
@@ -48,7 +48,7 @@ module _ {A : Type 0} where
   told-append a [] ys [] ps e = refl
   told-append a [] ys (o ∷ os) ps e = absurd (omega arith)
   told-append a (x ∷ xs) ys [] ps e = absurd (omega arith)
-  told-append a (x ∷ xs) ys (o ∷ os) ps e = chosen (told-append a xs ys os ps (omega arith)) (not (is_struck x o) && names a x)
+  told-append a (x ∷ xs) ys (o ∷ os) ps e = chosen (told-append a xs ys os ps (omega arith)) (not (is_struck o) && names a x)
     where
       chosen : told a (xs ++ ys) (os ++ ps) ≡ told a xs os ++ told a ys ps → (b : Bool) → (if b then o ∷ told a (xs ++ ys) (os ++ ps) else told a (xs ++ ys) (os ++ ps)) ≡ (if b then o ∷ told a xs os else told a xs os) ++ told a ys ps
       chosen more true = ap (λ l. o ∷ l) more
@@ -57,21 +57,21 @@ module _ {A : Type 0} where
   -- ---- one event more
   module _ (history : List (Event A)) (e : Event A) (o : Outcome) (s : Registry) (t : TellsOne history e o s) where
     one-stands : StandsFor s (history ++ kept (e ∷ []) (o ∷ []))
-    one-stands = chosen (is_struck e o) t.stands
+    one-stands = chosen (is_struck o) t.stands
       where
         chosen : (b : Bool) → StandsFor s (if b then history else history ++ e ∷ []) → StandsFor s (history ++ (if b then [] else e ∷ []))
         chosen true h = subst (λ l. StandsFor s l) (sym (append-nil history)) h
         chosen false h = h
 
     one-told : (a : Address) → told a (e ∷ []) (o ∷ []) ≡ says_after (life_of (own a history)) (own a (kept (e ∷ []) (o ∷ [])))
-    one-told a = chosen (is_struck e o) refl
+    one-told a = chosen (is_struck o) refl
       where
-        here : is_struck e o ≡ false → a ≡ address_of e → o ∷ [] ≡ says_after (life_of (own a history)) (own a (e ∷ []))
+        here : is_struck o ≡ false → a ≡ address_of e → o ∷ [] ≡ says_after (life_of (own a history)) (own a (e ∷ []))
         here plain same =
             let mine : own a (e ∷ []) ≡ e ∷ [] = ap (λ (b : Bool). if b then e ∷ [] else []) (ap (λ x. address_eq a x) (sym same) ∙ address_eq_equiv.refl a) in
-            ap (λ x. x ∷ []) (t.answered.told plain ∙ ap (λ x. answer_to (life_of (own x history)) e) (sym same)) ∙ ap (says_after (life_of (own a history))) (sym mine)
+            ap (λ x. x ∷ []) (t.answered.as_model plain ∙ ap (λ x. answer_to (life_of (own x history)) e) (sym same)) ∙ ap (says_after (life_of (own a history))) (sym mine)
 
-        chosen : (b : Bool) → is_struck e o ≡ b → (if not b && names a e then o ∷ [] else []) ≡ says_after (life_of (own a history)) (own a (if b then [] else e ∷ []))
+        chosen : (b : Bool) → is_struck o ≡ b → (if not b && names a e then o ∷ [] else []) ≡ says_after (life_of (own a history)) (own a (if b then [] else e ∷ []))
         chosen true is = refl
         chosen false is = ⊎_elim
             (λ same. ap (λ (b : Bool). if b then o ∷ [] else []) (ap (λ x. address_eq a x) (sym same) ∙ address_eq_equiv.refl a) ∙ here is same)
@@ -86,7 +86,7 @@ AreAnswered-push history [] [] e o same all one = (subst (λ h. IsAnswered h e o
 AreAnswered-push history [] (p ∷ ps) e o same all one = absurd (omega arith)
 AreAnswered-push history (x ∷ xs) [] e o same all one = absurd (omega arith)
 AreAnswered-push history (x ∷ xs) (p ∷ ps) e o same all one =
-    (all.0, AreAnswered-push (if is_struck x p then history else history ++ x ∷ []) xs ps e o (omega arith) all.1 (subst (λ h. IsAnswered h e o) (sym (regrouped (is_struck x p))) one))
+    (all.0, AreAnswered-push (if is_struck p then history else history ++ x ∷ []) xs ps e o (omega arith) all.1 (subst (λ h. IsAnswered h e o) (sym (regrouped (is_struck p))) one))
   where
     regrouped : (b : Bool) → (if b then history else history ++ x ∷ []) ++ kept xs ps ≡ history ++ (if b then kept xs ps else x ∷ kept xs ps)
     regrouped true = refl

@@ -1,12 +1,13 @@
 -- What a service is, and what it tells each address.
-use Rattle.std.specs.Prelude.{◌≡◌, ◌≢◌, ◌↔◌, ℕ, ◌-◌, Bool, true, false, not, ◌&&◌, if◌then◌else◌, Result, Ok, Err, List, [], ◌∷◌, ◌++◌, length, drop}
+use Rattle.std.specs.Prelude.{◌≡◌, ◌≢◌, ◌↔◌, ℕ, ◌-◌, Contains, is_some, Bool, true, false, not, ◌&&◌, if◌then◌else◌, Result, Ok, Err, List, [], ◌∷◌, ◌++◌, length, drop}
+use Rattle.std.specs.Option.{option_map_or}
 use Rattle.std.specs.Int.NonZero.{non_zero_u16_get}
 use Rattle.ntp_register.specs.declared.address.Address.{Address}
 use Rattle.ntp_register.specs.declared.refusal.Refusal.{Refusal}
 use Rattle.ntp_register.specs.declared.refusal.Refusal.TheVariants.{AlreadyEnrolled, KeyTaken, NoMemory, NotEnrolled}
 use Rattle.ntp_register.specs.Registry.{Registry, Agrees, customer_at}
-use Rattle.ntp_reply.specs.Life.{Life, Unregistered, Revoked, Enrolled, Enrolment, short}
-use Rattle.ntp_admin.specs.declared.command.Command.{Command}
+use Rattle.ntp_register.specs.Customer.{numbers_in}
+use Rattle.ntp_reply.specs.Life.{Life, enrolment_in, short}
 use Rattle.ntp_admin.specs.declared.command.Command.TheVariants.{Enrol, Revoke}
 use Rattle.ntp_admin.specs.declared.event.Event.{Event}
 use Rattle.ntp_admin.specs.declared.event.Event.TheVariants as event
@@ -28,18 +29,12 @@ is_foreign KeyTaken = true
 is_foreign NoMemory = true
 is_foreign NotEnrolled = false
 
--- whether an enrolment with an outcome is struck out: it was refused for want of memory, or for a key number that another
--- address holds (profile)
-abbrev pub is_refused_enrolment : Outcome → Bool
-is_refused_enrolment (outcome.Datagram answer) = false
-is_refused_enrolment outcome.Done = false
-is_refused_enrolment (outcome.Refused refusal) = is_foreign refusal
-
--- whether an event with an outcome is struck out; only an enrolment ever is (profile)
-abbrev pub is_struck : {A : Type 0} → Event A → Outcome → Bool
-is_struck (event.Datagram address receipt transmit reference octets) o = false
-is_struck (event.Command (Enrol address number key budget)) o = is_refused_enrolment o
-is_struck (event.Command (Revoke address)) o = false
+-- whether a command with this outcome is struck out: it was refused for want of memory, or for a key number that another address
+-- holds; no datagram has such an outcome (profile)
+abbrev pub is_struck : Outcome → Bool
+is_struck (outcome.Datagram answer) = false
+is_struck outcome.Done = false
+is_struck (outcome.Refused refusal) = is_foreign refusal
 
 -- the outcome of a command (profile)
 abbrev pub command_outcome : Result (Unit {0}) Refusal → Outcome
@@ -50,61 +45,58 @@ command_outcome (Err refusal) = outcome.Refused refusal
 abbrev pub kept : {A : Type 0} → List (Event A) → List Outcome → List (Event A)
 kept [] outcomes = []
 kept (e ∷ events) [] = []
-kept (e ∷ events) (o ∷ outcomes) = if is_struck e o then kept events outcomes else e ∷ kept events outcomes
+kept (e ∷ events) (o ∷ outcomes) = if is_struck o then kept events outcomes else e ∷ kept events outcomes
 
 -- what an address was told: the outcomes of the events that name it, without those that are struck out (profile)
 abbrev pub told : {A : Type 0} → Address → List (Event A) → List Outcome → List Outcome
 told address [] outcomes = []
 told address (e ∷ events) [] = []
-told address (e ∷ events) (o ∷ outcomes) = if not (is_struck e o) && names address e then o ∷ told address events outcomes else told address events outcomes
+told address (e ∷ events) (o ∷ outcomes) = if not (is_struck o) && names address e then o ∷ told address events outcomes else told address events outcomes
 
 -- the last n members of a list (profile)
 abbrev pub last : {X : Type 0} → ℕ → List X → List X
 last n xs = drop (length xs - n) xs
 
 -- a life is enrolled with a number (profile)
-pub record IsEnrolledWith (life : Life) (number : ℕ) : Type 0 where
-  pub enrolment : Enrolment
-  pub enrolled : life ≡ Enrolled enrolment
-  pub with : enrolment.number ≡ number
+abbrev pub IsEnrolledWith : Life → ℕ → Type 0
+IsEnrolledWith life number = Contains (option_map_or numbers_in (enrolment_in life) []) number
 
--- whether a life is enrolled (profile)
-abbrev pub is_enrolled : Life → Bool
-is_enrolled Unregistered = false
-is_enrolled Revoked = false
-is_enrolled (Enrolled e) = true
+-- an event is an enrolment of an address that is not enrolled (profile)
+abbrev pub IsNewEnrolment : {A : Type 0} → List (Event A) → Event A → Type 0
+IsNewEnrolment history (event.Datagram address receipt transmit reference octets) = ⊥
+IsNewEnrolment history (event.Command (Enrol address number key budget)) = is_some (enrolment_in (life_of (own address history))) ≡ false
+IsNewEnrolment history (event.Command (Revoke address)) = ⊥
 
--- a command is an enrolment of an address that is not enrolled, with a number with which another address is (profile)
-abbrev pub IsTaken : {A : Type 0} → List (Event A) → Command → Type 0
-IsTaken history (Enrol address number key budget) =
-    (is_enrolled (life_of (own address history)) ≡ false)
-    × (other : Address) × (other ≢ address) × IsEnrolledWith (life_of (own other history)) (non_zero_u16_get number)
-IsTaken history (Revoke address) = ⊥
+-- an address other than this one is enrolled with the number (profile)
+abbrev pub IsHeldByAnother : {A : Type 0} → List (Event A) → Address → ℕ → Type 0
+IsHeldByAnother history address number = (other : Address) × (other ≢ address) × IsEnrolledWith (life_of (own other history)) number
 
--- an event is such a command; a datagram never is (profile)
-abbrev pub IsTakenBy : {A : Type 0} → List (Event A) → Event A → Type 0
-IsTakenBy history (event.Datagram address receipt transmit reference octets) = ⊥
-IsTakenBy history (event.Command command) = IsTaken history command
+-- an event is such an enrolment, with a number with which another address is enrolled (profile)
+abbrev pub IsTaken : {A : Type 0} → List (Event A) → Event A → Type 0
+IsTaken history (event.Datagram address receipt transmit reference octets) = ⊥
+IsTaken history (event.Command (Enrol address number key budget)) =
+    IsNewEnrolment history (event.Command (Enrol address number key budget)) × IsHeldByAnother history address (non_zero_u16_get number)
+IsTaken history (event.Command (Revoke address)) = ⊥
 
 -- the outcome of one event, after a history: unless it is struck out, the answer of the model to the address's own events; and
 -- what is struck out is so for a reason (profile)
 pub record IsAnswered {A : Type 0} (history : List (Event A)) (e : Event A) (o : Outcome) : Type 0 where
-  pub told : is_struck e o ≡ false → o ≡ answer_to (life_of (own (address_of e) history)) e
+  pub as_model : is_struck o ≡ false → o ≡ answer_to (life_of (own (address_of e) history)) e
   -- KeyTaken exactly where another address is enrolled with the number
-  pub taken : (o ≡ outcome.Refused KeyTaken) ↔ IsTakenBy history e
-  -- NoMemory only where nothing else refuses
-  pub memory : o ≡ outcome.Refused NoMemory → is_enrolled (life_of (own (address_of e) history)) ≡ false
+  pub taken : (o ≡ outcome.Refused KeyTaken) ↔ IsTaken history e
+  -- NoMemory of an enrolment alone, and only where nothing else refuses
+  pub memory : o ≡ outcome.Refused NoMemory → IsNewEnrolment history e
 
 -- one event, after which the service stands for one event more, unless it is struck out (profile)
 pub record TellsOne {A : Type 0} (history : List (Event A)) (e : Event A) (o : Outcome) (service : Registry) : Type 0 where
   pub answered : IsAnswered history e o
-  pub stands : StandsFor service (if is_struck e o then history else history ++ e ∷ [])
+  pub stands : StandsFor service (if is_struck o then history else history ++ e ∷ [])
 
 -- each event is answered so, after those before it that are not struck out (profile)
 abbrev pub AreAnswered : {A : Type 0} → List (Event A) → List (Event A) → List Outcome → Type 0
 AreAnswered history [] outcomes = Unit {0}
 AreAnswered history (e ∷ events) [] = ⊥
-AreAnswered history (e ∷ events) (o ∷ outcomes) = IsAnswered history e o × AreAnswered (if is_struck e o then history else history ++ e ∷ []) events outcomes
+AreAnswered history (e ∷ events) (o ∷ outcomes) = IsAnswered history e o × AreAnswered (if is_struck o then history else history ++ e ∷ []) events outcomes
 
 -- the headline: to each address the outcomes of its own events are those that the model of one customer gives to its own
 -- events alone, once what is struck out is left out of the list; and the service then stands for what it stood for, followed by

@@ -1,10 +1,11 @@
 -- The model of one customer: what the events of one address are answered. There is no table and no neighbour in it.
-use Rattle.std.specs.Prelude.{List, [], ◌∷◌}
+use Rattle.std.specs.Prelude.{List, [], ◌∷◌, if◌then◌else◌, is_some}
 use Rattle.std.specs.Int.NonZero.{non_zero_u16_get}
 use Rattle.ntp_register.specs.declared.refusal.Refusal.TheVariants.{AlreadyEnrolled, NotEnrolled}
-use Rattle.ntp_reply.specs.Life.{Life, Unregistered, Revoked, Enrolled}
+use Rattle.ntp_register.specs.Customer.{enrolment_of}
+use Rattle.ntp_reply.specs.Life.{Life, Unregistered, Revoked, Enrolled, enrolment_in}
 use Rattle.ntp_reply.specs.Replies.{occasion_of}
-use Rattle.ntp_reply.specs.Verdict.{verdict}
+use Rattle.ntp_reply.specs.Verdict.{verdict, after_datagram}
 use Rattle.ntp_admin.specs.declared.command.Command.{Command}
 use Rattle.ntp_admin.specs.declared.command.Command.TheVariants.{Enrol, Revoke}
 use Rattle.ntp_admin.specs.declared.event.Event.{Event}
@@ -14,21 +15,14 @@ use Rattle.ntp_admin.specs.declared.outcome.Outcome.TheVariants as outcome
 
 -- the answer to a command (profile)
 abbrev pub command_answer : Life → Command → Outcome
-command_answer (Enrolled e) (Enrol address number key budget) = outcome.Refused AlreadyEnrolled
-command_answer Unregistered (Enrol address number key budget) = outcome.Done
-command_answer Revoked (Enrol address number key budget) = outcome.Done
-command_answer (Enrolled e) (Revoke address) = outcome.Done
-command_answer Unregistered (Revoke address) = outcome.Refused NotEnrolled
-command_answer Revoked (Revoke address) = outcome.Refused NotEnrolled
+command_answer life (Enrol address number key budget) = if is_some (enrolment_in life) then outcome.Refused AlreadyEnrolled else outcome.Done
+command_answer life (Revoke address) = if is_some (enrolment_in life) then outcome.Done else outcome.Refused NotEnrolled
 
 -- the life after a command (profile)
 abbrev pub after_command : Life → Command → Life
-after_command (Enrolled e) (Enrol address number key budget) = Enrolled e
-after_command Unregistered (Enrol address number key budget) = Enrolled (record { key = key; number = non_zero_u16_get number; budget = non_zero_u16_get budget })
-after_command Revoked (Enrol address number key budget) = Enrolled (record { key = key; number = non_zero_u16_get number; budget = non_zero_u16_get budget })
-after_command (Enrolled e) (Revoke address) = Revoked
-after_command Unregistered (Revoke address) = Unregistered
-after_command Revoked (Revoke address) = Revoked
+after_command life (Enrol address number key budget) =
+    if is_some (enrolment_in life) then life else Enrolled (enrolment_of (non_zero_u16_get number) key (non_zero_u16_get budget))
+after_command life (Revoke address) = if is_some (enrolment_in life) then Revoked else life
 
 -- the answer to an event (profile)
 abbrev pub answer_to : {A : Type 0} → Life → Event A → Outcome
@@ -37,7 +31,7 @@ answer_to life (event.Command command) = command_answer life command
 
 -- the life after an event (profile)
 abbrev pub after : {A : Type 0} → Life → Event A → Life
-after life (event.Datagram address receipt transmit reference octets) = life
+after life (event.Datagram address receipt transmit reference octets) = after_datagram life (occasion_of receipt transmit reference) octets
 after life (event.Command command) = after_command life command
 
 -- the life after events, from a life on (profile)

@@ -1,18 +1,13 @@
 //! A service, one event at a time.
-ghost use Rattle.std.specs.Prelude.{◌≡◌, ◌↔◌, ◌≤◌, List, [], ◌∷◌, ◌++◌, length, Some, IsNone, OnOk, OnErr};
+ghost use Rattle.std.specs.Prelude.{◌≡◌, ◌↔◌, ◌≤◌, List, [], length, IsNone, OnErr};
 ghost use Rattle.ntp_register.specs.Registry.{customer_at};
-ghost use Rattle.ntp_reply.specs.Life.{Life, short};
-ghost use Rattle.ntp_reply.specs.Replies.{occasion_of};
-ghost use Rattle.ntp_reply.specs.Verdict.{verdict, reply_length};
+ghost use Rattle.ntp_reply.specs.Verdict.{reply_length};
 ghost use Rattle.ntp_admin.specs.declared.event.Event.{Event};
-ghost use Rattle.ntp_service_run.specs.Events.{own};
-ghost use Rattle.ntp_service_run.specs.Model.{life_of};
 ghost use Rattle.ntp_service_run.specs.Headline.{StandsFor, TellsOne, IsTaken, command_outcome};
 
 use ntp_admin::{Command, Event, Outcome};
-use ntp_register::{Address, Customer, Refusal, Register};
-use ntp_reply::{Answer, Reason, Reference, answer};
-use ntp_tail::read_request;
+use ntp_register::{Address, Refusal, Register};
+use ntp_reply::{Answer, Reason, Reference, answer_octets};
 use ntp_time::Moment;
 use std::alloc::{Allocator, Global};
 use std::marker::Model;
@@ -81,7 +76,7 @@ impl<A: Allocator + Copy> Service<A> {
         ensures tells { (history : List (Event A)) → StandsFor self.old history
             → TellsOne history (Event.Command command.now) (command_outcome result) self.new }
         ensures taken { (history : List (Event A)) → StandsFor self.old history
-            → (result ≡ Err Refusal.KeyTaken) ↔ IsTaken history command.now }
+            → (result ≡ Err Refusal.KeyTaken) ↔ IsTaken history (Event.Command command.now) }
         ensures refused { OnErr result (self.new ≡ self.old) }
     {
         match command {
@@ -127,24 +122,5 @@ fn outcome_of(answer: Result<(), Refusal>) -> Outcome
     match answer {
         Ok(()) => Outcome::Done,
         Err(refusal) => Outcome::Refused(refusal),
-    }
-}
-
-// The answer to octets from a customer.
-fn answer_octets<A: Allocator + Copy>(
-    customer: &mut Customer<A>,
-    receipt: Moment,
-    transmit: Moment,
-    reference: &Reference,
-    octets: &[u8],
-) -> Answer
-    ensures answer { (life : Life) → short life ≡ Some customer.old
-        → result ≡ verdict life (occasion_of receipt transmit reference.now) octets.now }
-    ensures after { customer.new ≡ customer.old }
-    ensures no_longer { reply_length result ≤ length octets.now }
-{
-    match read_request(octets) {
-        Ok(request) => answer(customer, &request, receipt, transmit, reference),
-        Err(fault) => Answer::Silent(Reason::Malformed(fault)),
     }
 }

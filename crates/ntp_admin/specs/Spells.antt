@@ -1,5 +1,5 @@
 -- What a line of a script says, or the first fault in it.
-use Rattle.std.specs.Prelude.{◌≡◌, ℕ, if◌then◌else◌, List, [], ◌∷◌, codes, Result, Ok, Err}
+use Rattle.std.specs.Prelude.{◌≡◌, ℕ, Bool, false, if◌then◌else◌, List, [], ◌∷◌, codes, Result, Ok, Err}
 use Rattle.std.specs.Option.{ok_or}
 use Rattle.std.specs.Str.{bytes_eq}
 use Rattle.ntp_admin.specs.Words.{words, address_in, number_in, algorithm_in, key_in, moment_in, reference_in, octets_in}
@@ -52,6 +52,11 @@ datagram_in (address ∷ receipt ∷ transmit ∷ reference ∷ octets ∷ []) =
   o ← ok_or (octets_in octets) fault.Hex
   Ok (event.Datagram a r t s o)
 datagram_in other = Err fault.Count
+
+-- whether the first word is `datagram` (profile)
+abbrev pub is_datagram : List (List ℕ) → Bool
+is_datagram [] = false
+is_datagram (first ∷ others) = bytes_eq first (codes "datagram")
 
 -- an event, by its first word (profile)
 unfoldable pub event_in : {A : Type 0} → List (List ℕ) → Result (Event A) LineFault

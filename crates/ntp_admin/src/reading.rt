@@ -1,7 +1,7 @@
 //! Lines to commands and events.
-ghost use Rattle.std.specs.Prelude.{◌≡◌, ◌⊎◌, IfOk, IfErr, ◌∷◌, Err};
+ghost use Rattle.std.specs.Prelude.{◌≡◌, ◌≢◌, ◌⊎◌, IfOk, IfErr, ◌∷◌, Err, true};
 ghost use Rattle.ntp_admin.specs.Words.{words};
-ghost use Rattle.ntp_admin.specs.Spells.{enrolment_in, revocation_in, command_in, datagram_in, event_in, SpellsCommand, HasCommandFault, Spells, HasFault};
+ghost use Rattle.ntp_admin.specs.Spells.{enrolment_in, revocation_in, command_in, datagram_in, event_in, is_datagram, SpellsCommand, HasCommandFault, Spells, HasFault};
 
 use crate::parts::Parts;
 use crate::{Command, Event, LineFault, words};
@@ -32,12 +32,13 @@ pub fn parse_command(line: &str) -> Result<Command, LineFault>
 /// datagram ADDRESS RECEIPT TRANSMIT REFERENCE OCTETS
 /// ```
 ///
-/// The fault is the first in the order of `parse_command`, or want of memory. A command takes no memory.
+/// The fault is the first in the order of `parse_command`, or want of memory, and that of a datagram alone.
 #[tactic(auto, unfolding(crate::specs::Spells::event_in, crate::specs::Spells::command_in))]
 pub fn parse_event<A: Allocator + Copy>(alloc: A, line: &str) -> Result<Event<A>, LineFault>
     ensures only { IfOk result (λ event. Spells line.now event) }
     ensures fault { IfErr result (λ fault. (fault ≡ LineFault.NoMemory) ⊎ HasFault A line.now fault) }
     ensures command { (c : Command) → SpellsCommand line.now c → result ≡ Ok (Event.Command c) }
+    ensures memory { result ≡ Err LineFault.NoMemory → is_datagram (words line.now) ≡ true }
 {
     let mut words = Parts::new(line, ' ');
     let first = words.next().ok_or(LineFault::Word)?;
@@ -50,7 +51,8 @@ pub fn parse_event<A: Allocator + Copy>(alloc: A, line: &str) -> Result<Event<A>
 // The command that begins with a word.
 #[tactic(auto, unfolding(crate::specs::Spells::command_in))]
 fn command(first: &str, others: Parts<'_>) -> Result<Command, LineFault>
-    ensures { result ≡ command_in (first.now ∷ others.entry) }
+    ensures command { result ≡ command_in (first.now ∷ others.entry) }
+    ensures memory { result ≢ Err LineFault.NoMemory }
 {
     match first {
         "enrol" => enrolment(others),
@@ -61,7 +63,8 @@ fn command(first: &str, others: Parts<'_>) -> Result<Command, LineFault>
 
 // What stands behind `enrol`.
 fn enrolment(mut words: Parts<'_>) -> Result<Command, LineFault>
-    ensures { result ≡ enrolment_in words.entry }
+    ensures command { result ≡ enrolment_in words.entry }
+    ensures memory { result ≢ Err LineFault.NoMemory }
 {
     let address = words.word()?;
     let number = words.word()?;
@@ -84,7 +87,8 @@ fn enrolment(mut words: Parts<'_>) -> Result<Command, LineFault>
 
 // What stands behind `revoke`.
 fn revocation(mut words: Parts<'_>) -> Result<Command, LineFault>
-    ensures { result ≡ revocation_in words.entry }
+    ensures command { result ≡ revocation_in words.entry }
+    ensures memory { result ≢ Err LineFault.NoMemory }
 {
     let address = words.word()?;
     words.end()?;

@@ -1,12 +1,12 @@
 -- What the changes of a register do to the agreement of its customers and its holders.
-use Rattle.std.proofs.Common.{◌≡◌, ◌≢◌, ℕ, false, List, [], ◌∷◌, Option, Some, None, Contains, refl, sym, ap, ◌∙◌, subst, ⊎_elim, unwrap_or, true≢false}
+use Rattle.std.proofs.Common.{◌≡◌, ◌≢◌, ℕ, false, List, [], ◌∷◌, Option, Some, None, Contains, is_some, refl, sym, ap, ◌∙◌, subst, ⊎_elim, unwrap_or, true≢false}
 use Rattle.std.proofs.lemmas.Option.{none-some}
 use Rattle.std.specs.Ordering.{nat_cmp}
 use Rattle.std.specs.Option.{option_map_or}
 use Rattle.std.specs.FinMap.{get-empty}
 use Rattle.ntp_register.specs.declared.address.Address.{Address}
 use Rattle.ntp_register.specs.Address.{address_cmp}
-use Rattle.ntp_register.specs.Customer.{Enrolment, CustomerState, is_enrolled, numbers_in, numbers_of}
+use Rattle.ntp_register.specs.Customer.{Enrolment, CustomerState, enrolment_at, is_enrolled, numbers_in, numbers_of}
 use Rattle.ntp_register.specs.Registry.{Registry, Agrees, empty_registry, customer_at, is_enrolled_at, numbers_at, holder_of, with_customer, after_enrol, after_revoke}
 use Rattle.ntp_register.proofs.AddressLaws.{same_or_other_address, same_or_other_number}
 use Rattle.ntp_register.proofs.Members.{Contains-here, Contains-none, Contains-one, is_member}
@@ -22,10 +22,11 @@ in_none ms n e is = Contains-none n (subst (λ l. Contains l n) e is)
 -- a customer that is not enrolled has no number
 no_numbers : (o : Option CustomerState) → option_map_or is_enrolled o false ≡ false → numbers_held o ≡ []
 no_numbers None h = refl
-no_numbers (Some c) h = elim c.enrolment as (λ (e : Option Enrolment). is_enrolled (record { enrolment = e }) ≡ false → option_map_or numbers_in e [] ≡ []) [
-  | None ↦ λ i. refl
-  | Some e ↦ λ i. absurd (true≢false i)
-] h
+no_numbers (Some c) h = by_enrolment (enrolment_at c) h
+  where
+    by_enrolment : (e : Option Enrolment) → is_some e ≡ false → option_map_or numbers_in e [] ≡ []
+    by_enrolment None i = refl
+    by_enrolment (Some e) i = absurd (true≢false i)
 
 pub unenrolled-numbers : (r : Registry) (address : Address) → is_enrolled_at r address ≡ false → numbers_at r address ≡ []
 unenrolled-numbers r address h = no_numbers (customer_at r address) h

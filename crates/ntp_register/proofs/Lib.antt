@@ -7,3 +7,4 @@ mod Lists
 pub mod Lookups
 pub mod Agreement
 mod Absences
+mod Charged

@@ -3,12 +3,14 @@ use Rattle.std.specs.Prelude.{◌≡◌, ℕ, Bool, true, false, List, Option, r
 use Rattle.std.specs.Ordering.{nat_cmp}
 use Rattle.std.specs.Coded.{Coded, code_by, coded×, coded_list, coded_option, coded_bool, coded_ℕ}
 use Rattle.std.specs.FinMap as map
+use Rattle.ntp_budget.specs.Tally.{Tally}
+use Rattle.ntp_budget.specs.Codes.{coded_tally}
 use Rattle.ntp_mac.specs.Key.{SymmetricKey}
 use Rattle.ntp_mac.specs.declared.key.Algorithm.{Algorithm}
 use Rattle.ntp_mac.specs.declared.key.Algorithm.TheVariants.{Md5, Sha1}
 use Rattle.ntp_register.specs.declared.address.Address.{Address}
 use Rattle.ntp_register.specs.Address.{address_cmp}
-use Rattle.ntp_register.specs.Customer.{Enrolment, CustomerState}
+use Rattle.ntp_register.specs.Customer.{Enrolment, Account, CustomerState}
 use Rattle.ntp_register.specs.Registry.{Registry}
 
 -- an address as the list of its octets
@@ -42,9 +44,17 @@ coded_enrolment =
     code_by (SymmetricKey × (ℕ × ℕ)) (coded× coded_key (coded× coded_ℕ coded_ℕ)) (λ e. (e.key, (e.number, e.budget)))
     (λ p. record { key = p.0; number = p.1.0; budget = p.1.1 }) (λ _. refl)
 
--- a customer as its enrolment
+-- an account as its enrolment and its tally
+abbrev pub coded_account : Coded Account
+coded_account =
+    code_by (Enrolment × Tally) (coded× coded_enrolment coded_tally) (λ a. (a.enrolment, a.queries))
+    (λ p. record { enrolment = p.0; queries = p.1 }) (λ _. refl)
+
+-- a customer as its account and its tally
 abbrev pub coded_customer : Coded CustomerState
-coded_customer = code_by (Option Enrolment) (coded_option coded_enrolment) (λ c. c.enrolment) (λ e. record { enrolment = e }) (λ _. refl)
+coded_customer =
+    code_by (Option Account × Tally) (coded× (coded_option coded_account) coded_tally) (λ c. (c.account, c.refusals))
+    (λ p. record { account = p.0; refusals = p.1 }) (λ _. refl)
 
 -- a register as its two maps
 abbrev pub coded_registry : Coded Registry

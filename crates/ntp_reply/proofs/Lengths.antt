@@ -1,5 +1,5 @@
 -- How many octets requests and replies have.
-use Rattle.std.proofs.Common.{◌≡◌, ℕ, ◌+◌, ◌≤◌, List, ◌⊎◌, inl, inr, length, ap, ◌∙◌, subst, arith}
+use Rattle.std.proofs.Common.{◌≡◌, ℕ, ◌+◌, ◌≤◌, Option, Some, None, IsSome, IfSome, sym, true≢false, List, ◌⊎◌, inl, inr, length, ap, ◌∙◌, subst, arith}
 use Rattle.ntp_tail.specs.Tail.{TailValue, Md5Tail, Sha1Tail, tail_octets, IsTail}
 use Rattle.ntp_tail.specs.Request.{RequestValue, IsReading}
 use Rattle.ntp_tail.proofs.Headers.{length-signed}
@@ -8,6 +8,7 @@ use Rattle.ntp_mac.specs.Digest.{digest_length, hash}
 use Rattle.ntp_mac.specs.Signed.{IsSigned, mac_tail}
 use Rattle.ntp_mac.specs.declared.key.Algorithm.{Algorithm}
 use Rattle.ntp_mac.specs.declared.key.Algorithm.TheVariants.{Md5, Sha1}
+use Rattle.ntp_register.specs.Customer.{Enrolment}
 use Rattle.ntp_reply.specs.Verdict.{request_length}
 
 -- a request has a header
@@ -43,3 +44,11 @@ pub signed-fits : (key : SymmetricKey) (number : ℕ) (r : RequestValue) → IsR
 unfolding IsSigned
 signed-fits key number r is signed =
     omega (arith, signed-long r is, signed-tail key.algorithm _ number r.tail is.tail signed)
+
+-- a reply under the key of an enrolment is no longer than what is as long as one under that key
+pub enrolled-fits : (x : Option Enrolment) (key : SymmetricKey) (n m : ℕ) → IsSome x → IfSome x (λ e. key ≡ e.key) → IfSome x (λ e. n ≤ 52 + digest_length e.key.algorithm)
+    → 52 + digest_length key.algorithm ≤ m → n ≤ m
+enrolled-fits None key n m some is long fits = absurd (true≢false (sym some))
+enrolled-fits (Some e) key n m some is long fits =
+    let same : digest_length key.algorithm ≡ digest_length e.key.algorithm = ap (λ (k : SymmetricKey). digest_length k.algorithm) is in
+    omega arith

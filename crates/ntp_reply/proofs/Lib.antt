@@ -1,2 +1,2 @@
 mod Lengths
-pub mod PacketKinds
+pub mod OctetsKinds

@@ -51,5 +51,5 @@ octets_kind enrolment (Err fault) = PassedOver (reason.Malformed fault)
 -- a datagram: of an address that was never enrolled the octets are not looked at (profile)
 abbrev pub kind_of : Life → List ℕ → Kind
 kind_of Unregistered octets = PassedOver reason.Unregistered
-kind_of Revoked octets = octets_kind None (reading_of octets)
-kind_of (Enrolled e) octets = octets_kind (Some e) (reading_of octets)
+kind_of (Revoked refusals) octets = octets_kind None (reading_of octets)
+kind_of (Enrolled e queries refusals) octets = octets_kind (Some e) (reading_of octets)

@@ -112,3 +112,7 @@ crypto_nak_octets fields = header_octets fields ++ nak_octets
 -- a DENY: unsigned (RFC 5905, 7.4; profile)
 abbrev pub deny_octets : HeaderFields → List ℕ
 deny_octets request = header_octets (kiss_fields Deny request)
+
+-- a RATE: signed (RFC 5905, 7.4; profile)
+abbrev pub rate_octets : SymmetricKey → ℕ → HeaderFields → List ℕ
+rate_octets key number request = sealed key number (header_octets (kiss_fields Rate request))

@@ -1,17 +1,17 @@
 //! The decision, in its order.
 ghost use Rattle.std.specs.Prelude.{◌≡◌, ◌≤◌, ◌||◌, ◌==◌, Some, length, IsSome, IfSome};
 ghost use Rattle.ntp_tail.specs.Tail.{tail_octets};
-ghost use Rattle.ntp_register.specs.Customer.{numbers_of};
+ghost use Rattle.ntp_register.specs.Customer.{enrolment_at, numbers_of};
 ghost use Rattle.ntp_reply.specs.Life.{Life, short};
 ghost use Rattle.ntp_reply.specs.Kind.{mac_kind};
-ghost use Rattle.ntp_reply.specs.Replies.{occasion_of, deny_octets};
-ghost use Rattle.ntp_reply.specs.Verdict.{packet_answer, after_packet, verdict, after_datagram, kind_answer, reply_length, request_length};
+ghost use Rattle.ntp_reply.specs.Replies.{occasion_of};
+ghost use Rattle.ntp_reply.specs.Verdict.{packet_answer, after_packet, verdict, after_datagram, kind_answer, after_kind, reply_length, request_length};
 
-use crate::occasion::{Occasion, new_stamps};
-use crate::packets::{basic_fields, kiss_fields};
-use crate::{Answer, Kiss, Reason, Reference};
-use ntp_mac::{Reply, add_nak, seal, verifies};
-use ntp_packet::Header;
+use crate::occasion::Occasion;
+use crate::refusing::{deny, nak};
+use crate::serving::serve_signed;
+use crate::{Answer, Reason, Reference};
+use ntp_mac::verifies;
 use ntp_register::Customer;
 use ntp_tail::{Request, Tail, read_request};
 use ntp_time::Moment;
@@ -48,8 +48,9 @@ pub fn answer_octets<A: Allocator + Copy>(
 /// 2. the customer is revoked, or the packet has no MAC: DENY;
 /// 3. the tail is a bare key number: silence;
 /// 4. the MAC is not the customer's: a crypto-NAK;
-/// 5. otherwise the time, signed.
+/// 5. otherwise, as many queries of a window as the budget get the time, the next one RATE, the others silence.
 ///
+/// A refusal, by DENY or crypto-NAK, is counted, and sent where fewer than four of its window were counted before it.
 /// It takes no memory, and no reply is longer than its request.
 pub fn answer<A: Allocator + Copy>(
     customer: &mut Customer<A>,
@@ -71,20 +72,18 @@ pub fn answer<A: Allocator + Copy>(
     if request.header.mode() != CLIENT_MODE {
         return Answer::Silent(Reason::Mode);
     }
+    let occasion = Occasion {
+        receipt,
+        transmit,
+        reference: *reference,
+    };
     if !customer.is_enrolled() {
-        return deny(&request.header);
+        return deny(customer, &request.header, &occasion);
     }
     match request.tail {
-        Tail::Absent => deny(&request.header),
+        Tail::Absent => deny(customer, &request.header, &occasion),
         Tail::Bare(_) => Answer::Silent(Reason::Bare),
-        Tail::Md5 { .. } | Tail::Sha1 { .. } => {
-            let occasion = Occasion {
-                receipt,
-                transmit,
-                reference: *reference,
-            };
-            answer_mac(customer, request, &occasion)
-        }
+        Tail::Md5 { .. } | Tail::Sha1 { .. } => answer_mac(customer, request, &occasion),
     }
 }
 
@@ -97,35 +96,22 @@ fn is_served(version: u8) -> bool
 
 // The answer to a packet with a MAC, from a customer that is enrolled.
 fn answer_mac<A: Allocator + Copy>(
-    customer: &Customer<A>,
+    customer: &mut Customer<A>,
     request: &Request<'_>,
     occasion: &Occasion,
 ) -> Answer
-    requires enrolled { IsSome customer.now.enrolment }
+    requires enrolled { IsSome (enrolment_at customer.old) }
     requires mac { 20 ≤ length (tail_octets request.now.tail) }
-    ensures answer { (life : Life) → IfSome customer.now.enrolment (λ e. result ≡ kind_answer life occasion.now (mac_kind e request.now)) }
+    ensures answer { (life : Life) → short life ≡ Some customer.old
+        → IfSome (enrolment_at customer.old) (λ e. result ≡ kind_answer life occasion.now (mac_kind e request.now)) }
+    ensures after { (life : Life) → short life ≡ Some customer.old
+        → IfSome (enrolment_at customer.old) (λ e. Some customer.new ≡ short (after_kind life occasion.now (mac_kind e request.now))) }
+    ensures numbers { numbers_of customer.new ≡ numbers_of customer.old }
     ensures no_longer { reply_length result ≤ request_length request.now }
 {
-    let stamps = new_stamps(occasion);
-    let mut reply = Reply::from_header(&basic_fields(occasion, &request.header, stamps));
-    let key = customer.key();
-    let number = customer.number();
-    if verifies(key, number, request) {
-        seal(key, number, &mut reply);
-        Answer::Time {
-            reply,
-            saved: stamps.receive,
-        }
+    if verifies(customer.key(), customer.number(), request) {
+        serve_signed(customer, &request.header, occasion)
     } else {
-        add_nak(&mut reply);
-        Answer::Nak(reply)
+        nak(customer, &request.header, occasion)
     }
-}
-
-// The kiss DENY.
-fn deny(request: &Header) -> Answer
-    ensures kiss { result ≡ Answer.Deny (deny_octets request.now) }
-    ensures octets { reply_length result ≡ 48 }
-{
-    Answer::Deny(Reply::from_header(&kiss_fields(Kiss::Deny, request)))
 }

@@ -6,6 +6,8 @@ mod deciding;
 mod occasion;
 mod packets;
 mod reference;
+mod refusing;
+mod serving;
 
 pub use answers::{Answer, Kiss, Reason};
 pub use deciding::{answer, answer_octets};

@@ -1,5 +1,5 @@
 -- One command, by what the register answered.
-use Rattle.std.proofs.Common.{◌≡◌, ℕ, Bool, true, false, Some, Result, Ok, Err, IsSome, is_some, List, refl, sym, ap, ◌∙◌, subst, true≢false, [], ◌∷◌, ◌++◌}
+use Rattle.std.proofs.Common.{◌≡◌, ℕ, Bool, true, false, Some, Result, Ok, Err, IsSome, is_some, option_map, List, refl, sym, ap, ◌∙◌, subst, true≢false, [], ◌∷◌, ◌++◌}
 use Rattle.std.specs.Prelude.{◌↔◌, OnOk, OnErr, IfErr, if◌then◌else◌}
 use Rattle.std.specs.NonZero.{non_zero_u16_get}
 use Rattle.std.specs.declared.num.NonZeroU16.{NonZeroU16}
@@ -11,7 +11,7 @@ use Rattle.ntp_register.specs.declared.refusal.Refusal.TheVariants.{AlreadyEnrol
 use Rattle.ntp_register.specs.Customer.{CustomerState, Enrolment, enrolment_of, new_customer, revoked}
 use Rattle.ntp_register.specs.Registry.{Registry, Agrees, customer_at, is_enrolled_at, holder_of, after_enrol, after_revoke}
 use Rattle.ntp_register.proofs.Lookups.{customer_at-after_enrol, customer_at-after_enrol-other, customer_at-after_revoke, customer_at-after_revoke-other}
-use Rattle.ntp_reply.specs.Life.{Life, Unregistered, Revoked, Enrolled, enrolment_in, short}
+use Rattle.ntp_reply.specs.Life.{Life, Unregistered, Revoked, Enrolled, enrolment_in, refusals_in, short}
 use Rattle.ntp_admin.specs.declared.command.Command.{Command}
 use Rattle.ntp_admin.specs.declared.command.Command.TheVariants.{Enrol, Revoke}
 use Rattle.ntp_admin.specs.declared.event.Event.{Event}
@@ -44,16 +44,16 @@ two-refusals : refused AlreadyEnrolled ≡ refused NoMemory → ⊥
 two-refusals e = cc
 
 -- what is kept of an enrolled life that is revoked
-short-revoked : (life : Life) (c : CustomerState) → short life ≡ Some c → is_some (enrolment_in life) ≡ true → Some (revoked c) ≡ short Revoked
+short-revoked : (life : Life) (c : CustomerState) → short life ≡ Some c → is_some (enrolment_in life) ≡ true → Some (revoked c) ≡ short (Revoked (refusals_in life))
 short-revoked Unregistered c e is = absurd (none-some c e)
-short-revoked Revoked c e is = absurd (true≢false (sym is))
-short-revoked (Enrolled l) c e is = refl
+short-revoked (Revoked refusals) c e is = absurd (true≢false (sym is))
+short-revoked (Enrolled l queries refusals) c e is = ap (λ o. option_map revoked o) (sym e)
 
 -- something is kept of a life that is enrolled
 kept-enrolled : (life : Life) → is_some (enrolment_in life) ≡ true → (c : CustomerState) × (short life ≡ Some c)
 kept-enrolled Unregistered is = absurd (true≢false (sym is))
-kept-enrolled Revoked is = absurd (true≢false (sym is))
-kept-enrolled (Enrolled l) is = (new_customer l, refl)
+kept-enrolled (Revoked refusals) is = absurd (true≢false (sym is))
+kept-enrolled (Enrolled l queries refusals) is = (_, refl)
 
 module _ {A : Type 0} (r s : Registry) (history : List (Event A)) (address : Address) (stands : StandsFor r history) where
   abbrev life : Life
@@ -111,7 +111,7 @@ module _ {A : Type 0} (r s : Registry) (history : List (Event A)) (address : Add
           };
           stands = stands-step r s history (event.Command enrolment) stands
               (ap (λ x. customer_at x address) ok ∙ customer_at-after_enrol r address (enrolment_of n key b) ∙ ap (λ t. Some (new_customer t)) given
-              ∙ ap (λ (t : Bool). short (if t then life else Enrolled terms)) (sym out))
+              ∙ ap (λ (t : Bool). short (if t then life else Enrolled terms [] [])) (sym out))
               (λ a ne. ap (λ x. customer_at x a) ok ∙ customer_at-after_enrol-other r address (enrolment_of n key b) a ne)
               agrees;
         }
@@ -127,7 +127,7 @@ module _ {A : Type 0} (r s : Registry) (history : List (Event A)) (address : Add
             memory = memory-in (Err AlreadyEnrolled) already;
           };
           stands = subst (λ x. StandsFor x (history ++ event.Command enrolment ∷ [])) (sym err)
-              (stands-same r history (event.Command enrolment) stands (ap (λ (t : Bool). if t then life else Enrolled terms) in_it));
+              (stands-same r history (event.Command enrolment) stands (ap (λ (t : Bool). if t then life else Enrolled terms [] []) in_it));
         }
     enrol-tells (Err KeyTaken) n b en eb already taken never ok err agrees =
         struck KeyTaken refl (Err KeyTaken) refl err (record { as_model = λ e. absurd (true≢false e); taken = taken-in (Err KeyTaken) n en taken; memory = memory-in (Err KeyTaken) already })
@@ -152,7 +152,7 @@ module _ {A : Type 0} (r s : Registry) (history : List (Event A)) (address : Add
         };
         stands = stands-step r s history (event.Command revocation) stands
             (ap (λ x. customer_at x address) ok ∙ customer_at-after_revoke r address c.0 was ∙ short-revoked life c.0 c.1 in_it
-            ∙ ap (λ (t : Bool). short (if t then Revoked else life)) (sym in_it))
+            ∙ ap (λ (t : Bool). short (if t then Revoked (refusals_in life) else life)) (sym in_it))
             (λ a ne. ap (λ x. customer_at x a) ok ∙ customer_at-after_revoke-other r address c.0 was a ne)
             agrees;
       }
@@ -168,7 +168,7 @@ module _ {A : Type 0} (r s : Registry) (history : List (Event A)) (address : Add
           memory = λ e. absurd cc;
         };
         stands = subst (λ x. StandsFor x (history ++ event.Command revocation ∷ [])) (sym err)
-            (stands-same r history (event.Command revocation) stands (ap (λ (t : Bool). if t then Revoked else life) out));
+            (stands-same r history (event.Command revocation) stands (ap (λ (t : Bool). if t then Revoked (refusals_in life) else life) out));
       }
   revoke-tells (Err AlreadyEnrolled) refused only ok err agrees = absurd cc
   revoke-tells (Err KeyTaken) refused only ok err agrees = absurd cc

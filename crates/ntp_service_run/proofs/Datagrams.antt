@@ -24,8 +24,8 @@ use Rattle.ntp_service_run.proofs.Histories.{stands-step, stands-same}
 -- a life of which nothing is kept
 pub never-enrolled : (life : Life) → short life ≡ None → life ≡ Unregistered
 never-enrolled Unregistered e = refl
-never-enrolled Revoked e = absurd (none-some _ (sym e))
-never-enrolled (Enrolled l) e = absurd (none-some _ (sym e))
+never-enrolled (Revoked refusals) e = absurd (none-some _ (sym e))
+never-enrolled (Enrolled l queries refusals) e = absurd (none-some _ (sym e))
 
 module _ {A : Type 0} (r : Registry) (history : List (Event A)) (address : Address) (receipt transmit : Moment) (reference : ReferenceState) (octets : List ℕ) (stands : StandsFor r history) where
   abbrev datagram : Event A

@@ -3,7 +3,7 @@ use Rattle.std.specs.Prelude.{List, [], ◌∷◌, if◌then◌else◌, is_some}
 use Rattle.std.specs.Int.NonZero.{non_zero_u16_get}
 use Rattle.ntp_register.specs.declared.refusal.Refusal.TheVariants.{AlreadyEnrolled, NotEnrolled}
 use Rattle.ntp_register.specs.Customer.{enrolment_of}
-use Rattle.ntp_reply.specs.Life.{Life, Unregistered, Revoked, Enrolled, enrolment_in}
+use Rattle.ntp_reply.specs.Life.{Life, Unregistered, Revoked, Enrolled, enrolment_in, refusals_in}
 use Rattle.ntp_reply.specs.Replies.{occasion_of}
 use Rattle.ntp_reply.specs.Verdict.{verdict, after_datagram}
 use Rattle.ntp_admin.specs.declared.command.Command.{Command}
@@ -21,8 +21,8 @@ command_answer life (Revoke address) = if is_some (enrolment_in life) then outco
 -- the life after a command (profile)
 abbrev pub after_command : Life → Command → Life
 after_command life (Enrol address number key budget) =
-    if is_some (enrolment_in life) then life else Enrolled (enrolment_of (non_zero_u16_get number) key (non_zero_u16_get budget))
-after_command life (Revoke address) = if is_some (enrolment_in life) then Revoked else life
+    if is_some (enrolment_in life) then life else Enrolled (enrolment_of (non_zero_u16_get number) key (non_zero_u16_get budget)) [] []
+after_command life (Revoke address) = if is_some (enrolment_in life) then Revoked (refusals_in life) else life
 
 -- the answer to an event (profile)
 abbrev pub answer_to : {A : Type 0} → Life → Event A → Outcome

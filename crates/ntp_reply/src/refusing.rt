@@ -1,0 +1,70 @@
+//! Refusals: each is counted, and few of a window are sent.
+ghost use Rattle.std.specs.Prelude.{◌≡◌, ◌≤◌, Some, nat_lt};
+ghost use Rattle.ntp_budget.specs.Tally.{count_in};
+ghost use Rattle.ntp_register.specs.Customer.{numbers_of};
+ghost use Rattle.ntp_reply.specs.Life.{Life, short, refusals_in, with_refusal};
+ghost use Rattle.ntp_reply.specs.Kind.{RefusedByDeny, RefusedByNak};
+ghost use Rattle.ntp_reply.specs.Verdict.{kind_answer, after_kind, refusals_sent, reply_length};
+
+use crate::occasion::{Occasion, new_stamps};
+use crate::packets::{basic_fields, kiss_fields};
+use crate::{Answer, Kiss, Reason};
+use ntp_mac::{Reply, add_nak};
+use ntp_packet::Header;
+use ntp_register::Customer;
+use std::alloc::Allocator;
+
+/// How many refusals of a window are sent (profile).
+const REFUSALS_SENT: u32 = 4;
+
+// Counts a refusal in a window, and says whether it is sent.
+fn refuse<A: Allocator + Copy>(customer: &mut Customer<A>, window: u64) -> bool
+    ensures sent { (life : Life) → short life ≡ Some customer.old
+        → result ≡ nat_lt (count_in (refusals_in life) window) refusals_sent }
+    ensures after { (life : Life) → short life ≡ Some customer.old
+        → Some customer.new ≡ short (with_refusal life window) }
+    ensures numbers { numbers_of customer.new ≡ numbers_of customer.old }
+{
+    customer.charge_refusal(window) < REFUSALS_SENT
+}
+
+// The kiss DENY, or silence where enough refusals were sent.
+pub(crate) fn deny<A: Allocator + Copy>(
+    customer: &mut Customer<A>,
+    request: &Header,
+    occasion: &Occasion,
+) -> Answer
+    ensures answer { (life : Life) → short life ≡ Some customer.old
+        → result ≡ kind_answer life occasion.now (RefusedByDeny request.now) }
+    ensures after { (life : Life) → short life ≡ Some customer.old
+        → Some customer.new ≡ short (after_kind life occasion.now (RefusedByDeny request.now)) }
+    ensures numbers { numbers_of customer.new ≡ numbers_of customer.old }
+    ensures octets { reply_length result ≤ 48 }
+{
+    if !refuse(customer, occasion.receipt.window()) {
+        return Answer::Silent(Reason::Muted);
+    }
+    Answer::Deny(Reply::from_header(&kiss_fields(Kiss::Deny, request)))
+}
+
+// A crypto-NAK, or silence where enough refusals were sent.
+pub(crate) fn nak<A: Allocator + Copy>(
+    customer: &mut Customer<A>,
+    request: &Header,
+    occasion: &Occasion,
+) -> Answer
+    ensures answer { (life : Life) → short life ≡ Some customer.old
+        → result ≡ kind_answer life occasion.now (RefusedByNak request.now) }
+    ensures after { (life : Life) → short life ≡ Some customer.old
+        → Some customer.new ≡ short (after_kind life occasion.now (RefusedByNak request.now)) }
+    ensures numbers { numbers_of customer.new ≡ numbers_of customer.old }
+    ensures octets { reply_length result ≤ 52 }
+{
+    if !refuse(customer, occasion.receipt.window()) {
+        return Answer::Silent(Reason::Muted);
+    }
+    let fields = basic_fields(occasion, request, new_stamps(occasion));
+    let mut reply = Reply::from_header(&fields);
+    add_nak(&mut reply);
+    Answer::Nak(reply)
+}

@@ -1,2 +1,3 @@
 mod Lengths
 pub mod OctetsKinds
+pub mod ShortLives

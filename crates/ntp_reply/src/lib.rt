@@ -3,6 +3,7 @@
 
 mod answers;
 mod deciding;
+mod laws;
 mod occasion;
 mod packets;
 mod reference;
@@ -11,4 +12,5 @@ mod serving;
 
 pub use answers::{Answer, Kiss, Reason};
 pub use deciding::{answer, answer_octets};
+pub use laws::a_customer_has_a_life;
 pub use reference::{BadReference, Reference};

@@ -3,3 +3,4 @@ mod Datagrams
 mod Commands
 pub mod Runs
 mod Holders
+mod KeptLives

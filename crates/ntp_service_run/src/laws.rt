@@ -1,14 +1,24 @@
 //! What holds of the definitions, whatever code meets them.
-ghost use Rattle.std.specs.Prelude.{◌≡◌, ℕ, List, ◌++◌};
+ghost use Rattle.std.specs.Prelude.{◌≡◌, ℕ, ◌<◌, List, ◌++◌};
+ghost use Rattle.ntp_budget.specs.Tally.{most_counted};
 ghost use Rattle.ntp_register.specs.Registry.{Registry};
 ghost use Rattle.ntp_register.specs.declared.address.Address.{Address};
+ghost use Rattle.ntp_reply.specs.Life.{Life, budget_in, short};
 ghost use Rattle.ntp_admin.specs.declared.event.Event.{Event};
 ghost use Rattle.ntp_admin.specs.declared.outcome.Outcome.{Outcome};
 ghost use Rattle.ntp_service_run.specs.Events.{own};
-ghost use Rattle.ntp_service_run.specs.Model.{life_of};
+ghost use Rattle.ntp_service_run.specs.Model.{life_of, answer_to, after};
 ghost use Rattle.ntp_service_run.specs.Headline.{StandsFor, Tells, IsEnrolledWith, kept, told};
 
 use std::alloc::Allocator;
+
+/// What is kept of a life tells all of it: lives of which the same is kept answer each event alike, and the same
+/// is kept of them afterwards. Budgets are below where counting stops, as each command's is. This is a law, and
+/// does nothing when it is called.
+pub fn what_is_kept_of_a_life_tells_all<A: Allocator>()
+    ensures { (one other : Life) (e : Event A) → short one ≡ short other → budget_in one < most_counted
+        → (answer_to one e ≡ answer_to other e) × (short (after one e) ≡ short (after other e)) }
+{}
 
 /// No neighbour is felt: where two services were told of an address the same before and the same now,
 /// whatever they were told of others, they give that address the same outcomes. This is a law, and does

@@ -1,5 +1,6 @@
 -- Every 48 octets are read as one header.
-use Rattle.std.proofs.Common.{◌≡◌, ℕ, ◌+◌, ◌*◌, ◌/◌, ◌%◌, ◌^◌, ◌≤◌, ◌<◌, List, [], ◌∷◌, length, get_or, take, drop, refl, sym, ap, subst, ◌∙◌, inl, inr, arith, rules}
+use Rattle.std.proofs.Common.{◌≡◌, ℕ, ◌+◌, ◌*◌, ◌/◌, ◌%◌, ◌^◌, ◌≤◌, ◌<◌, List, [], ◌∷◌, length, get_or, take, drop}
+use Rattle.std.proofs.Common.{refl, sym, ap, subst, ◌∙◌, inl, inr, arith, rules}
 use Rattle.std.specs.Prelude.{All}
 use Rattle.std.specs.Int.{w8, w32, w64, cast_signed, to_be_bytes, from_be_bytes}
 use Rattle.std.proofs.lemmas.Int.{of_z-to_z, to_z-of_z}
@@ -72,8 +73,10 @@ module _ (b : List ℕ) (len : length b ≡ 48) (octets : AreOctets b) where
   front-part : first_octets (header_in b) ≡ take 4 b
   front-part =
       first-fields (header_in b) (take 4 b) (omega (arith, length-take 4 b)) (rw (front-cell 0 (omega arith)) (octets 0))
-      (rw (front-cell 0 (omega arith)) refl) (rw (front-cell 0 (omega arith)) refl) (rw (front-cell 0 (omega arith)) refl) (sym (front-cell 1 (omega arith)))
-      (of_z-to_z w8 (get_or b 2 0) (octets 2) ∙ sym (front-cell 2 (omega arith))) (of_z-to_z w8 (get_or b 3 0) (octets 3) ∙ sym (front-cell 3 (omega arith)))
+      (rw (front-cell 0 (omega arith)) refl) (rw (front-cell 0 (omega arith)) refl) (rw (front-cell 0 (omega arith)) refl)
+      (sym (front-cell 1 (omega arith)))
+      (of_z-to_z w8 (get_or b 2 0) (octets 2) ∙ sym (front-cell 2 (omega arith)))
+      (of_z-to_z w8 (get_or b 3 0) (octets 3) ∙ sym (front-cell 3 (omega arith)))
 
   -- the header that the octets spell is spelled by them
   pub spelled-again : header_octets (header_in b) ≡ b
@@ -121,7 +124,8 @@ low-bits l v m hl hv hm = omega arith
 
 -- a header is the one that its octets spell, the identifier's given one by one
 cells-again : (h : HeaderFields) (a b c d : ℕ) → IsHeader h
-    → header_in (header_octets (record h { reference_id = a ∷ b ∷ c ∷ d ∷ [] })) ≡ record h { reference_id = a ∷ b ∷ c ∷ d ∷ [] }
+    → header_in (header_octets (record h { reference_id = a ∷ b ∷ c ∷ d ∷ [] }))
+    ≡ record h { reference_id = a ∷ b ∷ c ∷ d ∷ [] }
 unfolding header_octets
 cells-again h a b c d is = λ i. record {
   leap = top-bits h.leap h.version h.mode is.leap is.version is.mode i;
@@ -142,7 +146,8 @@ cells-again h a b c d is = λ i. record {
 -- a header is the one that its octets spell
 pub header-again : (h : HeaderFields) → IsHeader h → header_in (header_octets h) ≡ h
 header-again h is =
-    let P : List ℕ → Type 0 = λ id. header_in (header_octets (record h { reference_id = id })) ≡ record h { reference_id = id } in
+    let P : List ℕ → Type 0 =
+    λ id. header_in (header_octets (record h { reference_id = id })) ≡ record h { reference_id = id } in
     subst P (four-cells h.reference_id is.reference_id.0) (cells-again h _ _ _ _ is)
 
 -- there is no other

@@ -4,6 +4,10 @@ use Rattle.std.specs.Int.{w8, w32, w64, cast_unsigned, to_be_bytes}
 use Rattle.ntp_time.specs.declared.stamp.Stamp.{Stamp}
 use Rattle.ntp_time.specs.declared.stamp.Short.{Short}
 
+-- how many octets a header has (RFC 5905, 7.3)
+abbrev pub header_length : ℕ
+header_length = 48
+
 -- the fields of a header, in the order of the packet (RFC 5905, 7.3)
 pub record HeaderFields : Type 0 where
   pub leap : ℕ

@@ -1,15 +1,15 @@
 //! Octets to a header.
 ghost use Rattle.std.specs.Prelude.{◌≡◌, ◌↔◌, ◌+◌, ◌<◌, ◌≤◌, length, take, drop, All, IsNone, IfSome};
 ghost use Rattle.std.specs.Int.{w32, w64, to_be_bytes};
-ghost use Rattle.ntp_packet.specs.Header.{header_octets, IsHeader};
+ghost use Rattle.ntp_packet.specs.Header.{header_length, header_octets, IsHeader};
 
 use crate::{HEADER_OCTETS, Header};
 use ntp_time::{Short, Stamp};
 
 /// Reads a header from the first 48 octets, whatever follows. `None` exactly where there are fewer.
 pub fn read_header(octets: &[u8]) -> Option<Header>
-    ensures short { IsNone result ↔ (length octets.now < 48) }
-    ensures found { IfSome result (λ header. header_octets header ≡ take 48 octets.now) }
+    ensures short { IsNone result ↔ (length octets.now < header_length) }
+    ensures found { IfSome result (λ header. header_octets header ≡ take header_length octets.now) }
     ensures fields { IfSome result (λ header. IsHeader header) }
 {
     if octets.len() < HEADER_OCTETS {

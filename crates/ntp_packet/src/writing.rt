@@ -1,11 +1,11 @@
 //! A header to octets.
 ghost use Rattle.std.specs.Prelude.{◌≡◌, ◌+◌, ◌≤◌, ◌++◌, length, take};
-ghost use Rattle.ntp_packet.specs.Header.{first_octets, header_octets};
+ghost use Rattle.ntp_packet.specs.Header.{first_octets, header_length, header_octets};
 
 use crate::{HEADER_OCTETS, Header};
 
 /// The 48 octets of a header.
-pub fn write_header(header: &Header) -> [u8; 48]
+pub fn write_header(header: &Header) -> [u8; HEADER_OCTETS]
     ensures { result ≡ header_octets header.now }
 {
     let mut octets = [0; HEADER_OCTETS];
@@ -34,8 +34,8 @@ fn first_word(header: &Header) -> [u8; 4]
 }
 
 // Puts a part at its place, behind what was put before.
-fn put(octets: &mut [u8; 48], at: usize, part: &[u8])
-    requires { at + length part.now ≤ 48 }
+fn put(octets: &mut [u8; HEADER_OCTETS], at: usize, part: &[u8])
+    requires { at + length part.now ≤ header_length }
     ensures { take (at + length part.now) octets.new ≡ take at octets.old ++ part.now }
 {
     octets[at..at + part.len()].copy_from_slice(part);

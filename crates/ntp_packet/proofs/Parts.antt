@@ -23,8 +23,8 @@ pub put-header : (h : HeaderFields) (o1 o2 o3 o4 o5 o6 o7 o8 : List ℕ) → len
     → take 40 o7 ≡ take 32 o6 ++ to_be_bytes w64 h.receive.0 → take 48 o8 ≡ take 40 o7 ++ to_be_bytes w64 h.transmit.0
     → o8 ≡ header_octets h
 unfolding header_octets
-put-header h o1 o2 o3 o4 o5 o6 o7 o8 short e1 e2 e3 e4 e5 e6 e7 e8 =
-    sym (take_all 48 o8 short) ∙ put-parts _ _ _ _ _ _ _ _ o1 o2 o3 o4 o5 o6 o7 o8 e1 e2 e3 e4 e5 e6 e7 e8
+put-header h o1 o2 o3 o4 o5 o6 o7 o8 fits e1 e2 e3 e4 e5 e6 e7 e8 =
+    sym (take_all 48 o8 fits) ∙ put-parts _ _ _ _ _ _ _ _ o1 o2 o3 o4 o5 o6 o7 o8 e1 e2 e3 e4 e5 e6 e7 e8
 
 -- the first 48 octets, part by part
 parts-48 : (b : List ℕ)

@@ -8,7 +8,7 @@ use ntp_time::{Short, Stamp};
 
 /// Reads a header from the first 48 octets, whatever follows. `None` exactly where there are fewer.
 pub fn read_header(octets: &[u8]) -> Option<Header>
-    ensures short { IsNone result ↔ (length octets.now < header_length) }
+    ensures none { IsNone result ↔ (length octets.now < header_length) }
     ensures found { IfSome result (λ header. header_octets header ≡ take header_length octets.now) }
     ensures fields { IfSome result (λ header. IsHeader header) }
 {

@@ -1,5 +1,6 @@
 -- Octets have a reading or a fault.
-use Rattle.std.proofs.Common.{◌≡◌, ℕ, zero, suc, ◌+◌, ◌%◌, ◌^◌, ◌<◌, ◌≤◌, ◌⊎◌, List, ◌++◌, length, take, drop, refl, sym, ap, subst, arith, inl, inr}
+use Rattle.std.proofs.Common.{◌≡◌, ℕ, zero, suc, ◌+◌, ◌%◌, ◌^◌, ◌<◌, ◌≤◌, ◌⊎◌, List, ◌++◌, length, take, drop, refl, sym, ap, subst}
+use Rattle.std.proofs.Common.{arith, inl, inr}
 use Rattle.std.specs.Int.{w32, to_be_bytes, from_be_bytes}
 use Rattle.std.proofs.lemmas.Bool.{cases_lt, cases_eq}
 use Rattle.std.proofs.lemmas.Nat.{be_bytes_4}
@@ -42,7 +43,11 @@ module _ (rest : List ℕ) (are : AreOctets rest) where
 
   bare-there : length rest ≡ 4 → TailThere rest
   unfolding tail_octets
-  bare-there e = record { tail = BareTail number; is = number-fits; spelled = is_bare rest (to_be_bytes w32 number) e (number-octets (omega arith)) }
+  bare-there e = record {
+    tail = BareTail number;
+    is = number-fits;
+    spelled = is_bare rest (to_be_bytes w32 number) e (number-octets (omega arith));
+  }
 
   md5-there : length rest ≡ 20 → TailThere rest
   unfolding tail_octets
@@ -63,7 +68,7 @@ module _ (rest : List ℕ) (are : AreOctets rest) where
 abbrev Answered : List ℕ → Type 0
 Answered octets = ((r : RequestValue) × IsRequest octets r) ⊎ ((fault : Malformed) × Fails octets fault)
 
-module _ (octets : List ℕ) (are : AreOctets octets) (short : length octets ≤ 1024) where
+module _ (octets : List ℕ) (are : AreOctets octets) (fits : length octets ≤ 1024) where
   with-tail : (place : ℕ) (rest : List ℕ) → Stands octets place rest → TailThere rest → Answered octets
   with-tail place rest s t =
       let whole : octets ≡ signed_octets s.header s.fields ++ tail_octets t.tail = rw t.spelled s.spelled in
@@ -86,7 +91,7 @@ module _ (octets : List ℕ) (are : AreOctets octets) (short : length octets ≤
             | inl e ↦ with-tail place rest s (md5-there rest mine e)
             | inr c ↦ elim (cases_eq (length rest) 24) [
               | inl e ↦ with-tail place rest s (sha1-there rest mine e)
-              | inr d ↦ inr (Rest place, fails_at IsNoTail octets place rest short s (end, a, b, c, d))
+              | inr d ↦ inr (Rest place, fails_at IsNoTail octets place rest fits s (end, a, b, c, d))
             ]
           ]
         ]
@@ -98,11 +103,11 @@ module _ (octets : List ℕ) (are : AreOctets octets) (short : length octets ≤
       elim (cases_lt 24 (length rest)) [
         | inr end ↦ at-end place rest s end
         | inl more ↦ elim (cases_lt (written_length rest) 16) [
-          | inl least ↦ inr (FieldShort place, fails_at IsFieldShort octets place rest short s (more, least))
+          | inl least ↦ inr (FieldShort place, fails_at IsFieldShort octets place rest fits s (more, least))
           | inr least ↦ elim (cases_eq (written_length rest % 4) 0) [
-            | inr odd ↦ inr (FieldUnaligned place, fails_at IsFieldUnaligned octets place rest short s (more, least, odd))
+            | inr odd ↦ inr (FieldUnaligned place, fails_at IsFieldUnaligned octets place rest fits s (more, least, odd))
             | inl aligned ↦ elim (cases_lt (length rest) (written_length rest)) [
-              | inl past ↦ inr (FieldPastEnd place, fails_at IsFieldPastEnd octets place rest short s (more, least, aligned, past))
+              | inl past ↦ inr (FieldPastEnd place, fails_at IsFieldPastEnd octets place rest fits s (more, least, aligned, past))
               | inr whole ↦ from-place fuel (place + written_length rest) (drop (written_length rest) rest)
                   (Stands-next octets place rest s are more (record { least = least; aligned = aligned; whole = whole }))
                   (omega (arith, length-drop (written_length rest) rest))
@@ -114,12 +119,13 @@ module _ (octets : List ℕ) (are : AreOctets octets) (short : length octets ≤
 answered : (octets : List ℕ) → AreOctets octets → Answered octets
 answered octets are =
     elim (cases_lt (length octets) 48) [
-      | inl short ↦ inr (Short, short)
+      | inl fewer ↦ inr (Short, fewer)
       | inr least ↦ elim (cases_lt 1024 (length octets)) [
         | inl long ↦ inr (Long, long)
         | inr most ↦
             let h = header-there octets are least in
-            from-place octets are most (length (drop 48 octets)) 48 (drop 48 octets) (Stands-first octets h.0 h.1 h.2 least) (omega arith)
+            from-place octets are most (length (drop 48 octets)) 48 (drop 48 octets)
+            (Stands-first octets h.header h.is h.spelled least) (omega arith)
       ]
     ]
 

@@ -11,8 +11,8 @@ use Rattle.ntp_tail.proofs.Spelling.{length-field_octets}
 
 pub composed : (h : HeaderFields) (fs : List Field) (t : TailValue) → IsHeader h → AreFields fs (length (tail_octets t)) → IsTail t
     → length (signed_octets h fs) + length (tail_octets t) ≤ 1024 → IsRequest (signed_octets h fs ++ tail_octets t) (request_of h fs t)
-composed h fs t is-header are is-tail short = record {
-  reading = record { header = is-header; signed = refl; fields = are; tail = is-tail; short = short };
+composed h fs t is-header are is-tail fits = record {
+  reading = record { header = is-header; signed = refl; fields = are; tail = is-tail; fits = fits };
   spelled = refl;
 }
 
@@ -25,7 +25,8 @@ AreFields-mac (f ∷ fs) after mac all =
     let len = length-append (field_octets f) (flat_map field_octets fs) in
     (all.0, omega arith, AreFields-mac fs after mac all.1)
 
-pub composed-mac : (h : HeaderFields) (fs : List Field) (t : TailValue) → IsHeader h → All IsField fs → IsTail t → 20 ≤ length (tail_octets t)
-    → length (signed_octets h fs) + length (tail_octets t) ≤ 1024 → IsRequest (signed_octets h fs ++ tail_octets t) (request_of h fs t)
-composed-mac h fs t is-header all is-tail mac short =
-    composed h fs t is-header (AreFields-mac fs (length (tail_octets t)) mac (recursion_from_All IsField fs all)) is-tail short
+pub composed-mac : (h : HeaderFields) (fs : List Field) (t : TailValue) → IsHeader h → All IsField fs → IsTail t
+    → 20 ≤ length (tail_octets t) → length (signed_octets h fs) + length (tail_octets t) ≤ 1024
+    → IsRequest (signed_octets h fs ++ tail_octets t) (request_of h fs t)
+composed-mac h fs t is-header all is-tail mac fits =
+    composed h fs t is-header (AreFields-mac fs (length (tail_octets t)) mac (recursion_from_All IsField fs all)) is-tail fits

@@ -21,7 +21,8 @@ Begins-field f rest is more =
     let size = length-field_octets f in
     record { more = more; whole = record { least = omega arith; aligned = rw written is.aligned; whole = omega arith } }
 
-Begins-fields : (g : Field) (gs : List Field) (rest : List ℕ) → AreFields (g ∷ gs) (length rest) → Begins (flat_map field_octets (g ∷ gs) ++ rest)
+Begins-fields : (g : Field) (gs : List Field) (rest : List ℕ) → AreFields (g ∷ gs) (length rest)
+    → Begins (flat_map field_octets (g ∷ gs) ++ rest)
 Begins-fields g gs rest are =
     let more = are.1 in
     let len = length-append (field_octets g ++ flat_map field_octets gs) rest in
@@ -36,14 +37,20 @@ same-fields [] [] r s are are' end end' e = (refl, e)
 same-fields [] (g ∷ gs) r s are are' end end' e = absurd (end (rw e (Begins-fields g gs s are')))
 same-fields (f ∷ fs) [] r s are are' end end' e = absurd (end' (rw (← e) (Begins-fields f fs r are)))
 same-fields (f ∷ fs) (g ∷ gs) r s are are' end end' e =
-    let one = sym (append_assoc (field_octets f) (flat_map field_octets fs) r) ∙ e ∙ append_assoc (field_octets g) (flat_map field_octets gs) s in
-    let first : f ≡ g = sym (first_field-spelled f (flat_map field_octets fs ++ r) are.0) ∙ ap first_field one ∙ first_field-spelled g (flat_map field_octets gs ++ s) are'.0 in
-    let behind = sym (drop-field f (flat_map field_octets fs ++ r) are.0) ∙ ap (λ octets. drop (written_length octets) octets) one ∙ drop-field g (flat_map field_octets gs ++ s) are'.0 in
+    let one =
+    sym (append_assoc (field_octets f) (flat_map field_octets fs) r) ∙ e ∙ append_assoc (field_octets g) (flat_map field_octets gs) s in
+    let first : f ≡ g =
+    sym (first_field-spelled f (flat_map field_octets fs ++ r) are.0) ∙ ap first_field one
+    ∙ first_field-spelled g (flat_map field_octets gs ++ s) are'.0 in
+    let behind =
+    sym (drop-field f (flat_map field_octets fs ++ r) are.0) ∙ ap (λ octets. drop (written_length octets) octets) one
+    ∙ drop-field g (flat_map field_octets gs ++ s) are'.0 in
     let rest = same-fields fs gs r s are.2 are'.2 end end' behind in
     (rw (first, rest.0) refl, rest.1)
 
 -- what stands before two ends of the same octets
-pub record SameEnd (octets : List ℕ) (p : ℕ) (r : List ℕ) (q : ℕ) (s : List ℕ) (x : Stands octets p r) (y : Stands octets q s) : Type 0 where
+pub record SameEnd (octets : List ℕ) (p : ℕ) (r : List ℕ) (q : ℕ) (s : List ℕ)
+    (x : Stands octets p r) (y : Stands octets q s) : Type 0 where
   pub header : x.header ≡ y.header
   pub fields : x.fields ≡ y.fields
   pub place : p ≡ q
@@ -53,8 +60,11 @@ pub same-end : (octets : List ℕ) (p : ℕ) (r : List ℕ) (q : ℕ) (s : List 
     → (Begins r → ⊥) → (Begins s → ⊥) → SameEnd octets p r q s x y
 same-end octets p r q s x y end end' =
     let header = same-header x.header y.header x.is_header y.is_header
-    (sym (take-signed x.header x.fields r x.is_header) ∙ ap (take 48) (sym x.spelled ∙ y.spelled) ∙ take-signed y.header y.fields s y.is_header) in
-    let behind = sym (drop-signed x.header x.fields r x.is_header) ∙ ap (drop 48) (sym x.spelled ∙ y.spelled) ∙ drop-signed y.header y.fields s y.is_header in
+    (sym (take-signed x.header x.fields r x.is_header) ∙ ap (take 48) (sym x.spelled ∙ y.spelled)
+    ∙ take-signed y.header y.fields s y.is_header) in
+    let behind =
+    sym (drop-signed x.header x.fields r x.is_header) ∙ ap (drop 48) (sym x.spelled ∙ y.spelled)
+    ∙ drop-signed y.header y.fields s y.is_header in
     let rest = same-fields x.fields y.fields r s x.are_fields y.are_fields end end' behind in
     record {
       header = header;

@@ -39,7 +39,7 @@ module _ (octets : List ℕ) (place : ℕ) (rest : List ℕ) (s : Stands octets 
     pub is-request : (h : HeaderFields) (tail : TailValue) → IsHeader h → header_octets h ≡ take 48 octets → length octets ≤ 1024
         → IsTail tail → tail_octets tail ≡ rest
         → IsRequest octets (record { header = h; fields = fields_of behind; signed = signed; tail = tail })
-    is-request h tail is-header h-is short is-tail tail-is =
+    is-request h tail is-header h-is fits is-tail tail-is =
         let fields : fields_of behind ≡ s.fields = spelled-behind.1 in
         let header : h ≡ s.header = same-header h s.header is-header s.is_header
         (h-is ∙ ap (take 48) s.spelled ∙ take-signed s.header s.fields rest s.is_header) in
@@ -51,7 +51,7 @@ module _ (octets : List ℕ) (place : ℕ) (rest : List ℕ) (s : Stands octets 
             signed = rw (header, fields) covered;
             fields = rw (fields, tail-is) s.are_fields;
             tail = is-tail;
-            short = omega (arith, ap length whole, length-append signed (tail_octets tail));
+            fits = omega (arith, ap length whole, length-append signed (tail_octets tail));
           };
           spelled = whole;
         }

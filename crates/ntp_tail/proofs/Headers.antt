@@ -16,14 +16,16 @@ length-signed h fs is = omega (arith, length-append (header_octets h) (flat_map 
 pub take-signed : (h : HeaderFields) (fs : List Field) (rest : List ℕ) → IsHeader h → take 48 (signed_octets h fs ++ rest) ≡ header_octets h
 unfolding signed_octets
 take-signed h fs rest is =
-    rw (append_assoc (header_octets h) (flat_map field_octets fs) rest) (take_at (header_octets h) (flat_map field_octets fs ++ rest) 48 (length-header_octets h is))
+    rw (append_assoc (header_octets h) (flat_map field_octets fs) rest)
+    (take_at (header_octets h) (flat_map field_octets fs ++ rest) 48 (length-header_octets h is))
 
 -- what stands behind it
 pub drop-signed : (h : HeaderFields) (fs : List Field) (rest : List ℕ) → IsHeader h
     → drop 48 (signed_octets h fs ++ rest) ≡ flat_map field_octets fs ++ rest
 unfolding signed_octets
 drop-signed h fs rest is =
-    rw (append_assoc (header_octets h) (flat_map field_octets fs) rest) (drop_at (header_octets h) (flat_map field_octets fs ++ rest) 48 (length-header_octets h is))
+    rw (append_assoc (header_octets h) (flat_map field_octets fs) rest)
+    (drop_at (header_octets h) (flat_map field_octets fs ++ rest) 48 (length-header_octets h is))
 
 -- the fields behind it
 pub drop-header : (h : HeaderFields) (fs : List Field) → IsHeader h → drop 48 (signed_octets h fs) ≡ flat_map field_octets fs
@@ -34,9 +36,19 @@ drop-header h fs is = drop_at (header_octets h) (flat_map field_octets fs) 48 (l
 pub same-header : (h h' : HeaderFields) → IsHeader h → IsHeader h' → header_octets h ≡ header_octets h' → h ≡ h'
 same-header h h' is is' e = only-header h (header_octets h') is e ∙ sym (only-header h' (header_octets h') is' refl)
 
+-- a header at the front of octets
+pub record HeaderThere (octets : List ℕ) : Type 0 where
+  pub header : HeaderFields
+  pub is : IsHeader header
+  pub spelled : header_octets header ≡ take 48 octets
+
 -- 48 octets or more begin with a header
-pub header-there : (octets : List ℕ) → AreOctets octets → 48 ≤ length octets → (h : HeaderFields) × IsHeader h × (header_octets h ≡ take 48 octets)
+pub header-there : (octets : List ℕ) → AreOctets octets → 48 ≤ length octets → HeaderThere octets
 header-there octets are long =
     let len : length (take 48 octets) ≡ 48 = omega (arith, length-take 48 octets) in
     let front = AreOctets-take 48 octets are in
-    (header_in (take 48 octets), fits-in (take 48 octets) len front, spelled-again (take 48 octets) len front)
+    record {
+      header = header_in (take 48 octets);
+      is = fits-in (take 48 octets) len front;
+      spelled = spelled-again (take 48 octets) len front;
+    }

@@ -1,5 +1,6 @@
 -- Going from field to field.
-use Rattle.std.proofs.Common.{◌≡◌, ℕ, ◌+◌, ◌-◌, ◌%◌, ◌<◌, ◌≤◌, List, [], ◌∷◌, ◌++◌, length, take, drop, refl, sym, ap, subst, ◌∙◌, append_assoc, arith}
+use Rattle.std.proofs.Common.{◌≡◌, ℕ, ◌+◌, ◌-◌, ◌%◌, ◌<◌, ◌≤◌, List, [], ◌∷◌, ◌++◌, length, take, drop}
+use Rattle.std.proofs.Common.{refl, sym, ap, subst, ◌∙◌, append_assoc, arith}
 use Rattle.std.specs.List.{flat_map}
 use Rattle.std.proofs.lemmas.List.{length-append, length-take, length-drop, drop-drop, append-nil, flat_map_more, take-append-drop}
 use Rattle.ntp_packet.specs.Header.{HeaderFields, header_octets, IsHeader}
@@ -62,11 +63,12 @@ Stands-octets octets place rest s are =
     AreOctets-behind (signed_octets s.header s.fields) rest (rw s.spelled at are)
 
 -- the step over a field whose length fits
-pub Stands-next : (octets : List ℕ) (place : ℕ) (rest : List ℕ) → Stands octets place rest → AreOctets octets → 24 < length rest → IsWhole rest
-    → Stands octets (place + written_length rest) (drop (written_length rest) rest)
+pub Stands-next : (octets : List ℕ) (place : ℕ) (rest : List ℕ) → Stands octets place rest → AreOctets octets
+    → 24 < length rest → IsWhole rest → Stands octets (place + written_length rest) (drop (written_length rest) rest)
 Stands-next octets place rest s are more whole =
     let mine = Stands-octets octets place rest s are in
-    let len : length (field_octets (first_field rest)) ≡ written_length rest = length-field_octets (first_field rest) ∙ length-first_field rest mine whole in
+    let len : length (field_octets (first_field rest)) ≡ written_length rest =
+    length-field_octets (first_field rest) ∙ length-first_field rest mine whole in
     let P : ℕ → Type 0 = λ n. Stands octets (place + n) (drop (written_length rest) rest) in
     subst P len (Stands-push octets place rest (first_field rest) (drop (written_length rest) rest) s
     (IsField-first_field rest mine whole) (first_field-octets rest mine whole) more)
@@ -78,7 +80,9 @@ pub Stands-on : (octets : List ℕ) (at n : ℕ) (part : List ℕ) → AreOctets
 Stands-on octets at n part are s part-is more n-is least aligned whole =
     let len = ap length part-is ∙ length-drop at octets in
     let here : Stands octets at part = rw part-is s.1 in
-    let next = Stands-next octets at part here are (omega arith) (record { least = rw (← n-is) least; aligned = rw (← n-is) aligned; whole = rw (← n-is) whole }) in
+    let next =
+    Stands-next octets at part here are (omega arith)
+    (record { least = rw (← n-is) least; aligned = rw (← n-is) aligned; whole = rw (← n-is) whole }) in
     let within = s.0 in
     let back : drop n part ≡ drop (at + n) octets = rw part-is (drop-drop n at octets) in
     let P : ℕ → List ℕ → Type 0 = λ k rest. Stands octets (at + k) rest in
@@ -90,6 +94,6 @@ Stands-long octets place rest s =
     omega (arith, ap length s.spelled, length-append (signed_octets s.header s.fields) rest, length-signed s.header s.fields s.is_header)
 
 -- what has a fault stands there
-pub fails_at : (fault : List ℕ → Type 0) (octets : List ℕ) (place : ℕ) (rest : List ℕ) → length octets ≤ 1024 → Stands octets place rest → fault rest
-    → FailsAt octets place fault
-fails_at fault octets place rest short s f = (Stands-long octets place rest s, short, rest, s, f)
+pub fails_at : (fault : List ℕ → Type 0) (octets : List ℕ) (place : ℕ) (rest : List ℕ) → length octets ≤ 1024
+    → Stands octets place rest → fault rest → FailsAt octets place fault
+fails_at fault octets place rest fits s f = (Stands-long octets place rest s, fits, rest, s, f)

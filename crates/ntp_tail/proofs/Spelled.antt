@@ -29,7 +29,11 @@ first_fields-spelled (f ∷ fs) (suc n) all room =
     let some : 0 < length (field_octets f ++ flat_map field_octets fs) = omega arith in
     let rest : length (flat_map field_octets fs) ≤ n = omega arith in
     first_fields-suc n (field_octets f ++ flat_map field_octets fs) some
-    ∙ rw (first_field-spelled f (flat_map field_octets fs) all.0, drop-field f (flat_map field_octets fs) all.0, first_fields-spelled fs n all.1 rest) refl
+    ∙ rw (
+      first_field-spelled f (flat_map field_octets fs) all.0,
+      drop-field f (flat_map field_octets fs) all.0,
+      first_fields-spelled fs n all.1 rest,
+    ) refl
 
 pub fields_of-spelled : (fs : List Field) → AllByRecursion IsField fs → fields_of (flat_map field_octets fs) ≡ fs
 unfolding fields_of
@@ -49,7 +53,8 @@ pub record FirstStands (octets : List ℕ) : Type 0 where
   pub fields : fields_of octets ≡ first_field octets ∷ fields_of (drop (written_length octets) octets)
   pub rest : SpellFields (drop (written_length octets) octets)
 
-first_stands : (f : Field) (fs : List Field) → IsField f → AllByRecursion IsField fs → FirstStands (field_octets f ++ flat_map field_octets fs)
+first_stands : (f : Field) (fs : List Field) → IsField f → AllByRecursion IsField fs
+    → FirstStands (field_octets f ++ flat_map field_octets fs)
 first_stands f fs i all =
     let len = length-append (field_octets f) (flat_map field_octets fs) in
     let size = length-field_octets f in
@@ -63,7 +68,8 @@ first_stands f fs i all =
       rest = rw (drop-field f (flat_map field_octets fs) i) (SpellFields-fields (flat_map field_octets fs) fs all refl).0;
     }
 
-stands_first : (octets : List ℕ) (fs : List Field) → 0 < length octets → AllByRecursion IsField fs → flat_map field_octets fs ≡ octets → FirstStands octets
+stands_first : (octets : List ℕ) (fs : List Field) → 0 < length octets → AllByRecursion IsField fs
+    → flat_map field_octets fs ≡ octets → FirstStands octets
 stands_first octets [] some all e = absurd (omega (arith, ap length e))
 stands_first octets (f ∷ fs) some all e = rw (← e) (first_stands f fs all.0 all.1)
 

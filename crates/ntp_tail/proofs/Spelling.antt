@@ -55,7 +55,8 @@ module _ (octets : List ℕ) (are : AreOctets octets) where
   length_octets : 4 ≤ length octets → to_be_bytes w16 (written_length octets) ≡ take 2 (drop 2 octets)
   unfolding written_length
   length_octets long =
-      be_bytes_2 (take 2 (drop 2 octets)) _ (omega (arith, length-take 2 (drop 2 octets), length-drop 2 octets)) (AreOctets-take 2 (drop 2 octets) (AreOctets-drop 2 octets are)) refl
+      be_bytes_2 (take 2 (drop 2 octets)) _ (omega (arith, length-take 2 (drop 2 octets), length-drop 2 octets))
+      (AreOctets-take 2 (drop 2 octets) (AreOctets-drop 2 octets are)) refl
 
   pub length-first_field : IsWhole octets → 4 + length (first_field octets).value ≡ written_length octets
   length-first_field f =

@@ -28,16 +28,20 @@ tail-ends : (octets : List ℕ) (r : RequestValue) → IsRequest octets r → Be
 tail-ends octets r is b = let most = length-tail r.tail is.reading.tail in let more = b.more in omega arith
 
 same-parts : (h i : HeaderFields) (fs gs : List Field) (a b : List ℕ) (s t : TailValue) → h ≡ i → fs ≡ gs → a ≡ b → s ≡ t
-    → record { header = h; fields = fs; signed = a; tail = s } ≡ (let r : RequestValue = record { header = i; fields = gs; signed = b; tail = t } in r)
+    → record { header = h; fields = fs; signed = a; tail = s }
+    ≡ (let r : RequestValue = record { header = i; fields = gs; signed = b; tail = t } in r)
 same-parts h i fs gs a b s t p q e u = rw (p, q, e, u) refl
 
 -- there is one reading at most
 pub one-reading : (octets : List ℕ) (r s : RequestValue) → IsRequest octets r → IsRequest octets s → r ≡ s
 unfolding IsRequest-stands
 one-reading octets r s is is' =
-    let end = same-end octets _ _ _ _ (IsRequest-stands octets r is) (IsRequest-stands octets s is') (tail-ends octets r is) (tail-ends octets s is') in
+    let end =
+    same-end octets _ _ _ _ (IsRequest-stands octets r is) (IsRequest-stands octets s is')
+    (tail-ends octets r is) (tail-ends octets s is') in
     same-parts r.header s.header r.fields s.fields r.signed s.signed r.tail s.tail end.header end.fields
-    (is.reading.signed ∙ rw (end.header, end.fields) (sym is'.reading.signed)) (same-tail r.tail s.tail is.reading.tail is'.reading.tail end.rest)
+    (is.reading.signed ∙ rw (end.header, end.fields) (sym is'.reading.signed))
+    (same-tail r.tail s.tail is.reading.tail is'.reading.tail end.rest)
 
 -- the fault of what is left from a place on, where it has one
 fault_at : ℕ → List ℕ → Malformed
@@ -74,9 +78,9 @@ no-longer-tail : (rest : List ℕ) → 24 < length rest → (t : TailValue) → 
 no-longer-tail rest more t is e = let most = length-tail t is in omega (arith, ap length e)
 
 module _ (place : ℕ) (rest : List ℕ) where
-  shows-short : IsFieldShort rest → Shows place rest (FieldShort place)
+  shows-field-short : IsFieldShort rest → Shows place rest (FieldShort place)
   unfolding fault_at
-  shows-short f = record {
+  shows-field-short f = record {
     end = λ b. let least = b.whole.least in let h = f.1 in omega arith;
     is = sym (cond-false _ _ _ (lt-leb (length rest) 24 f.0) ∙ cond-true _ _ _ (lt-ltb (written_length rest) 16 f.1));
     unread = no-longer-tail rest f.0;
@@ -86,7 +90,9 @@ module _ (place : ℕ) (rest : List ℕ) where
   unfolding fault_at
   shows-unaligned f = record {
     end = λ b. f.2 b.whole.aligned;
-    is = sym (cond-false _ _ _ (lt-leb (length rest) 24 f.0) ∙ cond-false _ _ _ (le-ltb (written_length rest) 16 f.1) ∙ cond-false _ _ _ (ne_eqb (written_length rest % 4) 0 f.2));
+    is = sym
+        (cond-false _ _ _ (lt-leb (length rest) 24 f.0) ∙ cond-false _ _ _ (le-ltb (written_length rest) 16 f.1)
+        ∙ cond-false _ _ _ (ne_eqb (written_length rest % 4) 0 f.2));
     unread = no-longer-tail rest f.0;
   }
 
@@ -94,7 +100,9 @@ module _ (place : ℕ) (rest : List ℕ) where
   unfolding fault_at
   shows-past-end f = record {
     end = λ b. let whole = b.whole.whole in let h = f.3 in omega arith;
-    is = sym (cond-false _ _ _ (lt-leb (length rest) 24 f.0) ∙ cond-false _ _ _ (le-ltb (written_length rest) 16 f.1) ∙ cond-true _ _ _ (eq-eqb (written_length rest % 4) 0 f.2));
+    is = sym
+        (cond-false _ _ _ (lt-leb (length rest) 24 f.0) ∙ cond-false _ _ _ (le-ltb (written_length rest) 16 f.1)
+        ∙ cond-true _ _ _ (eq-eqb (written_length rest % 4) 0 f.2));
     unread = no-longer-tail rest f.0;
   }
 
@@ -116,7 +124,7 @@ located : (octets : List ℕ) (fault : Malformed) → Fails octets fault
     → ((fault ≡ Short) × (length octets < 48)) ⊎ (((fault ≡ Long) × (1024 < length octets)) ⊎ Located octets fault)
 located octets Short f = inl (refl, f)
 located octets Long f = inr (inl (refl, f))
-located octets (FieldShort at) f = inr (inr (locate octets at (FieldShort at) f (shows-short at)))
+located octets (FieldShort at) f = inr (inr (locate octets at (FieldShort at) f (shows-field-short at)))
 located octets (FieldUnaligned at) f = inr (inr (locate octets at (FieldUnaligned at) f (shows-unaligned at)))
 located octets (FieldPastEnd at) f = inr (inr (locate octets at (FieldPastEnd at) f (shows-past-end at)))
 located octets (Rest at) f = inr (inr (locate octets at (Rest at) f (shows-rest at)))
@@ -130,10 +138,19 @@ same-fault octets f g x y =
 pub one-fault : (octets : List ℕ) (f g : Malformed) → Fails octets f → Fails octets g → f ≡ g
 one-fault octets f g x y =
     elim (located octets f x) [
-      | inl a ↦ elim (located octets g y) [ inl b ↦ a.0 ∙ sym b.0 | inr b ↦ elim b [ inl c ↦ absurd (omega arith) | inr c ↦ absurd (omega arith) ] ]
+      | inl a ↦ elim (located octets g y) [
+        | inl b ↦ a.0 ∙ sym b.0
+        | inr b ↦ elim b [ inl c ↦ absurd (omega arith) | inr c ↦ absurd (omega arith) ]
+      ]
       | inr d ↦ elim d [
-        | inl a ↦ elim (located octets g y) [ inl b ↦ absurd (omega arith) | inr b ↦ elim b [ inl c ↦ a.0 ∙ sym c.0 | inr c ↦ absurd (omega arith) ] ]
-        | inr a ↦ elim (located octets g y) [ inl b ↦ absurd (omega arith) | inr b ↦ elim b [ inl c ↦ absurd (omega arith) | inr c ↦ same-fault octets f g a c ] ]
+        | inl a ↦ elim (located octets g y) [
+          | inl b ↦ absurd (omega arith)
+          | inr b ↦ elim b [ inl c ↦ a.0 ∙ sym c.0 | inr c ↦ absurd (omega arith) ]
+        ]
+        | inr a ↦ elim (located octets g y) [
+          | inl b ↦ absurd (omega arith)
+          | inr b ↦ elim b [ inl c ↦ absurd (omega arith) | inr c ↦ same-fault octets f g a c ]
+        ]
       ]
     ]
 
@@ -142,7 +159,7 @@ pub no-fault : (octets : List ℕ) (r : RequestValue) (fault : Malformed) → Is
 no-fault octets r fault is f =
     let stands = IsRequest-stands octets r is in
     let long = Stands-long octets _ _ stands in
-    let short : length octets ≤ 1024 = rw is.spelled (rw (length-append r.signed (tail_octets r.tail)) is.reading.short) in
+    let fits : length octets ≤ 1024 = rw is.spelled (rw (length-append r.signed (tail_octets r.tail)) is.reading.fits) in
     elim (located octets fault f) [
       | inl a ↦ omega arith
       | inr d ↦ elim d [

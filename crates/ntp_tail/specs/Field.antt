@@ -2,6 +2,7 @@
 use Rattle.std.specs.Prelude.{◌≡◌, ℕ, ◌+◌, ◌-◌, ◌*◌, ◌/◌, ◌%◌, ◌^◌, ◌<◌, ◌≤◌, max, List, [], ◌∷◌, ◌++◌, length, take, drop, replicate}
 use Rattle.std.specs.List.{flat_map}
 use Rattle.std.specs.Int.{w16, to_be_bytes, from_be_bytes}
+use Rattle.ntp_tail.specs.Tail.{most_tail_octets}
 
 -- an extension field: its kind, and its value with the padding (RFC 7822, 3)
 pub record Field : Type 0 where
@@ -19,10 +20,10 @@ pub record IsField (f : Field) : Type 0 where
   pub aligned : (4 + length f.value) % 4 ≡ 0
   pub least : 16 ≤ 4 + length f.value
 
--- fields before so many octets, each begun where more than 24 octets are left (profile)
+-- fields before so many octets, each begun where more octets are left than any tail has (profile)
 abbrev pub AreFields : List Field → ℕ → Type 0
 AreFields [] after = Unit {0}
-AreFields (f ∷ fs) after = IsField f × (24 < length (flat_map field_octets (f ∷ fs)) + after) × AreFields fs after
+AreFields (f ∷ fs) after = IsField f × (most_tail_octets < length (flat_map field_octets (f ∷ fs)) + after) × AreFields fs after
 
 -- the kind that is written at the front of a field's octets (RFC 7822, 3)
 unfoldable pub written_kind : List ℕ → ℕ

@@ -5,6 +5,10 @@ use Rattle.ntp_packet.specs.Header.{HeaderFields, header_octets, IsHeader}
 use Rattle.ntp_tail.specs.Field.{Field, field_octets, AreFields}
 use Rattle.ntp_tail.specs.Tail.{TailValue, tail_octets, IsTail}
 
+-- how many octets a datagram has at most (profile)
+abbrev pub most_datagram_octets : ℕ
+most_datagram_octets = 1024
+
 -- a request: its parts, and the octets that a digest covers (RFC 5905, 7.3; RFC 7822, 3)
 pub record RequestValue : Type 0 where
   pub header : HeaderFields
@@ -16,13 +20,13 @@ pub record RequestValue : Type 0 where
 unfoldable pub signed_octets : HeaderFields → List Field → List ℕ
 signed_octets header fields = header_octets header ++ flat_map field_octets fields
 
--- what holds of every request: its parts have their form, in at most 1,024 octets (RFC 5905, 7.3; RFC 7822, 3; profile)
+-- what holds of every request: its parts have their form, and fit in a datagram (RFC 5905, 7.3; RFC 7822, 3; profile)
 pub record IsReading (r : RequestValue) : Type 0 where
   pub header : IsHeader r.header
   pub signed : r.signed ≡ signed_octets r.header r.fields
   pub fields : AreFields r.fields (length (tail_octets r.tail))
   pub tail : IsTail r.tail
-  pub short : length r.signed + length (tail_octets r.tail) ≤ 1024
+  pub fits : length r.signed + length (tail_octets r.tail) ≤ most_datagram_octets
 
 -- the octets are this request, spelled part by part (RFC 5905, 7.3; RFC 7822, 3)
 pub record IsRequest (octets : List ℕ) (r : RequestValue) : Type 0 where

@@ -4,7 +4,7 @@ ghost use Rattle.std.specs.List.{flat_map};
 ghost use Rattle.ntp_packet.specs.Header.{HeaderFields, IsHeader};
 ghost use Rattle.ntp_tail.specs.Field.{Field, field_octets, IsField, AreFields};
 ghost use Rattle.ntp_tail.specs.Tail.{TailValue, tail_octets, IsTail};
-ghost use Rattle.ntp_tail.specs.Request.{signed_octets, IsRequest, request_of};
+ghost use Rattle.ntp_tail.specs.Request.{most_datagram_octets, signed_octets, IsRequest, request_of};
 ghost use Rattle.ntp_tail.specs.Fields.{fields_of};
 ghost use Rattle.ntp_tail.specs.OneAnswer.{HasOneReading, HasOneFault};
 
@@ -19,7 +19,7 @@ pub fn octets_have_one_reading_or_one_fault()
 pub fn parts_with_mac_are_a_request()
     ensures { (header : HeaderFields) (fields : List Field) (tail : TailValue)
         → IsHeader header → All IsField fields → IsTail tail → 20 ≤ length (tail_octets tail)
-        → length (signed_octets header fields) + length (tail_octets tail) ≤ 1024
+        → length (signed_octets header fields) + length (tail_octets tail) ≤ most_datagram_octets
         → IsRequest (signed_octets header fields ++ tail_octets tail) (request_of header fields tail) }
 {}
 
@@ -28,7 +28,7 @@ pub fn parts_with_mac_are_a_request()
 pub fn parts_are_a_request()
     ensures { (header : HeaderFields) (fields : List Field) (tail : TailValue)
         → IsHeader header → AreFields fields (length (tail_octets tail)) → IsTail tail
-        → length (signed_octets header fields) + length (tail_octets tail) ≤ 1024
+        → length (signed_octets header fields) + length (tail_octets tail) ≤ most_datagram_octets
         → IsRequest (signed_octets header fields ++ tail_octets tail) (request_of header fields tail) }
 {}
 

@@ -21,6 +21,6 @@ pub use laws::{
 };
 pub use malformed::Malformed;
 pub use reading::read_request;
-pub use request::Request;
+pub use request::{MOST_DATAGRAM_OCTETS, Request};
 pub use tail::Tail;
 pub use writing::{FieldFault, write_field};

@@ -1,17 +1,15 @@
 //! A datagram to a request.
 ghost use Rattle.std.specs.Prelude.{◌≡◌, ◌≢◌, ℕ, ◌+◌, ◌%◌, ◌<◌, ◌≤◌, List, length, take, drop, IfOk, IfErr, IfSome, IfNone};
 ghost use Rattle.std.specs.Int.{w32, to_be_bytes};
-ghost use Rattle.ntp_tail.specs.Request.{RequestValue, IsRequest};
-ghost use Rattle.ntp_tail.specs.Tail.{tail_octets, tail_value, IsTail};
+ghost use Rattle.ntp_packet.specs.Header.{header_length};
+ghost use Rattle.ntp_tail.specs.Request.{most_datagram_octets, RequestValue, IsRequest};
+ghost use Rattle.ntp_tail.specs.Tail.{most_tail_octets, tail_octets, tail_value, IsTail};
 ghost use Rattle.ntp_tail.specs.Field.{written_length as length_of};
 ghost use Rattle.ntp_tail.specs.Faults.{Stands, Fails};
 
 use crate::fields::written_length;
-use crate::{Fields, Malformed, Request, Tail};
+use crate::{Fields, MOST_DATAGRAM_OCTETS, Malformed, Request, Tail};
 use ntp_packet::{HEADER_OCTETS, read_header};
-
-/// How many octets a datagram has at most (profile).
-const MOST_OCTETS: usize = 1024;
 
 /// How many octets a tail has at most: a key number and a digest of SHA-1 (profile).
 const MOST_TAIL_OCTETS: usize = 24;
@@ -29,7 +27,7 @@ pub fn read_request(octets: &[u8]) -> Result<Request<'_>, Malformed>
     ensures only { (request : RequestValue) → IsRequest octets.now request → result ≡ Ok request }
     ensures exact { (fault : Malformed) → Fails octets.now fault → result ≡ Err fault }
 {
-    if octets.len() > MOST_OCTETS {
+    if octets.len() > MOST_DATAGRAM_OCTETS {
         return Err(Malformed::Long);
     }
     let Some(header) = read_header(octets) else {
@@ -51,10 +49,10 @@ pub fn read_request(octets: &[u8]) -> Result<Request<'_>, Malformed>
 
 // The place of the tail: the first from which at most 24 octets remain, going from field to field.
 fn tail_place(octets: &[u8]) -> Result<u16, Malformed>
-    requires short { length octets.now ≤ 1024 }
-    requires header { Stands octets.now 48 (drop 48 octets.now) }
+    requires most { length octets.now ≤ most_datagram_octets }
+    requires header { Stands octets.now header_length (drop header_length octets.now) }
     ensures found { IfOk result (λ at. Stands octets.now at (drop at octets.now)) }
-    ensures last { IfOk result (λ at. length octets.now ≤ at + 24) }
+    ensures last { IfOk result (λ at. length octets.now ≤ at + most_tail_octets) }
     ensures within { IfOk result (λ at. at ≤ length octets.now) }
     ensures fault { IfErr result (λ fault. Fails octets.now fault) }
 {
@@ -67,12 +65,12 @@ fn tail_place(octets: &[u8]) -> Result<u16, Malformed>
 
 // The length of the field at the front of what remains of a datagram from a place on.
 fn field_length(rest: &[u8], at: u16) -> Result<u16, Malformed>
-    requires { 24 < length rest.now }
+    requires { most_tail_octets < length rest.now }
     ensures written { IfOk result (λ n. n ≡ length_of rest.now) }
     ensures least { IfOk result (λ n. 16 ≤ n) }
     ensures aligned { IfOk result (λ n. n % 4 ≡ 0) }
     ensures whole { IfOk result (λ n. n ≤ length rest.now) }
-    ensures fault { IfErr result (λ fault. (octets : List ℕ) → length octets ≤ 1024
+    ensures fault { IfErr result (λ fault. (octets : List ℕ) → length octets ≤ most_datagram_octets
         → Stands octets at rest.now → Fails octets fault) }
 {
     let length = written_length(rest);

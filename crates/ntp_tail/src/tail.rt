@@ -6,10 +6,10 @@
 pub enum Tail<'a> {
     /// Nothing: the packet has no MAC.
     Absent,
-    /// A key identifier alone, as in a crypto-NAK (RFC 5905, A.5.1): 4 octets.
+    /// A key number alone, as in a crypto-NAK (RFC 5905): 4 octets.
     Bare(u32),
-    /// A key identifier and a digest of 16 octets, by MD5 (RFC 5905, 7.3; RFC 1321): 20 octets.
+    /// A key number and a digest of 16 octets, by MD5 (RFC 5905, 7.3; RFC 1321): 20 octets.
     Md5 { number: u32, digest: &'a [u8] },
-    /// A key identifier and a digest of 20 octets, by SHA-1 (profile; FIPS 180-4): 24 octets.
+    /// A key number and a digest of 20 octets, by SHA-1 (profile; FIPS 180-4): 24 octets.
     Sha1 { number: u32, digest: &'a [u8] },
 }

@@ -5,4 +5,6 @@ use Rattle.ntp_tail.proofs.fields.written_kind.Goals as goal
 
 pub returns : goal.returns
 unfolding written_kind
-returns c = let octets = c.args.octets.now in rw (get_or-take 2 octets 0 0 (omega arith), get_or-take 2 octets 1 0 (omega arith)) c.from_be_bytes.ensures
+returns c =
+    let octets = c.args.octets.now in
+    rw (get_or-take 2 octets 0 0 (omega arith), get_or-take 2 octets 1 0 (omega arith)) c.from_be_bytes.ensures

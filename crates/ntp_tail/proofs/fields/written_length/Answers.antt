@@ -7,4 +7,9 @@ pub returns : goal.returns
 unfolding written_length
 returns c =
     let octets = c.args.octets.now in
-    rw (get_or-take 2 (drop 2 octets) 0 0 (omega arith), get_or-take 2 (drop 2 octets) 1 0 (omega arith), get_or-drop 2 octets 0 0, get_or-drop 2 octets 1 0) c.from_be_bytes.ensures
+    rw (
+      get_or-take 2 (drop 2 octets) 0 0 (omega arith),
+      get_or-take 2 (drop 2 octets) 1 0 (omega arith),
+      get_or-drop 2 octets 0 0,
+      get_or-drop 2 octets 1 0,
+    ) c.from_be_bytes.ensures

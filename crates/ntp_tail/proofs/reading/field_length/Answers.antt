@@ -4,13 +4,15 @@ use Rattle.ntp_tail.proofs.Places.{fails_at}
 use Rattle.ntp_tail.proofs.reading.field_length.Goals as goal
 
 pub returns-then-length-lt-LEAST_FIELD_OCTETS-clause-fault : goal.returns-then-length-lt-LEAST_FIELD_OCTETS-clause-fault
-returns-then-length-lt-LEAST_FIELD_OCTETS-clause-fault c = λ octets short s.
-    fails_at IsFieldShort octets _ c.args.rest.now short s (c.requires, omega arith)
+returns-then-length-lt-LEAST_FIELD_OCTETS-clause-fault c = λ octets fits s.
+    fails_at IsFieldShort octets _ c.args.rest.now fits s (c.requires, omega arith)
 
 pub returns-then-length-ne0-clause-fault : goal.returns-then-length-ne0-clause-fault
-returns-then-length-ne0-clause-fault c = λ octets short s.
-    fails_at IsFieldUnaligned octets _ c.args.rest.now short s (c.requires, omega arith, rw (← c.written_length-length.ensures) (search rules))
+returns-then-length-ne0-clause-fault c = λ octets fits s.
+    fails_at IsFieldUnaligned octets _ c.args.rest.now fits s
+    (c.requires, omega arith, rw (← c.written_length-length.ensures) (search rules))
 
 pub returns-then-from-rest-clause-fault : goal.returns-then-from-rest-clause-fault
-returns-then-from-rest-clause-fault c = λ octets short s.
-    fails_at IsFieldPastEnd octets _ c.args.rest.now short s (c.requires, omega arith, rw (← c.written_length-length.ensures) (search rules), omega arith)
+returns-then-from-rest-clause-fault c = λ octets fits s.
+    fails_at IsFieldPastEnd octets _ c.args.rest.now fits s
+    (c.requires, omega arith, rw (← c.written_length-length.ensures) (search rules), omega arith)

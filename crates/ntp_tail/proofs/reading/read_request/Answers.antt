@@ -13,12 +13,12 @@ use Rattle.ntp_tail.proofs.reading.read_request.Goals as goal
 use Rattle.ntp_tail.proofs.reading.read_request.Goals.{After-new-fields, In_default-read_tail}
 
 pub returns-in_default-clause-only : goal.returns-in_default-clause-only
-returns-in_default-clause-only c = λ r is. absurd (no-fault c.args.octets.now r Short is (c.in_default.ensures.short.0 refl))
+returns-in_default-clause-only c = λ r is. absurd (no-fault c.args.octets.now r Short is (c.in_default.ensures.none.0 refl))
 
 pub tail_place-requires-clause-header : goal.tail_place-requires-clause-header
 tail_place-requires-clause-header c =
     let long : 48 ≤ length c.args.octets.now =
-    elim (cases_lt (length c.args.octets.now) 48) [ inl lt ↦ let found = c.in-Some.ensures.short.1 lt in absurd cc | inr le ↦ le ] in
+    elim (cases_lt (length c.args.octets.now) 48) [ inl lt ↦ let found = c.in-Some.ensures.none.1 lt in absurd cc | inr le ↦ le ] in
     Stands-first c.args.octets.now c.in-Some.header c.in-Some.ensures.fields c.in-Some.ensures.found long
 
 pub returns-in_err-at-clause-only : goal.returns-in_err-at-clause-only
@@ -62,7 +62,12 @@ new-fields-requires c =
     (rw (c.split_at.ensures.front, c.from.ensures) refl) (take_rest c.split_at.result.0.now 48)
 
 found : (c : After-new-fields)
-    → IsRequest c.args.octets.now (record { header = c.in-Some.header; fields = c.new-fields.result; signed = c.split_at.result.0.now; tail = tail_value c.in-Some-read_tail.tail })
+    → IsRequest c.args.octets.now (record {
+      header = c.in-Some.header;
+      fields = c.new-fields.result;
+      signed = c.split_at.result.0.now;
+      tail = tail_value c.in-Some-read_tail.tail;
+    })
 found c =
     rw c.new-fields.ensures
     (is-request c.args.octets.now c.in_ok-at.at (drop c.in_ok-at.at c.args.octets.now) c.in_ok-at.ensures.found c.split_at.result.0.now _

@@ -23,7 +23,8 @@ pub split_at-requires : goal.split_at-requires
 split_at-requires c = let f = first (goal.at.split_at-requires c).Else-is_empty in omega arith
 
 pub slice_bounds-result-count : goal.slice_bounds-result-count
-slice_bounds-result-count c = let f = first (goal.at.slice_bounds-result-count c).Else-is_empty in omega (arith, c.split_at.ensures.front_len)
+slice_bounds-result-count c =
+    let f = first (goal.at.slice_bounds-result-count c).Else-is_empty in omega (arith, c.split_at.ensures.front_len)
 
 pub slice_bounds-result-start : goal.slice_bounds-result-start
 slice_bounds-result-start c =
@@ -41,10 +42,12 @@ returns-clause-steps c =
     let f = first (goal.at.returns-clause-steps c).Else-is_empty in
     sym c.self.view_is
     ∙ fields-next c.self.inside.octets.now c.written_kind-kind.result c.from.result c.split_at.result.0.now _ c.split_at.result.1.now f
-    c.written_kind-kind.ensures (c.from.ensures ∙ c.written_length.ensures) c.split_at.ensures.front c.split_at.ensures.back (take_rest c.split_at.result.0.now 4)
+    c.written_kind-kind.ensures (c.from.ensures ∙ c.written_length.ensures) c.split_at.ensures.front c.split_at.ensures.back
+    (take_rest c.split_at.result.0.now 4)
 
 pub returns-clause-goes : goal.returns-clause-goes
 returns-clause-goes c =
     let f = first (goal.at.returns-clause-goes c).Else-is_empty in
-    let e : c.args.self.now ≡ first_field c.self.inside.octets.now ∷ fields_of c.split_at.result.1.now = rw (← c.self.view_is, f.fields, c.split_at.ensures.back, c.from.ensures, c.written_length.ensures) refl in
+    let e : c.args.self.now ≡ first_field c.self.inside.octets.now ∷ fields_of c.split_at.result.1.now =
+    rw (← c.self.view_is, f.fields, c.split_at.ensures.back, c.from.ensures, c.written_length.ensures) refl in
     rw e (search rules)

@@ -1,4 +1,4 @@
-pub mod Keeping
+pub mod KeyPadding
 pub mod Sealing
 pub mod Signing
 pub mod ReadAs

@@ -28,7 +28,8 @@ Reads-reading_of octets are =
     subst (λ o. Reads o (the_one (low octets) answer)) (low-same octets are) (Reads-the_one (low octets) answer)
 
 -- what answers every request and every fault with itself answers as the octets are read
-pub answers-so : (octets : List ℕ) (result : Result RequestValue Malformed) → AreOctets octets → ((r : RequestValue) → IsRequest octets r → result ≡ Ok r)
+pub answers-so : (octets : List ℕ) (result : Result RequestValue Malformed) → AreOctets octets
+    → ((r : RequestValue) → IsRequest octets r → result ≡ Ok r)
     → ((f : Malformed) → Fails octets f → result ≡ Err f) → result ≡ reading_of octets
 answers-so octets result are only exact = chosen (reading_of octets) (Reads-reading_of octets are)
   where
@@ -36,7 +37,8 @@ answers-so octets result are only exact = chosen (reading_of octets) (Reads-read
     chosen (Ok r) is = only r is
     chosen (Err f) is = exact f is
 
-only-the_one : (octets : List ℕ) (a : HasOneReading octets ⊎ HasOneFault octets) (r : Result RequestValue Malformed) → Reads octets r → r ≡ the_one octets a
+only-the_one : (octets : List ℕ) (a : HasOneReading octets ⊎ HasOneFault octets) (r : Result RequestValue Malformed)
+    → Reads octets r → r ≡ the_one octets a
 only-the_one octets (inl reading) (Ok r) is = ap Ok (reading.only r is)
 only-the_one octets (inl reading) (Err f) is = absurd (reading.sound f is)
 only-the_one octets (inr fault) (Ok r) is = absurd (fault.unread r is)

@@ -16,12 +16,14 @@ both-hold true b h = (refl, h)
 both-hold false b h = (h, absurd (cc))
 
 -- a number and octets that pass the comparison, and those that are equal
-same-mac : (found number : ℕ) (octets digest : List ℕ) → IsTrue ((found == number) && pointwise nat_eq octets digest) → (found ≡ number) × (octets ≡ digest)
+same-mac : (found number : ℕ) (octets digest : List ℕ) → IsTrue ((found == number) && pointwise nat_eq octets digest)
+    → (found ≡ number) × (octets ≡ digest)
 same-mac found number octets digest h =
     let both = both-hold (found == number) (pointwise nat_eq octets digest) h in
     (eqb-true found number both.0, (bytes_decides octets digest).0 both.1)
 
-passes : (found number : ℕ) (octets digest : List ℕ) → found ≡ number → octets ≡ digest → IsTrue ((found == number) && pointwise nat_eq octets digest)
+passes : (found number : ℕ) (octets digest : List ℕ) → found ≡ number → octets ≡ digest
+    → IsTrue ((found == number) && pointwise nat_eq octets digest)
 passes found number octets digest n d = rw (eq-eqb found number n, (bytes_decides octets digest).1 d) refl
 
 -- a tail passes the comparison exactly where it is the MAC
@@ -38,17 +40,19 @@ is-mac (Sha1Tail found octets) number (Sha1 digest) =
     (λ h. let same = same-mac found number octets digest h in cc, λ e. passes found number octets digest (cc) (cc))
 
 -- a request passes the comparison exactly where it is signed
-pub is-signed : (key : SymmetricKey) (number : ℕ) (request : RequestValue) → IsTrue (is_signed key number request) ↔ IsSigned key number request
+pub is-signed : (key : SymmetricKey) (number : ℕ) (request : RequestValue)
+    → IsTrue (is_signed key number request) ↔ IsSigned key number request
 unfolding IsSigned is_signed
 is-signed key number request = is-mac request.tail number (digest_of key request.signed)
 
 -- the comparison of the parts of a request
-pub compared : (key : SymmetricKey) (number : ℕ) (parts request : RequestValue) (r : Bool) → parts ≡ request
+pub test-of-parts : (key : SymmetricKey) (number : ℕ) (parts request : RequestValue) (r : Bool) → parts ≡ request
     → r ≡ is_mac parts.tail number (digest_of key parts.signed) → r ≡ is_signed key number request
 unfolding is_signed
-compared key number parts request r same e = e ∙ ap (λ (q : RequestValue). is_mac q.tail number (digest_of key q.signed)) same
+test-of-parts key number parts request r same e = e ∙ ap (λ (q : RequestValue). is_mac q.tail number (digest_of key q.signed)) same
 
 -- what the comparison tells
-pub told : (key : SymmetricKey) (number : ℕ) (request : RequestValue) (r : Bool) → r ≡ is_signed key number request → IsTrue r ↔ IsSigned key number request
-told key number request r e =
+pub test-shows-signed : (key : SymmetricKey) (number : ℕ) (request : RequestValue) (r : Bool)
+    → r ≡ is_signed key number request → IsTrue r ↔ IsSigned key number request
+test-shows-signed key number request r e =
     (λ h. (is-signed key number request).0 (sym e ∙ h), λ s. e ∙ (is-signed key number request).1 s)

@@ -1,5 +1,6 @@
 //! Symmetric keys.
 ghost use Rattle.std.specs.Prelude.{◌≡◌, ◌↔◌, ◌<◌, ◌≤◌, length, IsOk, IfOk};
+ghost use Rattle.ntp_mac.specs.Key.{most_key_octets};
 
 use std::fmt;
 use std::marker::Model;
@@ -25,7 +26,7 @@ pub enum KeyFault {
     TooLong,
 }
 
-/// A symmetric key: 1 to 32 octets and the algorithm that they are for. It is kept in place, and is
+/// A symmetric key: 1 to 32 octets and the algorithm that they are for. It is held in place, and is
 /// copied without memory. It is a secret: nothing here prints its octets.
 #[derive(Clone, Copy, PartialEq, Eq)]
 pub struct Key {
@@ -33,29 +34,34 @@ pub struct Key {
     // How many octets the key has.
     len: usize,
     // Its octets, and zeros behind them.
-    kept: [u8; MOST_KEY_OCTETS],
+    padded: [u8; MOST_KEY_OCTETS],
 }
 
 impl Model for Key {
     ghost use Rattle.std.specs.Prelude.{◌≡◌, ◌-◌, ◌≤◌, ◌++◌, length, take, replicate};
-    ghost use Rattle.ntp_mac.specs.Key.{SymmetricKey};
+    ghost use Rattle.ntp_mac.specs.Key.{most_key_octets, SymmetricKey};
 
     ghost Value = { SymmetricKey };
 
-    ghost view = { λ k. record { algorithm = k.algorithm; octets = take k.len k.kept } };
+    ghost view = { λ k. record { algorithm = k.algorithm; octets = take k.len k.padded } };
 
-    ghost invariant = { λ k. (1 ≤ k.len) × (k.len ≤ 32) × (k.kept ≡ take k.len k.kept ++ replicate (32 - k.len) 0) × (length k.kept ≡ 32) };
+    ghost invariant = { λ k. (1 ≤ k.len) × (k.len ≤ most_key_octets)
+        × (k.padded ≡ take k.len k.padded ++ replicate (most_key_octets - k.len) 0) × (length k.padded ≡ most_key_octets) };
 
-    ghost inverse = { λ k. record { algorithm = k.algorithm; len = length k.octets; kept = k.octets ++ replicate (32 - length k.octets) 0 } };
+    ghost inverse = { λ k. record {
+      algorithm = k.algorithm;
+      len = length k.octets;
+      padded = k.octets ++ replicate (most_key_octets - length k.octets) 0;
+    } };
 }
 
 impl Key {
     /// A key of 1 to 32 octets (profile).
     pub fn new(algorithm: Algorithm, octets: &[u8]) -> Result<Key, KeyFault>
-        ensures accepted { IsOk result ↔ ((1 ≤ length octets.now) × (length octets.now ≤ 32)) }
+        ensures accepted { IsOk result ↔ ((1 ≤ length octets.now) × (length octets.now ≤ most_key_octets)) }
         ensures key { IfOk result (λ key. key ≡ record { algorithm = algorithm; octets = octets.now }) }
         ensures empty { (result ≡ Err KeyFault.Empty) ↔ (length octets.now ≡ 0) }
-        ensures too_long { (result ≡ Err KeyFault.TooLong) ↔ (32 < length octets.now) }
+        ensures too_long { (result ≡ Err KeyFault.TooLong) ↔ (most_key_octets < length octets.now) }
     {
         if octets.is_empty() {
             return Err(KeyFault::Empty);
@@ -64,12 +70,12 @@ impl Key {
             return Err(KeyFault::TooLong);
         }
         let len = octets.len();
-        let mut kept = [0; MOST_KEY_OCTETS];
-        kept[..len].copy_from_slice(octets);
+        let mut padded = [0; MOST_KEY_OCTETS];
+        padded[..len].copy_from_slice(octets);
         Ok(Key {
             algorithm,
             len,
-            kept,
+            padded,
         })
     }
 
@@ -80,13 +86,13 @@ impl Key {
         self.algorithm
     }
 
-    /// The key's octets.
-    pub fn octets(&self) -> &[u8]
+    // The key's octets.
+    pub(crate) fn octets(&self) -> &[u8]
         ensures octets { result.now ≡ self.now.octets }
         ensures some { 1 ≤ length result.now }
-        ensures most { length result.now ≤ 32 }
+        ensures most { length result.now ≤ most_key_octets }
     {
-        &self.kept[..self.len]
+        &self.padded[..self.len]
     }
 }
 

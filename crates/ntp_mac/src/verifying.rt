@@ -8,7 +8,7 @@ ghost use Rattle.ntp_mac.specs.Signed.{IsSigned, is_mac, is_signed};
 use crate::{Algorithm, Key, digest};
 use ntp_tail::{Request, Tail};
 
-/// Whether a request is signed under a key with this number: its tail is of the key's algorithm and has
+/// Whether a request is signed under a key with this key number: its tail is of the key's algorithm and has
 /// the number, and its digest is that of the header and the fields under the key (RFC 5905, 7.3; with
 /// SHA-1: profile). The whole digest is compared. None is computed where algorithm or number differ.
 pub fn verifies(key: &Key, number: u16, request: &Request<'_>) -> bool

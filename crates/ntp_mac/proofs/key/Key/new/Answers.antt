@@ -1,5 +1,5 @@
 use Rattle.std.proofs.Common.{refl, arith}
-use Rattle.ntp_mac.proofs.Keeping.{put-over-zeros}
+use Rattle.ntp_mac.proofs.KeyPadding.{put-over-zeros}
 use Rattle.ntp_mac.proofs.key.Key.new.Goals as goal
 
 pub invariant_of-result : goal.invariant_of-result

@@ -5,20 +5,25 @@ use Rattle.std.proofs.Math.Seq.{take-append_seam}
 use Rattle.std.proofs.lemmas.List.{drop-replicate, length-append, length-replicate}
 
 -- the places of a key with so many octets
-abbrev Keeps : ℕ → List ℕ → Type 0
-Keeps n kept = (1 ≤ n) × (n ≤ 32) × (kept ≡ take n kept ++ replicate (32 - n) 0) × (length kept ≡ 32)
+abbrev IsPadded : ℕ → List ℕ → Type 0
+IsPadded n padded = (1 ≤ n) × (n ≤ 32) × (padded ≡ take n padded ++ replicate (32 - n) 0) × (length padded ≡ 32)
 
 -- the octets and zeros behind them
-octets-then-zeros : (octets : List ℕ) → 1 ≤ length octets → length octets ≤ 32 → Keeps (length octets) (octets ++ replicate (32 - length octets) 0)
+octets-then-zeros : (octets : List ℕ) → 1 ≤ length octets → length octets ≤ 32
+    → IsPadded (length octets) (octets ++ replicate (32 - length octets) 0)
 octets-then-zeros octets some most =
-    let zeros : List ℕ = replicate (32 - length octets) 0 in
-    (some, most, ap (λ front. front ++ zeros) (sym (take-append_seam octets zeros)), omega (arith, length-append octets zeros, length-replicate {A = ℕ} (32 - length octets) 0))
+    let zeros : List ℕ = replicate (32 - length octets) 0 in (
+      some,
+      most,
+      ap (λ front. front ++ zeros) (sym (take-append_seam octets zeros)),
+      omega (arith, length-append octets zeros, length-replicate {A = ℕ} (32 - length octets) 0),
+    )
 
 -- the octets put over the front of zeros
 pub put-over-zeros : (octets front zeros : List ℕ) → 1 ≤ length octets → length octets ≤ 32 → front ≡ octets → zeros ≡ replicate 32 0
-    → Keeps (length octets) (front ++ drop (length octets) zeros)
+    → IsPadded (length octets) (front ++ drop (length octets) zeros)
 put-over-zeros octets front zeros some most put clear =
     let n = length octets in
     let same : octets ++ replicate (32 - n) 0 ≡ front ++ drop n zeros =
     ap (λ l. octets ++ l) (sym (drop-replicate n 32 0) ∙ ap (drop n) (sym clear)) ∙ ap (λ l. l ++ drop n zeros) (sym put) in
-    subst (Keeps n) same (octets-then-zeros octets some most)
+    subst (IsPadded n) same (octets-then-zeros octets some most)

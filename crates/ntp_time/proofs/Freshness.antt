@@ -1,9 +1,12 @@
 -- The fresh stamp: there is a free one among the first length avoid + 2, and the first of them is fresh.
-use Rattle.std.proofs.Common.{◌≡◌, ◌≢◌, ℕ, zero, suc, ◌+◌, ◌%◌, ◌^◌, ◌<◌, ◌≤◌, ◌⊎◌, inl, inr, Bool, true, false, not, eqb, List, [], ◌∷◌, length, map, Some, refl, sym, ap, subst, ◌∙◌, arith}
+use Rattle.std.proofs.Common.{◌≡◌, ◌≢◌, ℕ, zero, suc, ◌+◌, ◌%◌, ◌^◌, ◌<◌, ◌≤◌, ◌⊎◌, inl, inr, Bool, true, false, not, eqb}
+use Rattle.std.proofs.Common.{List, [], ◌∷◌, length, map, Some, refl, sym, ap, subst, ◌∙◌, arith}
 use Rattle.std.specs.Prelude.{find, unwrap_or, Contains}
 use Rattle.std.specs.List.{list_any, range_with_len, IsDistinct}
 use Rattle.std.specs.Cmp.{nat_eq_equiv}
-use Rattle.std.proofs.lemmas.Bool.{cases_lt, cases_Bool, and_parts, and_cases, and_from, not-true, not-false, not_from_false, or_cases, or_left, or_right, eqb-true, eqb-false, eq-eqb, ne_eqb, false_from_ne_true, both_ways, true_from_ne_false}
+use Rattle.std.proofs.lemmas.Bool.{cases_lt, cases_Bool, and_parts, and_cases, and_from, not-true, not-false, not_from_false}
+use Rattle.std.proofs.lemmas.Bool.{or_cases, or_left, or_right, eqb-true, eqb-false, eq-eqb, ne_eqb}
+use Rattle.std.proofs.lemmas.Bool.{false_from_ne_true, both_ways, true_from_ne_false}
 use Rattle.std.proofs.lemmas.List.{length-map}
 use Rattle.std.proofs.lemmas.List.Folds.{Any-from_list_any, list_any_at}
 use Rattle.std.proofs.lemmas.List.FromFn.{length-map-range_with_len, get_or-map-range_with_len}
@@ -25,7 +28,10 @@ distinct-later : (n m : ℕ) → m ≤ 2 ^ 64 → IsDistinct eqb (map (units_lat
 distinct-later n m few =
     IsDistinct-from_apart eqb _ (λ i j d h short.
     let below : j < m = subst (λ k. j < k) (length-map-range_with_len (units_later n) 0 m) short in
-    rw (get_or-map-range_with_len (units_later n) 0 m i i d (omega arith) (omega arith), get_or-map-range_with_len (units_later n) 0 m j j d (omega arith) (omega arith))
+    rw (
+      get_or-map-range_with_len (units_later n) 0 m i i d (omega arith) (omega arith),
+      get_or-map-range_with_len (units_later n) 0 m j j d (omega arith) (omega arith),
+    )
     (ne_eqb _ _ (units_later-apart n i j h (omega arith))))
 
 -- where each f k of a row is in ys, so is each member of the row
@@ -70,7 +76,8 @@ some-free s avoid small none =
     let row : List ℕ = map (units_later s.0) (range_with_len 0 (length avoid + 2)) in
     let few : length row ≤ length (taken_numbers avoid) =
     length-le_from_is_member nat_eq_equiv row (taken_numbers avoid) (distinct-later s.0 (length avoid + 2) (omega arith))
-    (members-all (units_later s.0) (taken_numbers avoid) 0 (length avoid + 2) (λ k _ below. taken-number avoid (later s k) (none k (omega arith)))) in
+    (members-all (units_later s.0) (taken_numbers avoid) 0 (length avoid + 2)
+    (λ k _ below. taken-number avoid (later s k) (none k (omega arith)))) in
     omega (arith, few, length-map-range_with_len (units_later s.0) 0 (length avoid + 2), length-map {A = Stamp} {B = ℕ})
 
 -- the first number to pass, which is below m
@@ -101,7 +108,8 @@ find-first : {X : Type 0} (p : X → Bool) (f : ℕ → X) (a m k : ℕ) → a �
 find-first p f a zero k from below before passes = absurd (omega arith)
 find-first p f a (suc m) k from below before passes =
     elim (cases_lt a k) [
-      | inl lt ↦ rw (before a (omega arith) lt) (find-first p f (a + 1) m k (omega arith) (omega arith) (λ j more. before j (omega arith)) passes)
+      | inl lt ↦ rw (before a (omega arith) lt)
+          (find-first p f (a + 1) m k (omega arith) (omega arith) (λ j more. before j (omega arith)) passes)
       | inr ge ↦ let at : a ≡ k = omega arith in rw (at, passes) refl
     ]
 

@@ -6,6 +6,10 @@ use Rattle.ntp_time.specs.declared.moment.Moment.{Moment}
 abbrev pub units : Moment → ℕ
 units m = m.era * 2 ^ 64 + m.stamp.0
 
--- the window of a moment: its whole seconds since 1900, divided by 64 and rounded down (profile)
+-- how many seconds a window lasts (profile)
+abbrev pub window_seconds : ℕ
+window_seconds = 64
+
+-- the window of a moment: its whole seconds since 1900, divided by those of a window and rounded down (profile)
 abbrev pub window_of : Moment → ℕ
-window_of m = units m / 2 ^ 32 / 64
+window_of m = units m / 2 ^ 32 / window_seconds

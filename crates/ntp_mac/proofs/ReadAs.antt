@@ -27,7 +27,7 @@ Reads-reading_of octets are =
     let answer = one-answer (low octets) (AreOctets-low octets) in
     subst (λ o. Reads o (the_one (low octets) answer)) (low-same octets are) (Reads-the_one (low octets) answer)
 
--- what answers every request and every fault with itself answers as the octets are read
+-- a result that is each request that the octets are, and each fault that they have, is what they are read as
 pub answers-so : (octets : List ℕ) (result : Result RequestValue Malformed) → AreOctets octets
     → ((r : RequestValue) → IsRequest octets r → result ≡ Ok r)
     → ((f : Malformed) → Fails octets f → result ≡ Err f) → result ≡ reading_of octets
@@ -44,7 +44,7 @@ only-the_one octets (inl reading) (Err f) is = absurd (reading.sound f is)
 only-the_one octets (inr fault) (Ok r) is = absurd (fault.unread r is)
 only-the_one octets (inr fault) (Err f) is = ap Err (fault.only f is)
 
--- and nothing else
+-- and they are nothing else
 pub only-reading_of : (octets : List ℕ) (r : Result RequestValue Malformed) → AreOctets octets → Reads octets r → r ≡ reading_of octets
 unfolding reading_of
 only-reading_of octets r are is =

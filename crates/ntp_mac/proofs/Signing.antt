@@ -51,7 +51,7 @@ pub test-of-parts : (key : SymmetricKey) (number : ℕ) (parts request : Request
 unfolding is_signed
 test-of-parts key number parts request r same e = e ∙ ap (λ (q : RequestValue). is_mac q.tail number (digest_of key q.signed)) same
 
--- what the comparison tells
+-- so a result that is the comparison's is true exactly where the request is signed
 pub test-shows-signed : (key : SymmetricKey) (number : ℕ) (request : RequestValue) (r : Bool)
     → r ≡ is_signed key number request → IsTrue r ↔ IsSigned key number request
 test-shows-signed key number request r e =

@@ -122,7 +122,7 @@ middle-bits l v m hl hv hm = omega arith
 low-bits : (l v m : ℕ) → l < 4 → v < 8 → m < 8 → (l * 64 + v * 8 + m) % 8 ≡ m
 low-bits l v m hl hv hm = omega arith
 
--- a header is the one that its octets spell, the identifier's given one by one
+-- a header is the one that its octets spell, where the identifier's four octets are given one by one
 cells-again : (h : HeaderFields) (a b c d : ℕ) → IsHeader h
     → header_in (header_octets (record h { reference_id = a ∷ b ∷ c ∷ d ∷ [] }))
     ≡ record h { reference_id = a ∷ b ∷ c ∷ d ∷ [] }

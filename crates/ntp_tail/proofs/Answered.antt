@@ -19,7 +19,7 @@ use Rattle.ntp_tail.proofs.Tails.{is_bare, is_mac}
 use Rattle.ntp_tail.proofs.Composed.{composed}
 use Rattle.ntp_tail.proofs.Unique.{one-reading, one-fault, no-fault}
 
--- as many octets as a tail has are one
+-- the tail that a rest of octets is
 record TailThere (rest : List ℕ) : Type 0 where
   pub tail : TailValue
   pub is : IsTail tail

@@ -48,7 +48,7 @@ same-fields (f ∷ fs) (g ∷ gs) r s are are' end end' e =
     let rest = same-fields fs gs r s are.2 are'.2 end end' behind in
     (rw (first, rest.0) refl, rest.1)
 
--- what stands before two ends of the same octets
+-- two ends of the same octets are one: header, fields, place and rest
 pub record SameEnd (octets : List ℕ) (p : ℕ) (r : List ℕ) (q : ℕ) (s : List ℕ)
     (x : Stands octets p r) (y : Stands octets q s) : Type 0 where
   pub header : x.header ≡ y.header

@@ -88,12 +88,12 @@ Stands-on octets at n part are s part-is more n-is least aligned whole =
     let P : ℕ → List ℕ → Type 0 = λ k rest. Stands octets (at + k) rest in
     (omega arith, subst (P n) back (subst (λ k. P k (drop k part)) (sym n-is) next))
 
--- behind a header no less than its 48 octets stand
+-- where a header and fields stand first there are 48 octets at least
 pub Stands-long : (octets : List ℕ) (place : ℕ) (rest : List ℕ) → Stands octets place rest → 48 ≤ length octets
 Stands-long octets place rest s =
     omega (arith, ap length s.spelled, length-append (signed_octets s.header s.fields) rest, length-signed s.header s.fields s.is_header)
 
--- what has a fault stands there
+-- what is wrong with what is left from a place on is wrong with the octets
 pub fails_at : (fault : List ℕ → Type 0) (octets : List ℕ) (place : ℕ) (rest : List ℕ) → length octets ≤ 1024
     → Stands octets place rest → fault rest → FailsAt octets place fault
 fails_at fault octets place rest fits s f = (Stands-long octets place rest s, fits, rest, s, f)

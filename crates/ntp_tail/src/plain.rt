@@ -21,7 +21,7 @@ pub fn agrees_on(lengths: &[u16]) -> bool {
     (48..MOST_OCTETS + 1).all(|length| agrees(&octets[..length]))
 }
 
-// Octets that count up, but that fields with these lengths begin behind the header.
+// Octets that count up, except that these lengths are written into the fields behind the header.
 fn generated(lengths: &[u16]) -> [u8; MOST_OCTETS] {
     let mut octets = [0; MOST_OCTETS];
     let mut count = 0u8;

@@ -85,7 +85,7 @@ fn field_length(rest: &[u8], at: u16) -> Result<u16, Malformed>
     }
 }
 
-// Reads a tail, of 0, 4, 20 or 24 octets. `None` exactly where there are as many as no tail has.
+// Reads a tail, of 0, 4, 20 or 24 octets. `None` exactly where no tail has as many.
 fn read_tail(octets: &[u8]) -> Option<Tail<'_>>
     ensures found { IfSome result (λ tail. tail_octets (tail_value tail) ≡ octets.now) }
     ensures tail { IfSome result (λ tail. IsTail (tail_value tail)) }

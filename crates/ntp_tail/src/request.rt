@@ -10,7 +10,7 @@ pub const MOST_DATAGRAM_OCTETS: usize = 1024;
 /// A packet of 48 to 1,024 octets, as its parts, which are lent from the datagram. Only `read_request`
 /// makes one: no other crate can write out a `#[non_exhaustive]` struct. Its fields can be read and
 /// written, but whoever writes one has to prove that the parts are again those of a packet
-/// (`IsReading`). So each `Request` is a packet; the one that came, unless its holder made it another.
+/// (`IsReading`). So each `Request` is a packet: the one that came, or one that its holder made of it.
 #[derive(Debug, Drop)]
 #[non_exhaustive]
 pub struct Request<'a> {

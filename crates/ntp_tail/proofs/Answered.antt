@@ -15,7 +15,7 @@ use Rattle.ntp_tail.specs.declared.malformed.Malformed.TheVariants.{Short, Long,
 use Rattle.ntp_tail.proofs.Octets.{AreOctets, AreOctets-take}
 use Rattle.ntp_tail.proofs.Headers.{header-there}
 use Rattle.ntp_tail.proofs.Places.{Stands-first, Stands-next, Stands-octets, fails_at}
-use Rattle.ntp_tail.proofs.Tails.{is_bare, is_mac}
+use Rattle.ntp_tail.proofs.Tails.{number-alone, number-and-digest}
 use Rattle.ntp_tail.proofs.Composed.{composed}
 use Rattle.ntp_tail.proofs.Unique.{one-reading, one-fault, no-fault}
 
@@ -46,7 +46,7 @@ module _ (rest : List ℕ) (are : AreOctets rest) where
   bare-there e = record {
     tail = BareTail number;
     is = number-fits;
-    spelled = is_bare rest (to_be_bytes w32 number) e (number-octets (omega arith));
+    spelled = number-alone rest (to_be_bytes w32 number) e (number-octets (omega arith));
   }
 
   md5-there : length rest ≡ 20 → TailThere rest
@@ -54,7 +54,7 @@ module _ (rest : List ℕ) (are : AreOctets rest) where
   md5-there e = record {
     tail = Md5Tail number (drop 4 rest);
     is = (number-fits, omega (arith, length-drop 4 rest));
-    spelled = is_mac rest (to_be_bytes w32 number) (drop 4 rest) (number-octets (omega arith)) refl;
+    spelled = number-and-digest rest (to_be_bytes w32 number) (drop 4 rest) (number-octets (omega arith)) refl;
   }
 
   sha1-there : length rest ≡ 24 → TailThere rest
@@ -62,7 +62,7 @@ module _ (rest : List ℕ) (are : AreOctets rest) where
   sha1-there e = record {
     tail = Sha1Tail number (drop 4 rest);
     is = (number-fits, omega (arith, length-drop 4 rest));
-    spelled = is_mac rest (to_be_bytes w32 number) (drop 4 rest) (number-octets (omega arith)) refl;
+    spelled = number-and-digest rest (to_be_bytes w32 number) (drop 4 rest) (number-octets (omega arith)) refl;
   }
 
 abbrev Answered : List ℕ → Type 0

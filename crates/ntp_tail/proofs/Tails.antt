@@ -6,12 +6,12 @@ use Rattle.std.proofs.lemmas.Nat.{from_be_bytes-to_be_bytes_4}
 use Rattle.ntp_tail.specs.Tail.{TailValue, NoTail, BareTail, Md5Tail, Sha1Tail, tail_octets, IsTail}
 
 -- the key number alone
-pub is_bare : (octets number : List ℕ) → length octets ≡ 4 → number ≡ take 4 octets → number ≡ octets
-is_bare octets number four e = e ∙ take_all 4 octets (omega arith)
+pub number-alone : (octets number : List ℕ) → length octets ≡ 4 → number ≡ take 4 octets → number ≡ octets
+number-alone octets number four e = e ∙ take_all 4 octets (omega arith)
 
 -- the key number and the digest
-pub is_mac : (octets number digest : List ℕ) → number ≡ take 4 octets → digest ≡ drop 4 octets → number ++ digest ≡ octets
-is_mac octets number digest e d = rw (e, d) (take-append-drop 4 octets)
+pub number-and-digest : (octets number digest : List ℕ) → number ≡ take 4 octets → digest ≡ drop 4 octets → number ++ digest ≡ octets
+number-and-digest octets number digest e d = rw (e, d) (take-append-drop 4 octets)
 
 -- how many octets a tail has
 pub length-tail : (t : TailValue) → IsTail t → length (tail_octets t) ≤ 24

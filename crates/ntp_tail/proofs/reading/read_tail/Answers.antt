@@ -16,9 +16,11 @@ returns-in-4-clause-found c = number-alone c.args.octets.now (to_be_bytes w32 c.
 pub returns-in-20-clause-found : goal.returns-in-20-clause-found
 unfolding tail_octets
 returns-in-20-clause-found c =
-    number-and-digest c.args.octets.now (to_be_bytes w32 c.key_number-in-20.result) _ c.key_number-in-20.ensures (take_rest c.args.octets.now 4)
+    number-and-digest c.args.octets.now (to_be_bytes w32 c.key_number-in-20.result) _ c.key_number-in-20.ensures
+    (take_rest c.args.octets.now 4)
 
 pub returns-in-24-clause-found : goal.returns-in-24-clause-found
 unfolding tail_octets
 returns-in-24-clause-found c =
-    number-and-digest c.args.octets.now (to_be_bytes w32 c.key_number-in-24.result) _ c.key_number-in-24.ensures (take_rest c.args.octets.now 4)
+    number-and-digest c.args.octets.now (to_be_bytes w32 c.key_number-in-24.result) _ c.key_number-in-24.ensures
+    (take_rest c.args.octets.now 4)

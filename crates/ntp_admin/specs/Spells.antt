@@ -17,29 +17,29 @@ Ok x >>= f = f x
 Err e >>= f = Err e
 
 -- the words behind `enrol` (profile)
-abbrev pub enrolment_in : List (List ℕ) → Result Command LineFault
-enrolment_in (address ∷ number ∷ algorithm ∷ key ∷ budget ∷ []) = do
+abbrev pub enrol_in : List (List ℕ) → Result Command LineFault
+enrol_in (address ∷ number ∷ algorithm ∷ key ∷ budget ∷ []) = do
   a ← ok_or (address_in address) fault.Address
   n ← ok_or (number_in number) fault.Number
   h ← ok_or (algorithm_in algorithm) fault.Algorithm
   k ← ok_or (key_in key) fault.KeyText
   b ← ok_or (number_in budget) fault.Budget
   Ok (command.Enrol a n (record { algorithm = h; octets = k }) b)
-enrolment_in other = Err fault.Count
+enrol_in other = Err fault.Count
 
 -- the word behind `revoke` (profile)
-abbrev pub revocation_in : List (List ℕ) → Result Command LineFault
-revocation_in (address ∷ []) = do
+abbrev pub revoke_in : List (List ℕ) → Result Command LineFault
+revoke_in (address ∷ []) = do
   a ← ok_or (address_in address) fault.Address
   Ok (command.Revoke a)
-revocation_in other = Err fault.Count
+revoke_in other = Err fault.Count
 
 -- a command, by its first word (profile)
 unfoldable pub command_in : List (List ℕ) → Result Command LineFault
 command_in [] = Err fault.Word
 command_in (first ∷ others) =
-    if bytes_eq first (codes "enrol") then enrolment_in others
-    else if bytes_eq first (codes "revoke") then revocation_in others
+    if bytes_eq first (codes "enrol") then enrol_in others
+    else if bytes_eq first (codes "revoke") then revoke_in others
     else Err fault.Word
 
 -- the words behind `datagram` (profile)

@@ -16,7 +16,7 @@ use Rattle.ntp_time.specs.declared.moment.Moment.{Moment}
 use Rattle.ntp_mac.specs.declared.key.Algorithm.{Algorithm}
 use Rattle.ntp_mac.specs.declared.key.Algorithm.TheVariants.{Md5, Sha1}
 use Rattle.ntp_register.specs.declared.address.Address.{Address}
-use Rattle.ntp_reply.specs.Reference.{ReferenceState}
+use Rattle.ntp_reply.specs.Reference.{ReferenceState, is_reference}
 
 -- the parts of a text that stand between separators; an empty text is one empty part (profile)
 abbrev pub parts : ℕ → List ℕ → List (List ℕ)
@@ -42,18 +42,18 @@ decimal_in least most word =
     let n = digits_value 10 word in if is_decimal word && nat_le least n && nat_le n most then Some n else None
 
 -- four numbers from 0 to 255 (profile)
-abbrev pub address_of : List (List ℕ) → Option Address
-address_of (first ∷ second ∷ third ∷ fourth ∷ []) = do
+abbrev pub address_from : List (List ℕ) → Option Address
+address_from (first ∷ second ∷ third ∷ fourth ∷ []) = do
   a ← decimal_in 0 255 first
   b ← decimal_in 0 255 second
   c ← decimal_in 0 255 third
   d ← decimal_in 0 255 fourth
   Some (record { 0 = a ∷ b ∷ c ∷ d ∷ [] })
-address_of other = None
+address_from other = None
 
 -- an address: its numbers, with dots between them (profile)
 abbrev pub address_in : List ℕ → Option Address
-address_in word = address_of (parts 46 word)
+address_in word = address_from (parts 46 word)
 
 -- a number that is not 0
 abbrev pub non_zero : ℕ → Option NonZeroU16
@@ -96,16 +96,16 @@ abbrev pub stamp_in : List ℕ → Option Stamp
 stamp_in word = option_map stamp_of (sized_hex_in 8 word)
 
 -- an era and a stamp (profile)
-abbrev pub moment_of : List (List ℕ) → Option Moment
-moment_of (era ∷ stamp ∷ []) = do
+abbrev pub moment_from : List (List ℕ) → Option Moment
+moment_from (era ∷ stamp ∷ []) = do
   e ← decimal_in 0 (2 ^ 32 - 1) era
   s ← stamp_in stamp
   Some (record { era = e; stamp = s })
-moment_of other = None
+moment_from other = None
 
 -- a moment: its era and its stamp, with a colon between them (profile)
 abbrev pub moment_in : List ℕ → Option Moment
-moment_in word = moment_of (parts 58 word)
+moment_in word = moment_from (parts 58 word)
 
 -- a reference state as 23 octets, the precision in two's complement (profile)
 abbrev pub state_of : List ℕ → ReferenceState
@@ -119,14 +119,8 @@ state_of octets = record {
   reference = stamp_of (slice_range octets 15 23);
 }
 
--- leap 0 to 3, stratum 1 to 16, and unsynchronised in both or in neither, as a test (RFC 5905, 7.3; together: profile)
-abbrev pub is_state : ReferenceState → Bool
-is_state r =
-    nat_le r.leap 3 && nat_le 1 r.stratum && nat_le r.stratum 16
-    && (if r.leap == 3 then r.stratum == 16 else not (r.stratum == 16))
-
 -- a reference state: 46 digits (profile)
 abbrev pub reference_in : List ℕ → Option ReferenceState
 reference_in word = do
   octets ← sized_hex_in 23 word
-  if is_state (state_of octets) then Some (state_of octets) else None
+  if is_reference (state_of octets) then Some (state_of octets) else None

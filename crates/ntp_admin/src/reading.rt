@@ -1,7 +1,7 @@
 //! Lines to commands and events.
 ghost use Rattle.std.specs.Prelude.{◌≡◌, ◌≢◌, ◌⊎◌, IfOk, IfErr, ◌∷◌, Err, true};
 ghost use Rattle.ntp_admin.specs.Words.{words};
-ghost use Rattle.ntp_admin.specs.Spells.{enrolment_in, revocation_in, command_in, datagram_in, event_in, is_datagram, SpellsCommand, HasCommandFault, Spells, HasFault};
+ghost use Rattle.ntp_admin.specs.Spells.{enrol_in, revoke_in, command_in, datagram_in, event_in, is_datagram, SpellsCommand, HasCommandFault, Spells, HasFault};
 
 use crate::parts::Parts;
 use crate::{Command, Event, LineFault, words};
@@ -63,7 +63,7 @@ fn command(first: &str, others: Parts<'_>) -> Result<Command, LineFault>
 
 // What stands behind `enrol`.
 fn enrolment(mut words: Parts<'_>) -> Result<Command, LineFault>
-    ensures command { result ≡ enrolment_in words.entry }
+    ensures command { result ≡ enrol_in words.entry }
     ensures memory { result ≢ Err LineFault.NoMemory }
 {
     let address = words.word()?;
@@ -87,7 +87,7 @@ fn enrolment(mut words: Parts<'_>) -> Result<Command, LineFault>
 
 // What stands behind `revoke`.
 fn revocation(mut words: Parts<'_>) -> Result<Command, LineFault>
-    ensures command { result ≡ revocation_in words.entry }
+    ensures command { result ≡ revoke_in words.entry }
     ensures memory { result ≢ Err LineFault.NoMemory }
 {
     let address = words.word()?;

@@ -56,7 +56,7 @@ with_refusals c t = record c { refusals = t }
 abbrev pub with_queries : CustomerState → Account → Tally → CustomerState
 with_queries c a t = record c { account = Some (record a { queries = t }) }
 
--- what is kept of counts is the tally of some events (profile)
+-- the counts are such as some events leave: each is from 1 to 65,536, or there are none (profile)
 pub record AreTallies (c : CustomerState) : Type 0 where
   pub refusals : IsTally c.refusals
   pub queries : IfSome c.account (λ a. IsTally a.queries)

@@ -12,7 +12,7 @@ use Rattle.ntp_reply.specs.Life.{Life, Unregistered, Revoked, Enrolled}
 use Rattle.ntp_reply.specs.declared.answers.Reason.{Reason}
 use Rattle.ntp_reply.specs.declared.answers.Reason.TheVariants as reason
 
--- what a datagram is, apart from what it is answered: passed over for a reason; refused, by a DENY or by a crypto-NAK; or a query
+-- what a datagram is, apart from what it is answered: passed over for one of the first reasons, up to a bare key number; refused, by a DENY or by a crypto-NAK; or a query
 -- that is signed under a key with its number. A header is the request's (profile)
 pub data Kind : Type 0 where
   PassedOver : Reason → Kind
@@ -20,7 +20,7 @@ pub data Kind : Type 0 where
   RefusedByNak : HeaderFields → Kind
   Signed : SymmetricKey → ℕ → HeaderFields → Kind
 
--- a packet with a MAC: signed where the MAC is the customer's, else refused by a crypto-NAK (RFC 5905, 9.2)
+-- a packet with a MAC: signed where the MAC is the customer's, else refused by a crypto-NAK (RFC 5905; profile)
 abbrev pub mac_kind : Enrolment → RequestValue → Kind
 mac_kind e r = if is_signed e.key e.number r then Signed e.key e.number r.header else RefusedByNak r.header
 

@@ -1,5 +1,5 @@
 -- The state of the server's own clock.
-use Rattle.std.specs.Prelude.{◌≡◌, ◌↔◌, ℕ, ℤ, ◌≤◌, List}
+use Rattle.std.specs.Prelude.{◌≡◌, ◌↔◌, ℕ, ℤ, ◌≤◌, ◌==◌, ◌&&◌, Bool, not, nat_le, if◌then◌else◌, List}
 use Rattle.ntp_time.specs.declared.stamp.Stamp.{Stamp}
 use Rattle.ntp_time.specs.declared.stamp.Short.{Short}
 
@@ -19,6 +19,12 @@ pub record IsReference (r : ReferenceState) : Type 0 where
   pub stratum_from : 1 ≤ r.stratum
   pub stratum_to : r.stratum ≤ 16
   pub together : (r.leap ≡ 3) ↔ (r.stratum ≡ 16)
+
+-- the same as a test (RFC 5905, 7.3; together: profile)
+abbrev pub is_reference : ReferenceState → Bool
+is_reference r =
+    nat_le r.leap 3 && nat_le 1 r.stratum && nat_le r.stratum 16
+    && (if r.leap == 3 then r.stratum == 16 else not (r.stratum == 16))
 
 -- the state of these fields
 abbrev pub reference_of : ℕ → ℕ → ℤ → Short → Short → List ℕ → Stamp → ReferenceState

@@ -97,11 +97,11 @@ kiss_fields kiss request = record {
   transmit = kiss_transmit request.transmit;
 }
 
--- octets with the MAC of a key and its number behind them (RFC 5905, 7.3)
+-- octets with the MAC of a key and its number behind them (RFC 5905, 7.3; with SHA-1: profile)
 abbrev pub sealed : SymmetricKey → ℕ → List ℕ → List ℕ
 sealed key number octets = octets ++ mac_of key number octets
 
--- a time reply: signed (RFC 5905, 7.3 and 9.2)
+-- a time reply: signed (RFC 5905, 9.2; with SHA-1: profile)
 abbrev pub time_octets : SymmetricKey → ℕ → HeaderFields → List ℕ
 time_octets key number fields = sealed key number (header_octets fields)
 

@@ -15,7 +15,7 @@ use Rattle.ntp_reply.specs.declared.answers.Answer.{Answer}
 use Rattle.ntp_reply.specs.declared.answers.Answer.TheVariants as answer
 use Rattle.ntp_reply.specs.declared.answers.Reason.TheVariants as reason
 
--- the new stamps on an occasion; none is saved yet that they would have to avoid (profile)
+-- the new stamps on an occasion: no stamps are saved that they would have to avoid (profile)
 abbrev pub stamps_of : Life → Occasion → NewStamps
 stamps_of life o = new_stamps o [] []
 

@@ -1,6 +1,6 @@
 //! The state of the server's own clock, as its replies tell it.
-ghost use Rattle.std.specs.Prelude.{◌≡◌, ◌↔◌, ◌≤◌, IsOk, IfOk};
-ghost use Rattle.ntp_reply.specs.Reference.{IsReference};
+ghost use Rattle.std.specs.Prelude.{◌≡◌, ◌↔◌, ◌≤◌, IsOk, IfOk, is_ok};
+ghost use Rattle.ntp_reply.specs.Reference.{IsReference, is_reference};
 
 use ntp_time::{Short, Stamp};
 use std::marker::Model;
@@ -74,6 +74,7 @@ impl Reference {
         reference: Stamp,
     ) -> Result<Reference, BadReference>
         ensures accepted { IsOk result ↔ IsReference (reference_of leap stratum precision root_delay root_dispersion id reference) }
+        ensures test { is_ok result ≡ is_reference (reference_of leap stratum precision root_delay root_dispersion id reference) }
         ensures value { IfOk result (λ made. made ≡ reference_of leap stratum precision root_delay root_dispersion id reference) }
     {
         let in_range = leap <= 3 && 1 <= stratum && stratum <= 16;

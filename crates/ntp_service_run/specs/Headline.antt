@@ -16,8 +16,8 @@ use Rattle.ntp_admin.specs.declared.outcome.Outcome.TheVariants as outcome
 use Rattle.ntp_service_run.specs.Events.{address_of, names, own}
 use Rattle.ntp_service_run.specs.Model.{life_of, says, answer_to}
 
--- a service stands for a history: each address has what its own events leave, and a number has a holder exactly where that
--- address is enrolled with it (profile)
+-- a service stands for a history: of each address it has what is kept of the life that the address's own events leave, and an
+-- address holds a number exactly where it is enrolled with it (profile)
 pub record StandsFor {A : Type 0} (service : Registry) (history : List (Event A)) : Type 0 where
   pub entries : (address : Address) → customer_at service address ≡ short (life_of (own address history))
   pub agrees : Agrees service
@@ -79,7 +79,7 @@ IsTaken history (event.Command (Enrol address number key budget)) =
 IsTaken history (event.Command (Revoke address)) = ⊥
 
 -- the outcome of one event, after a history: unless it is struck out, the answer of the model to the address's own events; and
--- what is struck out is so for a reason (profile)
+-- each of the two refusals that strike a command out has its cause (profile)
 pub record IsAnswered {A : Type 0} (history : List (Event A)) (e : Event A) (o : Outcome) : Type 0 where
   pub as_model : is_struck o ≡ false → o ≡ answer_to (life_of (own (address_of e) history)) e
   -- KeyTaken exactly where another address is enrolled with the number

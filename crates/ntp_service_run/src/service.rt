@@ -49,7 +49,7 @@ impl<A: Allocator + Copy> Service<A> {
     }
 
     /// The answer to a datagram that came from an address at `receipt`, to which a reply departs at
-    /// `transmit`. It takes no memory. An address that was never enrolled gets no answer and no entry.
+    /// `transmit`. It takes no memory. An address that was never enrolled gets no reply and no entry.
     pub fn datagram(
         &mut self,
         address: Address,

@@ -1,1 +1,2 @@
 pub mod Freshness
+pub mod Signed

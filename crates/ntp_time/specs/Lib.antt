@@ -1,2 +1,4 @@
 pub mod Fresh
 pub mod Moment
+pub mod Unix
+pub mod Difference

@@ -4,10 +4,12 @@
 //! era 0 began on 1900-01-01 at 00:00 UTC. Nothing here reads a clock.
 #![tactic(auto)]
 
+mod differences;
 mod free_stamp;
 mod moment;
 mod stamp;
 
+pub use differences::{difference, near};
 pub use free_stamp::fresh;
-pub use moment::Moment;
+pub use moment::{Moment, TimeFault};
 pub use stamp::{Short, Stamp};

@@ -1,0 +1,4 @@
+pub mod Pairings
+pub mod Authentic
+pub mod Samples
+pub mod Takings

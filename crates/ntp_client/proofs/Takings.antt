@@ -1,0 +1,47 @@
+-- What a client takes octets for, once they are read; and what it is before and after.
+use Rattle.std.proofs.Common.{◌≡◌, ◌≢◌, ℕ, ◌<◌, List, [], ◌∷◌, Option, Some, None, Result, Ok, Err, refl, sym, ap, ◌∙◌, arith}
+use Rattle.std.specs.Prelude.{Contains}
+use Rattle.ntp_time.specs.declared.stamp.Stamp.{Stamp}
+use Rattle.ntp_time.specs.declared.moment.Moment.{Moment}
+use Rattle.ntp_time.proofs.Freshness.{fresh-apart}
+use Rattle.ntp_tail.specs.Request.{RequestValue}
+use Rattle.ntp_tail.specs.declared.malformed.Malformed.{Malformed}
+use Rattle.ntp_mac.specs.Key.{SymmetricKey}
+use Rattle.ntp_mac.specs.Reading.{reading_of}
+use Rattle.ntp_client.specs.declared.exchange.Exchange.{Exchange}
+use Rattle.ntp_client.specs.declared.exchange.Outstanding.{Outstanding}
+use Rattle.ntp_client.specs.declared.taken.Taken.{Taken}
+use Rattle.ntp_client.specs.State.{ClientState, IsClient}
+use Rattle.ntp_client.specs.Query.{transmit_of}
+use Rattle.ntp_client.specs.Taking.{reading_taken, asked_taken, taken_for, read_exchange, exchange_with, after_exchange, after_taken}
+
+-- while a request waits, octets are taken for what they are read as
+pub read-taken : (c : ClientState) (q : Outstanding) (octets : List ℕ) (at : Moment) (a : Result RequestValue Malformed) → c.outstanding ≡ Some q → a ≡ reading_of octets
+    → reading_taken c.key c.number q at a ≡ taken_for c octets at
+read-taken c q octets at a there is =
+    ap (reading_taken c.key c.number q at) is ∙ ap (λ o. asked_taken c.key c.number o octets at) (sym there)
+
+-- and the client after that is the one with that exchange
+pub read-after : (c : ClientState) (q : Outstanding) (octets : List ℕ) (at : Moment) (a : Result RequestValue Malformed) (t : Taken) → c.outstanding ≡ Some q → a ≡ reading_of octets
+    → after_exchange c (read_exchange q at a) t ≡ after_taken c octets at t
+read-after c q octets at a t there is =
+    ap (λ e. after_exchange c e t) (ap (read_exchange q at) is ∙ ap (λ o. exchange_with o octets at) (sym there))
+
+-- no request has its receive stamp as its transmit stamp
+transmit-apart : (earlier : Option Exchange) (now : Moment) (e : Exchange) → earlier ≡ Some e → e.arrival ≢ transmit_of earlier now
+transmit-apart None now e is = absurd (cc)
+transmit-apart (Some first) now e is =
+    let same : first ≡ e = cc in
+    let member : Contains (first.arrival ∷ []) e.arrival = (0, omega arith, ap (λ (x : Exchange). x.arrival) same) in
+    fresh-apart now.stamp (first.arrival ∷ []) (omega arith) e.arrival member
+
+-- what holds of a client that has made a request
+pub query-client : (key : SymmetricKey) (number : ℕ) (transmit : Stamp) (earlier : Option Exchange) (now : Moment) → 0 < number → transmit ≡ transmit_of earlier now
+    → IsClient (record { key = key; number = number; outstanding = Some (record { transmit = transmit; earlier = earlier }); sampled = None })
+query-client key number transmit earlier now given is = record {
+  number = given;
+  apart = λ q e there carried.
+    let asked : record { transmit = transmit; earlier = earlier } ≡ q = cc in
+    let found : earlier ≡ Some e = ap (λ (o : Outstanding). o.earlier) asked ∙ carried in
+    λ same. transmit-apart earlier now e found (same ∙ sym (ap (λ (o : Outstanding). o.transmit) asked) ∙ is);
+}

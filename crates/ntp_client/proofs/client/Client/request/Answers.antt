@@ -1,0 +1,5 @@
+use Rattle.ntp_client.proofs.Takings.{query-client}
+use Rattle.ntp_client.proofs.client.Client.request.Goals as goal
+
+pub invariant_of-self : goal.invariant_of-self
+invariant_of-self c = query-client _ c.self.inside.number _ c.self.inside.sampled c.args.now c.self.invariant.number c.transmit_of.ensures

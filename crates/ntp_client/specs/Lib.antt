@@ -1,0 +1,5 @@
+pub mod State
+pub mod Query
+pub mod Pairing
+pub mod Sample
+pub mod Taking

@@ -1,0 +1,118 @@
+//! A client, with its request and what it takes for a reply.
+ghost use Rattle.std.specs.Prelude.{◌≡◌, ◌↔◌, ◌<◌, Some};
+ghost use Rattle.ntp_client.specs.State.{new_client, IsClient};
+ghost use Rattle.ntp_client.specs.Query.{query_octets, next_query, after_query};
+ghost use Rattle.ntp_client.specs.Sample.{IsSample};
+ghost use Rattle.ntp_client.specs.Pairing.{exchange_of};
+ghost use Rattle.ntp_client.specs.Taking.{packet_taken, taken_for, after_exchange, after_taken};
+
+use crate::exchange::{Exchange, Outstanding};
+use crate::judging::judge;
+use crate::pairing::exchange_of;
+use crate::query::{query_header, transmit_of};
+use crate::{Distrust, Sample, Taken};
+use ntp_mac::{Key, Reply, seal};
+use ntp_tail::{Request, read_request};
+use ntp_time::Moment;
+use std::marker::Model;
+
+/// A request, ready to be sent: a header and its MAC, of 68 or 72 octets.
+pub type Outgoing = Reply;
+
+/// A client of one server, with which it shares a key. Contracts see what it knows: the key, the request
+/// that waits for its reply, and the exchange that the next request carries.
+#[derive(Drop)]
+pub struct Client {
+    key: Key,
+    number: u16,
+    outstanding: Option<Outstanding>,
+    sampled: Option<Exchange>,
+}
+
+impl Model for Client {
+    ghost use Rattle.ntp_client.specs.State.{ClientState, IsClient};
+
+    ghost Value = { ClientState };
+
+    ghost view = { λ c. record { key = c.key; number = c.number; outstanding = c.outstanding; sampled = c.sampled } };
+
+    ghost invariant = { λ c. IsClient (record { key = c.key; number = c.number; outstanding = c.outstanding; sampled = c.sampled }) };
+}
+
+impl Client {
+    /// A client with a key and the key's number, 1 to 65,535, that has asked nothing.
+    pub fn new(key: Key, number: u16) -> Client
+        requires number_given { 0 < number }
+        ensures { result ≡ new_client key number }
+    {
+        Client {
+            key,
+            number,
+            outstanding: None,
+            sampled: None,
+        }
+    }
+
+    /// The request that departs at a moment of the client's clock. It takes the place of one that still
+    /// waits for its reply. Where the last request gave a sample, it asks for the departure stamp of that
+    /// exchange's reply (RFC 9769, 2; profile).
+    #[must_use]
+    pub fn request(&mut self, now: Moment) -> Outgoing
+        ensures octets { result ≡ query_octets self.old.key self.old.number (next_query self.old now) }
+        ensures after { self.new ≡ after_query self.old now }
+    {
+        let asked = Outstanding {
+            transmit: transmit_of(self.sampled, now),
+            earlier: self.sampled,
+        };
+        self.outstanding = Some(asked);
+        self.sampled = None;
+        let mut outgoing = Reply::from_header(&query_header(asked));
+        seal(&self.key, self.number, &mut outgoing);
+        outgoing
+    }
+
+    /// What octets are taken for that arrive at a moment of the client's clock. The first case that
+    /// applies decides (profile):
+    ///
+    /// 1. no request waits; the octets are no packet; the mode or the version is not 4; the origin stamp
+    ///    is none of the request's: refused;
+    /// 2. without a MAC: the kiss `DENY`, a crypto-NAK, or refused;
+    /// 3. the MAC is not that of the key: refused;
+    /// 4. the kiss `RATE`; an unsynchronised clock or a stamp of unknown time: refused;
+    /// 5. otherwise a sample.
+    ///
+    /// A sample and a `RATE` end the request. All else leaves the client as it is.
+    #[must_use]
+    pub fn take(&mut self, octets: &[u8], at: Moment) -> Taken
+        ensures first { result ≡ taken_for self.old octets.now at }
+        ensures sample { (s : Sample) → (result ≡ Taken.Sample s) ↔ IsSample self.old octets.now at s }
+        ensures after { self.new ≡ after_taken self.old octets.now at result }
+    {
+        let Some(asked) = self.outstanding else {
+            return Taken::Refused(Distrust::NothingAsked);
+        };
+        match read_request(octets) {
+            Ok(reply) => self.take_reply(asked, &reply, at),
+            Err(fault) => Taken::Refused(Distrust::Malformed(fault)),
+        }
+    }
+
+    // What a packet is taken for that arrives at a moment.
+    fn take_reply(&mut self, asked: Outstanding, reply: &Request<'_>, at: Moment) -> Taken
+        requires { self.old.outstanding ≡ Some asked }
+        ensures first { result ≡ packet_taken self.old.key self.old.number asked reply.now at }
+        ensures after { self.new ≡ after_exchange self.old (Some (exchange_of asked reply.now.header at)) result }
+    {
+        let taken = judge(&self.key, self.number, asked, reply, at);
+        match taken {
+            Taken::Sample(_) => {
+                self.outstanding = None;
+                self.sampled = Some(exchange_of(asked, &reply.header, at));
+            }
+            Taken::Rate => self.outstanding = None,
+            Taken::Deny | Taken::Nak | Taken::Refused(_) => {}
+        }
+        taken
+    }
+}

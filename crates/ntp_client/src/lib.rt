@@ -1,0 +1,17 @@
+//! A client of an NTP server that signs its replies (RFC 5905, 8; RFC 9769, 2): it makes requests, and
+//! takes a sample only from an authentic reply to them. It opens no socket and takes no memory.
+#![tactic(auto)]
+
+mod client;
+mod exchange;
+mod judging;
+mod pairing;
+mod query;
+mod sample;
+mod taken;
+#[cfg(test)]
+mod tests;
+
+pub use client::{Client, Outgoing};
+pub use sample::Sample;
+pub use taken::{Distrust, Taken};

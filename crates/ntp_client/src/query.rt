@@ -1,0 +1,61 @@
+//! The request of a client.
+ghost use Rattle.std.specs.Prelude.{◌≡◌};
+ghost use Rattle.ntp_client.specs.Query.{origin_of, receive_of, transmit_of, query_fields};
+
+use crate::exchange::{Exchange, Outstanding};
+use ntp_packet::Header;
+use ntp_time::{Moment, Short, Stamp, fresh};
+
+/// The version of NTP (RFC 5905, 7.3).
+pub(crate) const VERSION: u8 = 4;
+
+/// The mode of a packet from a client (RFC 5905, 7.3).
+const CLIENT_MODE: u8 = 3;
+
+/// The poll interval that a request tells: 2^6 seconds (profile).
+const POLL: i8 = 6;
+
+// The header of a request.
+pub(crate) fn query_header(asked: Outstanding) -> Header
+    ensures { result ≡ query_fields asked }
+{
+    Header::new(
+        0,
+        VERSION,
+        CLIENT_MODE,
+        0,
+        POLL,
+        0,
+        Short(0),
+        Short(0),
+        [0; 4],
+        Stamp(0),
+        origin_of(asked.earlier),
+        receive_of(asked.earlier),
+        asked.transmit,
+    )
+}
+
+// The origin stamp of a request that carries an exchange, or none.
+fn origin_of(earlier: Option<Exchange>) -> Stamp
+    ensures { result ≡ origin_of earlier }
+{
+    earlier.map_or(Stamp(0), |exchange| exchange.receive)
+}
+
+// The receive stamp of a request that carries an exchange, or none.
+fn receive_of(earlier: Option<Exchange>) -> Stamp
+    ensures { result ≡ receive_of earlier }
+{
+    earlier.map_or(Stamp(0), |exchange| exchange.arrival)
+}
+
+// The transmit stamp of a request that carries an exchange, or none.
+pub(crate) fn transmit_of(earlier: Option<Exchange>, now: Moment) -> Stamp
+    ensures { result ≡ transmit_of earlier now }
+{
+    match earlier {
+        Some(exchange) => fresh(now.stamp(), &[exchange.arrival]),
+        None => fresh(now.stamp(), &[]),
+    }
+}

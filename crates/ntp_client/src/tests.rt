@@ -1,0 +1,1 @@
+//! Worked exchanges, with octets from outside.

@@ -118,7 +118,7 @@ taken-sample c octets at s client are = (λ is. asked c.outstanding refl is, giv
     paired q r there time signed (inl b) =
         sample-packet c.key c.number q r at Basic time signed (basic-pairing q r.header.origin b.origin) ∙ ap taken.Sample (sym b.stamps)
     paired q r there time signed (inr i) =
-        sample-packet c.key c.number q r at (Interleaved i.earlier) time signed (interleaved-pairing q i.earlier r.header.origin i.carried (client.apart q i.earlier there i.carried) i.origin)
+        sample-packet c.key c.number q r at (Interleaved i.earlier) time signed (interleaved-pairing q i.earlier r.header.origin i.carried ((client.outstanding q there).apart i.earlier i.carried) i.origin)
         ∙ ap taken.Sample (sym i.stamps)
     given : IsSample c octets at s → taken_for c octets at ≡ taken.Sample s
     given is =

@@ -3,7 +3,8 @@ use Rattle.std.proofs.Common.{◌≡◌, ◌≢◌, ℕ, ◌<◌, List, [], ◌�
 use Rattle.std.specs.Prelude.{Contains}
 use Rattle.ntp_time.specs.declared.stamp.Stamp.{Stamp}
 use Rattle.ntp_time.specs.declared.moment.Moment.{Moment}
-use Rattle.ntp_time.proofs.Freshness.{fresh-apart}
+use Rattle.ntp_time.proofs.Freshness.{fresh-apart, fresh-nonzero}
+use Rattle.ntp_packet.specs.Header.{HeaderFields}
 use Rattle.ntp_tail.specs.Request.{RequestValue}
 use Rattle.ntp_tail.specs.declared.malformed.Malformed.{Malformed}
 use Rattle.ntp_mac.specs.Key.{SymmetricKey}
@@ -12,6 +13,7 @@ use Rattle.ntp_client.specs.declared.exchange.Exchange.{Exchange}
 use Rattle.ntp_client.specs.declared.exchange.Outstanding.{Outstanding}
 use Rattle.ntp_client.specs.declared.taken.Taken.{Taken}
 use Rattle.ntp_client.specs.State.{ClientState, IsClient}
+use Rattle.ntp_client.specs.Pairing.{exchange_of}
 use Rattle.ntp_client.specs.Query.{transmit_of}
 use Rattle.ntp_client.specs.Taking.{reading_taken, asked_taken, taken_for, read_exchange, exchange_with, after_exchange, after_taken}
 
@@ -36,12 +38,28 @@ transmit-apart (Some first) now e is =
     fresh-apart now.stamp (first.arrival ∷ []) (omega arith) e.arrival member
 
 -- what holds of a client that has made a request
-pub query-client : (key : SymmetricKey) (number : ℕ) (transmit : Stamp) (earlier : Option Exchange) (now : Moment) → 0 < number → transmit ≡ transmit_of earlier now
+pub query-client : (key : SymmetricKey) (number : ℕ) (transmit : Stamp) (earlier : Option Exchange) (now : Moment) → 0 < number
+    → ((e : Exchange) → earlier ≡ Some e → e.arrival.0 ≢ 0) → transmit ≡ transmit_of earlier now
     → IsClient (record { key = key; number = number; outstanding = Some (record { transmit = transmit; earlier = earlier }); sampled = None })
-query-client key number transmit earlier now given is = record {
+query-client key number transmit earlier now given known is = record {
   number = given;
-  apart = λ q e there carried.
+  outstanding = λ q there.
     let asked : record { transmit = transmit; earlier = earlier } ≡ q = cc in
-    let found : earlier ≡ Some e = ap (λ (o : Outstanding). o.earlier) asked ∙ carried in
-    λ same. transmit-apart earlier now e found (same ∙ sym (ap (λ (o : Outstanding). o.transmit) asked) ∙ is);
+    let carries = λ (e : Exchange) (carried : q.earlier ≡ Some e). ap (λ (o : Outstanding). o.earlier) asked ∙ carried in
+    record {
+      known = λ e carried. known e (carries e carried);
+      apart = λ e carried same. transmit-apart earlier now e (carries e carried) (same ∙ sym (ap (λ (o : Outstanding). o.transmit) asked) ∙ is);
+    };
+  sampled = λ e there. absurd (cc);
+}
+
+-- what holds of a client that has taken a sample
+pub sampled-client : (key : SymmetricKey) (number : ℕ) (q : Outstanding) (reply : HeaderFields) (at : Moment) (exchange : Exchange) → 0 < number → exchange ≡ exchange_of q reply at
+    → IsClient (record { key = key; number = number; outstanding = None; sampled = Some exchange })
+sampled-client key number q reply at exchange given is = record {
+  number = given;
+  outstanding = λ q there. absurd (cc);
+  sampled = λ e there.
+    let same : exchange ≡ e = cc in
+    λ zero. fresh-nonzero at.stamp [] (omega arith) (ap (λ (x : Exchange). x.arrival.0) (sym is ∙ same) ∙ zero);
 }

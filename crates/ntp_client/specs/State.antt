@@ -12,10 +12,17 @@ pub record ClientState : Type 0 where
   pub outstanding : Option Outstanding
   pub sampled : Option Exchange
 
--- what holds of every client: its key has a number, and no request's transmit stamp is its receive stamp too (profile)
+-- what holds of every request: its receive stamp is known where it carries an exchange, and is never its transmit stamp too
+-- (profile)
+pub record IsOutstanding (q : Outstanding) : Type 0 where
+  pub known : (e : Exchange) → q.earlier ≡ Some e → e.arrival.0 ≢ 0
+  pub apart : (e : Exchange) → q.earlier ≡ Some e → e.arrival ≢ q.transmit
+
+-- what holds of every client: its key has a number, and its stamps are such ones (profile)
 pub record IsClient (c : ClientState) : Type 0 where
   pub number : 0 < c.number
-  pub apart : (q : Outstanding) (e : Exchange) → c.outstanding ≡ Some q → q.earlier ≡ Some e → e.arrival ≢ q.transmit
+  pub outstanding : (q : Outstanding) → c.outstanding ≡ Some q → IsOutstanding q
+  pub sampled : (e : Exchange) → c.sampled ≡ Some e → e.arrival.0 ≢ 0
 
 -- a client that has asked nothing
 abbrev pub new_client : SymmetricKey → ℕ → ClientState

@@ -43,7 +43,8 @@ impl Client {
     /// A client with a key and the key's number, 1 to 65,535, that has asked nothing.
     pub fn new(key: Key, number: u16) -> Client
         requires number_given { 0 < number }
-        ensures { result ≡ new_client key number }
+        ensures value { result ≡ new_client key number }
+        ensures client { IsClient result }
     {
         Client {
             key,
@@ -60,6 +61,7 @@ impl Client {
     pub fn request(&mut self, now: Moment) -> Outgoing
         ensures octets { result ≡ query_octets self.old.key self.old.number (next_query self.old now) }
         ensures after { self.new ≡ after_query self.old now }
+        ensures client { IsClient self.new }
     {
         let asked = Outstanding {
             transmit: transmit_of(self.sampled, now),
@@ -88,6 +90,7 @@ impl Client {
         ensures first { result ≡ taken_for self.old octets.now at }
         ensures sample { (s : Sample) → (result ≡ Taken.Sample s) ↔ IsSample self.old octets.now at s }
         ensures after { self.new ≡ after_taken self.old octets.now at result }
+        ensures client { IsClient self.new }
     {
         let Some(asked) = self.outstanding else {
             return Taken::Refused(Distrust::NothingAsked);
@@ -103,6 +106,7 @@ impl Client {
         requires { self.old.outstanding ≡ Some asked }
         ensures first { result ≡ packet_taken self.old.key self.old.number asked reply.now at }
         ensures after { self.new ≡ after_exchange self.old (Some (exchange_of asked reply.now.header at)) result }
+        ensures client { IsClient self.new }
     {
         let taken = judge(&self.key, self.number, asked, reply, at);
         match taken {

@@ -1,12 +1,11 @@
 -- What an authentic reply is taken for.
-use Rattle.std.proofs.Common.{◌≡◌, ◌≢◌, ℕ, ◌<◌, ◌≤◌, Bool, true, false, ◌==◌, ◌&&◌, ◌||◌, refl, sym, ap, ◌∙◌, arith, eqb, ltb}
-use Rattle.std.specs.Prelude.{◌↔◌, if◌then◌else◌, nat_lt}
+use Rattle.std.proofs.Common.{◌≡◌, ◌≢◌, ◌≤◌, Bool, true, false, ◌==◌, refl, arith}
+use Rattle.std.specs.Prelude.{if◌then◌else◌, nat_lt}
 use Rattle.std.proofs.lemmas.Bool.{ne_eqb}
 use Rattle.std.proofs.lemmas.Bool.Decides.{nat_tests}
 use Rattle.ntp_packet.specs.Header.{HeaderFields}
 use Rattle.ntp_client.specs.declared.pairing.Pairing.{Pairing}
 use Rattle.ntp_client.specs.declared.sample.Sample.{Sample}
-use Rattle.ntp_client.specs.declared.taken.Taken.{Taken}
 use Rattle.ntp_client.specs.declared.taken.Taken.TheVariants as taken
 use Rattle.ntp_client.specs.declared.taken.Distrust.TheVariants as distrust
 use Rattle.ntp_client.specs.Sample.{IsTimeReply}
@@ -34,16 +33,18 @@ pub authentic-sample : (p : Pairing) (h : HeaderFields) (x s : Sample) → h.mod
 authentic-sample p h x s mode version is =
     let none = none-applies (is_kiss rate_code h p) (is_unsynchronised h) (lacks_stamp h) x s is in
     let clock = synchronised h none.0 in
-    let stamps = stamped h none.1 in
-    (record {
-      mode = mode;
-      version = version;
-      leap = clock.0;
-      stratum_from = clock.1;
-      stratum_to = clock.2;
-      receive = stamps.0;
-      transmit = stamps.1;
-    }, none.2)
+    let stamps = stamped h none.1 in (
+      record {
+        mode = mode;
+        version = version;
+        leap = clock.0;
+        stratum_from = clock.1;
+        stratum_to = clock.2;
+        receive = stamps.0;
+        transmit = stamps.1;
+      },
+      none.2,
+    )
 
 -- a time reply is taken for a sample
 pub time-taken : (p : Pairing) (h : HeaderFields) (x : Sample) → IsTimeReply h → authentic_taken p h x ≡ taken.Sample x

@@ -1,10 +1,10 @@
 -- Octets are taken for a sample exactly where they give one.
-use Rattle.std.proofs.Common.{◌≡◌, ◌≢◌, ℕ, ◌<◌, Bool, true, false, ◌==◌, List, Option, Some, None, Result, Ok, Err, ◌⊎◌, inl, inr, refl, sym, ap, subst, ◌∙◌}
+use Rattle.std.proofs.Common.{◌≡◌, ◌≢◌, ℕ, Bool, true, false, ◌==◌, List, Option, Some, None, Result, Ok, Err, ◌⊎◌, inl, inr, refl, sym, ap, ◌∙◌}
 use Rattle.std.specs.Prelude.{◌↔◌, if◌then◌else◌}
 use Rattle.std.proofs.lemmas.Bool.{eqb-true, eq-eqb}
 use Rattle.ntp_time.specs.declared.moment.Moment.{Moment}
 use Rattle.ntp_tail.specs.Tail.{TailValue, NoTail, BareTail, Md5Tail, Sha1Tail}
-use Rattle.ntp_tail.specs.Request.{RequestValue, IsRequest}
+use Rattle.ntp_tail.specs.Request.{RequestValue}
 use Rattle.ntp_tail.specs.declared.malformed.Malformed.{Malformed}
 use Rattle.ntp_tail.proofs.Octets.{AreOctets}
 use Rattle.ntp_mac.specs.Key.{SymmetricKey}
@@ -15,7 +15,6 @@ use Rattle.ntp_mac.specs.declared.digests.Digest.{Digest}
 use Rattle.ntp_mac.specs.declared.digests.Digest.TheVariants.{Md5, Sha1}
 use Rattle.ntp_mac.proofs.ReadAs.{Reads-reading_of, only-reading_of}
 use Rattle.ntp_mac.proofs.Signing.{is-signed}
-use Rattle.ntp_client.specs.declared.exchange.Exchange.{Exchange}
 use Rattle.ntp_client.specs.declared.exchange.Outstanding.{Outstanding}
 use Rattle.ntp_client.specs.declared.pairing.Pairing.{Pairing}
 use Rattle.ntp_client.specs.declared.pairing.Pairing.TheVariants.{Basic, Interleaved}
@@ -24,7 +23,7 @@ use Rattle.ntp_client.specs.declared.taken.Taken.{Taken}
 use Rattle.ntp_client.specs.declared.taken.Taken.TheVariants as taken
 use Rattle.ntp_client.specs.declared.taken.Distrust.TheVariants as distrust
 use Rattle.ntp_client.specs.State.{ClientState, IsClient}
-use Rattle.ntp_client.specs.Pairing.{pairing_of, is_basic, sample_of}
+use Rattle.ntp_client.specs.Pairing.{pairing_of, sample_of}
 use Rattle.ntp_client.specs.Sample.{IsTimeReply, IsBasic, IsInterleaved, IsSample}
 use Rattle.ntp_client.specs.Taking.{is_kiss, deny_code, authentic_taken, mac_taken, tail_taken, paired_taken, packet_taken, reading_taken, asked_taken, taken_for}
 use Rattle.ntp_client.proofs.Pairings.{sample-pairs, basic-pairing, interleaved-pairing}
@@ -65,11 +64,13 @@ module _ (key : SymmetricKey) (number : ℕ) where
           let signed = tail-sample p r (sample_of q p r.header at) s r.tail is in
           let time = authentic-sample p r.header (sample_of q p r.header at) s m v signed.1 in
           (time.0, signed.0, sample-pairs q r.header at p s found time.1)
+
       version : (t : Bool) → (r.header.version == 4) ≡ t → r.header.mode ≡ 4
           → (if t then paired_taken key number q r at (pairing_of q r.header.origin) else taken.Refused distrust.Version) ≡ taken.Sample s
           → IsTimeReply r.header × (is_signed key number r ≡ true) × (IsBasic q r.header at s ⊎ IsInterleaved q r.header s)
       version true test m is = paired (pairing_of q r.header.origin) refl m (eqb-true r.header.version 4 test) is
       version false test m is = absurd (cc)
+
       mode : (t : Bool) → (r.header.mode == 4) ≡ t
           → (if t then (if r.header.version == 4 then paired_taken key number q r at (pairing_of q r.header.origin) else taken.Refused distrust.Version) else taken.Refused distrust.Mode) ≡ taken.Sample s
           → IsTimeReply r.header × (is_signed key number r ≡ true) × (IsBasic q r.header at s ⊎ IsInterleaved q r.header s)
@@ -110,9 +111,11 @@ taken-sample c octets at s client are = (λ is. asked c.outstanding refl is, giv
           pairs = found.2;
         }
     reading q there (Err fault) reads is = absurd (cc)
+
     asked : (o : Option Outstanding) → c.outstanding ≡ o → asked_taken c.key c.number o octets at ≡ taken.Sample s → IsSample c octets at s
     asked None there is = absurd (cc)
     asked (Some q) there is = reading q there (reading_of octets) (Reads-reading_of octets are) is
+
     paired : (q : Outstanding) (r : RequestValue) → c.outstanding ≡ Some q → IsTimeReply r.header → IsSigned c.key c.number r → IsBasic q r.header at s ⊎ IsInterleaved q r.header s
         → packet_taken c.key c.number q r at ≡ taken.Sample s
     paired q r there time signed (inl b) =
@@ -120,6 +123,7 @@ taken-sample c octets at s client are = (λ is. asked c.outstanding refl is, giv
     paired q r there time signed (inr i) =
         sample-packet c.key c.number q r at (Interleaved i.earlier) time signed (interleaved-pairing q i.earlier r.header.origin i.carried ((client.outstanding q there).apart i.earlier i.carried) i.origin)
         ∙ ap taken.Sample (sym i.stamps)
+
     given : IsSample c octets at s → taken_for c octets at ≡ taken.Sample s
     given is =
         let read = only-reading_of octets (Ok is.reply) are is.reads in

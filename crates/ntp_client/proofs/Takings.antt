@@ -1,5 +1,5 @@
 -- What a client takes octets for, once they are read; and what it is before and after.
-use Rattle.std.proofs.Common.{◌≡◌, ◌≢◌, ℕ, ◌<◌, List, [], ◌∷◌, Option, Some, None, Result, Ok, Err, refl, sym, ap, ◌∙◌, arith}
+use Rattle.std.proofs.Common.{◌≡◌, ◌≢◌, ℕ, ◌<◌, List, [], ◌∷◌, Option, Some, None, Result, sym, ap, ◌∙◌, arith}
 use Rattle.std.specs.Prelude.{Contains}
 use Rattle.ntp_time.specs.declared.stamp.Stamp.{Stamp}
 use Rattle.ntp_time.specs.declared.moment.Moment.{Moment}
@@ -44,12 +44,12 @@ pub query-client : (key : SymmetricKey) (number : ℕ) (transmit : Stamp) (earli
 query-client key number transmit earlier now given known is = record {
   number = given;
   outstanding = λ q there.
-    let asked : record { transmit = transmit; earlier = earlier } ≡ q = cc in
-    let carries = λ (e : Exchange) (carried : q.earlier ≡ Some e). ap (λ (o : Outstanding). o.earlier) asked ∙ carried in
-    record {
-      known = λ e carried. known e (carries e carried);
-      apart = λ e carried same. transmit-apart earlier now e (carries e carried) (same ∙ sym (ap (λ (o : Outstanding). o.transmit) asked) ∙ is);
-    };
+      let asked : record { transmit = transmit; earlier = earlier } ≡ q = cc in
+      let carries = λ (e : Exchange) (carried : q.earlier ≡ Some e). ap (λ (o : Outstanding). o.earlier) asked ∙ carried in
+      record {
+        known = λ e carried. known e (carries e carried);
+        apart = λ e carried same. transmit-apart earlier now e (carries e carried) (same ∙ sym (ap (λ (o : Outstanding). o.transmit) asked) ∙ is);
+      };
   sampled = λ e there. absurd (cc);
 }
 
@@ -60,6 +60,6 @@ sampled-client key number q reply at exchange given is = record {
   number = given;
   outstanding = λ q there. absurd (cc);
   sampled = λ e there.
-    let same : exchange ≡ e = cc in
-    λ zero. fresh-nonzero at.stamp [] (omega arith) (ap (λ (x : Exchange). x.arrival.0) (sym is ∙ same) ∙ zero);
+      let same : exchange ≡ e = cc in
+      λ zero. fresh-nonzero at.stamp [] (omega arith) (ap (λ (x : Exchange). x.arrival.0) (sym is ∙ same) ∙ zero);
 }

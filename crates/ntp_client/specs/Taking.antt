@@ -22,6 +22,7 @@ use Rattle.ntp_client.specs.Pairing.{pairing_of, is_basic, exchange_of, sample_o
 -- the kiss codes that a client knows (RFC 5905, 7.4)
 abbrev pub rate_code : List ℕ
 rate_code = 82 ∷ 65 ∷ 84 ∷ 69 ∷ []
+
 abbrev pub deny_code : List ℕ
 deny_code = 68 ∷ 69 ∷ 78 ∷ 89 ∷ []
 

@@ -69,13 +69,7 @@ fn judge_tail(
 }
 
 // What a reply with a MAC is taken for.
-fn judge_mac(
-    key: &Key,
-    number: u16,
-    pairing: Pairing,
-    reply: &Request<'_>,
-    sample: Sample,
-) -> Taken
+fn judge_mac(key: &Key, number: u16, pairing: Pairing, reply: &Request<'_>, sample: Sample) -> Taken
     ensures { result ≡ mac_taken key.now number pairing reply.now sample }
 {
     if verifies(key, number, reply) {

@@ -60,11 +60,7 @@ impl fmt::Display for Sample {
 }
 
 // Writes a time, of which so many units are a second, in seconds with nine decimals.
-fn write_seconds<W: fmt::Write>(
-    f: &mut fmt::Formatter<W>,
-    units: i128,
-    second: u128,
-) -> fmt::Result
+fn write_seconds<W: fmt::Write>(f: &mut fmt::Formatter<W>, units: i128, second: u128) -> fmt::Result
     requires few { unsigned_abs units ≤ 2 ^ 64 }
     requires second_given { 0 < second }
     requires second_small { second ≤ 2 ^ 33 }

@@ -1,4 +1,4 @@
-use Rattle.std.proofs.Common.{◌≡◌, Ok, Err, Some, sym, ◌∙◌, arith}
+use Rattle.std.proofs.Common.{◌≡◌, Err, Some, sym, ◌∙◌, arith}
 use Rattle.ntp_mac.proofs.ReadAs.{answers-so}
 use Rattle.ntp_tail.proofs.Octets.{AreOctets}
 use Rattle.ntp_client.specs.State.{IsClient}

@@ -95,3 +95,52 @@ fn moment_at(seconds: u64, fraction: u64) -> Moment
         stamp: Stamp(seconds % ERA_SECONDS * SECOND_UNITS + fraction),
     }
 }
+
+#[cfg(test)]
+mod tests {
+    use super::*;
+
+    // The moment of an era with a stamp.
+    fn moment(era: u32, stamp: u64) -> Result<Moment, TimeFault> {
+        Ok(Moment {
+            era,
+            stamp: Stamp(stamp),
+        })
+    }
+
+    #[test]
+    fn moments_of_unix(rt: HostRuntime) {
+        assert_eq!(rt; Moment::from_unix(0, 0), moment(0, 0x83aa_7e80_0000_0000));
+        // The last nanosecond of era 0, and the first of era 1.
+        assert_eq!(rt;
+            Moment::from_unix(2_085_978_495, 999_999_999),
+            moment(0, 0xffff_ffff_ffff_fffb)
+        );
+        assert_eq!(rt; Moment::from_unix(2_085_978_496, 0), moment(1, 0));
+        assert_eq!(rt; Moment::from_unix(-2_208_988_800, 0), moment(0, 0));
+    }
+
+    #[test]
+    fn times_that_are_no_moment(rt: HostRuntime) {
+        assert_eq!(rt;
+            Moment::from_unix(-2_208_988_801, 0),
+            Err(TimeFault::BeforeEra0)
+        );
+        assert_eq!(rt;
+            Moment::from_unix(0, 1_000_000_000),
+            Err(TimeFault::BadNanos)
+        );
+        assert_eq!(rt;
+            Moment::from_unix(18_446_744_071_500_562_816, 0),
+            Err(TimeFault::EraTooLarge)
+        );
+        assert_eq!(rt;
+            Moment::from_unix(i128::MIN, u32::MAX),
+            Err(TimeFault::BeforeEra0)
+        );
+        assert_eq!(rt;
+            Moment::from_unix(i128::MAX, u32::MAX),
+            Err(TimeFault::BadNanos)
+        );
+    }
+}

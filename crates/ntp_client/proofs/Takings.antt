@@ -12,7 +12,7 @@ use Rattle.ntp_mac.specs.Reading.{reading_of}
 use Rattle.ntp_client.specs.declared.exchange.Exchange.{Exchange}
 use Rattle.ntp_client.specs.declared.exchange.Outstanding.{Outstanding}
 use Rattle.ntp_client.specs.declared.taken.Taken.{Taken}
-use Rattle.ntp_client.specs.State.{ClientState, IsClient}
+use Rattle.ntp_client.specs.State.{ClientState, IsOutstanding, IsClient}
 use Rattle.ntp_client.specs.Pairing.{exchange_of}
 use Rattle.ntp_client.specs.Query.{transmit_of}
 use Rattle.ntp_client.specs.Taking.{reading_taken, asked_taken, taken_for, read_exchange, exchange_with, after_exchange, after_taken}
@@ -37,29 +37,30 @@ transmit-apart (Some first) now e is =
     let member : Contains (first.arrival ∷ []) e.arrival = (0, omega arith, ap (λ (x : Exchange). x.arrival) same) in
     fresh-apart now.stamp (first.arrival ∷ []) (omega arith) e.arrival member
 
--- what holds of a client that has made a request
-pub query-client : (key : SymmetricKey) (number : ℕ) (transmit : Stamp) (earlier : Option Exchange) (now : Moment) → 0 < number
-    → ((e : Exchange) → earlier ≡ Some e → e.arrival.0 ≢ 0) → transmit ≡ transmit_of earlier now
-    → IsClient (record { key = key; number = number; outstanding = Some (record { transmit = transmit; earlier = earlier }); sampled = None })
-query-client key number transmit earlier now given known is = record {
+-- what holds of a client that has made a request, where the next one carries no other exchange
+pub query-client : (key : SymmetricKey) (number : ℕ) (transmit : Stamp) (earlier sampled : Option Exchange) (now : Moment) → 0 < number
+    → ((e : Exchange) → earlier ≡ Some e → e.arrival.0 ≢ 0) → transmit ≡ transmit_of earlier now → ((e : Exchange) → sampled ≡ Some e → earlier ≡ Some e)
+    → IsClient (record { key = key; number = number; outstanding = Some (record { transmit = transmit; earlier = earlier }); sampled = sampled })
+query-client key number transmit earlier sampled now given known is no_other = record {
   number = given;
   outstanding = λ q there.
-      let asked : record { transmit = transmit; earlier = earlier } ≡ q = cc in
-      let carries = λ (e : Exchange) (carried : q.earlier ≡ Some e). ap (λ (o : Outstanding). o.earlier) asked ∙ carried in
-      record {
-        known = λ e carried. known e (carries e carried);
-        apart = λ e carried same. transmit-apart earlier now e (carries e carried) (same ∙ sym (ap (λ (o : Outstanding). o.transmit) asked) ∙ is);
-      };
-  sampled = λ e there. absurd (cc);
+    let asked : record { transmit = transmit; earlier = earlier } ≡ q = cc in
+    let carries = λ (e : Exchange) (carried : q.earlier ≡ Some e). ap (λ (o : Outstanding). o.earlier) asked ∙ carried in
+    record {
+      known = λ e carried. known e (carries e carried);
+      apart = λ e carried same. transmit-apart earlier now e (carries e carried) (same ∙ sym (ap (λ (o : Outstanding). o.transmit) asked) ∙ is);
+    };
+  sampled = λ e there. known e (no_other e there);
 }
 
--- what holds of a client that has taken a sample
-pub sampled-client : (key : SymmetricKey) (number : ℕ) (q : Outstanding) (reply : HeaderFields) (at : Moment) (exchange : Exchange) → 0 < number → exchange ≡ exchange_of q reply at
-    → IsClient (record { key = key; number = number; outstanding = None; sampled = Some exchange })
-sampled-client key number q reply at exchange given is = record {
+-- what holds of a client that has taken a sample, where no other request waits than before
+pub sampled-client : (key : SymmetricKey) (number : ℕ) (before outstanding : Option Outstanding) (q : Outstanding) (reply : HeaderFields) (at : Moment) (exchange : Exchange) → 0 < number
+    → ((o : Outstanding) → before ≡ Some o → IsOutstanding o) → exchange ≡ exchange_of q reply at → ((o : Outstanding) → outstanding ≡ Some o → before ≡ Some o)
+    → IsClient (record { key = key; number = number; outstanding = outstanding; sampled = Some exchange })
+sampled-client key number before outstanding q reply at exchange given waits is no_other = record {
   number = given;
-  outstanding = λ q there. absurd (cc);
+  outstanding = λ o there. waits o (no_other o there);
   sampled = λ e there.
-      let same : exchange ≡ e = cc in
-      λ zero. fresh-nonzero at.stamp [] (omega arith) (ap (λ (x : Exchange). x.arrival.0) (sym is ∙ same) ∙ zero);
+    let same : exchange ≡ e = cc in
+    λ zero. fresh-nonzero at.stamp [] (omega arith) (ap (λ (x : Exchange). x.arrival.0) (sym is ∙ same) ∙ zero);
 }

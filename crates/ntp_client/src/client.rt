@@ -21,7 +21,7 @@ pub type Outgoing = Reply;
 
 /// A client of one server, with which it shares a key. Contracts see what it knows: the key, the request
 /// that waits for its reply, and the exchange that the next request carries.
-#[derive(Drop)]
+#[derive(Debug, Drop)]
 pub struct Client {
     key: Key,
     number: u16,

@@ -24,6 +24,6 @@ pub record IsClient (c : ClientState) : Type 0 where
   pub outstanding : (q : Outstanding) → c.outstanding ≡ Some q → IsOutstanding q
   pub sampled : (e : Exchange) → c.sampled ≡ Some e → e.arrival.0 ≢ 0
 
--- a client that has asked nothing
+-- a client that has asked nothing (profile)
 abbrev pub new_client : SymmetricKey → ℕ → ClientState
 new_client key number = record { key = key; number = number; outstanding = None; sampled = None }

@@ -1,7 +1,7 @@
 //! A moment: a stamp in its era.
 ghost use Rattle.std.specs.Prelude.{◌≡◌, ◌↔◌, ◌+◌, ◌*◌, ◌/◌, ◌^◌, ◌<◌, ◌≤◌, ◌≤ℤ◌, ◌<ℤ◌, pos, IfOk};
 ghost use Rattle.ntp_time.specs.Moment.{units, window_of};
-ghost use Rattle.ntp_time.specs.Unix.{since_1900, fraction_of, IsUnixTime};
+ghost use Rattle.ntp_time.specs.Unix.{all_seconds, second_nanos, since_1900, IsUnixTime};
 
 use crate::Stamp;
 
@@ -50,8 +50,8 @@ impl Moment {
     pub fn from_unix(seconds: i128, nanos: u32) -> Result<Moment, TimeFault>
         ensures moment { IfOk result (λ moment. IsUnixTime moment seconds nanos) }
         ensures before_era_0 { (result ≡ Err TimeFault.BeforeEra0) ↔ (since_1900 seconds <ℤ pos 0) }
-        ensures bad_nanos { (result ≡ Err TimeFault.BadNanos) ↔ ((pos 0 ≤ℤ since_1900 seconds) × (1000000000 ≤ nanos)) }
-        ensures era_too_large { (result ≡ Err TimeFault.EraTooLarge) ↔ ((nanos < 1000000000) × (pos (2 ^ 64) ≤ℤ since_1900 seconds)) }
+        ensures bad_nanos { (result ≡ Err TimeFault.BadNanos) ↔ ((pos 0 ≤ℤ since_1900 seconds) × (second_nanos ≤ nanos)) }
+        ensures era_too_large { (result ≡ Err TimeFault.EraTooLarge) ↔ ((nanos < second_nanos) × (pos all_seconds ≤ℤ since_1900 seconds)) }
     {
         if seconds < -UNIX_EPOCH {
             return Err(TimeFault::BeforeEra0);

@@ -44,12 +44,12 @@ pub query-client : (key : SymmetricKey) (number : ℕ) (transmit : Stamp) (earli
 query-client key number transmit earlier sampled now given known is no_other = record {
   number = given;
   outstanding = λ q there.
-    let asked : record { transmit = transmit; earlier = earlier } ≡ q = cc in
-    let carries = λ (e : Exchange) (carried : q.earlier ≡ Some e). ap (λ (o : Outstanding). o.earlier) asked ∙ carried in
-    record {
-      known = λ e carried. known e (carries e carried);
-      apart = λ e carried same. transmit-apart earlier now e (carries e carried) (same ∙ sym (ap (λ (o : Outstanding). o.transmit) asked) ∙ is);
-    };
+      let asked : record { transmit = transmit; earlier = earlier } ≡ q = cc in
+      let carries = λ (e : Exchange) (carried : q.earlier ≡ Some e). ap (λ (o : Outstanding). o.earlier) asked ∙ carried in
+      record {
+        known = λ e carried. known e (carries e carried);
+        apart = λ e carried same. transmit-apart earlier now e (carries e carried) (same ∙ sym (ap (λ (o : Outstanding). o.transmit) asked) ∙ is);
+      };
   sampled = λ e there. known e (no_other e there);
 }
 
@@ -61,6 +61,6 @@ sampled-client key number before outstanding q reply at exchange given waits is 
   number = given;
   outstanding = λ o there. waits o (no_other o there);
   sampled = λ e there.
-    let same : exchange ≡ e = cc in
-    λ zero. fresh-nonzero at.stamp [] (omega arith) (ap (λ (x : Exchange). x.arrival.0) (sym is ∙ same) ∙ zero);
+      let same : exchange ≡ e = cc in
+      λ zero. fresh-nonzero at.stamp [] (omega arith) (ap (λ (x : Exchange). x.arrival.0) (sym is ∙ same) ∙ zero);
 }

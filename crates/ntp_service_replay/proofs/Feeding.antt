@@ -1,14 +1,15 @@
 -- One feeding of an engine after another.
-use Rattle.std.proofs.Common.{◌≡◌, ◌≢◌, ℕ, ◌+◌, ◌<◌, List, [], ◌∷◌, ◌++◌, length, take, drop, get_or, refl, sym, ap, ◌∙◌, subst, append_assoc, add-zero, length-append, take-append-drop, arith}
+use Rattle.std.proofs.Common.{◌≡◌, ◌≢◌, ℕ, ◌+◌, ◌<◌, List, [], ◌∷◌, ◌++◌, length, take, drop, get_or, refl, sym, ap, ◌∙◌, subst}
+use Rattle.std.proofs.Common.{append_assoc, add-zero, length-append, take-append-drop, arith}
 use Rattle.std.proofs.lemmas.List.{take_more}
 use Rattle.std.proofs.lemmas.List.Elements.{All-nil, All-cons, All-append}
 use Rattle.ntp_service_replay.specs.declared.engine.Engine.{Engine}
 use Rattle.ntp_service_replay.specs.declared.faults.ReplayFaultKind.{ReplayFaultKind}
 use Rattle.ntp_service_replay.specs.declared.faults.ReplayFaultKind.TheVariants.{NoMemory, LineLong}
-use Rattle.ntp_service_replay.specs.Script.{lines_of}
-use Rattle.ntp_service_replay.specs.Engine.{Answers, Fails, Fed, Stops}
+use Rattle.ntp_service_replay.specs.Script.{most_line_octets, lines_of}
+use Rattle.ntp_service_replay.specs.Engine.{Answers, Halts, Fed, Stops}
 use Rattle.ntp_service_replay.proofs.LineFeeds.{IsUnbroken, lines_of-ended, lines_of-begun}
-use Rattle.ntp_service_replay.proofs.LinesReplayed.{Answers-nil, Answers-append, Fails-more}
+use Rattle.ntp_service_replay.proofs.LinesReplayed.{Answers-nil, Answers-append, Halts-more}
 
 module _ {A : Type 0} where
   pub Fed-nil : (e : Engine A) → Fed e e [] []
@@ -24,7 +25,8 @@ module _ {A : Type 0} where
   }
 
   -- it stops after what was fed before
-  pub Fed-stops : (kind : ReplayFaultKind) (old mid new : Engine A) (bs cs v w : List ℕ) → Fed old mid bs v → Stops kind mid new cs w → Stops kind old new (bs ++ cs) (v ++ w)
+  pub Fed-stops : (kind : ReplayFaultKind) (old mid new : Engine A) (bs cs v w : List ℕ) → Fed old mid bs v → Stops kind mid new cs w
+      → Stops kind old new (bs ++ cs) (v ++ w)
   Fed-stops kind old mid new bs cs v w p q = record {
     lines = p.lines ++ q.lines;
     so_far = v ++ q.so_far;
@@ -42,7 +44,8 @@ module _ {A : Type 0} where
   }
 
   -- it stops whatever octets it was handed besides
-  pub Stops-more : (kind : ReplayFaultKind) (old new : Engine A) (bs cs w : List ℕ) → Stops kind old new bs w → Stops kind old new (bs ++ cs) w
+  pub Stops-more : (kind : ReplayFaultKind) (old new : Engine A) (bs cs w : List ℕ) → Stops kind old new bs w
+      → Stops kind old new (bs ++ cs) w
   Stops-more kind old new bs cs w p = record {
     lines = p.lines;
     so_far = p.so_far;
@@ -54,17 +57,19 @@ module _ {A : Type 0} where
     wrote = p.wrote;
   }
 
-  -- an octet that is kept
-  pub Fed-kept : (old new : Engine A) (octet : ℕ) → new.service ≡ old.service → new.line.items ≡ old.line.items ++ octet ∷ [] → new.done ≡ old.done → Fed old new (octet ∷ []) []
-  Fed-kept old new octet same kept done = record {
+  -- an octet that goes on the line
+  pub Fed-octet : (old new : Engine A) (octet : ℕ) → new.service ≡ old.service → new.line.items ≡ old.line.items ++ octet ∷ []
+      → new.done ≡ old.done → Fed old new (octet ∷ []) []
+  Fed-octet old new octet same longer done = record {
     lines = [];
-    split = λ more. ap lines_of (sym (append_assoc old.line.items (octet ∷ []) more) ∙ ap (λ l. l ++ more) (sym kept));
+    split = λ more. ap lines_of (sym (append_assoc old.line.items (octet ∷ []) more) ∙ ap (λ l. l ++ more) (sym longer));
     answers = subst (λ s. Answers A old.service [] [] s) (sym same) (Answers-nil old.service);
     counted = done ∙ sym (add-zero old.done);
   }
 
-  -- a line feed, at which the line that is kept was answered
-  pub Fed-line : (old new : Engine A) (octet : ℕ) (written : List ℕ) → octet ≡ 10 → Answers A old.service (old.line.items ∷ []) written new.service
+  -- a line feed, at which the line that has begun was answered
+  pub Fed-line : (old new : Engine A) (octet : ℕ) (written : List ℕ) → octet ≡ 10
+      → Answers A old.service (old.line.items ∷ []) written new.service
       → new.line.items ≡ [] → new.done ≡ old.done + 1 → Fed old new (octet ∷ []) written
   Fed-line old new octet written e answers empty one = record {
     lines = old.line.items ∷ [];
@@ -76,7 +81,9 @@ module _ {A : Type 0} where
 
   -- it stopped before it answered a line
   stops-at : (kind : ReplayFaultKind) (old new : Engine A) (octets part : List ℕ) → new.done ≡ old.done
-      → ((more : List ℕ) → (others : List (List ℕ)) × (lines_of (old.line.items ++ (octets ++ more)) ≡ others) × Fails A kind old.service others part) → Stops kind old new octets part
+      → ((more : List ℕ) → (others : List (List ℕ)) × (lines_of (old.line.items ++ (octets ++ more)) ≡ others)
+      × Halts A kind old.service others part)
+      → Stops kind old new octets part
   stops-at kind old new octets part same split = record {
     lines = [];
     so_far = [];
@@ -88,21 +95,23 @@ module _ {A : Type 0} where
     wrote = refl;
   }
 
-  -- a line feed, at which the line that is kept was not answered
-  pub Stops-line : (kind : ReplayFaultKind) (old new : Engine A) (octet : ℕ) (part : List ℕ) → octet ≡ 10 → Fails A kind old.service (old.line.items ∷ []) part
+  -- a line feed, at which the line that has begun was not answered
+  pub Stops-line : (kind : ReplayFaultKind) (old new : Engine A) (octet : ℕ) (part : List ℕ) → octet ≡ 10
+      → Halts A kind old.service (old.line.items ∷ []) part
       → new.done ≡ old.done → Stops kind old new (octet ∷ []) part
-  Stops-line kind old new octet part e fails same = stops-at kind old new (octet ∷ []) part same (λ more. (
+  Stops-line kind old new octet part e halts same = stops-at kind old new (octet ∷ []) part same (λ more. (
     old.line.items ∷ lines_of more,
     ap (λ x. lines_of (old.line.items ++ x ∷ more)) e ∙ lines_of-ended old.line.items more old.unbroken,
-    Fails-more kind old.service old.line.items part (lines_of more) fails,
+    Halts-more kind old.service old.line.items part (lines_of more) halts,
   ))
 
-  -- one octet more, and the line that is kept is too long
-  pub Stops-long : (e : Engine A) (octet : ℕ) → octet ≢ 10 → length e.line.items ≡ 4096 → Stops LineLong e e (octet ∷ []) []
+  -- one octet more, and the line that has begun is too long
+  pub Stops-long : (e : Engine A) (octet : ℕ) → octet ≢ 10 → length e.line.items ≡ most_line_octets → Stops LineLong e e (octet ∷ []) []
   Stops-long e octet ne full = stops-at LineLong e e (octet ∷ []) [] refl (λ more.
       let begun = e.line.items ++ octet ∷ [] in
-      let size : length begun ≡ 4097 = omega (arith, length-append e.line.items (octet ∷ [])) in
-      let unbroken : IsUnbroken begun = All-append (λ x. x ≢ 10) e.line.items (octet ∷ []) e.unbroken (All-cons (λ x. x ≢ 10) octet [] ne (All-nil (λ x. x ≢ 10))) in
+      let size : length begun ≡ most_line_octets + 1 = omega (arith, length-append e.line.items (octet ∷ [])) in
+      let unbroken : IsUnbroken begun =
+      All-append (λ x. x ≢ 10) e.line.items (octet ∷ []) e.unbroken (All-cons (λ x. x ≢ 10) octet [] ne (All-nil (λ x. x ≢ 10))) in
       let r = lines_of-begun begun more unbroken (omega arith) in (
         (begun ++ r.0) ∷ r.1,
         ap lines_of (sym (append_assoc e.line.items (octet ∷ []) more)) ∙ r.2,

@@ -15,11 +15,12 @@ use Rattle.ntp_service_run.specs.Headline.{StandsFor, Tells, TellsOne, kept}
 use Rattle.ntp_service_replay.specs.Script.{IsReadable, is_passed_over, event_lines}
 use Rattle.ntp_service_replay.specs.Replay.{Replays, Causes}
 use Rattle.ntp_service_replay.specs.Lines.{CutsShort}
-use Rattle.ntp_service_replay.specs.Engine.{Answers, Fails}
+use Rattle.ntp_service_replay.specs.Engine.{Answers, Halts}
 use Rattle.ntp_service_run.proofs.Runs.{Goes, Goes-nil, Goes-push, Goes-tells, says-last}
 
 -- two lists that agree place by place, each with one member more
-AllZip-more : {X Y : Type 0} (R : X → Y → Type 0) (xs : List X) (ys : List Y) (x : X) (y : Y) → AllZip R xs ys → R x y → AllZip R (xs ++ x ∷ []) (ys ++ y ∷ [])
+AllZip-more : {X Y : Type 0} (R : X → Y → Type 0) (xs : List X) (ys : List Y) (x : X) (y : Y) → AllZip R xs ys → R x y
+    → AllZip R (xs ++ x ∷ []) (ys ++ y ∷ [])
 AllZip-more R [] [] x y h r = (r, tt)
 AllZip-more R [] (b ∷ ys) x y h r = absurd h
 AllZip-more R (a ∷ xs) [] x y h r = absurd h
@@ -46,9 +47,18 @@ causes-more A LineLong before so_far line part lines h = h
 causes-more A NotUtf8 before so_far line part lines h = h
 
 module _ {A : Type 0} where
+  -- a service that stands for a history tells this to an event, and goes on as another
+  abbrev Takes : Registry → Event A → Outcome → Registry → Type 0
+  Takes old e o new = (history : List (Event A)) → StandsFor old history → TellsOne history e o new
+
   -- what was told, in the words in which it grows
   tells-goes : (events : List (Event A)) (outcomes : List Outcome) (s : Registry) → Tells [] events outcomes s → Goes [] events outcomes s
-  tells-goes events outcomes s t = record { each = t.each; told = λ a. t.told a ∙ says-last a [] (kept events outcomes); answered = t.answered; stands = t.stands }
+  tells-goes events outcomes s t = record {
+    each = t.each;
+    told = λ a. t.told a ∙ says-last a [] (kept events outcomes);
+    answered = t.answered;
+    stands = t.stands;
+  }
 
   -- nothing was replayed yet
   pub replays-nothing : (s : Registry) → StandsFor {A = A} s [] → Replays A [] [] s
@@ -62,20 +72,22 @@ module _ {A : Type 0} where
   }
 
   -- a line that is passed over
-  replays-passed : (before : List (List ℕ)) (so_far line : List ℕ) (s : Registry) → Replays A before so_far s → IsReadable line → is_passed_over line ≡ true
-      → Replays A (before ++ line ∷ []) (so_far ++ []) s
+  replays-passed : (before : List (List ℕ)) (so_far line : List ℕ) (s : Registry) → Replays A before so_far s
+      → IsReadable line → is_passed_over line ≡ true → Replays A (before ++ line ∷ []) (so_far ++ []) s
   replays-passed before so_far line s r readable passed = record {
     events = r.events;
     outcomes = r.outcomes;
     readable = readable-more before line r.readable readable;
-    spelled = subst (λ lines. AllZip Spells lines r.events) (sym (event_lines-more before line true passed ∙ append-nil (event_lines before))) r.spelled;
+    spelled =
+        let same = event_lines-more before line true passed ∙ append-nil (event_lines before) in
+        subst (λ lines. AllZip Spells lines r.events) (sym same) r.spelled;
     tells = r.tells;
     texts = append-nil so_far ∙ r.texts;
   }
 
   -- a line that is an event
-  pub replays-event : (before : List (List ℕ)) (so_far line : List ℕ) (old new : Registry) (e : Event A) (o : Outcome) → Replays A before so_far old
-      → IsReadable line → is_passed_over line ≡ false → Spells line e → ((history : List (Event A)) → StandsFor old history → TellsOne history e o new)
+  pub replays-event : (before : List (List ℕ)) (so_far line : List ℕ) (old new : Registry) (e : Event A) (o : Outcome)
+      → Replays A before so_far old → IsReadable line → is_passed_over line ≡ false → Spells line e → Takes old e o new
       → Replays A (before ++ line ∷ []) (so_far ++ text_of o) new
   replays-event before so_far line old new e o r readable event spells step = record {
     events = r.events ++ e ∷ [];
@@ -83,7 +95,9 @@ module _ {A : Type 0} where
     readable = readable-more before line r.readable readable;
     spelled = subst (λ lines. AllZip Spells lines (r.events ++ e ∷ [])) (sym (event_lines-more before line false event))
         (AllZip-more Spells (event_lines before) r.events line e r.spelled spells);
-    tells = Goes-tells [] _ _ new (Goes-push [] r.events r.outcomes old new e o (tells-goes r.events r.outcomes old r.tells) (λ so_far. step _ so_far));
+    tells =
+        let goes = tells-goes r.events r.outcomes old r.tells in
+        Goes-tells [] _ _ new (Goes-push [] r.events r.outcomes old new e o goes (λ so_far. step _ so_far));
     texts = ap (λ text. text ++ text_of o) r.texts ∙ flat_map_more text_of [] r.outcomes o;
   }
 
@@ -96,28 +110,33 @@ module _ {A : Type 0} where
   Answers-append old mid new xs ys v w p q = record {
     replays = λ before so_far r.
         subst (λ lines. Replays A lines (so_far ++ (v ++ w)) new) (append_assoc before xs ys)
-        (subst (λ written. Replays A ((before ++ xs) ++ ys) written new) (append_assoc so_far v w) (q.replays (before ++ xs) (so_far ++ v) (p.replays before so_far r)));
+        (subst (λ written. Replays A ((before ++ xs) ++ ys) written new) (append_assoc so_far v w)
+        (q.replays (before ++ xs) (so_far ++ v) (p.replays before so_far r)));
   }
 
   pub Answers-passed : (s : Registry) (line : List ℕ) → IsReadable line → is_passed_over line ≡ true → Answers A s (line ∷ []) [] s
   Answers-passed s line readable passed = record { replays = λ before so_far r. replays-passed before so_far line s r readable passed }
 
-  pub Answers-event : (old new : Registry) (line : List ℕ) (e : Event A) (o : Outcome) → IsReadable line → is_passed_over line ≡ false → Spells line e
-      → ((history : List (Event A)) → StandsFor old history → TellsOne history e o new) → Answers A old (line ∷ []) (text_of o) new
-  Answers-event old new line e o readable event spells step = record { replays = λ before so_far r. replays-event before so_far line old new e o r readable event spells step }
+  pub Answers-event : (old new : Registry) (line : List ℕ) (e : Event A) (o : Outcome) → IsReadable line
+      → is_passed_over line ≡ false → Spells line e → Takes old e o new → Answers A old (line ∷ []) (text_of o) new
+  Answers-event old new line e o readable event spells step =
+      record { replays = λ before so_far r. replays-event before so_far line old new e o r readable event spells step }
 
   -- writing the answer to an event was cut short
-  pub Fails-event : (kind : ReplayFaultKind) (old new : Registry) (line part : List ℕ) (e : Event A) (o : Outcome) → IsReadable line → is_passed_over line ≡ false → Spells line e
-      → ((history : List (Event A)) → StandsFor old history → TellsOne history e o new) → CutsShort kind (text_of o) part → Fails A kind old (line ∷ []) part
-  Fails-event (Line fault) old new line part e o readable event spells step cut = absurd cut
-  Fails-event Read old new line part e o readable event spells step cut = absurd cut
-  Fails-event Write old new line part e o readable event spells step cut = record {
+  pub Halts-event : (kind : ReplayFaultKind) (old new : Registry) (line part : List ℕ) (e : Event A) (o : Outcome) → IsReadable line
+      → is_passed_over line ≡ false → Spells line e → Takes old e o new → CutsShort kind (text_of o) part
+      → Halts A kind old (line ∷ []) part
+  Halts-event (Line fault) old new line part e o readable event spells step cut = absurd cut
+  Halts-event Read old new line part e o readable event spells step cut = absurd cut
+  Halts-event Write old new line part e o readable event spells step cut = record {
     cause = λ before so_far r. (text_of o, cut.0, new, replays-event before so_far line old new e o r readable event spells step, cut.1);
   }
-  Fails-event NoMemory old new line part e o readable event spells step cut = record { cause = λ before so_far r. cut }
-  Fails-event LineLong old new line part e o readable event spells step cut = absurd cut
-  Fails-event NotUtf8 old new line part e o readable event spells step cut = absurd cut
+  Halts-event NoMemory old new line part e o readable event spells step cut = record { cause = λ before so_far r. cut }
+  Halts-event LineLong old new line part e o readable event spells step cut = absurd cut
+  Halts-event NotUtf8 old new line part e o readable event spells step cut = absurd cut
 
   -- what is the cause at a line is so whatever lines follow
-  pub Fails-more : (kind : ReplayFaultKind) (s : Registry) (line part : List ℕ) (lines : List (List ℕ)) → Fails A kind s (line ∷ []) part → Fails A kind s (line ∷ lines) part
-  Fails-more kind s line part lines f = record { cause = λ before so_far r. causes-more A kind before so_far line part lines (f.cause before so_far r) }
+  pub Halts-more : (kind : ReplayFaultKind) (s : Registry) (line part : List ℕ) (lines : List (List ℕ)) → Halts A kind s (line ∷ []) part
+      → Halts A kind s (line ∷ lines) part
+  Halts-more kind s line part lines f =
+      record { cause = λ before so_far r. causes-more A kind before so_far line part lines (f.cause before so_far r) }

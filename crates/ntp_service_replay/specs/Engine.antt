@@ -13,12 +13,12 @@ pub record Answers (A : Type 0) (old : Registry) (lines : List (List ℕ)) (writ
       → Replays A (before ++ lines) (so_far ++ written) new
 
 -- whatever lines were replayed before, this is why these were not
-pub record Fails (A : Type 0) (kind : ReplayFaultKind) (old : Registry) (lines : List (List ℕ)) (part : List ℕ) : Type 0 where
+pub record Halts (A : Type 0) (kind : ReplayFaultKind) (old : Registry) (lines : List (List ℕ)) (part : List ℕ) : Type 0 where
   pub cause : (before : List (List ℕ)) (so_far : List ℕ) → Replays A before so_far old
       → Causes A kind before so_far lines part
 
 -- an engine that took nothing yet
-pub record IsFresh {A : Type 0} (e : Engine A) : Type 0 where
+pub record IsUnfed {A : Type 0} (e : Engine A) : Type 0 where
   pub stands : StandsFor {A = A} e.service []
   pub line : e.line.items ≡ []
   pub done : e.done ≡ 0
@@ -38,7 +38,7 @@ pub record Stops {A : Type 0} (kind : ReplayFaultKind) (old new : Engine A) (oct
   pub part : List ℕ
   pub service : Registry
   pub split : (more : List ℕ) → (others : List (List ℕ))
-      × (lines_of (old.line.items ++ (octets ++ more)) ≡ lines ++ others) × Fails A kind service others part
+      × (lines_of (old.line.items ++ (octets ++ more)) ≡ lines ++ others) × Halts A kind service others part
   pub answers : Answers A old.service lines so_far service
   pub counted : new.done ≡ old.done + length lines
   pub wrote : written ≡ so_far ++ part

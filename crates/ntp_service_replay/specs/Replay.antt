@@ -1,5 +1,5 @@
 -- What a replay of a script's lines writes, and where it stops.
-use Rattle.std.specs.Prelude.{◌≡◌, ◌⊎◌, ℕ, ◌+◌, ◌≤◌, ◌<◌, false, List, [], ◌∷◌, ◌++◌, length, All, flat_map, IsUtf8}
+use Rattle.std.specs.Prelude.{◌≡◌, ◌⊎◌, ℕ, ◌+◌, ◌-◌, ◌^◌, ◌≤◌, ◌<◌, false, List, [], ◌∷◌, ◌++◌, length, All, flat_map, IsUtf8}
 use Rattle.std.specs.List.{AllZip}
 use Rattle.ntp_register.specs.Registry.{Registry}
 use Rattle.ntp_admin.specs.declared.event.Event.{Event}
@@ -11,7 +11,11 @@ use Rattle.ntp_service_replay.specs.declared.faults.ReplayFault.{ReplayFault}
 use Rattle.ntp_service_replay.specs.declared.faults.ReplayFaultKind.{ReplayFaultKind}
 use Rattle.ntp_service_replay.specs.declared.faults.ReplayFaultKind.TheVariants.{Line, Read, Write, NoMemory, LineLong, NotUtf8}
 use Rattle.ntp_service_run.specs.Headline.{Tells}
-use Rattle.ntp_service_replay.specs.Script.{IsReadable, is_passed_over, event_lines}
+use Rattle.ntp_service_replay.specs.Script.{most_line_octets, IsReadable, is_passed_over, event_lines}
+
+-- how many reads of a text there are at most (profile)
+abbrev pub most_reads : ℕ
+most_reads = 2 ^ 32 - 1
 
 -- the lines were replayed: those that are events spell events, to which a service that began with no customers
 -- tells these outcomes, and what was written is the outcomes' texts, one after another
@@ -35,9 +39,9 @@ Causes A Write before so_far (line ∷ lines) part = (answer rest : List ℕ) ×
     × Replays A (before ++ line ∷ []) (so_far ++ answer) service × (answer ≡ part ++ rest)
 Causes A NoMemory before so_far lines part = part ≡ []
 Causes A LineLong before so_far [] part = ⊥
-Causes A LineLong before so_far (line ∷ lines) part = (part ≡ []) × (4096 < length line)
+Causes A LineLong before so_far (line ∷ lines) part = (part ≡ []) × (most_line_octets < length line)
 Causes A NotUtf8 before so_far [] part = ⊥
-Causes A NotUtf8 before so_far (line ∷ lines) part = (part ≡ []) × (length line ≤ 4096) × (IsUtf8 line → ⊥)
+Causes A NotUtf8 before so_far (line ∷ lines) part = (part ≡ []) × (length line ≤ most_line_octets) × (IsUtf8 line → ⊥)
 
 -- the lines before the one that the fault names were replayed, and the fault is why no more were answered
 pub record StopsAt (A : Type 0) (fault : ReplayFault) (lines : List (List ℕ)) (written : List ℕ) : Type 0 where

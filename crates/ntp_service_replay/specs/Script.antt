@@ -1,6 +1,10 @@
 -- The text of a script: its lines, and which of them are events.
 use Rattle.std.specs.Prelude.{ℕ, ◌≤◌, ◌==◌, Bool, true, not, List, [], ◌∷◌, length, filter, if◌then◌else◌, IsUtf8}
 
+-- how many octets a line has at most, without its line feed (profile)
+abbrev pub most_line_octets : ℕ
+most_line_octets = 4096
+
 -- an octet, and then lines: it begins the first of them
 abbrev pub begin_line : ℕ → List (List ℕ) → List (List ℕ)
 begin_line x [] = (x ∷ []) ∷ []
@@ -13,7 +17,7 @@ lines_of (x ∷ xs) = if x == 10 then [] ∷ lines_of xs else begin_line x (line
 
 -- a line that a replay takes (profile)
 pub record IsReadable (line : List ℕ) : Type 0 where
-  pub short : length line ≤ 4096
+  pub within : length line ≤ most_line_octets
   pub text : IsUtf8 line
 
 -- whether a line is no event: it is empty, or begins with `#` (profile)

@@ -1,6 +1,6 @@
 //! The engine of a replay: octets in, answer lines out.
 ghost use Rattle.std.specs.Prelude.{◌≡◌, ◌≢◌, ℕ, ◌+◌, ◌≤◌, ◌<◌, ◌^◌, List, [], ◌∷◌, ◌++◌, length, vec_len, All, OnOk, IfOk, IfErr};
-ghost use Rattle.ntp_service_replay.specs.Script.{lines_of};
+ghost use Rattle.ntp_service_replay.specs.Script.{most_line_octets, lines_of};
 ghost use Rattle.ntp_service_replay.specs.Lines.{IsPastReading};
 ghost use Rattle.ntp_service_replay.specs.Watched.{has_failed, Wrote};
 
@@ -11,10 +11,10 @@ use ntp_service_run::Service;
 use std::alloc::Allocator;
 use std::io::Write;
 
-/// How many octets a line has at most, without its line feed (profile).
-const LINE_LIMIT: usize = 4096;
+// How many octets a line has at most, without its line feed (profile).
+const MOST_LINE_OCTETS: usize = 4096;
 
-/// A service that is fed a script, and keeps the line that has begun.
+/// A service that is fed a script, and has the line that has begun.
 #[derive(Drop)]
 pub(crate) struct Engine<A: Allocator> {
     service: Service<A>,
@@ -22,16 +22,16 @@ pub(crate) struct Engine<A: Allocator> {
     line: Vec<u8, A>,
     // How many lines are done.
     done: u64,
-    ghost short: { vec_len line ≤ 4096 },
+    ghost within: { vec_len line ≤ most_line_octets },
     ghost unbroken: { All (λ x. x ≢ 10) line.items },
 }
 
 impl<A: Allocator + Copy> Engine<A> {
-    ghost use Rattle.ntp_service_replay.specs.Engine.{Answers, Fails, IsFresh, Fed, Stops};
+    ghost use Rattle.ntp_service_replay.specs.Engine.{Answers, Halts, IsUnfed, Fed, Stops};
 
     // An engine with no customers.
     pub(crate) fn new(alloc: A) -> Engine<A>
-        ensures { IsFresh result }
+        ensures { IsUnfed result }
     {
         Engine {
             service: Service::new(alloc),
@@ -47,15 +47,15 @@ impl<A: Allocator + Copy> Engine<A> {
         self.done
     }
 
-    // Answers the line that is kept, and keeps it.
+    // Answers the line that has begun, and leaves it as it is.
     fn answer<W: Write>(&mut self, writer: &mut Watched<W>) -> Result<(), ReplayFaultKind>
         ensures ok { OnOk result ((written : List ℕ) × Answers A self.old.service (self.old.line.items ∷ []) written self.new.service
             × Wrote W.contents writer.old writer.new written) }
         ensures well { OnOk result (has_failed writer.new ≡ has_failed writer.old) }
         ensures same { self.new.done ≡ self.old.done }
-        ensures err { IfErr result (λ kind. (part : List ℕ) × Fails A kind self.old.service (self.old.line.items ∷ []) part
+        ensures err { IfErr result (λ kind. (part : List ℕ) × Halts A kind self.old.service (self.old.line.items ∷ []) part
             × Wrote W.contents writer.old writer.new part) }
-        ensures told { IfErr result (IsPastReading (has_failed writer.new)) }
+        ensures past_reading { IfErr result (IsPastReading (has_failed writer.new)) }
     {
         let alloc = self.service.allocator();
         match judge(alloc, &self.line) {
@@ -81,7 +81,7 @@ impl<A: Allocator + Copy> Engine<A> {
         ensures bound { self.new.done ≤ self.old.done + 1 }
         ensures err { IfErr result (λ kind. (written : List ℕ) × Stops kind self.old self.new (octet ∷ []) written
             × Wrote W.contents writer.old writer.new written) }
-        ensures told { IfErr result (IsPastReading (has_failed writer.new)) }
+        ensures past_reading { IfErr result (IsPastReading (has_failed writer.new)) }
     {
         if octet == b'\n' {
             self.answer(writer)?;
@@ -89,7 +89,7 @@ impl<A: Allocator + Copy> Engine<A> {
             self.done += 1;
             return Ok(());
         }
-        if self.line.len() == LINE_LIMIT {
+        if self.line.len() == MOST_LINE_OCTETS {
             return Err(ReplayFaultKind::LineLong);
         }
         match self.line.push(octet) {
@@ -111,7 +111,7 @@ impl<A: Allocator + Copy> Engine<A> {
         ensures bound { self.new.done ≤ self.old.done + length octets.now }
         ensures err { IfErr result (λ kind. (written : List ℕ) × Stops kind self.old self.new octets.now written
             × Wrote W.contents writer.old writer.new written) }
-        ensures told { IfErr result (IsPastReading (has_failed writer.new)) }
+        ensures past_reading { IfErr result (IsPastReading (has_failed writer.new)) }
     {
         for octet in octets {
             self.take_octet(*octet, writer)?;
@@ -128,9 +128,9 @@ impl<A: Allocator + Copy> Engine<A> {
             × Wrote W.contents writer.old writer.new written) }
         ensures well { OnOk result (has_failed writer.new ≡ has_failed writer.old) }
         ensures same { self.new.done ≡ self.old.done }
-        ensures err { IfErr result (λ kind. (part : List ℕ) × Fails A kind self.old.service (lines_of self.old.line.items) part
+        ensures err { IfErr result (λ kind. (part : List ℕ) × Halts A kind self.old.service (lines_of self.old.line.items) part
             × Wrote W.contents writer.old writer.new part) }
-        ensures told { IfErr result (IsPastReading (has_failed writer.new)) }
+        ensures past_reading { IfErr result (IsPastReading (has_failed writer.new)) }
     {
         if self.line.is_empty() {
             return Ok(());

@@ -2,7 +2,8 @@
 
 use ntp_admin::LineFault;
 
-/// Why a replay stopped, in this order (profile).
+/// Why a replay stopped (profile). Of what is wrong with one line, `LineLong` is found first, then `NotUtf8`, and
+/// then `Line`.
 #[derive(Clone, Copy, Debug, PartialEq, Eq)]
 pub enum ReplayFaultKind {
     /// The line spells no event.

@@ -4,6 +4,8 @@
 
 mod engine;
 mod faults;
+#[cfg(test)]
+mod faulty;
 mod lines;
 mod replaying;
 mod watch;

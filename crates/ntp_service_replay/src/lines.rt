@@ -2,7 +2,7 @@
 ghost use Rattle.std.specs.Prelude.{◌≡◌, ℕ, ◌≤◌, Bool, List, [], ◌∷◌, length, OnOk, IfOk, IfErr};
 ghost use Rattle.ntp_admin.specs.declared.event.Event.{Event};
 ghost use Rattle.ntp_admin.specs.Answers.{text_of};
-ghost use Rattle.ntp_service_replay.specs.Script.{is_passed_over};
+ghost use Rattle.ntp_service_replay.specs.Script.{most_line_octets, is_passed_over};
 ghost use Rattle.ntp_service_replay.specs.Replay.{Causes};
 ghost use Rattle.ntp_service_replay.specs.Lines.{Judges, CutsShort, IsPastReading};
 ghost use Rattle.ntp_service_replay.specs.Watched.{has_failed, Wrote};
@@ -28,10 +28,10 @@ pub(crate) fn judge<A: Allocator + Copy>(
     alloc: A,
     line: &[u8],
 ) -> Result<Option<Event<A>>, ReplayFaultKind>
-    requires { length line.now ≤ 4096 }
+    requires { length line.now ≤ most_line_octets }
     ensures ok { IfOk result (Judges line.now) }
     ensures err { IfErr result (λ kind. (before : List (List ℕ)) (so_far : List ℕ) → Causes A kind before so_far (line.now ∷ []) []) }
-    ensures told { IfErr result (λ kind. (failed : Bool) → IsPastReading failed kind) }
+    ensures past_reading { IfErr result (λ kind. (failed : Bool) → IsPastReading failed kind) }
 {
     let Ok(text) = str::from_utf8(line) else {
         return Err(ReplayFaultKind::NotUtf8);
@@ -55,7 +55,7 @@ pub(crate) fn write_answer<A: Allocator + Copy, W: Write>(
     ensures well { OnOk result (has_failed writer.new ≡ has_failed writer.old) }
     ensures err { IfErr result (λ kind. (part : List ℕ) × CutsShort kind (text_of outcome.now) part
         × Wrote W.contents writer.old writer.new part) }
-    ensures told { IfErr result (IsPastReading (has_failed writer.new)) }
+    ensures past_reading { IfErr result (IsPastReading (has_failed writer.new)) }
 {
     let Ok(text) = print_answer(alloc, outcome) else {
         return Err(ReplayFaultKind::NoMemory);

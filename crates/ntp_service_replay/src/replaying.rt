@@ -3,8 +3,8 @@ ghost use Rattle.std.specs.Prelude.{◌≡◌, ◌⊎◌, ℕ, ◌+◌, ◌-◌,
 ghost use Rattle.std.specs.Io.KnownBytes.{IsAtEnd};
 ghost use Rattle.ntp_register.specs.Registry.{Registry};
 ghost use Rattle.ntp_service_replay.specs.Script.{lines_of};
-ghost use Rattle.ntp_service_replay.specs.Replay.{Replays, StopsAt};
-ghost use Rattle.ntp_service_replay.specs.Engine.{IsFresh};
+ghost use Rattle.ntp_service_replay.specs.Replay.{most_reads, Replays, StopsAt};
+ghost use Rattle.ntp_service_replay.specs.Engine.{IsUnfed};
 ghost use Rattle.ntp_service_replay.specs.Watched.{inner_of, has_failed, read_count, Wrote};
 
 use crate::engine::Engine;
@@ -13,12 +13,17 @@ use crate::watch::Watched;
 use std::alloc::Allocator;
 use std::io::{Read, Write};
 
-/// How many octets are read at once, at most.
+// How many octets are read at once, at most.
 const CHUNK: usize = 4096;
 
+// How many reads there are at most (profile).
+const MOST_READS: u32 = 4_294_967_295;
+
 /// Applies a script to a service that begins with no customers. The answer to each line is written before the
-/// next line is applied. There are at most 4,294,967,295 reads; how much memory is taken does not depend on how
-/// many lines there are.
+/// next line is applied. The writer is never flushed: where it buffers, its owner does that. There are at most
+/// 4,294,967,295 reads; how much memory is taken does not depend on how many lines there are.
+///
+/// A call of the reader or the writer that fails is not tried again, whatever the cause: an interrupted one has failed.
 ///
 /// Where the reader and the writer tell their octets: at `Ok` the whole text was read, each line of it that is
 /// an event spells an event, and what was written is the texts of the outcomes that the service tells to those
@@ -48,9 +53,9 @@ pub fn replay<A: Allocator + Copy, R: Read, W: Write>(
 
     // Whatever the reader and the writer tell.
     ensures read { IfErr result (λ fault. fault.kind ≡ ReplayFaultKind.Read
-        → (has_failed reader.new ≡ true) ⊎ (read_count reader.new ≡ 2 ^ 32 - 1)) }
+        → (has_failed reader.new ≡ true) ⊎ (read_count reader.new ≡ most_reads)) }
     ensures write { IfErr result (λ fault. fault.kind ≡ ReplayFaultKind.Write → has_failed writer.new ≡ true) }
-    ensures bound { read_count reader.new ≤ 2 ^ 32 - 1 }
+    ensures bound { read_count reader.new ≤ most_reads }
 {
     let mut engine = Engine::new(alloc);
     match feed_all(&mut engine, reader, writer) {
@@ -68,7 +73,7 @@ fn feed_all<A: Allocator + Copy, R: Read, W: Write>(
     reader: &mut Watched<R>,
     writer: &mut Watched<W>,
 ) -> Result<(), ReplayFaultKind>
-    requires fresh { IsFresh engine.old }
+    requires unfed { IsUnfed engine.old }
     requires unread { read_count reader.old ≡ 0 }
     ensures ok { OnOk result (IfSome (R.remaining (inner_of reader.old)) (λ text. (written : List ℕ) × (service : Registry)
         × Replays A (lines_of text) written service × Wrote W.contents writer.old writer.new written)) }
@@ -79,12 +84,12 @@ fn feed_all<A: Allocator + Copy, R: Read, W: Write>(
         × StopsAt A (record { line = engine.new.done + 1; kind = kind }) (lines_of text) written
         × Wrote W.contents writer.old writer.new written)) }
     ensures counted { engine.new.done + 1 < 2 ^ 64 }
-    ensures read { result ≡ Err ReplayFaultKind.Read → (has_failed reader.new ≡ true) ⊎ (read_count reader.new ≡ 2 ^ 32 - 1) }
+    ensures read { result ≡ Err ReplayFaultKind.Read → (has_failed reader.new ≡ true) ⊎ (read_count reader.new ≡ most_reads) }
     ensures write { result ≡ Err ReplayFaultKind.Write → has_failed writer.new ≡ true }
-    ensures bound { read_count reader.new ≤ 2 ^ 32 - 1 }
+    ensures bound { read_count reader.new ≤ most_reads }
 {
     let mut chunk = [0; CHUNK];
-    for _turn in 0..u32::MAX {
+    for _turn in 0..MOST_READS {
         match reader.read_chunk(&mut chunk) {
             Err(_) => return Err(ReplayFaultKind::Read),
             Ok(0) => return engine.finish(writer),

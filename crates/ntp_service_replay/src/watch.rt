@@ -1,8 +1,9 @@
 //! A reader or a writer, and whether it failed.
-ghost use Rattle.std.specs.Prelude.{◌≡◌, ℕ, ◌+◌, ◌-◌, ◌<◌, ◌≤◌, ◌^◌, ◌++◌, List, length, take, min, true, false, IfOk, OnOk, OnErr};
+ghost use Rattle.std.specs.Prelude.{◌≡◌, ℕ, ◌+◌, ◌-◌, ◌<◌, ◌≤◌, ◌^◌, ◌++◌, List, [], length, take, min, true, false};
+ghost use Rattle.std.specs.Prelude.{IfOk, IsErr, OnOk, OnErr};
 ghost use Rattle.std.specs.Io.KnownBytes.{Keeps, Consumes, IsAtEnd};
 
-use std::io::{Read, Write};
+use std::io::{self, ErrorKind, Read, Write};
 
 /// A reader or a writer that is watched: whether a call through it failed, and how many reads there were.
 #[derive(Debug, Drop)]
@@ -59,22 +60,13 @@ impl<T> Watched<T> {
     }
 }
 
-impl<R: Read> Watched<R> {
-    ghost use Rattle.ntp_service_replay.specs.Watched.{inner_of, has_failed, read_count};
-
-    // One read. It gives no octet only at the end of the input.
-    pub(crate) fn read_chunk(&mut self, chunk: &mut [u8]) -> Result<usize, Failed>
-        requires { 0 < length chunk.old }
-        ensures bound { IfOk result (λ n. n ≤ length chunk.new) }
-        ensures octets { IfOk result (λ n. Consumes (R.remaining (inner_of self.old)) (R.remaining (inner_of self.new)) (take n chunk.new)) }
-        ensures end { IfOk result (λ n. n ≡ 0 → IsAtEnd (R.remaining (inner_of self.new))) }
-        ensures well { OnOk result (has_failed self.new ≡ has_failed self.old) }
-        ensures none { OnErr result (Keeps (R.remaining (inner_of self.old)) (R.remaining (inner_of self.new))) }
-        ensures failed { OnErr result (has_failed self.new ≡ true) }
-        ensures counted { read_count self.new ≡ min (read_count self.old + 1) (2 ^ 64 - 1) }
+impl<T> Watched<T> {
+    // Notes how a call ended: what it gave, or that it failed.
+    fn note(&mut self, given: io::Result<usize>) -> Result<usize, Failed>
+        ensures ok { IfOk given (λ n. (result ≡ Ok n) × (self.new ≡ self.old)) }
+        ensures err { OnErr given (IsErr result × (self.new ≡ record self.old { failed = true })) }
     {
-        self.reads = self.reads.saturating_add(1);
-        match self.inner.read(chunk) {
+        match given {
             Ok(n) => Ok(n),
             Err(_) => {
                 self.failed = true;
@@ -84,10 +76,31 @@ impl<R: Read> Watched<R> {
     }
 }
 
+impl<R: Read> Watched<R> {
+    ghost use Rattle.ntp_service_replay.specs.Watched.{inner_of, has_failed, read_count};
+
+    // One read, tried once. It gives no octet only at the end of the input.
+    pub(crate) fn read_chunk(&mut self, chunk: &mut [u8]) -> Result<usize, Failed>
+        requires { 0 < length chunk.old }
+        ensures bound { IfOk result (λ n. n ≤ length chunk.new) }
+        ensures octets { IfOk result (λ n.
+            Consumes (R.remaining (inner_of self.old)) (R.remaining (inner_of self.new)) (take n chunk.new)) }
+        ensures end { IfOk result (λ n. n ≡ 0 → IsAtEnd (R.remaining (inner_of self.new))) }
+        ensures well { OnOk result (has_failed self.new ≡ has_failed self.old) }
+        ensures none { OnErr result (Keeps (R.remaining (inner_of self.old)) (R.remaining (inner_of self.new))) }
+        ensures failed { OnErr result (has_failed self.new ≡ true) }
+        ensures counted { read_count self.new ≡ min (read_count self.old + 1) (2 ^ 64 - 1) }
+    {
+        self.reads = self.reads.saturating_add(1);
+        let given = self.inner.read(chunk);
+        self.note(given)
+    }
+}
+
 impl<W: Write> Watched<W> {
     ghost use Rattle.ntp_service_replay.specs.Watched.{inner_of, has_failed, Wrote};
 
-    // Writes the octets. Where that fails, a part from their front was written.
+    // Writes the octets, until all are taken or a write fails. Then a part from their front was written.
     pub(crate) fn write_all(&mut self, octets: &[u8]) -> Result<(), Failed>
         ensures ok { OnOk result (Wrote W.contents self.old self.new octets.now) }
         ensures well { OnOk result (has_failed self.new ≡ has_failed self.old) }
@@ -96,18 +109,26 @@ impl<W: Write> Watched<W> {
     {
         let mut at = 0;
         while at < octets.len() {
-            match self.inner.write(&octets[at..]) {
-                Ok(0) => {
-                    self.failed = true;
-                    return Err(Failed);
-                }
-                Ok(n) => at += n,
-                Err(_) => {
-                    self.failed = true;
-                    return Err(Failed);
-                }
-            }
+            at += self.write_some(&octets[at..])?;
         }
         Ok(())
     }
+
+    // One write, tried once. One that takes no octet has failed.
+    fn write_some(&mut self, octets: &[u8]) -> Result<usize, Failed>
+        ensures some { IfOk result (λ n. (0 < n) × (n ≤ length octets.now)) }
+        ensures octets { IfOk result (λ n. Wrote W.contents self.old self.new (take n octets.now)) }
+        ensures well { OnOk result (has_failed self.new ≡ has_failed self.old) }
+        ensures none { OnErr result (Wrote W.contents self.old self.new []) }
+        ensures failed { OnErr result (has_failed self.new ≡ true) }
+    {
+        let given = match self.inner.write(octets) {
+            Ok(0) => Err(io::Error::from(ErrorKind::WriteZero)),
+            given => given,
+        };
+        self.note(given)
+    }
 }
+
+#[cfg(test)]
+mod tests;

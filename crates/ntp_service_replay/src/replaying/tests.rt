@@ -1,8 +1,9 @@
 //! What no contract says: that good lines are answered, and that only what is wrong is a fault.
 use super::*;
+use crate::faulty::Faulty;
 use ntp_admin::LineFault;
 use std::alloc::Global;
-use std::io;
+use std::io::ErrorKind;
 use std::test::Fail;
 
 // What a replay of a text writes, and how it ends.
@@ -40,8 +41,8 @@ fn lines_are_answered_up_to_the_first_fault(rt: HostRuntime) {
         ),
         (b"#\xff", b"", stopped(1, ReplayFaultKind::NotUtf8)),
     ] {
-        let (told, ended) = replayed(rt.alloc(), text);
-        assert_eq!(rt; told.as_slice(), written);
+        let (answers, ended) = replayed(rt.alloc(), text);
+        assert_eq!(rt; answers.as_slice(), written);
         assert_eq!(rt; ended, end);
     }
 }
@@ -58,147 +59,52 @@ fn a_line_has_4096_octets_at_most(rt: HostRuntime) -> Result<(), Fail> {
         let mut text = b"revoke 192.0.2.10\n".to_vec(rt.alloc())?;
         text.resize(text.len() + octets, b'#')?;
         text.extend_from_slice(line_feed)?;
-        let (told, ended) = replayed(rt.alloc(), &text);
-        assert_eq!(rt; told.as_slice(), b"refused not-enrolled\n".as_slice());
+        let (answers, ended) = replayed(rt.alloc(), &text);
+        assert_eq!(rt; answers.as_slice(), b"refused not-enrolled\n".as_slice());
         assert_eq!(rt; ended, end);
     }
     Ok(())
 }
 
-// Gives one octet at a time, and fails where none is left.
-#[derive(Drop)]
-struct FailingReader<'a>(&'a [u8]);
-
-impl Read for FailingReader<'_> {
-    fn read(&mut self, buf: &mut [u8]) -> io::Result<usize> {
-        let (Some((first, others)), Some(room)) = (self.0.split_first(), buf.first_mut()) else {
-            return Err(io::Error::from(io::ErrorKind::Other));
-        };
-        *room = *first;
-        self.0 = others;
-        Ok(1)
-    }
-}
+// How a call is to fail. An interrupted one is not tried again.
+const KINDS: [ErrorKind; 2] = [ErrorKind::Other, ErrorKind::Interrupted];
 
 #[test]
 fn a_failed_read_is_told(rt: HostRuntime) {
-    let mut reader = Watched::new(FailingReader(b"revoke 192.0.2.10\n"));
-    let mut writer = Watched::new(Vec::new(rt.alloc()));
-    let end = replay(rt.alloc(), &mut reader, &mut writer);
-    assert_eq!(rt; end, stopped(2, ReplayFaultKind::Read));
-    assert!(rt; reader.failed());
-    assert_eq!(rt; reader.reads(), 19);
-    assert!(rt; !writer.failed());
-    assert_eq!(rt;
-        writer.into_inner().as_slice(),
-        b"refused not-enrolled\n".as_slice()
-    );
-}
-
-// Fails at the first call, and then reads or writes as what it holds does.
-#[derive(Drop)]
-struct FailingOnce<T> {
-    has_failed: bool,
-    inner: T,
-}
-
-impl<T> FailingOnce<T> {
-    fn new(inner: T) -> FailingOnce<T> {
-        FailingOnce {
-            has_failed: false,
-            inner,
+    for kind in KINDS {
+        for (failing, line, answers) in [
+            (1, 1, b"".as_slice()),
+            (19, 2, b"refused not-enrolled\n"),
+        ] {
+            let text = b"revoke 192.0.2.10\n".as_slice();
+            let mut reader = Watched::new(Faulty::new(text, failing, Some(kind)));
+            let mut writer = Watched::new(Vec::new(rt.alloc()));
+            let end = replay(rt.alloc(), &mut reader, &mut writer);
+            assert_eq!(rt; end, stopped(line, ReplayFaultKind::Read));
+            assert!(rt; reader.failed());
+            assert!(rt; !writer.failed());
+            assert_eq!(rt; reader.reads(), failing);
+            assert_eq!(rt; reader.into_inner().into_parts().0, failing);
+            assert_eq!(rt; writer.into_inner().as_slice(), answers);
         }
-    }
-
-    // Whether this call is the one that fails.
-    fn fails(&mut self) -> bool {
-        let fails = !self.has_failed;
-        self.has_failed = true;
-        fails
-    }
-}
-
-impl<R: Read> Read for FailingOnce<R> {
-    fn read(&mut self, buf: &mut [u8]) -> io::Result<usize> {
-        if self.fails() {
-            return Err(io::Error::from(io::ErrorKind::Other));
-        }
-        self.inner.read(buf)
-    }
-}
-
-impl<W: Write> Write for FailingOnce<W> {
-    fn write(&mut self, buf: &[u8]) -> io::Result<usize> {
-        if self.fails() {
-            return Err(io::Error::from(io::ErrorKind::Other));
-        }
-        self.inner.write(buf)
-    }
-
-    fn flush(&mut self) -> io::Result<()> {
-        Ok(())
-    }
-}
-
-#[test]
-fn what_failed_is_not_tried_again(rt: HostRuntime) {
-    let text = b"revoke 192.0.2.10\n".as_slice();
-    let mut reader = Watched::new(FailingOnce::new(text));
-    let mut writer = Watched::new(Vec::new(rt.alloc()));
-    let end = replay(rt.alloc(), &mut reader, &mut writer);
-    assert_eq!(rt; end, stopped(1, ReplayFaultKind::Read));
-    assert!(rt; reader.failed());
-    assert_eq!(rt; reader.reads(), 1);
-    assert!(rt; writer.into_inner().is_empty());
-
-    let mut reader = Watched::new(text);
-    let mut writer = Watched::new(FailingOnce::new(Vec::new(rt.alloc())));
-    let end = replay(rt.alloc(), &mut reader, &mut writer);
-    assert_eq!(rt; end, stopped(1, ReplayFaultKind::Write));
-    assert!(rt; writer.failed());
-    assert!(rt; writer.into_inner().inner.is_empty());
-}
-
-// Takes one octet at a time while there is room, and then fails, or takes none.
-#[derive(Drop)]
-struct FailingWriter {
-    taken: Vec<u8>,
-    room: usize,
-    fails: bool,
-}
-
-impl Write for FailingWriter {
-    fn write(&mut self, buf: &[u8]) -> io::Result<usize> {
-        match buf.first() {
-            Some(first) if self.room > 0 => {
-                self.taken.push(*first)?;
-                self.room -= 1;
-                Ok(1)
-            }
-            Some(_) if self.fails => Err(io::Error::from(io::ErrorKind::Other)),
-            _ => Ok(0),
-        }
-    }
-
-    fn flush(&mut self) -> io::Result<()> {
-        Ok(())
     }
 }
 
 #[test]
 fn a_failed_write_is_told(rt: HostRuntime) {
-    for fails in [true, false] {
-        let text = b"enrol 192.0.2.10 7 md5 6b6579 10\nrevoke 192.0.2.10\nrevoke 192.0.2.10\n";
-        let mut reader = Watched::new(text.as_slice());
-        let mut writer = Watched::new(FailingWriter {
-            taken: Vec::new(rt.alloc()),
-            room: 5,
-            fails,
-        });
-        let end = replay(rt.alloc(), &mut reader, &mut writer);
-        assert_eq!(rt; end, stopped(2, ReplayFaultKind::Write));
-        assert!(rt; writer.failed());
-        assert!(rt; !reader.failed());
-        assert_eq!(rt; writer.into_inner().taken.as_slice(), b"done\n".as_slice());
+    for kind in [None, Some(KINDS[0]), Some(KINDS[1])] {
+        for (failing, line, answers) in [(1, 1, b"".as_slice()), (6, 2, b"done\n")] {
+            let text = b"enrol 192.0.2.10 7 md5 6b6579 10\nrevoke 192.0.2.10\nrevoke 192.0.2.10\n";
+            let mut reader = Watched::new(text.as_slice());
+            let faulty = Faulty::new(Vec::new(rt.alloc()), failing, kind);
+            let mut writer = Watched::new(faulty);
+            let end = replay(rt.alloc(), &mut reader, &mut writer);
+            assert_eq!(rt; end, stopped(line, ReplayFaultKind::Write));
+            assert!(rt; writer.failed());
+            assert!(rt; !reader.failed());
+            let (calls, taken) = writer.into_inner().into_parts();
+            assert_eq!(rt; calls, failing);
+            assert_eq!(rt; taken.as_slice(), answers);
+        }
     }
 }

@@ -1,5 +1,6 @@
 use Rattle.std.proofs.Common.{◌≡◌, ◌≤◌, ◌*◌, List, ℕ}
 use Rattle.std.specs.Io.KnownBytes.{Consumes}
+use Rattle.ntp_service_replay.specs.declared.replaying.TheConstants.{CHUNK}
 use Rattle.ntp_service_replay.specs.Engine.{Fed}
 use Rattle.ntp_service_replay.specs.Watched.{Wrote, inner_of, has_failed, read_count}
 use Rattle.ntp_service_replay.proofs.replaying.feed_all.Given as goal
@@ -7,7 +8,7 @@ use Rattle.ntp_service_replay.proofs.replaying.feed_all.Given as goal
 abbrev pub invariant-loop-turn : goal.invariant-loop-turn
 invariant-loop-turn g l = record {
   reads : read_count l.reader ≡ l._turn;
-  bound : l.engine.done ≤ 4096 * l._turn;
+  bound : l.engine.done ≤ CHUNK * l._turn;
   reader_well : has_failed l.reader ≡ has_failed l.fn.reader;
   writer_well : has_failed l.writer ≡ has_failed l.fn.writer;
   so_far : (octets written : List ℕ) × Fed l.fn.engine l.engine octets written

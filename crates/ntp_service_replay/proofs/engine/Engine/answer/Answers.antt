@@ -1,11 +1,11 @@
 use Rattle.std.proofs.Common.{[]}
 use Rattle.std.proofs.KnownBytes.{Appends-nil}
 use Rattle.std.proofs.lemmas.Result.{on_ok_weaker, IfErr-weaker}
-use Rattle.ntp_service_replay.proofs.LinesReplayed.{Answers-passed, Answers-event, Fails-event}
+use Rattle.ntp_service_replay.proofs.LinesReplayed.{Answers-passed, Answers-event, Halts-event}
 use Rattle.ntp_service_replay.proofs.engine.Engine.answer.Goals as goal
 
-pub returns-in-Err-clause-told : goal.returns-in-Err-clause-told
-returns-in-Err-clause-told g c = c.in-Err.ensures.told _
+pub returns-in-Err-clause-past_reading : goal.returns-in-Err-clause-past_reading
+returns-in-Err-clause-past_reading g c = c.in-Err.ensures.past_reading _
 
 pub returns-in-Ok-None-clause-ok : goal.returns-in-Ok-None-clause-ok
 returns-in-Ok-None-clause-ok g c =
@@ -15,10 +15,11 @@ returns-in-Ok-None-clause-ok g c =
 pub returns-in-Ok-Some-clause-ok : goal.returns-in-Ok-Some-clause-ok
 returns-in-Ok-Some-clause-ok g c =
     let line = rw c.deref.ensures.value at (rw c.in-Ok-Some.field-0-is at c.in-Ok-Some.ensures.ok) in
-    on_ok_weaker c.write_answer.result (λ wrote. (_, Answers-event _ _ _ _ _ line.0 line.1 line.2 c.apply-outcome.ensures, wrote)) c.write_answer.ensures.ok
+    on_ok_weaker c.write_answer.result
+    (λ wrote. (_, Answers-event _ _ _ _ _ line.0 line.1 line.2 c.apply-outcome.ensures, wrote)) c.write_answer.ensures.ok
 
 pub returns-in-Ok-Some-clause-err : goal.returns-in-Ok-Some-clause-err
 returns-in-Ok-Some-clause-err g c =
     let line = rw c.deref.ensures.value at (rw c.in-Ok-Some.field-0-is at c.in-Ok-Some.ensures.ok) in
     IfErr-weaker c.write_answer.result _ _
-    (λ kind h. (h.0, Fails-event kind _ _ _ _ _ _ line.0 line.1 line.2 c.apply-outcome.ensures h.1, h.2)) c.write_answer.ensures.err
+    (λ kind h. (h.0, Halts-event kind _ _ _ _ _ _ line.0 line.1 line.2 c.apply-outcome.ensures h.1, h.2)) c.write_answer.ensures.err

@@ -1,12 +1,14 @@
 //! What a run ends with: its status, and the line that tells a fault.
-ghost use Rattle.std.specs.Prelude.{◌≡◌, ◌⊎◌, ◌-◌, ◌^◌, ℕ, List, true, false, IfSome};
+ghost use Rattle.std.specs.Prelude.{◌≡◌, ◌⊎◌, ◌≢◌, ℕ, List, true, false, IfSome};
+ghost use Rattle.std.specs.IoError.{error_kind};
+ghost use Rattle.ntp_service.specs.Replay.{most_reads};
 ghost use Rattle.ntp_service.specs.Watched.{inner_of, has_failed, read_count, Wrote};
 ghost use Rattle.labntp.specs.Ends.{Ends, status_of};
 
 use ntp_admin::LineFault;
 use ntp_service::{ReplayFault, ReplayFaultKind, Watched, replay};
 use std::alloc::Allocator;
-use std::io::{Read, Write};
+use std::io::{self, ErrorKind, Read, Write};
 
 /// All was done.
 pub const DONE: u8 = 0;
@@ -22,6 +24,34 @@ pub const IO_FAILED: u8 = 3;
 
 /// Memory ran out.
 pub const MEMORY_OUT: u8 = 4;
+
+/// Tells that the command line asks for nothing, and gives the exit status. A failed write is passed over.
+pub fn usage_status<F: Write>(faults: &mut F) -> u8
+    ensures { result ≡ 2 }
+{
+    let _ = writeln!(faults, "usage");
+    USAGE_REFUSED
+}
+
+/// Tells why the command line could not be read, and gives the exit status. A word that is no text is `usage`.
+/// A failed write is passed over.
+pub fn unread_status<F: Write>(error: &io::Error, faults: &mut F) -> u8
+    ensures memory { error_kind error.now ≡ ErrorKind.OutOfMemory → result ≡ 4 }
+    ensures usage { error_kind error.now ≢ ErrorKind.OutOfMemory → result ≡ 2 }
+{
+    match error.kind() {
+        ErrorKind::OutOfMemory => memory_status(faults),
+        _ => usage_status(faults),
+    }
+}
+
+// Tells of want of memory, and gives the exit status.
+fn memory_status<F: Write>(faults: &mut F) -> u8
+    ensures { result ≡ 4 }
+{
+    let _ = writeln!(faults, "memory");
+    MEMORY_OUT
+}
 
 /// Replays a script from a reader to a writer. A fault is told in one line to `faults`, where a failed write
 /// is passed over.
@@ -44,7 +74,7 @@ pub fn replay_status<A: Allocator + Copy, R: Read, W: Write, F: Write>(
 
     // Whatever the reader and the writer tell.
     ensures done { result ≡ 0 → (has_failed reader.new ≡ false) × (has_failed writer.new ≡ false) }
-    ensures failed { result ≡ 3 → (has_failed reader.new ≡ true) ⊎ (read_count reader.new ≡ 2 ^ 32 - 1) ⊎ (has_failed writer.new ≡ true) }
+    ensures failed { result ≡ 3 → (has_failed reader.new ≡ true) ⊎ (read_count reader.new ≡ most_reads) ⊎ (has_failed writer.new ≡ true) }
 {
     match replay(alloc, reader, writer) {
         Ok(()) => DONE,
@@ -59,8 +89,7 @@ fn tell<F: Write>(fault: ReplayFault, faults: &mut F) -> u8
     let line = fault.line;
     match fault.kind {
         ReplayFaultKind::Line(LineFault::NoMemory) | ReplayFaultKind::NoMemory => {
-            let _ = writeln!(faults, "memory");
-            MEMORY_OUT
+            memory_status(faults)
         }
         ReplayFaultKind::Line(line_fault) => {
             let word = word_of(line_fault);

@@ -3,7 +3,7 @@ use std::alloc::Global;
 use std::io;
 
 // The status of a replay, what it writes, and what it tells of a fault.
-fn told(alloc: Global, script: &[u8]) -> (u8, Vec<u8>, Vec<u8>) {
+fn ended(alloc: Global, script: &[u8]) -> (u8, Vec<u8>, Vec<u8>) {
     let mut reader = Watched::new(script);
     let mut writer = Watched::new(Vec::new(alloc));
     let mut faults = Vec::new(alloc);
@@ -60,8 +60,8 @@ fn each_fault_has_its_line_and_its_status(rt: HostRuntime) {
         ),
         (b"#\n\xff\n", TEXT_FAULTY, b"line 2: not utf-8\n"),
     ] {
-        let (ended, _written, faults) = told(rt.alloc(), script);
-        assert_eq!(rt; ended, status);
+        let (end, _written, faults) = ended(rt.alloc(), script);
+        assert_eq!(rt; end, status);
         assert_eq!(rt; faults.as_slice(), line);
     }
 }
@@ -70,8 +70,8 @@ fn each_fault_has_its_line_and_its_status(rt: HostRuntime) {
 fn the_lines_before_a_fault_are_answered(rt: HostRuntime) {
     let script =
         b"enrol 192.0.2.10 7 md5 6b6579 10\nrevoke 192.0.2.10\nrevoke\nrevoke 192.0.2.10\n";
-    let (ended, written, faults) = told(rt.alloc(), script);
-    assert_eq!(rt; ended, TEXT_FAULTY);
+    let (end, written, faults) = ended(rt.alloc(), script);
+    assert_eq!(rt; end, TEXT_FAULTY);
     assert_eq!(rt; written.as_slice(), b"done\ndone\n".as_slice());
     assert_eq!(rt; faults.as_slice(), b"line 3: count\n".as_slice());
 }
@@ -79,8 +79,8 @@ fn the_lines_before_a_fault_are_answered(rt: HostRuntime) {
 #[test]
 fn a_long_line_is_told(rt: HostRuntime) {
     let script = [b'#'; 4097];
-    let (ended, _written, faults) = told(rt.alloc(), &script);
-    assert_eq!(rt; ended, TEXT_FAULTY);
+    let (end, _written, faults) = ended(rt.alloc(), &script);
+    assert_eq!(rt; end, TEXT_FAULTY);
     assert_eq!(rt; faults.as_slice(), b"line 1: long\n".as_slice());
 }
 
@@ -108,12 +108,12 @@ impl Write for Broken {
 fn a_failed_read_or_write_is_told_where_it_can_be(rt: HostRuntime) {
     let script = b"enrol 192.0.2.10 7 md5 6b6579 10\n".as_slice();
     let mut faults = Vec::new(rt.alloc());
-    let mut kept = Watched::new(Vec::new(rt.alloc()));
+    let mut answers = Watched::new(Vec::new(rt.alloc()));
     assert_eq!(rt;
         replay_status(
             rt.alloc(),
             &mut Watched::new(Broken),
-            &mut kept,
+            &mut answers,
             &mut faults
         ),
         IO_FAILED
@@ -137,4 +137,17 @@ fn a_failed_read_or_write_is_told_where_it_can_be(rt: HostRuntime) {
         ),
         IO_FAILED
     );
+}
+
+#[test]
+fn a_command_line_that_gives_no_job_is_told(rt: HostRuntime) {
+    let memory = io::Error::from(ErrorKind::OutOfMemory);
+    let no_text = io::Error::from(ErrorKind::InvalidData);
+    let mut faults = Vec::new(rt.alloc());
+    assert_eq!(rt; usage_status(&mut faults), USAGE_REFUSED);
+    assert_eq!(rt; unread_status(&memory, &mut faults), MEMORY_OUT);
+    assert_eq!(rt; unread_status(&no_text, &mut faults), USAGE_REFUSED);
+    assert_eq!(rt; faults.as_slice(), b"usage\nmemory\nusage\n".as_slice());
+    assert_eq!(rt; usage_status(&mut Broken), USAGE_REFUSED);
+    assert_eq!(rt; unread_status(&memory, &mut Broken), MEMORY_OUT);
 }

@@ -1,6 +1,8 @@
-//! The worked examples as tests: scripts in memory, replayed by the service that the program runs.
+//! The worked examples as tests of the service that the program runs.
 #![tactic(auto)]
 
+#[cfg(test)]
+mod example;
 #[cfg(test)]
 mod rows;
 #[cfg(test)]

@@ -1,31 +1,110 @@
-use crate::rows::{ROWS, Row};
-use ntp_service::{ReplayFault, ReplayFaultKind, Watched, replay};
-use std::alloc::Global;
+//! Each worked example is answered the same as a script, as a list of events, and where no memory is left.
+use crate::example::Example;
+use crate::rows::ROWS;
+use ntp_admin::{Event, Outcome, print_answer};
+use ntp_service::{Service, Watched, replay};
+use refusing::Refusing;
+use std::alloc::{AllocError, Global};
+use std::process::Abort;
+use std::test::Fail;
 
-// What a replay of a script writes, and how it ends.
-fn replayed(alloc: Global, script: &str) -> (Vec<u8>, Result<(), ReplayFault>) {
-    let mut reader = Watched::new(script.as_bytes());
-    let mut writer = Watched::new(Vec::new(alloc));
-    let end = replay(alloc, &mut reader, &mut writer);
-    (writer.into_inner(), end)
-}
-
-// How the replay of a row is to end.
-fn end_of(row: Row) -> Result<(), ReplayFault> {
-    match row.fault {
-        None => Ok(()),
-        Some(fault) => Err(ReplayFault {
-            line: 2,
-            kind: ReplayFaultKind::Line(fault),
-        }),
+#[test]
+fn each_row_is_replayed_as_it_is_worked(rt: HostRuntime) -> Result<(), Fail> {
+    for row in &ROWS {
+        is_replayed(&rt, rt.alloc(), &Example::of(rt.alloc(), row)?);
     }
+    Ok(())
 }
 
 #[test]
-fn each_row_is_replayed_as_it_is_worked(rt: HostRuntime) {
-    for row in ROWS {
-        let (written, end) = replayed(rt.alloc(), row.script);
-        assert_eq!(rt; written.as_slice(), row.written.as_bytes(), "{}", row.name);
-        assert_eq!(rt; end, end_of(row), "{}", row.name);
+fn each_row_is_run_as_it_is_worked(rt: HostRuntime) -> Result<(), Fail> {
+    for row in &ROWS {
+        is_run(&rt, rt.alloc(), &Example::of(rt.alloc(), row)?)?;
     }
+    Ok(())
+}
+
+#[test]
+fn no_datagram_of_a_row_takes_memory(rt: HostRuntime) -> Result<(), Fail> {
+    for row in &ROWS {
+        takes_no_memory(&rt, rt.alloc(), &Example::of(rt.alloc(), row)?)?;
+    }
+    Ok(())
+}
+
+// A replay of the script writes what is worked, and ends as it is to end.
+fn is_replayed(rt: &impl Abort, alloc: Global, example: &Example) {
+    let mut reader = Watched::new(example.script.as_bytes());
+    let mut writer = Watched::new(Vec::new(alloc));
+    let end = replay(alloc, &mut reader, &mut writer);
+    let written = writer.into_inner();
+    assert_eq!(rt;
+        written.as_slice(),
+        example.written.as_bytes(),
+        "{}",
+        example.name
+    );
+    assert_eq!(rt; end, example.end(), "{}", example.name);
+}
+
+// A run of the script's events has the outcomes whose texts are worked.
+fn is_run(rt: &impl Abort, alloc: Global, example: &Example) -> Result<(), Fail> {
+    let (events, fault) = example.events(alloc)?;
+    assert_eq!(rt; fault, example.fault, "{}", example.name);
+    let outcomes = Service::new(alloc).run(&events)?;
+    let mut written = String::new(alloc);
+    for outcome in &outcomes {
+        written.push_str(print_answer(alloc, outcome)?.as_str())?;
+    }
+    assert_eq!(rt;
+        written.as_str(),
+        example.written.as_str(),
+        "{}",
+        example.name
+    );
+    Ok(())
+}
+
+// The script's datagrams are answered as it is worked where each allocation is refused, and ask for none.
+fn takes_no_memory(rt: &impl Abort, alloc: Global, example: &Example) -> Result<(), Fail> {
+    let (events, _) = example.events(alloc)?;
+    let memory = Refusing::new(alloc);
+    let mut service = Service::new(&memory);
+    let mut written = String::new(alloc);
+    for event in &events {
+        let outcome = match event {
+            Event::Command(command) => match service.command(command) {
+                Ok(()) => Outcome::Done,
+                Err(refusal) => Outcome::Refused(refusal),
+            },
+            Event::Datagram {
+                address,
+                receipt,
+                transmit,
+                reference,
+                octets,
+            } => {
+                let before = memory.calls();
+                memory.refuse_all();
+                let answer = service.datagram(
+                    *address,
+                    *receipt,
+                    *transmit,
+                    reference,
+                    octets.as_slice(),
+                );
+                memory.refuse_none();
+                assert_eq!(rt; memory.calls(), before, "{}", example.name);
+                Outcome::Datagram(answer)
+            }
+        };
+        written.push_str(print_answer(alloc, &outcome)?.as_str())?;
+    }
+    assert_eq!(rt;
+        written.as_str(),
+        example.written.as_str(),
+        "{}",
+        example.name
+    );
+    Ok(())
 }

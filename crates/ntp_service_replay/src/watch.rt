@@ -58,9 +58,7 @@ impl<T> Watched<T> {
     {
         self.reads
     }
-}
 
-impl<T> Watched<T> {
     // Notes how a call ended: what it gave, or that it failed.
     fn note(&mut self, given: io::Result<usize>) -> Result<usize, Failed>
         ensures ok { IfOk given (λ n. (result ≡ Ok n) × (self.new ≡ self.old)) }

@@ -58,7 +58,7 @@ impl Example {
 }
 
 // A text with all pieces put in.
-fn put_in(alloc: Global, text: &str) -> Result<String, AllocError> {
+pub(crate) fn put_in(alloc: Global, text: &str) -> Result<String, AllocError> {
     let mut whole = String::from_str(alloc, text)?;
     for _ in 0..DEPTH {
         whole = put_in_once(alloc, whole.as_str())?;

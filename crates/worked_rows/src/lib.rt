@@ -4,6 +4,8 @@
 #[cfg(test)]
 mod example;
 #[cfg(test)]
+mod floods;
+#[cfg(test)]
 mod rows;
 #[cfg(test)]
 mod tests;

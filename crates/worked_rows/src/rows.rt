@@ -20,7 +20,7 @@ pub struct Row {
 }
 
 /// What names in braces stand for. A text may hold names in its turn. `{0^n}` is n zeros.
-pub const PIECES: [(&str, &str); 12] = [
+pub const PIECES: [(&str, &str); 17] = [
     // The customer's enrolment, and the neighbour's.
     ("A", "enrol 192.0.2.10 7 md5 6b6579 10"),
     ("B", "enrol 192.0.2.20 8 sha1 6f74686572 10"),
@@ -41,10 +41,24 @@ pub const PIECES: [(&str, &str); 12] = [
     // The header of a reply to that query, behind leap, version, mode, stratum, poll and precision.
     ("reply", "{clock}{T}{R}{X}"),
     ("deny", "deny e4000600{0^16}44454e59{0^16}{T}{0^16}{T}"),
+    // The neighbour's number, and the digest of the same query under its key.
+    ("mac 8", "000000085cdcd7fe63874c71063fa471f426c77f08f21218"),
+    // The last second of a window, and the first of the next one.
+    ("last", "ec00003f00000000"),
+    ("next", "ec00004000000000"),
+    // The signed query, come in the last second of a window, and in the first of the next one.
+    (
+        "query in last",
+        "datagram 192.0.2.10 0:{last} 0:ec00003f00000100 {reference} 23{query}{mac}",
+    ),
+    (
+        "query in next",
+        "datagram 192.0.2.10 0:{next} 0:ec00004000000100 {reference} 23{query}{mac}",
+    ),
 ];
 
 /// The worked examples.
-pub const ROWS: [Row; 24] = [
+pub const ROWS: [Row; 26] = [
     Row {
         name: "a query without a MAC is told DENY",
         script: "{A}\n\
@@ -182,13 +196,47 @@ pub const ROWS: [Row; 24] = [
         fault: None,
     },
     Row {
-        name: "a MAC under a neighbour's key gets a crypto-NAK",
+        name: "a MAC under a neighbour's key gets a crypto-NAK, four times in a window",
         script: "{A}\n\
             {B}\n\
-            {datagram} 23{query}000000085cdcd7fe63874c71063fa471f426c77f08f21218\n",
+            {datagram} 23{query}{mac 8}\n\
+            {datagram} 23{query}{mac 8}\n\
+            {datagram} 23{query}{mac 8}\n\
+            {datagram} 23{query}{mac 8}\n\
+            {datagram} 23{query}{mac 8}\n",
         written: "done\n\
             done\n\
-            nak 240106ec{reply}00000000\n",
+            nak 240106ec{reply}00000000\n\
+            nak 240106ec{reply}00000000\n\
+            nak 240106ec{reply}00000000\n\
+            nak 240106ec{reply}00000000\n\
+            silent muted\n",
+        fault: None,
+    },
+    Row {
+        name: "past its budget a customer is told RATE once, until the next window",
+        script: "enrol 192.0.2.10 7 md5 6b6579 1\n\
+            {query in last}\n\
+            {query in last}\n\
+            {query in last}\n\
+            {query in next}\n",
+        written: "done\n\
+            time {last} 240106ec{clock}{T}{last}ec00003f00000100000000070ba96fab2cacb3691f2ef607f7e47523\n\
+            rate e4000600{0^16}52415445{0^16}{T}{0^16}{T}000000075cc5bdaa8b502fef0193f5603208e8b7\n\
+            silent over-budget\n\
+            time {next} 240106ec{clock}{T}{next}ec00004000000100000000079ba2901b8ae11a4b953c735cd69acf11\n",
+        fault: None,
+    },
+    Row {
+        name: "a clock that steps back to another window begins a new count",
+        script: "enrol 192.0.2.10 7 md5 6b6579 1\n\
+            {query in last}\n\
+            {query in next}\n\
+            {query in last}\n",
+        written: "done\n\
+            time {last} 240106ec{clock}{T}{last}ec00003f00000100000000070ba96fab2cacb3691f2ef607f7e47523\n\
+            time {next} 240106ec{clock}{T}{next}ec00004000000100000000079ba2901b8ae11a4b953c735cd69acf11\n\
+            time {last} 240106ec{clock}{T}{last}ec00003f00000100000000070ba96fab2cacb3691f2ef607f7e47523\n",
         fault: None,
     },
     Row {

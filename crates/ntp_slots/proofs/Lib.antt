@@ -1,0 +1,3 @@
+pub mod Recents
+pub mod Changes
+pub mod Saved

@@ -1,0 +1,21 @@
+//! The last exchanges of a customer, for interleaved replies (RFC 9769; profile).
+//!
+//! An exchange is a time reply with the stamps of its receipt and of its departure. The last four of a
+//! customer are kept in place, so that a later reply can carry the stamp at which an earlier one really
+//! left. Contracts see them as a list, oldest first.
+#![tactic(auto)]
+
+mod laws;
+mod no_memory;
+mod slot;
+mod slots;
+#[cfg(test)]
+mod tests;
+
+pub use laws::{
+    at_most_one_has_a_receive_stamp, recent_ones_suffice, saved_ones_stay_saved,
+    saved_stamps_are_apart,
+};
+pub use no_memory::NoMemory;
+pub use slot::Slot;
+pub use slots::Slots;

@@ -1,0 +1,150 @@
+//! The exchanges that are saved. Nothing else opens them.
+ghost use Rattle.std.specs.Prelude.{◌≡◌, [], ◌∷◌, ◌++◌, IfOk, IsTrue, is_some, position};
+ghost use Rattle.std.specs.Bool.{OnFalse};
+ghost use Rattle.ntp_time.specs.Fresh.{is_free};
+ghost use Rattle.ntp_slots.specs.Exchanges.{AreSaved, recent, new_exchange, receives, all_stamps, exchange_at, unused_at, is_unused_at, spent, departed};
+
+use crate::{NoMemory, Slot};
+use arrayvec::ArrayVec;
+use ntp_time::{Moment, Stamp, fresh};
+use std::alloc::{Allocator, Global};
+use std::marker::{Model, PhantomData};
+
+/// How many exchanges are saved (profile).
+const MOST_SLOTS: usize = 4;
+
+/// The last four exchanges of a customer, or all where there are fewer (profile). Contracts see them as
+/// a list, oldest first.
+#[derive(Drop)]
+pub struct Slots<A: Allocator = Global> {
+    kept: ArrayVec<Slot, MOST_SLOTS>,
+    // The allocator's type is part of the slots'.
+    memory: PhantomData<A>,
+}
+
+impl<A: Allocator> Model for Slots<A> {
+    ghost use Rattle.std.specs.Prelude.{List};
+    ghost use Rattle.ntp_slots.specs.declared.slot.Slot.{Slot};
+    ghost use Rattle.ntp_slots.specs.Exchanges.{AreSaved};
+    ghost use Rattle.ntp_slots.specs.Codes.{coded_exchanges};
+
+    ghost Value = { List Slot };
+
+    ghost coded = { coded_exchanges };
+
+    ghost view = { λ s. s.kept.items };
+
+    ghost invariant = { λ s. AreSaved s.kept.items };
+}
+
+impl<A: Allocator> Slots<A> {
+    /// No exchange, with room for all that will be saved, which is taken from `alloc`.
+    pub fn new(alloc: A) -> Result<Self, NoMemory>
+        ensures { IfOk result (λ slots. slots ≡ []) }
+    {
+        let _ = alloc;
+        Ok(Slots {
+            kept: ArrayVec::new(),
+            memory: PhantomData,
+        })
+    }
+
+    /// The exchange with this receive stamp, used or not.
+    pub fn find(&self, receive: Stamp) -> Option<Slot>
+        ensures found { result ≡ exchange_at self.now receive }
+        ensures saved { AreSaved self.now }
+    {
+        self.kept
+            .iter()
+            .copied()
+            .find(|slot| slot.receive == receive)
+    }
+
+    /// The receive stamps, oldest first, in units of 2^-32 seconds.
+    pub fn receive_stamps(&self) -> ArrayVec<Stamp, 17>
+        ensures stamps { result.items ≡ receives self.now }
+        ensures saved { AreSaved self.now }
+    {
+        let mut stamps = ArrayVec::new();
+        for slot in self.kept.as_slice() {
+            stamps.push(slot.receive);
+        }
+        stamps
+    }
+
+    /// The receive stamps, then the transmit stamps, each oldest first, in units of 2^-32 seconds.
+    pub fn all_stamps(&self) -> ArrayVec<Stamp, 17>
+        ensures stamps { result.items ≡ all_stamps self.now }
+        ensures saved { AreSaved self.now }
+    {
+        let mut stamps = self.receive_stamps();
+        for slot in self.kept.as_slice() {
+            stamps.push(slot.transmit);
+        }
+        stamps
+    }
+
+    /// Marks the unused exchange with this receive stamp as used (RFC 9769; profile). Where there is
+    /// none, the answer is `false` and nothing changes.
+    pub fn spend(&mut self, receive: Stamp) -> bool
+        ensures found { result ≡ is_some (unused_at self.old receive) }
+        ensures spent { self.new ≡ spent self.old receive }
+        ensures unchanged { OnFalse result (self.new ≡ self.old) }
+        ensures saved { AreSaved self.new }
+    {
+        match unused_place(self.kept.as_slice(), receive) {
+            Some(place) => {
+                self.kept.as_mut_slice()[place].used = true;
+                true
+            }
+            None => false,
+        }
+    }
+
+    /// Saves a new exchange, unused; the oldest goes where there is no room left (profile). Its receive
+    /// stamp is neither 0 nor a saved stamp, and its transmit stamp is neither 0 nor a receive stamp.
+    pub fn push(&mut self, receive: Stamp, transmit: Stamp)
+        requires receive_free { IsTrue (is_free (all_stamps self.old) receive) }
+        requires transmit_free { IsTrue (is_free (receives self.old ++ receive ∷ []) transmit) }
+        ensures pushed { self.new ≡ recent (self.old ++ new_exchange receive transmit ∷ []) }
+        ensures saved { AreSaved self.new }
+    {
+        if self.kept.is_full() {
+            self.kept.remove(0);
+        }
+        self.kept.push(Slot {
+            receive,
+            transmit,
+            used: false,
+        });
+    }
+
+    /// A reply left at this moment: its transmit stamp becomes the moment's, or the first after it that
+    /// is neither 0 nor a saved receive stamp, where an unused exchange has this receive stamp (RFC 9769;
+    /// profile). Where there is none, the answer is `false` and nothing changes.
+    pub fn depart(&mut self, receive: Stamp, moment: Moment) -> bool
+        ensures found { result ≡ is_some (unused_at self.old receive) }
+        ensures departed { self.new ≡ departed self.old receive moment }
+        ensures unchanged { OnFalse result (self.new ≡ self.old) }
+        ensures saved { AreSaved self.new }
+    {
+        match unused_place(self.kept.as_slice(), receive) {
+            Some(place) => {
+                let stamps = self.receive_stamps();
+                let transmit = fresh(moment.stamp(), stamps.as_slice());
+                self.kept.as_mut_slice()[place].transmit = transmit;
+                true
+            }
+            None => false,
+        }
+    }
+}
+
+// Where the unused exchange with this receive stamp stands.
+fn unused_place(slots: &[Slot], receive: Stamp) -> Option<usize>
+    ensures { result ≡ position (is_unused_at receive) slots.now }
+{
+    slots
+        .iter()
+        .position(|slot| !slot.used && slot.receive == receive)
+}

@@ -1,0 +1,118 @@
+//! Values from the rules in words: four exchanges are saved with fresh stamps, and a departure replaces a
+//! transmit stamp.
+use super::*;
+use ntp_time::{Moment, Stamp, fresh};
+use std::alloc::Allocator;
+use std::test::Fail;
+
+/// The stamp of a receipt.
+const RECEIPT: u64 = 0xec00_0010_9000_0000;
+
+#[test]
+fn no_memory_is_wanted(rt: HostRuntime) {
+    assert!(rt; Slots::new(rt.alloc()).is_ok());
+}
+
+#[test]
+fn oldest_of_five_goes(rt: HostRuntime) -> Result<(), Fail> {
+    let mut slots = Slots::new(rt.alloc()).or(Err("no memory"))?;
+    for second in 0..5u64 {
+        let receipt = 0xec00_0010_0000_0000 + (second << 32);
+        save(&mut slots, receipt, receipt + 0x100);
+    }
+    assert_eq!(rt; slots.find(Stamp(0xec00_0010_0000_0000)), None);
+    assert_eq!(rt;
+        slots.find(Stamp(0xec00_0011_0000_0000)),
+        Some(unused(0xec00_0011_0000_0000, 0xec00_0011_0000_0100))
+    );
+    let stamps = slots.all_stamps();
+    assert_eq!(rt; stamps.len(), 8);
+    assert_eq!(rt; stamps.first(), Some(&Stamp(0xec00_0011_0000_0000)));
+    assert_eq!(rt; stamps.last(), Some(&Stamp(0xec00_0014_0000_0100)));
+    Ok(())
+}
+
+#[test]
+fn saved_stamps_are_avoided(rt: HostRuntime) -> Result<(), Fail> {
+    let mut slots = Slots::new(rt.alloc()).or(Err("no memory"))?;
+    save(&mut slots, RECEIPT, RECEIPT + 0x100);
+    save(&mut slots, RECEIPT, RECEIPT + 0x100);
+    save(&mut slots, RECEIPT + 0x100, RECEIPT + 0x101);
+    assert_eq!(rt;
+        slots.find(Stamp(RECEIPT)),
+        Some(unused(RECEIPT, RECEIPT + 0x100))
+    );
+    assert_eq!(rt;
+        slots.find(Stamp(RECEIPT + 1)),
+        Some(unused(RECEIPT + 1, RECEIPT + 0x100))
+    );
+    assert_eq!(rt;
+        slots.find(Stamp(RECEIPT + 0x101)),
+        Some(unused(RECEIPT + 0x101, RECEIPT + 0x102))
+    );
+    Ok(())
+}
+
+#[test]
+fn departures_replace_the_transmit_stamp(rt: HostRuntime) -> Result<(), Fail> {
+    let mut slots = Slots::new(rt.alloc()).or(Err("no memory"))?;
+    save(&mut slots, RECEIPT, RECEIPT + 0x100);
+    assert!(rt; slots.depart(Stamp(RECEIPT), at(RECEIPT + 0x180)));
+    assert_eq!(rt;
+        slots.find(Stamp(RECEIPT)),
+        Some(unused(RECEIPT, RECEIPT + 0x180))
+    );
+    assert!(rt; slots.depart(Stamp(RECEIPT), at(RECEIPT + 0x200)));
+    assert_eq!(rt;
+        slots.find(Stamp(RECEIPT)),
+        Some(unused(RECEIPT, RECEIPT + 0x200))
+    );
+
+    // A receive stamp is passed over.
+    assert!(rt; slots.depart(Stamp(RECEIPT), at(RECEIPT)));
+    assert_eq!(rt;
+        slots.find(Stamp(RECEIPT)),
+        Some(unused(RECEIPT, RECEIPT + 1))
+    );
+    assert!(rt; !slots.depart(Stamp(RECEIPT + 1), at(RECEIPT + 0x180)));
+    Ok(())
+}
+
+#[test]
+fn used_exchange_stays_and_does_not_depart(rt: HostRuntime) -> Result<(), Fail> {
+    let mut slots = Slots::new(rt.alloc()).or(Err("no memory"))?;
+    save(&mut slots, RECEIPT, RECEIPT + 0x100);
+    assert!(rt; slots.spend(Stamp(RECEIPT)));
+    assert!(rt; !slots.spend(Stamp(RECEIPT)));
+    assert!(rt; !slots.depart(Stamp(RECEIPT), at(RECEIPT + 0x180)));
+    let slot = slots.find(Stamp(RECEIPT)).ok_or("no slot")?;
+    assert!(rt; slot.used);
+    assert_eq!(rt; slot.transmit, Stamp(RECEIPT + 0x100));
+    Ok(())
+}
+
+// Saves an exchange as a time reply does: with the first free stamps from these on.
+fn save<A: Allocator>(slots: &mut Slots<A>, receipt: u64, transmit: u64) {
+    let stamps = slots.all_stamps();
+    let receive = fresh(Stamp(receipt), stamps.as_slice());
+    let mut receives = slots.receive_stamps();
+    receives.push(receive);
+    slots.push(receive, fresh(Stamp(transmit), receives.as_slice()));
+}
+
+// The moment of a stamp in era 0.
+fn at(stamp: u64) -> Moment {
+    Moment {
+        era: 0,
+        stamp: Stamp(stamp),
+    }
+}
+
+// The exchange with these stamps, which no reply has used.
+fn unused(receive: u64, transmit: u64) -> Slot {
+    Slot {
+        receive: Stamp(receive),
+        transmit: Stamp(transmit),
+        used: false,
+    }
+}

@@ -1,8 +1,8 @@
 -- Saved exchanges stay saved: at a push, where one is spent, and where one departs.
-use Rattle.std.proofs.Common.{◌≡◌, ◌≢◌, ℕ, ◌+◌, ◌-◌, ◌^◌, ◌<◌, inl, inr, true, cond, List, [], ◌∷◌, ◌++◌, length, take, drop, map, get_or, refl, sym, ap, subst, ◌∙◌, arith}
-use Rattle.std.specs.Prelude.{Contains, All, IsTrue}
+use Rattle.std.proofs.Common.{◌≡◌, ◌≢◌, ℕ, ◌+◌, ◌-◌, ◌^◌, ◌<◌, inl, inr, Bool, true, cond, List, [], ◌∷◌, ◌++◌, length, take, drop, map, get_or, refl, sym, ap, subst, ◌∙◌, arith}
+use Rattle.std.specs.Prelude.{Contains, All, IsTrue, find, option_and_then, Option, Some, None, not, ◌&&◌}
 use Rattle.std.specs.List.{AllPairs}
-use Rattle.std.proofs.lemmas.Bool.{cases_Bool, cases_order}
+use Rattle.std.proofs.lemmas.Bool.{cases_Bool, cases_order, and_from, and_right, and_parts, not_from_false, not-true, both_ways, eqb-true, cond-true, cond-false}
 use Rattle.std.proofs.lemmas.List.{length-map, length-drop, get_or-drop, get_or-map, get_or_default, map_push, drop-map, take-append-drop}
 use Rattle.std.proofs.lemmas.List.Elements.{All-contains, All-drop, All-map, All-push, All-weaker, All-nil, Contains-get_or, Contains-append_left, Contains-append_right, Contains-push_cases}
 use Rattle.std.proofs.lemmas.List.Quantifiers.{all_pairs_push}
@@ -11,8 +11,8 @@ use Rattle.ntp_time.specs.declared.moment.Moment.{Moment}
 use Rattle.ntp_time.specs.Fresh.{is_free, fresh, IsFresh}
 use Rattle.ntp_time.proofs.Freshness.{free-nonzero, free-apart, free-from_apart, IsFresh-fresh}
 use Rattle.ntp_slots.specs.declared.slot.Slot.{Slot}
-use Rattle.ntp_slots.specs.Exchanges.{most_slots, recent, new_exchange, receives, transmits, all_stamps, AreSaved, is_unused_at, with_unused, spent, departed}
-use Rattle.ntp_slots.proofs.Changes.{length-with_unused, receives-with_unused}
+use Rattle.ntp_slots.specs.Exchanges.{most_slots, recent, new_exchange, receives, transmits, all_stamps, AreSaved, is_received_at, is_unused_at, exchange_at, unused_at, unless_used, with_unused, spent, departed}
+use Rattle.ntp_slots.proofs.Changes.{find-member, length-with_unused, receives-with_unused}
 
 -- exchanges as they are saved, however many
 record AreApart (xs : List Slot) : Type 0 where
@@ -156,3 +156,60 @@ stamps-apart xs are x y there here =
       free-nonzero (receives xs) x.transmit free,
       λ same. free-apart (receives xs) x.transmit y.receive free (Contains-map (λ x. x.receive) xs y here) (sym same),
     )
+
+-- the first that passes one test is the first that passes both, if it does
+find-both : {X : Type 0} (p q : X → Bool) (xs : List X) (x : X) → find p xs ≡ Some x → q x ≡ true → find (λ y. q y && p y) xs ≡ Some x
+find-both p q [] x found also = cc
+find-both p q (y ∷ xs) x found also =
+    elim (cases_Bool (p y)) [
+      | inl here ↦
+          let at : Some y ≡ Some x = rw here at found in
+          let same : y ≡ x = cc in
+          let both : (q y && p y) ≡ true = and_from (q y) (p y) (subst (λ z. q z ≡ true) (sym same) also) here in
+          rw both at
+      | inr past ↦
+          let later : find p xs ≡ Some x = rw past at found in
+          rw (and_right (q y) (p y) past) (find-both p q xs x later also)
+    ]
+
+-- of those that pass no test, none passes both
+find-neither : {X : Type 0} (p q : X → Bool) (xs : List X) → find p xs ≡ None → find (λ y. q y && p y) xs ≡ None
+find-neither p q [] none = refl
+find-neither p q (y ∷ xs) none =
+    elim (cases_Bool (p y)) [
+      | inl here ↦ let at : Some y ≡ None = rw here at none in cc
+      | inr past ↦
+          let later : find p xs ≡ None = rw past at none in
+          rw (and_right (q y) (p y) past) (find-neither p q xs later)
+    ]
+
+-- an exchange that has the receive stamp has it
+stamp-of_found : (xs : List Slot) (receive : Stamp) (x : Slot) → exchange_at xs receive ≡ Some x → Contains xs x × (x.receive ≡ receive)
+stamp-of_found xs receive x found =
+    let at = find-member (is_received_at receive) xs x found in
+    (at.0, ap (λ n. record { 0 = n }) (eqb-true x.receive.0 receive.0 at.1))
+
+-- where that is used, no unused one has it
+used-alone : (xs : List Slot) (receive : Stamp) (x : Slot) → AreSaved xs → exchange_at xs receive ≡ Some x → x.used ≡ true
+    → (o : Option Slot) → unused_at xs receive ≡ o → o ≡ None
+used-alone xs receive x are found used None none = refl
+used-alone xs receive x are found used (Some y) other =
+    let at = find-member (is_unused_at receive) xs y other in
+    let parts = and_parts (not y.used) (is_received_at receive y) at.1 in
+    let has = stamp-of_found xs receive x found in
+    let too : y.receive ≡ receive = ap (λ n. record { 0 = n }) (eqb-true y.receive.0 receive.0 parts.1) in
+    let same : x ≡ y = one-at_most xs are x y has.0 at.0 (has.1 ∙ sym too) in
+    absurd (both_ways y.used (not-true y.used parts.0) (subst (λ z. z.used ≡ true) same used))
+
+-- the unused exchange with a receive stamp is the one with it, unless that is used
+unused-from : (xs : List Slot) (receive : Stamp) → AreSaved xs → (o : Option Slot) → exchange_at xs receive ≡ o
+    → unused_at xs receive ≡ option_and_then unless_used o
+unused-from xs receive are None none = find-neither (is_received_at receive) (λ x. not x.used) xs none
+unused-from xs receive are (Some x) found =
+    elim (cases_Bool x.used) [
+      | inl used ↦ used-alone xs receive x are found used (unused_at xs receive) refl ∙ sym (cond-true x.used None (Some x) used)
+      | inr unused ↦ find-both (is_received_at receive) (λ y. not y.used) xs x found (not_from_false x.used unused) ∙ sym (cond-false x.used None (Some x) unused)
+    ]
+
+pub unused_at-from_exchange_at : (xs : List Slot) (receive : Stamp) → AreSaved xs → unused_at xs receive ≡ option_and_then unless_used (exchange_at xs receive)
+unused_at-from_exchange_at xs receive are = unused-from xs receive are (exchange_at xs receive) refl

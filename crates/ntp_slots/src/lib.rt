@@ -1,8 +1,8 @@
 //! The last exchanges of a customer, for interleaved replies (RFC 9769; profile).
 //!
-//! An exchange is a time reply with the stamps of its receipt and of its departure. The last four of a
-//! customer are kept in place, so that a later reply can carry the stamp at which an earlier one really
-//! left. Contracts see them as a list, oldest first.
+//! An exchange is a time reply with the stamps of its receipt and of its departure. The last few of a
+//! customer are saved, so that a later reply can carry the stamp at which an earlier one really left.
+//! Contracts see them as a list, oldest first.
 #![tactic(auto)]
 
 mod laws;

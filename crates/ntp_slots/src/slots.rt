@@ -1,8 +1,8 @@
 //! The exchanges that are saved. Nothing else opens them.
-ghost use Rattle.std.specs.Prelude.{◌≡◌, [], ◌∷◌, ◌++◌, IfOk, IsTrue, is_some, position};
+ghost use Rattle.std.specs.Prelude.{◌≡◌, [], ◌∷◌, ◌++◌, IfOk, IsTrue, is_some, option_and_then, position};
 ghost use Rattle.std.specs.Bool.{OnFalse};
 ghost use Rattle.ntp_time.specs.Fresh.{is_free};
-ghost use Rattle.ntp_slots.specs.Exchanges.{AreSaved, recent, new_exchange, receives, all_stamps, exchange_at, unused_at, is_unused_at, spent, departed};
+ghost use Rattle.ntp_slots.specs.Exchanges.{AreSaved, recent, new_exchange, receives, all_stamps, exchange_at, unused_at, unless_used, is_unused_at, spent, departed};
 
 use crate::{NoMemory, Slot};
 use arrayvec::ArrayVec;
@@ -13,8 +13,8 @@ use std::marker::{Model, PhantomData};
 /// How many exchanges are saved (profile).
 const MOST_SLOTS: usize = 4;
 
-/// The last four exchanges of a customer, or all where there are fewer (profile). Contracts see them as
-/// a list, oldest first.
+/// The last exchanges of a customer, or all where there are fewer than are saved (profile). Contracts see
+/// them as a list, oldest first.
 #[derive(Drop)]
 pub struct Slots<A: Allocator = Global> {
     kept: ArrayVec<Slot, MOST_SLOTS>,
@@ -52,12 +52,10 @@ impl<A: Allocator> Slots<A> {
     /// The exchange with this receive stamp, used or not.
     pub fn find(&self, receive: Stamp) -> Option<Slot>
         ensures found { result ≡ exchange_at self.now receive }
+        ensures unused { unused_at self.now receive ≡ option_and_then unless_used result }
         ensures saved { AreSaved self.now }
     {
-        self.kept
-            .iter()
-            .copied()
-            .find(|slot| slot.receive == receive)
+        exchange_in(self.kept.as_slice(), receive)
     }
 
     /// The receive stamps, oldest first, in units of 2^-32 seconds.
@@ -92,17 +90,16 @@ impl<A: Allocator> Slots<A> {
         ensures unchanged { OnFalse result (self.new ≡ self.old) }
         ensures saved { AreSaved self.new }
     {
-        match unused_place(self.kept.as_slice(), receive) {
-            Some(place) => {
-                self.kept.as_mut_slice()[place].used = true;
-                true
-            }
-            None => false,
-        }
+        let Some(spent) = unused_place(self.kept.as_slice(), receive) else {
+            return false;
+        };
+        self.kept.as_mut_slice()[spent].used = true;
+        true
     }
 
-    /// Saves a new exchange, unused; the oldest goes where there is no room left (profile). Its receive
-    /// stamp is neither 0 nor a saved stamp, and its transmit stamp is neither 0 nor a receive stamp.
+    /// Saves a new exchange, unused; the oldest goes where there are more than are saved (profile). Its
+    /// receive stamp is neither 0 nor a saved stamp, and its transmit stamp is neither 0, nor that receive
+    /// stamp, nor a saved one.
     pub fn push(&mut self, receive: Stamp, transmit: Stamp)
         requires receive_free { IsTrue (is_free (all_stamps self.old) receive) }
         requires transmit_free { IsTrue (is_free (receives self.old ++ receive ∷ []) transmit) }
@@ -128,16 +125,21 @@ impl<A: Allocator> Slots<A> {
         ensures unchanged { OnFalse result (self.new ≡ self.old) }
         ensures saved { AreSaved self.new }
     {
-        match unused_place(self.kept.as_slice(), receive) {
-            Some(place) => {
-                let stamps = self.receive_stamps();
-                let transmit = fresh(moment.stamp(), stamps.as_slice());
-                self.kept.as_mut_slice()[place].transmit = transmit;
-                true
-            }
-            None => false,
-        }
+        let Some(departed) = unused_place(self.kept.as_slice(), receive) else {
+            return false;
+        };
+        let stamps = self.receive_stamps();
+        let transmit = fresh(moment.stamp(), stamps.as_slice());
+        self.kept.as_mut_slice()[departed].transmit = transmit;
+        true
     }
+}
+
+// The exchange with this receive stamp.
+fn exchange_in(slots: &[Slot], receive: Stamp) -> Option<Slot>
+    ensures { result ≡ exchange_at slots.now receive }
+{
+    slots.iter().copied().find(|slot| slot.receive == receive)
 }
 
 // Where the unused exchange with this receive stamp stands.

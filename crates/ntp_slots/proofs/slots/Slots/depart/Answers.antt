@@ -6,35 +6,35 @@ use Rattle.ntp_slots.proofs.Changes.{find-from_position, find-from_no_position, 
 use Rattle.ntp_slots.proofs.Saved.{AreSaved-departed}
 use Rattle.ntp_slots.proofs.slots.Slots.depart.Goals as goal
 
-pub returns-in-Some-clause-departed : goal.returns-in-Some-clause-departed
+pub returns-clause-departed : goal.returns-clause-departed
 unfolding departed
-returns-in-Some-clause-departed g c =
-    let at : position (is_unused_at c.args.receive) c.self.inside.kept.items ≡ Some c.in-Some.place = cc in
+returns-clause-departed g c =
+    let at : position (is_unused_at c.args.receive) c.self.inside.kept.items ≡ Some c.in-Some.departed = cc in
     let left : c.fresh-transmit.result ≡ fresh c.args.moment.stamp (receives c.self.inside.kept.items) = cc in
-    written-at_place c.args.receive (λ x. record x { transmit = c.fresh-transmit.result }) c.self.inside.kept.items _ c.in-Some.place _ c.self.invariant.distinct at c.as_mut_slice.ensures.value
+    written-at_place c.args.receive (λ x. record x { transmit = c.fresh-transmit.result }) c.self.inside.kept.items _ c.in-Some.departed _ c.self.invariant.distinct at c.as_mut_slice.ensures.value
     ∙ ap (λ t. with_unused c.self.inside.kept.items c.args.receive (λ x. record x { transmit = t })) left
     ∙ ap (λ xs. departed xs c.args.receive c.args.moment) c.self.view_is
 
 pub invariant_of-self : goal.invariant_of-self
 invariant_of-self g c =
-    rw (returns-in-Some-clause-departed g c, ← c.self.view_is) (AreSaved-departed c.self.inside.kept.items c.args.receive c.args.moment c.self.invariant)
+    rw (returns-clause-departed g c, ← c.self.view_is) (AreSaved-departed c.self.inside.kept.items c.args.receive c.args.moment c.self.invariant)
 
-pub returns-in-Some-clause-found : goal.returns-in-Some-clause-found
-returns-in-Some-clause-found g c =
-    let at : position (is_unused_at c.args.receive) c.args.self.now ≡ Some c.in-Some.place = cc in
-    sym (find-from_position (is_unused_at c.args.receive) c.args.self.now c.in-Some.place at)
+pub returns-clause-found : goal.returns-clause-found
+returns-clause-found g c =
+    let at : position (is_unused_at c.args.receive) c.args.self.now ≡ Some c.in-Some.departed = cc in
+    sym (find-from_position (is_unused_at c.args.receive) c.args.self.now c.in-Some.departed at)
 
-pub returns-in-Some-clause-saved : goal.returns-in-Some-clause-saved
-returns-in-Some-clause-saved g c = invariant_of-self g c
+pub returns-clause-saved : goal.returns-clause-saved
+returns-clause-saved g c = invariant_of-self g c
 
-pub returns-in-None-clause-found : goal.returns-in-None-clause-found
-returns-in-None-clause-found g c =
+pub returns-in_default-clause-found : goal.returns-in_default-clause-found
+returns-in_default-clause-found g c =
     let at : position (is_unused_at c.args.receive) c.args.self.now ≡ None = cc in
     sym (ap is_some (find-from_no_position (is_unused_at c.args.receive) c.args.self.now at))
 
-pub returns-in-None-clause-departed : goal.returns-in-None-clause-departed
+pub returns-in_default-clause-departed : goal.returns-in_default-clause-departed
 unfolding departed
-returns-in-None-clause-departed g c =
+returns-in_default-clause-departed g c =
     let at : position (is_unused_at c.args.receive) c.args.self.now ≡ None = cc in
     sym (unchanged-from_none c.args.receive (λ x. record x { transmit = fresh c.args.moment.stamp (receives c.args.self.now) }) c.args.self.now
     (find-from_no_position (is_unused_at c.args.receive) c.args.self.now at))

@@ -38,7 +38,8 @@ impl<A: Allocator> Model for Slots<A> {
 }
 
 impl<A: Allocator> Slots<A> {
-    /// No exchange, with room for all that will be saved, which is taken from `alloc`.
+    /// No exchange. The room for all that will be saved is taken from `alloc` here, and none later:
+    /// `NoMemory` only where a growth was refused.
     pub fn new(alloc: A) -> Result<Self, NoMemory>
         ensures { IfOk result (λ slots. slots ≡ []) }
     {

@@ -52,8 +52,18 @@ fn is_run(rt: &impl Abort, alloc: Global, example: &Example) -> Result<(), Fail>
     let (events, fault) = example.events(alloc)?;
     assert_eq!(rt; fault, example.fault, "{}", example.name);
     let outcomes = Service::new(alloc).run(&events)?;
+    are_worked(rt, alloc, example, &outcomes)
+}
+
+// The outcomes' texts, one after another, are what is worked.
+fn are_worked(
+    rt: &impl Abort,
+    alloc: Global,
+    example: &Example,
+    outcomes: &[Outcome],
+) -> Result<(), Fail> {
     let mut written = String::new(alloc);
-    for outcome in &outcomes {
+    for outcome in outcomes {
         written.push_str(print_answer(alloc, outcome)?.as_str())?;
     }
     assert_eq!(rt;
@@ -70,9 +80,9 @@ fn takes_no_memory(rt: &impl Abort, alloc: Global, example: &Example) -> Result<
     let (events, _) = example.events(alloc)?;
     let memory = Refusing::new(alloc);
     let mut service = Service::new(&memory);
-    let mut written = String::new(alloc);
+    let mut outcomes = Vec::new(alloc);
     for event in &events {
-        let outcome = match event {
+        outcomes.push(match event {
             Event::Command(command) => match service.command(command) {
                 Ok(()) => Outcome::Done,
                 Err(refusal) => Outcome::Refused(refusal),
@@ -97,14 +107,7 @@ fn takes_no_memory(rt: &impl Abort, alloc: Global, example: &Example) -> Result<
                 assert_eq!(rt; memory.calls(), before, "{}", example.name);
                 Outcome::Datagram(answer)
             }
-        };
-        written.push_str(print_answer(alloc, &outcome)?.as_str())?;
+        })?;
     }
-    assert_eq!(rt;
-        written.as_str(),
-        example.written.as_str(),
-        "{}",
-        example.name
-    );
-    Ok(())
+    are_worked(rt, alloc, example, &outcomes)
 }

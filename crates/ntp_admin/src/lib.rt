@@ -4,7 +4,6 @@
 mod command;
 mod event;
 mod line_fault;
-mod no_memory;
 mod octets;
 mod outcome;
 mod parts;
@@ -17,7 +16,7 @@ mod words;
 pub use command::Command;
 pub use event::Event;
 pub use line_fault::LineFault;
-pub use no_memory::NoMemory;
+pub use ntp_slots::NoMemory;
 pub use octets::Octets;
 pub use outcome::Outcome;
 pub use printing::print_answer;

@@ -7,7 +7,7 @@ use std::marker::Model;
 /// Octets in memory. Contracts see them as a list.
 #[derive(Debug, Drop)]
 pub struct Octets<A: Allocator = Global> {
-    kept: Vec<u8, A>,
+    octets: Vec<u8, A>,
 }
 
 impl<A: Allocator> Model for Octets<A> {
@@ -15,7 +15,7 @@ impl<A: Allocator> Model for Octets<A> {
 
     ghost Value = { List ℕ };
 
-    ghost view = { λ o. o.kept.items };
+    ghost view = { λ o. o.octets.items };
 }
 
 impl<A: Allocator> Octets<A> {
@@ -23,13 +23,13 @@ impl<A: Allocator> Octets<A> {
     pub fn new(octets: Vec<u8, A>) -> Octets<A>
         ensures { result ≡ octets.items }
     {
-        Octets { kept: octets }
+        Octets { octets }
     }
 
     /// The octets.
     pub fn as_slice(&self) -> &[u8]
         ensures { result.now ≡ self.now }
     {
-        self.kept.as_slice()
+        self.octets.as_slice()
     }
 }

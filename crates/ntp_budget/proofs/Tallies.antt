@@ -45,7 +45,8 @@ unfolding tally
 tally-nil = refl
 
 -- the tally after an event is that of its window
-tally-last : (windows : List ℕ) (w : ℕ) → tally (windows ++ w ∷ []) ≡ Some (record { window = w; count = capped_count (windows ++ w ∷ []) w })
+tally-last : (windows : List ℕ) (w : ℕ)
+    → tally (windows ++ w ∷ []) ≡ Some (record { window = w; count = capped_count (windows ++ w ∷ []) w })
 unfolding tally
 tally-last windows w = rw (last-append None windows w) refl
 
@@ -101,5 +102,8 @@ tally-row w (suc n) few =
 pub tally-of_some_list : (t : Tally) → IsTally t → (windows : List ℕ) × (tally windows ≡ t)
 tally-of_some_list None is = ([], tally-nil)
 tally-of_some_list (Some t) is =
-    let counted : suc (t.count - 1) ≡ t.count = omega arith in
-    (row t.window (t.count - 1), tally-row t.window (t.count - 1) (omega arith) ∙ ap (λ n. Some (record { window = t.window; count = n })) counted)
+    let counted : suc (t.count - 1) ≡ t.count = omega arith in (
+      row t.window (t.count - 1),
+      tally-row t.window (t.count - 1) (omega arith)
+          ∙ ap (λ n. Some (record { window = t.window; count = n })) counted,
+    )

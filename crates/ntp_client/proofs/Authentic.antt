@@ -13,7 +13,9 @@ use Rattle.ntp_client.specs.Taking.{is_kiss, is_unsynchronised, lacks_stamp, rat
 
 -- no refusal and no kiss is left
 none-applies : (kiss unsynchronised lacking : Bool) (x s : Sample)
-    → (if kiss then taken.Rate else (if unsynchronised then taken.Refused distrust.Unsynchronised else (if lacking then taken.Refused distrust.Stamps else taken.Sample x))) ≡ taken.Sample s
+    → (if kiss then taken.Rate else
+    (if unsynchronised then taken.Refused distrust.Unsynchronised else
+    (if lacking then taken.Refused distrust.Stamps else taken.Sample x))) ≡ taken.Sample s
     → (unsynchronised ≡ false) × (lacking ≡ false) × (x ≡ s)
 none-applies true u l x s is = absurd (cc)
 none-applies false true l x s is = absurd (cc)
@@ -29,7 +31,8 @@ stamped : (h : HeaderFields) → lacks_stamp h ≡ false → (h.receive.0 ≢ 0)
 stamped h is = (grind (arith, nat_tests), grind (arith, nat_tests))
 
 -- where a reply is taken for a sample, it is a time reply
-pub authentic-sample : (p : Pairing) (h : HeaderFields) (x s : Sample) → h.mode ≡ 4 → h.version ≡ 4 → authentic_taken p h x ≡ taken.Sample s → IsTimeReply h × (x ≡ s)
+pub authentic-sample : (p : Pairing) (h : HeaderFields) (x s : Sample) → h.mode ≡ 4 → h.version ≡ 4
+    → authentic_taken p h x ≡ taken.Sample s → IsTimeReply h × (x ≡ s)
 authentic-sample p h x s mode version is =
     let none = none-applies (is_kiss rate_code h p) (is_unsynchronised h) (lacks_stamp h) x s is in
     let clock = synchronised h none.0 in

@@ -39,7 +39,8 @@ found-pairing q origin p is = tested (origin.0 == q.transmit.0) refl is
     tested false test is = inr (earlier-found q.earlier origin p is)
 
 -- the sample of a pairing is that of the request and the reply, or that of the earlier exchange
-pub sample-pairs : (q : Outstanding) (h : HeaderFields) (at : Moment) (p : Pairing) (s : Sample) → pairing_of q h.origin ≡ Some p → sample_of q p h at ≡ s
+pub sample-pairs : (q : Outstanding) (h : HeaderFields) (at : Moment) (p : Pairing) (s : Sample) → pairing_of q h.origin ≡ Some p
+    → sample_of q p h at ≡ s
     → IsBasic q h at s ⊎ IsInterleaved q h s
 sample-pairs q h at p s is same = elim (found-pairing q h.origin p is) [
   | inl b ↦ inl (record { origin = b.0; stamps = sym same ∙ ap (λ p. sample_of q p h at) b.1 })
@@ -51,7 +52,8 @@ pub basic-pairing : (q : Outstanding) (origin : Stamp) → origin ≡ q.transmit
 basic-pairing q origin is = rw (eq-eqb origin.0 q.transmit.0 (ap (λ (s : Stamp). s.0) is)) refl
 
 -- one by the arrival of the earlier exchange is paired with that, where the request has not the same transmit stamp
-pub interleaved-pairing : (q : Outstanding) (e : Exchange) (origin : Stamp) → q.earlier ≡ Some e → e.arrival ≢ q.transmit → origin ≡ e.arrival
+pub interleaved-pairing : (q : Outstanding) (e : Exchange) (origin : Stamp) → q.earlier ≡ Some e → e.arrival ≢ q.transmit
+    → origin ≡ e.arrival
     → pairing_of q origin ≡ Some (Interleaved e)
 interleaved-pairing q e origin carried apart is =
     let no : origin.0 ≢ q.transmit.0 = λ same. apart (sym is ∙ same-stamp origin q.transmit same) in

@@ -31,7 +31,8 @@ use Rattle.ntp_client.proofs.Authentic.{authentic-sample, time-taken}
 
 module _ (key : SymmetricKey) (number : ℕ) where
   -- no reply without a MAC is taken for a sample
-  no-sample : (test : Bool) (one : Taken) (s : Sample) → one ≢ taken.Sample s → (if test then one else taken.Refused distrust.Unsigned) ≡ taken.Sample s → ⊥
+  no-sample : (test : Bool) (one : Taken) (s : Sample) → one ≢ taken.Sample s
+      → (if test then one else taken.Refused distrust.Unsigned) ≡ taken.Sample s → ⊥
   no-sample true one s differs is = differs is
   no-sample false one s differs is = absurd (cc)
 
@@ -40,7 +41,8 @@ module _ (key : SymmetricKey) (number : ℕ) where
       → (is_signed key number r ≡ true) × (authentic_taken p r.header x ≡ taken.Sample s)
   mac-sample p r x s is = tested (is_signed key number r) refl is
     where
-      tested : (t : Bool) → is_signed key number r ≡ t → (if t then authentic_taken p r.header x else taken.Refused distrust.Mac) ≡ taken.Sample s
+      tested : (t : Bool) → is_signed key number r ≡ t
+          → (if t then authentic_taken p r.header x else taken.Refused distrust.Mac) ≡ taken.Sample s
           → (is_signed key number r ≡ true) × (authentic_taken p r.header x ≡ taken.Sample s)
       tested true signed is = (signed, is)
       tested false signed is = absurd (cc)
@@ -57,7 +59,8 @@ module _ (key : SymmetricKey) (number : ℕ) where
       → IsTimeReply r.header × (is_signed key number r ≡ true) × (IsBasic q r.header at s ⊎ IsInterleaved q r.header s)
   packet-sample q r at s is = mode (r.header.mode == 4) refl is
     where
-      paired : (o : Option Pairing) → pairing_of q r.header.origin ≡ o → r.header.mode ≡ 4 → r.header.version ≡ 4 → paired_taken key number q r at o ≡ taken.Sample s
+      paired : (o : Option Pairing) → pairing_of q r.header.origin ≡ o → r.header.mode ≡ 4 → r.header.version ≡ 4
+          → paired_taken key number q r at o ≡ taken.Sample s
           → IsTimeReply r.header × (is_signed key number r ≡ true) × (IsBasic q r.header at s ⊎ IsInterleaved q r.header s)
       paired None found m v is = absurd (cc)
       paired (Some p) found m v is =
@@ -72,13 +75,15 @@ module _ (key : SymmetricKey) (number : ℕ) where
       version false test m is = absurd (cc)
 
       mode : (t : Bool) → (r.header.mode == 4) ≡ t
-          → (if t then (if r.header.version == 4 then paired_taken key number q r at (pairing_of q r.header.origin) else taken.Refused distrust.Version) else taken.Refused distrust.Mode) ≡ taken.Sample s
+          → (if t then (if r.header.version == 4 then paired_taken key number q r at
+          (pairing_of q r.header.origin) else taken.Refused distrust.Version) else taken.Refused distrust.Mode) ≡ taken.Sample s
           → IsTimeReply r.header × (is_signed key number r ≡ true) × (IsBasic q r.header at s ⊎ IsInterleaved q r.header s)
       mode true test is = version (r.header.version == 4) refl (eqb-true r.header.mode 4 test) is
       mode false test is = absurd (cc)
 
   -- a signed reply has a MAC, and is taken for what its header says
-  signed-taken : (p : Pairing) (r : RequestValue) (x : Sample) → IsSigned key number r → tail_taken key number p r x r.tail ≡ authentic_taken p r.header x
+  signed-taken : (p : Pairing) (r : RequestValue) (x : Sample) → IsSigned key number r
+      → tail_taken key number p r x r.tail ≡ authentic_taken p r.header x
   unfolding IsSigned
   signed-taken p r x signed =
       go (digest_of key r.signed) r.tail signed ∙ rw ((is-signed key number r).1 signed) refl
@@ -88,17 +93,21 @@ module _ (key : SymmetricKey) (number : ℕ) where
       go (Sha1 octets) tail is = ap (tail_taken key number p r x) is
 
   -- a signed time reply of a pairing is taken for its sample
-  sample-packet : (q : Outstanding) (r : RequestValue) (at : Moment) (p : Pairing) → IsTimeReply r.header → IsSigned key number r → pairing_of q r.header.origin ≡ Some p
+  sample-packet : (q : Outstanding) (r : RequestValue) (at : Moment) (p : Pairing) → IsTimeReply r.header → IsSigned key number r
+      → pairing_of q r.header.origin ≡ Some p
       → packet_taken key number q r at ≡ taken.Sample (sample_of q p r.header at)
   sample-packet q r at p time signed found =
       rw (eq-eqb r.header.mode 4 time.mode, eq-eqb r.header.version 4 time.version)
-      (ap (paired_taken key number q r at) found ∙ signed-taken p r (sample_of q p r.header at) signed ∙ time-taken p r.header (sample_of q p r.header at) time)
+      (ap (paired_taken key number q r at) found ∙ signed-taken p r (sample_of q p r.header at) signed
+      ∙ time-taken p r.header (sample_of q p r.header at) time)
 
 -- octets are taken for a sample exactly where they give the client one
-pub taken-sample : (c : ClientState) (octets : List ℕ) (at : Moment) (s : Sample) → IsClient c → AreOctets octets → (taken_for c octets at ≡ taken.Sample s) ↔ IsSample c octets at s
+pub taken-sample : (c : ClientState) (octets : List ℕ) (at : Moment) (s : Sample) → IsClient c → AreOctets octets
+    → (taken_for c octets at ≡ taken.Sample s) ↔ IsSample c octets at s
 taken-sample c octets at s client are = (λ is. asked c.outstanding refl is, given)
   where
-    reading : (q : Outstanding) → c.outstanding ≡ Some q → (a : Result RequestValue Malformed) → Reads octets a → reading_taken c.key c.number q at a ≡ taken.Sample s → IsSample c octets at s
+    reading : (q : Outstanding) → c.outstanding ≡ Some q → (a : Result RequestValue Malformed) → Reads octets a
+        → reading_taken c.key c.number q at a ≡ taken.Sample s → IsSample c octets at s
     reading q there (Ok r) reads is =
         let found = packet-sample c.key c.number q r at s is in
         record {
@@ -116,12 +125,14 @@ taken-sample c octets at s client are = (λ is. asked c.outstanding refl is, giv
     asked None there is = absurd (cc)
     asked (Some q) there is = reading q there (reading_of octets) (Reads-reading_of octets are) is
 
-    paired : (q : Outstanding) (r : RequestValue) → c.outstanding ≡ Some q → IsTimeReply r.header → IsSigned c.key c.number r → IsBasic q r.header at s ⊎ IsInterleaved q r.header s
+    paired : (q : Outstanding) (r : RequestValue) → c.outstanding ≡ Some q → IsTimeReply r.header → IsSigned c.key c.number r
+        → IsBasic q r.header at s ⊎ IsInterleaved q r.header s
         → packet_taken c.key c.number q r at ≡ taken.Sample s
     paired q r there time signed (inl b) =
         sample-packet c.key c.number q r at Basic time signed (basic-pairing q r.header.origin b.origin) ∙ ap taken.Sample (sym b.stamps)
     paired q r there time signed (inr i) =
-        sample-packet c.key c.number q r at (Interleaved i.earlier) time signed (interleaved-pairing q i.earlier r.header.origin i.carried ((client.outstanding q there).apart i.earlier i.carried) i.origin)
+        sample-packet c.key c.number q r at (Interleaved i.earlier) time signed
+        (interleaved-pairing q i.earlier r.header.origin i.carried ((client.outstanding q there).apart i.earlier i.carried) i.origin)
         ∙ ap taken.Sample (sym i.stamps)
 
     given : IsSample c octets at s → taken_for c octets at ≡ taken.Sample s

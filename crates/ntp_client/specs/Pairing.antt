@@ -31,5 +31,7 @@ exchange_of q reply at = record { transmit = q.transmit; receive = reply.receive
 -- the four stamps: of the request and its reply, or of the earlier exchange with the departure that the present reply tells
 -- (RFC 5905, 8; RFC 9769, 2; profile)
 abbrev pub sample_of : Outstanding → Pairing → HeaderFields → Moment → Sample
-sample_of q Basic reply at = record { t1 = q.transmit; t2 = reply.receive; t3 = reply.transmit; t4 = fresh at.stamp []; interleaved = false }
-sample_of q (Interleaved earlier) reply at = record { t1 = earlier.transmit; t2 = earlier.receive; t3 = reply.transmit; t4 = earlier.arrival; interleaved = true }
+sample_of q Basic reply at =
+    record { t1 = q.transmit; t2 = reply.receive; t3 = reply.transmit; t4 = fresh at.stamp []; interleaved = false }
+sample_of q (Interleaved earlier) reply at =
+    record { t1 = earlier.transmit; t2 = earlier.receive; t3 = reply.transmit; t4 = earlier.arrival; interleaved = true }

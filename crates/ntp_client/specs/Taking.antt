@@ -48,12 +48,14 @@ authentic_taken pairing h sample =
 
 -- what a reply with a MAC is taken for (profile)
 abbrev pub mac_taken : SymmetricKey → ℕ → Pairing → RequestValue → Sample → Taken
-mac_taken key number pairing r sample = if is_signed key number r then authentic_taken pairing r.header sample else taken.Refused distrust.Mac
+mac_taken key number pairing r sample =
+    if is_signed key number r then authentic_taken pairing r.header sample else taken.Refused distrust.Mac
 
 -- what a reply to the request is taken for, by its tail (profile)
 abbrev pub tail_taken : SymmetricKey → ℕ → Pairing → RequestValue → Sample → TailValue → Taken
 tail_taken key number pairing r sample NoTail = if is_kiss deny_code r.header pairing then taken.Deny else taken.Refused distrust.Unsigned
-tail_taken key number pairing r sample (BareTail found) = if (found == 0) && is_basic pairing then taken.Nak else taken.Refused distrust.Unsigned
+tail_taken key number pairing r sample (BareTail found) =
+    if (found == 0) && is_basic pairing then taken.Nak else taken.Refused distrust.Unsigned
 tail_taken key number pairing r sample (Md5Tail found digest) = mac_taken key number pairing r sample
 tail_taken key number pairing r sample (Sha1Tail found digest) = mac_taken key number pairing r sample
 

@@ -19,13 +19,15 @@ module _ (r : Registry) (address : Address) (c : CustomerState) where
   pub customer_at-with_customer : customer_at (with_customer r address c) address ≡ Some c
   customer_at-with_customer = get-insert-here address_cmp_total address_cmp-IsAntisymmetric r.customers address c
 
-  pub customer_at-with_customer-other : (other : Address) → other ≢ address → customer_at (with_customer r address c) other ≡ customer_at r other
+  pub customer_at-with_customer-other : (other : Address) → other ≢ address
+      → customer_at (with_customer r address c) other ≡ customer_at r other
   customer_at-with_customer-other other ne = get-insert-there address_cmp_total address_cmp-IsAntisymmetric r.customers address c other ne
 
   pub numbers_at-with_customer : numbers_at (with_customer r address c) address ≡ numbers_of c
   numbers_at-with_customer = ap numbers_held customer_at-with_customer
 
-  pub numbers_at-with_customer-other : (other : Address) → other ≢ address → numbers_at (with_customer r address c) other ≡ numbers_at r other
+  pub numbers_at-with_customer-other : (other : Address) → other ≢ address
+      → numbers_at (with_customer r address c) other ≡ numbers_at r other
   numbers_at-with_customer-other other ne = ap numbers_held (customer_at-with_customer-other other ne)
 
   -- to write what is there
@@ -37,7 +39,8 @@ module _ (r : Registry) (number : ℕ) where
   pub holder_of-with_holder : (address : Address) → holder_of (with_holder r number address) number ≡ Some address
   holder_of-with_holder address = get-insert-here nat_cmp_total nat_cmp-IsAntisymmetric r.holders number address
 
-  pub holder_of-with_holder-other : (address : Address) (other : ℕ) → other ≢ number → holder_of (with_holder r number address) other ≡ holder_of r other
+  pub holder_of-with_holder-other : (address : Address) (other : ℕ) → other ≢ number
+      → holder_of (with_holder r number address) other ≡ holder_of r other
   holder_of-with_holder-other address other ne = get-insert-there nat_cmp_total nat_cmp-IsAntisymmetric r.holders number address other ne
 
   pub holder_of-without_holder : holder_of (without_holder r number) number ≡ None
@@ -47,11 +50,14 @@ module _ (r : Registry) (number : ℕ) where
   holder_of-without_holder-other other ne = get-remove-there nat_cmp_total nat_cmp-IsAntisymmetric r.holders number other ne
 
   -- to take a holder out again
-  pub without_holder-with_holder : (address : Address) → holder_of r number ≡ None → without_holder (with_holder r number address) number ≡ r
-  without_holder-with_holder address free = λ i. record { customers = r.customers; holders = remove-insert nat_cmp_total nat_cmp-IsAntisymmetric r.holders number address free i }
+  pub without_holder-with_holder : (address : Address) → holder_of r number ≡ None
+      → without_holder (with_holder r number address) number ≡ r
+  without_holder-with_holder address free =
+      λ i. record { customers = r.customers; holders = remove-insert nat_cmp_total nat_cmp-IsAntisymmetric r.holders number address free i }
 
 -- ---- numbers were freed
-pub customers-without_holders : (r : Registry) (numbers : List ℕ) (a : Address) → customer_at (without_holders r numbers) a ≡ customer_at r a
+pub customers-without_holders : (r : Registry) (numbers : List ℕ) (a : Address)
+    → customer_at (without_holders r numbers) a ≡ customer_at r a
 customers-without_holders r [] a = refl
 customers-without_holders r (n ∷ ns) a = customers-without_holders (without_holder r n) ns a
 
@@ -63,14 +69,16 @@ stays-free r (m ∷ ms) n free = stays-free (without_holder r m) ms n (⊎_elim
     (λ ne. holder_of-without_holder-other r m n ne ∙ free)
     (same_or_other_number n m))
 
-pub holder_of-without_holders : (r : Registry) (numbers : List ℕ) (n : ℕ) → Contains numbers n → holder_of (without_holders r numbers) n ≡ None
+pub holder_of-without_holders : (r : Registry) (numbers : List ℕ) (n : ℕ) → Contains numbers n
+    → holder_of (without_holders r numbers) n ≡ None
 holder_of-without_holders r [] n is = absurd (omega (arith, is.1))
 holder_of-without_holders r (m ∷ ms) n is = ⊎_elim
     (λ e. stays-free (without_holder r m) ms n (ap (holder_of (without_holder r m)) (sym e) ∙ holder_of-without_holder r m))
     (λ more. holder_of-without_holders (without_holder r m) ms n more)
     (Contains-cases m ms n is)
 
-pub holder_of-without_holders-other : (r : Registry) (numbers : List ℕ) (n : ℕ) → (Contains numbers n → ⊥) → holder_of (without_holders r numbers) n ≡ holder_of r n
+pub holder_of-without_holders-other : (r : Registry) (numbers : List ℕ) (n : ℕ) → (Contains numbers n → ⊥)
+    → holder_of (without_holders r numbers) n ≡ holder_of r n
 holder_of-without_holders-other r [] n never = refl
 holder_of-without_holders-other r (m ∷ ms) n never =
     holder_of-without_holders-other (without_holder r m) ms n (λ is. never (Contains-there m ms n is))
@@ -81,8 +89,10 @@ module _ (r : Registry) (address : Address) (e : Enrolment) where
   pub customer_at-after_enrol : customer_at (after_enrol r address e) address ≡ Some (new_customer e)
   customer_at-after_enrol = customer_at-with_customer (with_holder r e.number address) address (new_customer e)
 
-  pub customer_at-after_enrol-other : (other : Address) → other ≢ address → customer_at (after_enrol r address e) other ≡ customer_at r other
-  customer_at-after_enrol-other other ne = customer_at-with_customer-other (with_holder r e.number address) address (new_customer e) other ne
+  pub customer_at-after_enrol-other : (other : Address) → other ≢ address
+      → customer_at (after_enrol r address e) other ≡ customer_at r other
+  customer_at-after_enrol-other other ne =
+      customer_at-with_customer-other (with_holder r e.number address) address (new_customer e) other ne
 
   pub numbers_at-after_enrol : numbers_at (after_enrol r address e) address ≡ e.number ∷ []
   numbers_at-after_enrol = ap numbers_held customer_at-after_enrol
@@ -103,12 +113,15 @@ module _ (r : Registry) (address : Address) (c : CustomerState) (there : custome
 
   pub customer_at-after_revoke : customer_at (after_revoke r address) address ≡ Some (revoked c)
   customer_at-after_revoke =
-      ap (λ s. customer_at s address) after_revoke-customer ∙ customers-without_holders (with_customer r address (revoked c)) (numbers_of c) address
+      ap (λ s. customer_at s address) after_revoke-customer
+      ∙ customers-without_holders (with_customer r address (revoked c)) (numbers_of c) address
       ∙ customer_at-with_customer r address (revoked c)
 
-  pub customer_at-after_revoke-other : (other : Address) → other ≢ address → customer_at (after_revoke r address) other ≡ customer_at r other
+  pub customer_at-after_revoke-other : (other : Address) → other ≢ address
+      → customer_at (after_revoke r address) other ≡ customer_at r other
   customer_at-after_revoke-other other ne =
-      ap (λ s. customer_at s other) after_revoke-customer ∙ customers-without_holders (with_customer r address (revoked c)) (numbers_of c) other
+      ap (λ s. customer_at s other) after_revoke-customer
+      ∙ customers-without_holders (with_customer r address (revoked c)) (numbers_of c) other
       ∙ customer_at-with_customer-other r address (revoked c) other ne
 
   pub numbers_at-after_revoke : numbers_at (after_revoke r address) address ≡ []
@@ -119,8 +132,11 @@ module _ (r : Registry) (address : Address) (c : CustomerState) (there : custome
 
   pub holder_of-after_revoke : (number : ℕ) → Contains (numbers_of c) number → holder_of (after_revoke r address) number ≡ None
   holder_of-after_revoke number has =
-      ap (λ s. holder_of s number) after_revoke-customer ∙ holder_of-without_holders (with_customer r address (revoked c)) (numbers_of c) number has
+      ap (λ s. holder_of s number) after_revoke-customer
+      ∙ holder_of-without_holders (with_customer r address (revoked c)) (numbers_of c) number has
 
-  pub holder_of-after_revoke-other : (number : ℕ) → (Contains (numbers_of c) number → ⊥) → holder_of (after_revoke r address) number ≡ holder_of r number
+  pub holder_of-after_revoke-other : (number : ℕ) → (Contains (numbers_of c) number → ⊥)
+      → holder_of (after_revoke r address) number ≡ holder_of r number
   holder_of-after_revoke-other number never =
-      ap (λ s. holder_of s number) after_revoke-customer ∙ holder_of-without_holders-other (with_customer r address (revoked c)) (numbers_of c) number never
+      ap (λ s. holder_of s number) after_revoke-customer
+      ∙ holder_of-without_holders-other (with_customer r address (revoked c)) (numbers_of c) number never

@@ -36,7 +36,8 @@ algorithm_of-is_sha1 Sha1 = refl
 abbrev pub coded_key : Coded SymmetricKey
 coded_key =
     code_by (Bool × List ℕ) (coded× coded_bool (coded_list coded_ℕ)) (λ k. (is_sha1 k.algorithm, k.octets))
-    (λ p. record { algorithm = algorithm_of p.0; octets = p.1 }) (λ k i. record { algorithm = algorithm_of-is_sha1 k.algorithm i; octets = k.octets })
+    (λ p. record { algorithm = algorithm_of p.0; octets = p.1 })
+    (λ k i. record { algorithm = algorithm_of-is_sha1 k.algorithm i; octets = k.octets })
 
 -- an enrolment as the key, and the number with the budget
 abbrev pub coded_enrolment : Coded Enrolment

@@ -9,7 +9,8 @@ use Rattle.ntp_reply.specs.Life.{Life, Unregistered, Revoked, Enrolled, enrolmen
 use Rattle.ntp_reply.specs.Kind.{octets_kind, kind_of}
 
 -- the kind of octets that were read, of an address of which something is kept
-pub kind-read : (life : Life) (c : CustomerState) (octets : List ℕ) (reading : Result RequestValue Malformed) → short life ≡ Some c → reading ≡ reading_of octets
+pub kind-read : (life : Life) (c : CustomerState) (octets : List ℕ) (reading : Result RequestValue Malformed) → short life ≡ Some c
+    → reading ≡ reading_of octets
     → octets_kind (enrolment_in life) reading ≡ kind_of life octets
 kind-read Unregistered c octets reading there is = absurd (none-some c there)
 kind-read (Revoked refusals) c octets reading there is = ap (octets_kind None) is

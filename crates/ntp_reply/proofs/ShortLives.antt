@@ -36,12 +36,15 @@ alike Unregistered Unregistered e = record { enrolment = refl; queries = refl; r
 alike Unregistered (Revoked s) e = absurd (none-some _ e)
 alike Unregistered (Enrolled f p s) e = absurd (none-some _ e)
 alike (Revoked r) Unregistered e = absurd (none-some _ (sym e))
-alike (Revoked r) (Revoked s) e = record { enrolment = refl; queries = refl; refusals = ap (λ o. (state (record { account = None; refusals = None }) o).refusals) e }
+alike (Revoked r) (Revoked s) e =
+    record { enrolment = refl; queries = refl; refusals = ap (λ o. (state (record { account = None; refusals = None }) o).refusals) e }
 alike (Revoked r) (Enrolled f p s) e = absurd (none-some _ (ap (λ o. (state (record { account = None; refusals = None }) o).account) e))
 alike (Enrolled d q r) Unregistered e = absurd (none-some _ (sym e))
-alike (Enrolled d q r) (Revoked s) e = absurd (none-some _ (sym (ap (λ o. (state (record { account = None; refusals = None }) o).account) e)))
+alike (Enrolled d q r) (Revoked s) e =
+    absurd (none-some _ (sym (ap (λ o. (state (record { account = None; refusals = None }) o).account) e)))
 alike (Enrolled d q r) (Enrolled f p s) e =
-    let accounts = ap (λ o. account_in (record { enrolment = d; queries = None }) (state (record { account = None; refusals = None }) o)) e in
+    let accounts =
+    ap (λ o. account_in (record { enrolment = d; queries = None }) (state (record { account = None; refusals = None }) o)) e in
     record {
       enrolment = ap (λ (a : Account). Some a.enrolment) accounts;
       queries = ap (λ (a : Account). a.queries) accounts;
@@ -64,24 +67,29 @@ module _ (one other : Life) (a : Alike one other) (few : budget_in one < most_co
   budgets = ap (λ (o : Option Enrolment). option_map_or (λ (e : Enrolment). e.budget) o 0) a.enrolment
 
   sent : (w : ℕ) → nat_lt (count_in (refusals_in one) w) refusals_sent ≡ nat_lt (count_in (refusals_in other) w) refusals_sent
-  sent w = below (count_in (refusals_in one) w) (count_in (refusals_in other) w) refusals_sent (tally-tells_all (refusals_in one) (refusals_in other) w a.refusals).0 (omega arith)
+  sent w = below (count_in (refusals_in one) w) (count_in (refusals_in other) w) refusals_sent
+      (tally-tells_all (refusals_in one) (refusals_in other) w a.refusals).0 (omega arith)
 
   within : (w : ℕ) → nat_lt (count_in (queries_in one) w) (budget_in one) ≡ nat_lt (count_in (queries_in other) w) (budget_in other)
   within w =
-      below (count_in (queries_in one) w) (count_in (queries_in other) w) (budget_in one) (tally-tells_all (queries_in one) (queries_in other) w a.queries).0 few
+      below (count_in (queries_in one) w) (count_in (queries_in other) w) (budget_in one)
+      (tally-tells_all (queries_in one) (queries_in other) w a.queries).0 few
       ∙ ap (nat_lt (count_in (queries_in other) w)) budgets
 
   last_one : (w : ℕ) → (count_in (queries_in one) w == budget_in one) ≡ (count_in (queries_in other) w == budget_in other)
   last_one w =
-      equal (count_in (queries_in one) w) (count_in (queries_in other) w) (budget_in one) (tally-tells_all (queries_in one) (queries_in other) w a.queries).0 few
+      equal (count_in (queries_in one) w) (count_in (queries_in other) w) (budget_in one)
+      (tally-tells_all (queries_in one) (queries_in other) w a.queries).0 few
       ∙ ap (λ b. count_in (queries_in other) w == b) budgets
 
   -- a datagram of one kind is answered alike
   pub answered-alike : (o : Occasion) (k : Kind) → kind_answer one o k ≡ kind_answer other o k
   answered-alike o (PassedOver why) = refl
-  answered-alike o (RefusedByDeny h) = ap (λ (b : Bool). if b then answer.Deny (deny_octets h) else answer.Silent reason.Muted) (sent (window_at o))
+  answered-alike o (RefusedByDeny h) =
+      ap (λ (b : Bool). if b then answer.Deny (deny_octets h) else answer.Silent reason.Muted) (sent (window_at o))
   answered-alike o (RefusedByNak h) =
-      ap (λ (b : Bool). if b then answer.Nak (crypto_nak_octets (basic_fields o h (stamps_of one o))) else answer.Silent reason.Muted) (sent (window_at o))
+      ap (λ (b : Bool). if b then answer.Nak (crypto_nak_octets (basic_fields o h (stamps_of one o))) else answer.Silent reason.Muted)
+      (sent (window_at o))
   answered-alike o (Signed key number h) =
       let time = timed key number o h (stamps_of one o) in
       let rate = answer.Rate (rate_octets key number h) in
@@ -131,7 +139,8 @@ query-alike (Enrolled d q r) (Enrolled f p s) e w =
     kept d f _ _ (tally r) (tally s) (same-enrolment d f q p r s e) (tally-tells_all q p w a.queries).1 a.refusals
 
 -- the same is kept of two lives after a datagram of one kind
-pub kept-alike : (one other : Life) → short one ≡ short other → (o : Occasion) (k : Kind) → short (after_kind one o k) ≡ short (after_kind other o k)
+pub kept-alike : (one other : Life) → short one ≡ short other → (o : Occasion) (k : Kind)
+    → short (after_kind one o k) ≡ short (after_kind other o k)
 kept-alike one other e o (PassedOver why) = e
 kept-alike one other e o (RefusedByDeny h) = refusal-alike one other e (window_at o)
 kept-alike one other e o (RefusedByNak h) = refusal-alike one other e (window_at o)
@@ -147,12 +156,15 @@ kind-alike (Revoked r) (Revoked s) e octets = refl
 kind-alike (Revoked r) (Enrolled f p s) e octets = absurd (none-some f (alike (Revoked r) (Enrolled f p s) e).enrolment)
 kind-alike (Enrolled d q r) Unregistered e octets = absurd (none-some _ (sym e))
 kind-alike (Enrolled d q r) (Revoked s) e octets = absurd (none-some d (sym (alike (Enrolled d q r) (Revoked s) e).enrolment))
-kind-alike (Enrolled d q r) (Enrolled f p s) e octets = ap (λ x. octets_kind x (reading_of octets)) (alike (Enrolled d q r) (Enrolled f p s) e).enrolment
+kind-alike (Enrolled d q r) (Enrolled f p s) e octets =
+    ap (λ x. octets_kind x (reading_of octets)) (alike (Enrolled d q r) (Enrolled f p s) e).enrolment
 
 -- a datagram is answered alike, and the same is kept of both lives afterwards
-pub datagram-alike : (one other : Life) → short one ≡ short other → budget_in one < most_counted → (receipt transmit : Moment) (reference : ReferenceState) (octets : List ℕ)
+pub datagram-alike : (one other : Life) → short one ≡ short other → budget_in one < most_counted
+    → (receipt transmit : Moment) (reference : ReferenceState) (octets : List ℕ)
     → (verdict one (occasion_of receipt transmit reference) octets ≡ verdict other (occasion_of receipt transmit reference) octets)
-    × (short (after_datagram one (occasion_of receipt transmit reference) octets) ≡ short (after_datagram other (occasion_of receipt transmit reference) octets))
+    × (short (after_datagram one (occasion_of receipt transmit reference) octets) ≡ short
+    (after_datagram other (occasion_of receipt transmit reference) octets))
 datagram-alike one other same few receipt transmit reference octets =
     let o = occasion_of receipt transmit reference in
     let kind = kind-alike one other same octets in (

@@ -48,4 +48,5 @@ with_query (Enrolled e queries refusals) w = Enrolled e (queries ++ w ∷ []) re
 abbrev pub short : Life → Option CustomerState
 short Unregistered = None
 short (Revoked refusals) = Some (record { account = None; refusals = tally refusals })
-short (Enrolled e queries refusals) = Some (record { account = Some (record { enrolment = e; queries = tally queries }); refusals = tally refusals })
+short (Enrolled e queries refusals) =
+    Some (record { account = Some (record { enrolment = e; queries = tally queries }); refusals = tally refusals })

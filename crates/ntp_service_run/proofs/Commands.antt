@@ -44,7 +44,8 @@ two-refusals : refused AlreadyEnrolled ≡ refused NoMemory → ⊥
 two-refusals e = cc
 
 -- what is kept of an enrolled life that is revoked
-short-revoked : (life : Life) (c : CustomerState) → short life ≡ Some c → is_some (enrolment_in life) ≡ true → Some (revoked c) ≡ short (Revoked (refusals_in life))
+short-revoked : (life : Life) (c : CustomerState) → short life ≡ Some c → is_some (enrolment_in life) ≡ true
+    → Some (revoked c) ≡ short (Revoked (refusals_in life))
 short-revoked Unregistered c e is = absurd (none-some c e)
 short-revoked (Revoked refusals) c e is = absurd (true≢false (sym is))
 short-revoked (Enrolled l queries refusals) c e is = ap (λ o. option_map revoked o) (sym e)
@@ -85,14 +86,16 @@ module _ {A : Type 0} (r s : Registry) (history : List (Event A)) (address : Add
 
     memory-in : (result : Result (Unit {0}) Refusal) → (result ≡ Err AlreadyEnrolled) ↔ (is_enrolled_at r address ≡ true)
         → command_outcome result ≡ Refused NoMemory → IsNewEnrolment history (event.Command enrolment)
-    memory-in result already e = outside (not-true (is_enrolled_at r address) (λ h. two-refusals (sym (already.1 h) ∙ refused-as result NoMemory e)))
+    memory-in result already e = outside (not-true (is_enrolled_at r address) (λ h. two-refusals (sym (already.1 h)
+        ∙ refused-as result NoMemory e)))
 
     -- what is struck out leaves all as it was
     struck : (refusal : Refusal) → is_struck (Refused refusal) ≡ true → (result : Result (Unit {0}) Refusal) → result ≡ Err refusal → s ≡ r
         → IsAnswered history (event.Command enrolment) (Refused refusal) → TellsOne history (event.Command enrolment) (Refused refusal) s
     struck refusal is result e same answered = record {
       answered = answered;
-      stands = subst (λ (b : Bool). StandsFor s (if b then history else history ++ event.Command enrolment ∷ [])) (sym is) (subst (λ x. StandsFor x history) (sym same) stands);
+      stands = subst (λ (b : Bool). StandsFor s (if b then history else history ++ event.Command enrolment ∷ [])) (sym is)
+          (subst (λ x. StandsFor x history) (sym same) stands);
     }
 
     pub enrol-tells : (result : Result (Unit {0}) Refusal) (n b : ℕ) → n ≡ non_zero_u16_get number → b ≡ non_zero_u16_get budget
@@ -110,7 +113,8 @@ module _ {A : Type 0} (r s : Registry) (history : List (Event A)) (address : Add
             memory = memory-in (Ok done) already;
           };
           stands = stands-step r s history (event.Command enrolment) stands
-              (ap (λ x. customer_at x address) ok ∙ customer_at-after_enrol r address (enrolment_of n key b) ∙ ap (λ t. Some (new_customer t)) given
+              (ap (λ x. customer_at x address) ok ∙ customer_at-after_enrol r address (enrolment_of n key b)
+              ∙ ap (λ t. Some (new_customer t)) given
               ∙ ap (λ (t : Bool). short (if t then life else Enrolled terms [] [])) (sym out))
               (λ a ne. ap (λ x. customer_at x a) ok ∙ customer_at-after_enrol-other r address (enrolment_of n key b) a ne)
               agrees;
@@ -130,16 +134,30 @@ module _ {A : Type 0} (r s : Registry) (history : List (Event A)) (address : Add
               (stands-same r history (event.Command enrolment) stands (ap (λ (t : Bool). if t then life else Enrolled terms [] []) in_it));
         }
     enrol-tells (Err KeyTaken) n b en eb already taken never ok err agrees =
-        struck KeyTaken refl (Err KeyTaken) refl err (record { as_model = λ e. absurd (true≢false e); taken = taken-in (Err KeyTaken) n en taken; memory = memory-in (Err KeyTaken) already })
+        struck KeyTaken refl (Err KeyTaken) refl err
+        (record {
+          as_model = λ e. absurd (true≢false e);
+          taken = taken-in (Err KeyTaken) n en taken;
+          memory = memory-in
+              (Err KeyTaken) already;
+        })
     enrol-tells (Err NoMemory) n b en eb already taken never ok err agrees =
-        struck NoMemory refl (Err NoMemory) refl err (record { as_model = λ e. absurd (true≢false e); taken = taken-in (Err NoMemory) n en taken; memory = memory-in (Err NoMemory) already })
+        struck NoMemory refl (Err NoMemory) refl err
+        (record {
+          as_model = λ e. absurd (true≢false e);
+          taken = taken-in (Err NoMemory) n en taken;
+          memory = memory-in
+              (Err NoMemory) already;
+        })
     enrol-tells (Err NotEnrolled) n b en eb already taken never ok err agrees = absurd (never refl)
 
   abbrev revocation : Command
   revocation = Revoke address
 
-  pub revoke-tells : (result : Result (Unit {0}) Refusal) → (result ≡ Err NotEnrolled) ↔ (is_enrolled_at r address ≡ false) → IfErr result (λ e. e ≡ NotEnrolled)
-      → OnOk result (s ≡ after_revoke r address) → OnErr result (s ≡ r) → Agrees s → TellsOne history (event.Command revocation) (command_outcome result) s
+  pub revoke-tells : (result : Result (Unit {0}) Refusal) → (result ≡ Err NotEnrolled) ↔ (is_enrolled_at r address ≡ false)
+      → IfErr result (λ e. e ≡ NotEnrolled)
+      → OnOk result (s ≡ after_revoke r address) → OnErr result (s ≡ r) → Agrees s
+      → TellsOne history (event.Command revocation) (command_outcome result) s
   revoke-tells (Ok done) refused only ok err agrees =
       let in_it : enrolled ≡ true = inside (not-false (is_enrolled_at r address) (λ h. fresh-done (refused.1 h))) in
       let c = kept-enrolled life in_it in
@@ -168,7 +186,8 @@ module _ {A : Type 0} (r s : Registry) (history : List (Event A)) (address : Add
           memory = λ e. absurd cc;
         };
         stands = subst (λ x. StandsFor x (history ++ event.Command revocation ∷ [])) (sym err)
-            (stands-same r history (event.Command revocation) stands (ap (λ (t : Bool). if t then Revoked (refusals_in life) else life) out));
+            (stands-same r history (event.Command revocation) stands
+            (ap (λ (t : Bool). if t then Revoked (refusals_in life) else life) out));
       }
   revoke-tells (Err AlreadyEnrolled) refused only ok err agrees = absurd cc
   revoke-tells (Err KeyTaken) refused only ok err agrees = absurd cc

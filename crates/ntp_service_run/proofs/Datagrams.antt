@@ -27,7 +27,8 @@ never-enrolled Unregistered e = refl
 never-enrolled (Revoked refusals) e = absurd (none-some _ (sym e))
 never-enrolled (Enrolled l queries refusals) e = absurd (none-some _ (sym e))
 
-module _ {A : Type 0} (r : Registry) (history : List (Event A)) (address : Address) (receipt transmit : Moment) (reference : ReferenceState) (octets : List ℕ) (stands : StandsFor r history) where
+module _ {A : Type 0} (r : Registry) (history : List (Event A)) (address : Address) (receipt transmit : Moment)
+    (reference : ReferenceState) (octets : List ℕ) (stands : StandsFor r history) where
   abbrev datagram : Event A
   datagram = event.Datagram address receipt transmit reference octets
 
@@ -35,7 +36,8 @@ module _ {A : Type 0} (r : Registry) (history : List (Event A)) (address : Addre
   life = life_of (own address history)
 
   -- a datagram is refused nothing
-  answered : {a : Answer} → (is_struck (outcome.Datagram a) ≡ false → outcome.Datagram a ≡ answer_to life datagram) → IsAnswered history datagram (outcome.Datagram a)
+  answered : {a : Answer} → (is_struck (outcome.Datagram a) ≡ false → outcome.Datagram a ≡ answer_to life datagram)
+      → IsAnswered history datagram (outcome.Datagram a)
   answered as_model = record { as_model = as_model; taken = (λ e. absurd cc, λ h. absurd h); memory = λ e. absurd cc }
 
   -- the register has nothing

@@ -39,9 +39,11 @@ module _ {A : Type 0} where
   life_after-append life (x ∷ xs) ys = life_after-append (after life x) xs ys
 
   -- the life of the address that the next event names
-  pub life-here : (history : List (Event A)) (e : Event A) → life_of (own (address_of e) (history ++ e ∷ [])) ≡ after (life_of (own (address_of e) history)) e
+  pub life-here : (history : List (Event A)) (e : Event A)
+      → life_of (own (address_of e) (history ++ e ∷ [])) ≡ after (life_of (own (address_of e) history)) e
   life-here history e =
-      ap life_of (own-append (address_of e) history (e ∷ []) ∙ ap (λ (t : Bool). own (address_of e) history ++ (if t then e ∷ [] else [])) (address_eq_equiv.refl (address_of e)))
+      ap life_of (own-append (address_of e) history (e ∷ [])
+      ∙ ap (λ (t : Bool). own (address_of e) history ++ (if t then e ∷ [] else [])) (address_eq_equiv.refl (address_of e)))
       ∙ life_after-append Unregistered (own (address_of e) history) (e ∷ [])
 
   -- the life of any other
@@ -56,7 +58,8 @@ module _ {A : Type 0} where
       → ((a : Address) → a ≢ address_of e → customer_at s a ≡ customer_at r a) → Agrees s → StandsFor s (history ++ e ∷ [])
   stands-step r s history e stands here there agrees = record {
     entries = λ a. ⊎_elim
-        (λ same. subst (λ b. customer_at s b ≡ short (life_of (own b (history ++ e ∷ [])))) (sym same) (here ∙ ap short (sym (life-here history e))))
+        (λ same. subst (λ b. customer_at s b ≡ short (life_of (own b (history ++ e ∷ [])))) (sym same) (here
+        ∙ ap short (sym (life-here history e))))
         (λ other. there a other ∙ stands.entries a ∙ ap (λ h. short (life_of h)) (sym (life-there a history e other)))
         (same_or_other_address a (address_of e));
     agrees = agrees;

@@ -41,13 +41,15 @@ module _ {A : Type 0} (r : Registry) (history : List (Event A)) (stands : Stands
 
   -- the register finds an address enrolled where its life is
   pub enrolled-is : (a : Address) → is_enrolled_at r a ≡ is_some (enrolment_in (life_of (own a history)))
-  enrolled-is a = ap (λ (o : Option CustomerState). option_map_or is_enrolled o false) (stands.entries a) ∙ enrolled-short (life_of (own a history))
+  enrolled-is a = ap (λ (o : Option CustomerState). option_map_or is_enrolled o false) (stands.entries a)
+      ∙ enrolled-short (life_of (own a history))
 
   holds : (a : Address) (number : ℕ) → IsEnrolledWith (life_of (own a history)) number → Contains (numbers_at r a) number
   holds a number is = subst (λ l. Contains l number) (sym (numbers-are a)) is
 
   -- no two addresses are enrolled with one number
-  pub one-enrolled : (one two : Address) (number : ℕ) → IsEnrolledWith (life_of (own one history)) number → IsEnrolledWith (life_of (own two history)) number → one ≡ two
+  pub one-enrolled : (one two : Address) (number : ℕ) → IsEnrolledWith (life_of (own one history)) number
+      → IsEnrolledWith (life_of (own two history)) number → one ≡ two
   one-enrolled one two number first second = one-holder r one two number stands.agrees (holds one number first) (holds two number second)
 
   -- the register finds a number taken exactly where another address is enrolled with it
@@ -55,7 +57,8 @@ module _ {A : Type 0} (r : Registry) (history : List (Event A)) (stands : Stands
       → ((is_enrolled_at r address ≡ false) × IsSome (holder_of r n)) ↔ IsTaken history (event.Command (Enrol address number key budget))
   taken-so address number key budget n is = (there, back)
     where
-      there : (is_enrolled_at r address ≡ false) × IsSome (holder_of r n) → IsTaken history (event.Command (Enrol address number key budget))
+      there : (is_enrolled_at r address ≡ false) × IsSome (holder_of r n)
+          → IsTaken history (event.Command (Enrol address number key budget))
       there h =
           let holder = the-some (holder_of r n) h.1 in
           let other = other-holder r address holder.0 n stands.agrees h.0 holder.1 in

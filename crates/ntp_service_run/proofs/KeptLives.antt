@@ -34,7 +34,8 @@ module _ {A : Type 0} where
   tells-all one other (event.Command (Enrol address number key budget)) same few =
       let enrolled = ap is_some (alike one other same).enrolment in (
         ap (λ (b : Bool). if b then outcome.Refused AlreadyEnrolled else outcome.Done) enrolled,
-        ap (λ (b : Bool). short (if b then one else Enrolled (enrolment_of (non_zero_u16_get number) key (non_zero_u16_get budget)) [] [])) enrolled
+        ap (λ (b : Bool). short (if b then one else Enrolled
+            (enrolment_of (non_zero_u16_get number) key (non_zero_u16_get budget)) [] [])) enrolled
             ∙ either (is_some (enrolment_in other)) one other _ same,
       )
   tells-all one other (event.Command (Revoke address)) same few =

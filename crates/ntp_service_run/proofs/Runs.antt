@@ -16,7 +16,8 @@ use Rattle.ntp_service_run.proofs.Histories.{own-append, life_after-append, othe
 
 module _ {A : Type 0} where
   -- ---- what is said of some events and then of others
-  says_after-append : (life : Life) (xs ys : List (Event A)) → says_after life (xs ++ ys) ≡ says_after life xs ++ says_after (life_after life xs) ys
+  says_after-append : (life : Life) (xs ys : List (Event A))
+      → says_after life (xs ++ ys) ≡ says_after life xs ++ says_after (life_after life xs) ys
   says_after-append life [] ys = refl
   says_after-append life (x ∷ xs) ys = ap (λ os. answer_to life x ∷ os) (says_after-append (after life x) xs ys)
 
@@ -25,32 +26,41 @@ module _ {A : Type 0} where
   length-says_after life (x ∷ xs) = ap suc (length-says_after (after life x) xs)
 
   -- the last answers, as many as events came last
-  pub says-last : (a : Address) (history events : List (Event A)) → last (length (own a events)) (says (own a (history ++ events))) ≡ says_after (life_of (own a history)) (own a events)
+  pub says-last : (a : Address) (history events : List (Event A))
+      → last (length (own a events)) (says (own a (history ++ events))) ≡ says_after (life_of (own a history)) (own a events)
   says-last a history events =
       let before = says (own a history) in
       let behind = says_after (life_of (own a history)) (own a events) in
-      let whole : says (own a (history ++ events)) ≡ before ++ behind = ap says (own-append a history events) ∙ says_after-append Unregistered (own a history) (own a events) in
-      let count : length (before ++ behind) - length (own a events) ≡ length before = omega (arith, length-append before behind, length-says_after (life_of (own a history)) (own a events)) in
+      let whole : says (own a (history ++ events)) ≡ before ++ behind = ap says (own-append a history events)
+      ∙ says_after-append Unregistered (own a history) (own a events) in
+      let count : length (before ++ behind) - length (own a events) ≡ length before =
+      omega (arith, length-append before behind, length-says_after (life_of (own a history)) (own a events)) in
       ap (last (length (own a events))) whole ∙ drop_at before behind (length (before ++ behind) - length (own a events)) (sym count)
 
   -- ---- outcomes of some events and then of others
-  kept-append : (xs ys : List (Event A)) (os ps : List Outcome) → length os ≡ length xs → kept (xs ++ ys) (os ++ ps) ≡ kept xs os ++ kept ys ps
+  kept-append : (xs ys : List (Event A)) (os ps : List Outcome) → length os ≡ length xs
+      → kept (xs ++ ys) (os ++ ps) ≡ kept xs os ++ kept ys ps
   kept-append [] ys [] ps e = refl
   kept-append [] ys (o ∷ os) ps e = absurd (omega arith)
   kept-append (x ∷ xs) ys [] ps e = absurd (omega arith)
   kept-append (x ∷ xs) ys (o ∷ os) ps e = chosen (kept-append xs ys os ps (omega arith)) (is_struck o)
     where
-      chosen : kept (xs ++ ys) (os ++ ps) ≡ kept xs os ++ kept ys ps → (b : Bool) → (if b then kept (xs ++ ys) (os ++ ps) else x ∷ kept (xs ++ ys) (os ++ ps)) ≡ (if b then kept xs os else x ∷ kept xs os) ++ kept ys ps
+      chosen : kept (xs ++ ys) (os ++ ps) ≡ kept xs os ++ kept ys ps → (b : Bool)
+          → (if b then kept (xs ++ ys) (os ++ ps) else x ∷ kept (xs ++ ys) (os ++ ps)) ≡
+          (if b then kept xs os else x ∷ kept xs os) ++ kept ys ps
       chosen more true = more
       chosen more false = ap (λ l. x ∷ l) more
 
-  told-append : (a : Address) (xs ys : List (Event A)) (os ps : List Outcome) → length os ≡ length xs → told a (xs ++ ys) (os ++ ps) ≡ told a xs os ++ told a ys ps
+  told-append : (a : Address) (xs ys : List (Event A)) (os ps : List Outcome) → length os ≡ length xs
+      → told a (xs ++ ys) (os ++ ps) ≡ told a xs os ++ told a ys ps
   told-append a [] ys [] ps e = refl
   told-append a [] ys (o ∷ os) ps e = absurd (omega arith)
   told-append a (x ∷ xs) ys [] ps e = absurd (omega arith)
   told-append a (x ∷ xs) ys (o ∷ os) ps e = chosen (told-append a xs ys os ps (omega arith)) (not (is_struck o) && names a x)
     where
-      chosen : told a (xs ++ ys) (os ++ ps) ≡ told a xs os ++ told a ys ps → (b : Bool) → (if b then o ∷ told a (xs ++ ys) (os ++ ps) else told a (xs ++ ys) (os ++ ps)) ≡ (if b then o ∷ told a xs os else told a xs os) ++ told a ys ps
+      chosen : told a (xs ++ ys) (os ++ ps) ≡ told a xs os ++ told a ys ps → (b : Bool)
+          → (if b then o ∷ told a (xs ++ ys) (os ++ ps) else told a (xs ++ ys) (os ++ ps)) ≡
+          (if b then o ∷ told a xs os else told a xs os) ++ told a ys ps
       chosen more true = ap (λ l. o ∷ l) more
       chosen more false = more
 
@@ -68,27 +78,38 @@ module _ {A : Type 0} where
       where
         here : is_struck o ≡ false → a ≡ address_of e → o ∷ [] ≡ says_after (life_of (own a history)) (own a (e ∷ []))
         here plain same =
-            let mine : own a (e ∷ []) ≡ e ∷ [] = ap (λ (b : Bool). if b then e ∷ [] else []) (ap (λ x. address_eq a x) (sym same) ∙ address_eq_equiv.refl a) in
-            ap (λ x. x ∷ []) (t.answered.as_model plain ∙ ap (λ x. answer_to (life_of (own x history)) e) (sym same)) ∙ ap (says_after (life_of (own a history))) (sym mine)
+            let mine : own a (e ∷ []) ≡ e ∷ [] = ap (λ (b : Bool). if b then e ∷ [] else []) (ap (λ x. address_eq a x) (sym same)
+            ∙ address_eq_equiv.refl a) in
+            ap (λ x. x ∷ []) (t.answered.as_model plain ∙ ap (λ x. answer_to (life_of (own x history)) e) (sym same))
+            ∙ ap (says_after (life_of (own a history))) (sym mine)
 
-        chosen : (b : Bool) → is_struck o ≡ b → (if not b && names a e then o ∷ [] else []) ≡ says_after (life_of (own a history)) (own a (if b then [] else e ∷ []))
+        chosen : (b : Bool) → is_struck o ≡ b
+            → (if not b && names a e then o ∷ [] else []) ≡ says_after (life_of (own a history)) (own a (if b then [] else e ∷ []))
         chosen true is = refl
         chosen false is = ⊎_elim
-            (λ same. ap (λ (b : Bool). if b then o ∷ [] else []) (ap (λ x. address_eq a x) (sym same) ∙ address_eq_equiv.refl a) ∙ here is same)
+            (λ same. ap (λ (b : Bool). if b then o ∷ [] else []) (ap (λ x. address_eq a x) (sym same) ∙ address_eq_equiv.refl a)
+            ∙ here is same)
             (λ other. ap (λ (b : Bool). if b then o ∷ [] else []) (other-address a (address_of e) other)
-            ∙ ap (λ (b : Bool). says_after (life_of (own a history)) (if b then e ∷ [] else [])) (sym (other-address a (address_of e) other)))
+            ∙ ap (λ (b : Bool). says_after (life_of (own a history)) (if b then e ∷ [] else []))
+            (sym (other-address a (address_of e) other)))
             (same_or_other_address a (address_of e))
 
 -- each is answered, and then one more
-AreAnswered-push : {A : Type 0} (history events : List (Event A)) (outcomes : List Outcome) (e : Event A) (o : Outcome) → length outcomes ≡ length events
-    → AreAnswered history events outcomes → IsAnswered (history ++ kept events outcomes) e o → AreAnswered history (events ++ e ∷ []) (outcomes ++ o ∷ [])
+AreAnswered-push : {A : Type 0} (history events : List (Event A)) (outcomes : List Outcome) (e : Event A) (o : Outcome)
+    → length outcomes ≡ length events
+    → AreAnswered history events outcomes → IsAnswered (history ++ kept events outcomes) e o
+    → AreAnswered history (events ++ e ∷ []) (outcomes ++ o ∷ [])
 AreAnswered-push history [] [] e o same all one = (subst (λ h. IsAnswered h e o) (append-nil history) one, tt)
 AreAnswered-push history [] (p ∷ ps) e o same all one = absurd (omega arith)
 AreAnswered-push history (x ∷ xs) [] e o same all one = absurd (omega arith)
-AreAnswered-push history (x ∷ xs) (p ∷ ps) e o same all one =
-    (all.0, AreAnswered-push (if is_struck p then history else history ++ x ∷ []) xs ps e o (omega arith) all.1 (subst (λ h. IsAnswered h e o) (sym (regrouped (is_struck p))) one))
+AreAnswered-push history (x ∷ xs) (p ∷ ps) e o same all one = (
+  all.0,
+  AreAnswered-push (if is_struck p then history else history ++ x ∷ []) xs ps e o (omega arith) all.1
+      (subst (λ h. IsAnswered h e o) (sym (regrouped (is_struck p))) one),
+)
   where
-    regrouped : (b : Bool) → (if b then history else history ++ x ∷ []) ++ kept xs ps ≡ history ++ (if b then kept xs ps else x ∷ kept xs ps)
+    regrouped : (b : Bool)
+        → (if b then history else history ++ x ∷ []) ++ kept xs ps ≡ history ++ (if b then kept xs ps else x ∷ kept xs ps)
     regrouped true = refl
     regrouped false = append_assoc history (x ∷ []) (kept xs ps)
 
@@ -100,7 +121,8 @@ pub record Goes {A : Type 0} (history events : List (Event A)) (outcomes : List 
   pub stands : StandsFor s (history ++ kept events outcomes)
 
 pub Goes-nil : {A : Type 0} (history : List (Event A)) (s : Registry) → StandsFor s history → Goes history [] [] s
-Goes-nil history s stands = record { each = refl; told = λ a. refl; answered = tt; stands = subst (λ l. StandsFor s l) (sym (append-nil history)) stands }
+Goes-nil history s stands =
+    record { each = refl; told = λ a. refl; answered = tt; stands = subst (λ l. StandsFor s l) (sym (append-nil history)) stands }
 
 pub Goes-push : {A : Type 0} (history events : List (Event A)) (outcomes : List Outcome) (r s : Registry) (e : Event A) (o : Outcome)
     → Goes history events outcomes r → (StandsFor r (history ++ kept events outcomes) → TellsOne (history ++ kept events outcomes) e o s)
@@ -116,19 +138,29 @@ Goes-push history events outcomes r s e o g step =
           told-append a events (e ∷ []) outcomes (o ∷ []) g.each
           ∙ ap (λ l. l ++ told a (e ∷ []) (o ∷ [])) (g.told a)
           ∙ ap (λ l. says_after (life_of (own a history)) (own a done) ++ l) (one-told (history ++ done) e o s t a)
-          ∙ ap (λ life. says_after (life_of (own a history)) (own a done) ++ says_after life (own a new)) (ap life_of (own-append a history done) ∙ life_after-append Unregistered (own a history) (own a done))
+          ∙ ap (λ life. says_after (life_of (own a history)) (own a done) ++ says_after life (own a new))
+          (ap life_of (own-append a history done) ∙ life_after-append Unregistered (own a history) (own a done))
           ∙ sym (says_after-append (life_of (own a history)) (own a done) (own a new))
           ∙ ap (says_after (life_of (own a history))) (sym (own-append a done new) ∙ ap (own a) (sym all));
       answered = AreAnswered-push history events outcomes e o g.each g.answered t.answered;
-      stands = subst (λ l. StandsFor s l) (append_assoc history done new ∙ ap (λ l. history ++ l) (sym all)) (one-stands (history ++ done) e o s t);
+      stands = subst (λ l. StandsFor s l) (append_assoc history done new
+          ∙ ap (λ l. history ++ l) (sym all)) (one-stands (history ++ done) e o s t);
     }
 
 -- and at the end
-pub Goes-tells : {A : Type 0} (history events : List (Event A)) (outcomes : List Outcome) (s : Registry) → Goes history events outcomes s → Tells history events outcomes s
-Goes-tells history events outcomes s g = record { each = g.each; told = λ a. g.told a ∙ sym (says-last a history (kept events outcomes)); answered = g.answered; stands = g.stands }
+pub Goes-tells : {A : Type 0} (history events : List (Event A)) (outcomes : List Outcome) (s : Registry) → Goes history events outcomes s
+    → Tells history events outcomes s
+Goes-tells history events outcomes s g = record {
+  each = g.each;
+  told = λ a. g.told a
+      ∙ sym (says-last a history (kept events outcomes));
+  answered = g.answered;
+  stands = g.stands;
+}
 
 -- two services that were told the same of an address tell it the same
-pub alike : {A : Type 0} (a : Address) (h h' xs ys : List (Event A)) (os ps : List Outcome) (r s : Registry) → Tells h xs os r → Tells h' ys ps s
+pub alike : {A : Type 0} (a : Address) (h h' xs ys : List (Event A)) (os ps : List Outcome) (r s : Registry) → Tells h xs os r
+    → Tells h' ys ps s
     → own a h ≡ own a h' → own a (kept xs os) ≡ own a (kept ys ps) → told a xs os ≡ told a ys ps
 alike a h h' xs ys os ps r s t u before now =
     t.told a ∙ says-last a h (kept xs os)

@@ -51,7 +51,8 @@ kept (e ∷ events) (o ∷ outcomes) = if is_struck o then kept events outcomes 
 abbrev pub told : {A : Type 0} → Address → List (Event A) → List Outcome → List Outcome
 told address [] outcomes = []
 told address (e ∷ events) [] = []
-told address (e ∷ events) (o ∷ outcomes) = if not (is_struck o) && names address e then o ∷ told address events outcomes else told address events outcomes
+told address (e ∷ events) (o ∷ outcomes) =
+    if not (is_struck o) && names address e then o ∷ told address events outcomes else told address events outcomes
 
 -- the last n members of a list (profile)
 abbrev pub last : {X : Type 0} → ℕ → List X → List X
@@ -96,7 +97,8 @@ pub record TellsOne {A : Type 0} (history : List (Event A)) (e : Event A) (o : O
 abbrev pub AreAnswered : {A : Type 0} → List (Event A) → List (Event A) → List Outcome → Type 0
 AreAnswered history [] outcomes = Unit {0}
 AreAnswered history (e ∷ events) [] = ⊥
-AreAnswered history (e ∷ events) (o ∷ outcomes) = IsAnswered history e o × AreAnswered (if is_struck o then history else history ++ e ∷ []) events outcomes
+AreAnswered history (e ∷ events) (o ∷ outcomes) = IsAnswered history e o
+    × AreAnswered (if is_struck o then history else history ++ e ∷ []) events outcomes
 
 -- the headline: to each address the outcomes of its own events are those that the model of one customer gives to its own
 -- events alone, once what is struck out is left out of the list; and the service then stands for what it stood for, followed by

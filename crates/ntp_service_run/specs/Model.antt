@@ -15,7 +15,8 @@ use Rattle.ntp_admin.specs.declared.outcome.Outcome.TheVariants as outcome
 
 -- the answer to a command (profile)
 abbrev pub command_answer : Life → Command → Outcome
-command_answer life (Enrol address number key budget) = if is_some (enrolment_in life) then outcome.Refused AlreadyEnrolled else outcome.Done
+command_answer life (Enrol address number key budget) =
+    if is_some (enrolment_in life) then outcome.Refused AlreadyEnrolled else outcome.Done
 command_answer life (Revoke address) = if is_some (enrolment_in life) then outcome.Done else outcome.Refused NotEnrolled
 
 -- the life after a command (profile)
@@ -26,7 +27,8 @@ after_command life (Revoke address) = if is_some (enrolment_in life) then Revoke
 
 -- the answer to an event (profile)
 abbrev pub answer_to : {A : Type 0} → Life → Event A → Outcome
-answer_to life (event.Datagram address receipt transmit reference octets) = outcome.Datagram (verdict life (occasion_of receipt transmit reference) octets)
+answer_to life (event.Datagram address receipt transmit reference octets) =
+    outcome.Datagram (verdict life (occasion_of receipt transmit reference) octets)
 answer_to life (event.Command command) = command_answer life command
 
 -- the life after an event (profile)

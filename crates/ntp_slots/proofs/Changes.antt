@@ -88,12 +88,14 @@ change-at_place receive change xs i e distinct at =
     let passes : is_unused_at receive (get_or xs i d) ≡ true = (position-Some (is_unused_at receive) xs i d at).1 in
     elim (cases_eq k i) [
       | inl same ↦
-          let written : get_or (set xs i (change (get_or xs i e))) i d ≡ change (get_or xs i e) = get_or-set_same xs i (change (get_or xs i e)) d there in
+          let written : get_or (set xs i (change (get_or xs i e))) i d ≡ change (get_or xs i e) =
+          get_or-set_same xs i (change (get_or xs i e)) d there in
           let made : one (get_or xs i d) ≡ change (get_or xs i d) = rw passes refl in
           ap (λ j. get_or (set xs i (change (get_or xs i e))) j d) same ∙ written ∙ ap change (get_or_default xs i e d there)
           ∙ sym made ∙ sym (mapped ∙ ap (λ j. one (get_or xs j d)) same)
       | inr other ↦
-          let fails : is_unused_at receive (get_or xs k d) ≡ false = false_from_ne_true _ (λ too. only-there xs i k d distinct there here other
+          let fails : is_unused_at receive (get_or xs k d) ≡ false =
+          false_from_ne_true _ (λ too. only-there xs i k d distinct there here other
           (stamp-from_test receive (get_or xs k d) too ∙ sym (stamp-from_test receive (get_or xs i d) passes))) in
           let left : one (get_or xs k d) ≡ get_or xs k d = rw fails refl in
           get_or-set_other xs i k (change (get_or xs i e)) d other ∙ sym left ∙ sym mapped
@@ -110,10 +112,12 @@ pub written-at_place : (receive : Stamp) (change : Slot → Slot) (xs ys : List 
     → position (is_unused_at receive) xs ≡ Some i → ys ≡ xs
     → refill (length xs) xs (set ys i (change (get_or ys i d))) ≡ with_unused xs receive change
 written-at_place receive change xs ys i d distinct at same =
-    rw same (refill-written xs (set xs i (change (get_or xs i d))) (length-set xs i (change (get_or xs i d))) ∙ change-at_place receive change xs i d distinct at)
+    rw same (refill-written xs (set xs i (change (get_or xs i d))) (length-set xs i (change (get_or xs i d)))
+    ∙ change-at_place receive change xs i d distinct at)
 
 -- where there is no such exchange, nothing changes
-pub unchanged-from_none : (receive : Stamp) (change : Slot → Slot) (xs : List Slot) → unused_at xs receive ≡ None → with_unused xs receive change ≡ xs
+pub unchanged-from_none : (receive : Stamp) (change : Slot → Slot) (xs : List Slot) → unused_at xs receive ≡ None
+    → with_unused xs receive change ≡ xs
 unchanged-from_none receive change xs none = map-unfound (is_unused_at receive) change xs none
 
 -- as many exchanges stay

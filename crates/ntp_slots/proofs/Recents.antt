@@ -65,7 +65,8 @@ with_recent-recent xs = take-append-drop (length xs - most_slots) xs
 pub recent-with_recent : (xs ys : List Slot) → length ys ≡ length (recent xs) → recent (with_recent xs ys) ≡ ys
 unfolding recent with_recent
 recent-with_recent xs ys as_many =
-    let before : length (take (length xs - most_slots) xs) ≡ length xs - most_slots = length-take-le (length xs - most_slots) xs (omega arith) in
+    let before : length (take (length xs - most_slots) xs) ≡ length xs - most_slots =
+    length-take-le (length xs - most_slots) xs (omega arith) in
     let past : length (take (length xs - most_slots) xs ++ ys) - most_slots ≡ length xs - most_slots =
     omega (arith, before, length-append (take (length xs - most_slots) xs) ys, as_many, length-drop (length xs - most_slots) xs) in
     rw past (drop_at (take (length xs - most_slots) xs) ys (length xs - most_slots) before)
@@ -84,7 +85,8 @@ pub recent-spent : (xs : List Slot) (receive : Stamp) → recent (with_recent xs
 recent-spent xs receive = recent-with_recent xs (spent (recent xs) receive) (length-spent (recent xs) receive)
 
 -- and where one departs, those with it departed
-pub recent-departed : (xs : List Slot) (receive : Stamp) (m : Moment) → recent (with_recent xs (departed (recent xs) receive m)) ≡ departed (recent xs) receive m
+pub recent-departed : (xs : List Slot) (receive : Stamp) (m : Moment)
+    → recent (with_recent xs (departed (recent xs) receive m)) ≡ departed (recent xs) receive m
 recent-departed xs receive m = recent-with_recent xs (departed (recent xs) receive m) (length-departed (recent xs) receive m)
 
 -- where there is room, all are recent with one more

@@ -63,10 +63,12 @@ AreApart-drop n xs are =
       distinct = λ i j d before below same.
           let inside : n + j < length (receives xs) = omega (arith, below, ap length left, length-drop n (receives xs)) in
           are.distinct (n + i) (n + j) d (omega arith) inside
-          (sym (ap (λ ys. get_or ys i d) left ∙ get_or-drop n (receives xs) i d) ∙ same ∙ ap (λ ys. get_or ys j d) left ∙ get_or-drop n (receives xs) j d);
+          (sym (ap (λ ys. get_or ys i d) left ∙ get_or-drop n (receives xs) i d) ∙ same ∙ ap (λ ys. get_or ys j d) left
+          ∙ get_or-drop n (receives xs) j d);
       received = All-drop (λ x. x.receive.0 ≢ 0) n xs are.received;
       apart = rw left (All-weaker (λ x. IsTrue (is_free (receives xs) x.transmit)) (λ x. IsTrue (is_free (drop n (receives xs)) x.transmit))
-          (λ x free. free-drop n (receives xs) x.transmit free) (drop n xs) (All-drop (λ x. IsTrue (is_free (receives xs) x.transmit)) n xs are.apart));
+          (λ x free. free-drop n (receives xs) x.transmit free) (drop n xs)
+          (All-drop (λ x. IsTrue (is_free (receives xs) x.transmit)) n xs are.apart));
     }
 
 -- with a new exchange behind them, whose stamps are free
@@ -83,7 +85,8 @@ AreApart-push xs receive transmit are receive_free transmit_free =
       apart = rw more (All-push (λ x. IsTrue (is_free (receives xs ++ receive ∷ []) x.transmit)) xs x
           (λ k d below. free-push (receives xs) receive (get_or xs k d).transmit (are.apart k d below) (λ same.
           free-apart (all_stamps xs) receive (get_or xs k d).transmit receive_free
-          (Contains-append_right (receives xs) (transmits xs) _ (Contains-map (λ x. x.transmit) xs (get_or xs k d) (Contains-get_or xs k d below))) (sym same)))
+          (Contains-append_right (receives xs) (transmits xs) _
+          (Contains-map (λ x. x.transmit) xs (get_or xs k d) (Contains-get_or xs k d below))) (sym same)))
           transmit_free);
     }
 
@@ -104,8 +107,10 @@ AreSaved-push xs receive transmit are receive_free transmit_free =
     }
 
 -- where an exchange changes no receive stamp, and its transmit stamp to a free one or not
-pub AreSaved-with_unused : (xs : List Slot) (receive : Stamp) (change : Slot → Slot) → AreSaved xs → ((x : Slot) → (change x).receive ≡ x.receive)
-    → ((x : Slot) → IsTrue (is_free (receives xs) x.transmit) → IsTrue (is_free (receives xs) (change x).transmit)) → AreSaved (with_unused xs receive change)
+pub AreSaved-with_unused : (xs : List Slot) (receive : Stamp) (change : Slot → Slot) → AreSaved xs
+    → ((x : Slot) → (change x).receive ≡ x.receive)
+    → ((x : Slot) → IsTrue (is_free (receives xs) x.transmit) → IsTrue (is_free (receives xs) (change x).transmit))
+    → AreSaved (with_unused xs receive change)
 AreSaved-with_unused xs receive change are keeps frees =
     let same : receives (with_unused xs receive change) ≡ receives xs = receives-with_unused receive change xs keeps in
     record {
@@ -116,7 +121,8 @@ AreSaved-with_unused xs receive change are keeps frees =
             | inl here ↦ rw (here, keeps (get_or xs k d)) (are.received k d below)
             | inr past ↦ rw past (are.received k d below)
           ]);
-      apart = rw same (All-map (λ x. IsTrue (is_free (receives xs) x.transmit)) (λ x. cond (is_unused_at receive x) (change x) x) xs (λ k d below.
+      apart = rw same (All-map (λ x. IsTrue (is_free (receives xs) x.transmit)) (λ x. cond (is_unused_at receive x) (change x) x) xs
+          (λ k d below.
           elim (cases_Bool (is_unused_at receive (get_or xs k d))) [
             | inl here ↦ rw here (frees (get_or xs k d) (are.apart k d below))
             | inr past ↦ rw past (are.apart k d below)
@@ -139,19 +145,24 @@ AreSaved-departed xs receive m are =
 -- of exchanges that are saved, two with one receive stamp are the same
 pub one-at_most : (xs : List Slot) → AreSaved xs → (x y : Slot) → Contains xs x → Contains xs y → x.receive ≡ y.receive → x ≡ y
 one-at_most xs are x y there here same =
-    let at_x : get_or (receives xs) there.0 x.receive ≡ x.receive = get_or-map (λ x. x.receive) xs there.0 x x.receive there.1 ∙ ap (λ x. x.receive) there.2 in
-    let at_y : get_or (receives xs) here.0 x.receive ≡ y.receive = get_or-map (λ x. x.receive) xs here.0 y x.receive here.1 ∙ ap (λ x. x.receive) here.2 in
+    let at_x : get_or (receives xs) there.0 x.receive ≡ x.receive = get_or-map (λ x. x.receive) xs there.0 x x.receive there.1
+    ∙ ap (λ x. x.receive) there.2 in
+    let at_y : get_or (receives xs) here.0 x.receive ≡ y.receive = get_or-map (λ x. x.receive) xs here.0 y x.receive here.1
+    ∙ ap (λ x. x.receive) here.2 in
     elim (cases_order there.0 here.0) [
       | inl equal ↦ sym there.2 ∙ ap (λ k. get_or xs k x) equal ∙ get_or_default xs here.0 x y here.1 ∙ here.2
-      | inr (inl before) ↦ absurd (are.distinct there.0 here.0 x.receive before (omega (arith, length-map xs (λ x. x.receive), here.1)) (at_x ∙ same ∙ sym at_y))
-      | inr (inr after) ↦ absurd (are.distinct here.0 there.0 x.receive after (omega (arith, length-map xs (λ x. x.receive), there.1)) (at_y ∙ sym same ∙ sym at_x))
+      | inr (inl before) ↦ absurd (are.distinct there.0 here.0 x.receive before (omega (arith, length-map xs (λ x. x.receive), here.1))
+          (at_x ∙ same ∙ sym at_y))
+      | inr (inr after) ↦ absurd (are.distinct here.0 there.0 x.receive after (omega (arith, length-map xs (λ x. x.receive), there.1))
+          (at_y ∙ sym same ∙ sym at_x))
     ]
 
 -- of exchanges that are saved, none has a stamp 0, and no transmit stamp is a receive stamp
 pub stamps-apart : (xs : List Slot) → AreSaved xs → (x y : Slot) → Contains xs x → Contains xs y
     → (x.receive.0 ≢ 0) × (x.transmit.0 ≢ 0) × (x.transmit ≢ y.receive)
 stamps-apart xs are x y there here =
-    let free : IsTrue (is_free (receives xs) x.transmit) = All-contains (λ x. IsTrue (is_free (receives xs) x.transmit)) xs x are.apart there in (
+    let free : IsTrue (is_free (receives xs) x.transmit) =
+    All-contains (λ x. IsTrue (is_free (receives xs) x.transmit)) xs x are.apart there in (
       All-contains (λ x. x.receive.0 ≢ 0) xs x are.received there,
       free-nonzero (receives xs) x.transmit free,
       λ same. free-apart (receives xs) x.transmit y.receive free (Contains-map (λ x. x.receive) xs y here) (sym same),
@@ -208,8 +219,10 @@ unused-from xs receive are None none = find-neither (is_received_at receive) (λ
 unused-from xs receive are (Some x) found =
     elim (cases_Bool x.used) [
       | inl used ↦ used-alone xs receive x are found used (unused_at xs receive) refl ∙ sym (cond-true x.used None (Some x) used)
-      | inr unused ↦ find-both (is_received_at receive) (λ y. not y.used) xs x found (not_from_false x.used unused) ∙ sym (cond-false x.used None (Some x) unused)
+      | inr unused ↦ find-both (is_received_at receive) (λ y. not y.used) xs x found (not_from_false x.used unused)
+          ∙ sym (cond-false x.used None (Some x) unused)
     ]
 
-pub unused_at-from_exchange_at : (xs : List Slot) (receive : Stamp) → AreSaved xs → unused_at xs receive ≡ option_and_then unless_used (exchange_at xs receive)
+pub unused_at-from_exchange_at : (xs : List Slot) (receive : Stamp) → AreSaved xs
+    → unused_at xs receive ≡ option_and_then unless_used (exchange_at xs receive)
 unused_at-from_exchange_at xs receive are = unused-from xs receive are (exchange_at xs receive) refl

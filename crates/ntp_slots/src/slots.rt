@@ -17,7 +17,7 @@ const MOST_SLOTS: usize = 4;
 /// them as a list, oldest first.
 #[derive(Drop)]
 pub struct Slots<A: Allocator = Global> {
-    kept: ArrayVec<Slot, MOST_SLOTS>,
+    exchanges: ArrayVec<Slot, MOST_SLOTS>,
     // The allocator's type is part of the slots'.
     memory: PhantomData<A>,
 }
@@ -32,9 +32,9 @@ impl<A: Allocator> Model for Slots<A> {
 
     ghost coded = { coded_exchanges };
 
-    ghost view = { λ s. s.kept.items };
+    ghost view = { λ s. s.exchanges.items };
 
-    ghost invariant = { λ s. AreSaved s.kept.items };
+    ghost invariant = { λ s. AreSaved s.exchanges.items };
 }
 
 impl<A: Allocator> Slots<A> {
@@ -45,7 +45,7 @@ impl<A: Allocator> Slots<A> {
     {
         let _ = alloc;
         Ok(Slots {
-            kept: ArrayVec::new(),
+            exchanges: ArrayVec::new(),
             memory: PhantomData,
         })
     }
@@ -56,7 +56,7 @@ impl<A: Allocator> Slots<A> {
         ensures unused { unused_at self.now receive ≡ option_and_then unless_used result }
         ensures saved { AreSaved self.now }
     {
-        exchange_in(self.kept.as_slice(), receive)
+        exchange_in(self.exchanges.as_slice(), receive)
     }
 
     /// The receive stamps, oldest first, in units of 2^-32 seconds.
@@ -65,7 +65,7 @@ impl<A: Allocator> Slots<A> {
         ensures saved { AreSaved self.now }
     {
         let mut stamps = ArrayVec::new();
-        for slot in self.kept.as_slice() {
+        for slot in self.exchanges.as_slice() {
             stamps.push(slot.receive);
         }
         stamps
@@ -77,7 +77,7 @@ impl<A: Allocator> Slots<A> {
         ensures saved { AreSaved self.now }
     {
         let mut stamps = self.receive_stamps();
-        for slot in self.kept.as_slice() {
+        for slot in self.exchanges.as_slice() {
             stamps.push(slot.transmit);
         }
         stamps
@@ -91,10 +91,10 @@ impl<A: Allocator> Slots<A> {
         ensures unchanged { OnFalse result (self.new ≡ self.old) }
         ensures saved { AreSaved self.new }
     {
-        let Some(spent) = unused_place(self.kept.as_slice(), receive) else {
+        let Some(spent) = unused_place(self.exchanges.as_slice(), receive) else {
             return false;
         };
-        self.kept.as_mut_slice()[spent].used = true;
+        self.exchanges.as_mut_slice()[spent].used = true;
         true
     }
 
@@ -107,10 +107,10 @@ impl<A: Allocator> Slots<A> {
         ensures pushed { self.new ≡ recent (self.old ++ new_exchange receive transmit ∷ []) }
         ensures saved { AreSaved self.new }
     {
-        if self.kept.is_full() {
-            self.kept.remove(0);
+        if self.exchanges.is_full() {
+            self.exchanges.remove(0);
         }
-        self.kept.push(Slot {
+        self.exchanges.push(Slot {
             receive,
             transmit,
             used: false,
@@ -126,12 +126,12 @@ impl<A: Allocator> Slots<A> {
         ensures unchanged { OnFalse result (self.new ≡ self.old) }
         ensures saved { AreSaved self.new }
     {
-        let Some(departed) = unused_place(self.kept.as_slice(), receive) else {
+        let Some(departed) = unused_place(self.exchanges.as_slice(), receive) else {
             return false;
         };
         let stamps = self.receive_stamps();
         let transmit = fresh(moment.stamp(), stamps.as_slice());
-        self.kept.as_mut_slice()[departed].transmit = transmit;
+        self.exchanges.as_mut_slice()[departed].transmit = transmit;
         true
     }
 }

@@ -13,8 +13,11 @@ lived None refusals is more =
     (Revoked r.0, λ i. Some (record { account = None; refusals = r.1 i }))
 lived (Some a) refusals is more =
     let r = tally-of_some_list refusals is in
-    let q = tally-of_some_list a.queries more in
-    (Enrolled a.enrolment q.0 r.0, λ i. Some (record { account = Some (record { enrolment = a.enrolment; queries = q.1 i }); refusals = r.1 i }))
+    let q = tally-of_some_list a.queries more in (
+      Enrolled a.enrolment q.0 r.0,
+      λ i. Some
+          (record { account = Some (record { enrolment = a.enrolment; queries = q.1 i }); refusals = r.1 i }),
+    )
 
 pub returns : goal.returns
 returns c = λ customer are. lived customer.account customer.refusals are.refusals are.queries

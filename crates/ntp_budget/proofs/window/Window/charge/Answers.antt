@@ -14,7 +14,9 @@ returns-clause-counted c = λ windows is.
     ])
 
 pub returns-clause-after : goal.returns-clause-after
-returns-clause-after c = λ windows is. rw (tally-append windows c.args.w, ← capped_count-tally windows c.args.w, ← returns-clause-counted c windows is) (ap (λ n. Some (record { window = c.args.w; count = n })) c.min.ensures)
+returns-clause-after c =
+    λ windows is. rw (tally-append windows c.args.w, ← capped_count-tally windows c.args.w, ← returns-clause-counted c windows is)
+    (ap (λ n. Some (record { window = c.args.w; count = n })) c.min.ensures)
 
 pub returns-clause-stands : goal.returns-clause-stands
 returns-clause-stands c = tally-of_some_list c.args.self.now (rw (← c.self.view_is) c.self.invariant)

@@ -16,14 +16,16 @@ returns-in-Ok-clause-first c =
 pub returns-in-Ok-clause-sample : goal.returns-in-Ok-clause-sample
 returns-in-Ok-clause-sample c = λ s.
     let client : IsClient c.args.self.now = rw (← c.self.view_is) c.self.invariant in
-    rw (returns-in-Ok-clause-first c) (taken-sample c.args.self.now c.args.octets.now c.args.at s client (λ i. omega (arith, c.type_inv.octets i)))
+    rw (returns-in-Ok-clause-first c)
+    (taken-sample c.args.self.now c.args.octets.now c.args.at s client (λ i. omega (arith, c.type_inv.octets i)))
 
 pub returns-in-Ok-clause-after : goal.returns-in-Ok-clause-after
 returns-in-Ok-clause-after c =
     let are : AreOctets c.args.octets.now = λ i. omega (arith, c.type_inv.octets i) in
     let is = answers-so c.args.octets.now c.read_request.result are c.read_request.ensures.only c.read_request.ensures.exact in
     let there : c.args.self.now.outstanding ≡ Some c.in-Some.asked = rw (← c.self.view_is) c.in-Some.is in
-    c.take_reply.ensures.after ∙ read-after c.args.self.now c.in-Some.asked c.args.octets.now c.args.at _ c.take_reply.result there (sym c.in-Ok.is ∙ is)
+    c.take_reply.ensures.after
+    ∙ read-after c.args.self.now c.in-Some.asked c.args.octets.now c.args.at _ c.take_reply.result there (sym c.in-Ok.is ∙ is)
 
 pub returns-in-Err-clause-first : goal.returns-in-Err-clause-first
 returns-in-Err-clause-first c =

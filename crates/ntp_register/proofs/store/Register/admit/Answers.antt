@@ -18,9 +18,11 @@ pub returns-in-Ok-clause-ok : goal.returns-in-Ok-clause-ok
 returns-in-Ok-clause-ok g c =
     c.in-Ok.ensures.ok
     ∙ ap (λ r. with_customer r c.args.address c.new.result) c.in_ok-put_holder.ensures.ok
-    ∙ ap (λ (customer : CustomerState). with_customer (with_holder c.args.self.now c.args.number c.args.address) c.args.address customer) c.new.ensures
+    ∙ ap (λ (customer : CustomerState). with_customer
+    (with_holder c.args.self.now c.args.number c.args.address) c.args.address customer) c.new.ensures
 
 pub returns-in-Ok-clause-agrees : goal.returns-in-Ok-clause-agrees
 returns-in-Ok-clause-agrees g c =
     rw (returns-in-Ok-clause-ok g c)
-    (agrees-after_enrol c.args.self.now c.args.address (enrolment_of c.args.number c.args.key c.args.budget) c.requires.new c.requires.free c.requires.agrees)
+    (agrees-after_enrol c.args.self.now c.args.address
+    (enrolment_of c.args.number c.args.key c.args.budget) c.requires.new c.requires.free c.requires.agrees)

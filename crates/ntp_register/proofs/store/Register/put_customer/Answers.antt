@@ -15,4 +15,5 @@ returns-in_ok-push-in-None-clause-ok g c =
 
 pub returns-in_err-push-in-None-clause-replaced : goal.returns-in_err-push-in-None-clause-replaced
 returns-in_err-push-in-None-clause-replaced g c = λ there.
-    absurd (not_there (customer_at c.args.self.now c.args.address) (rw (← c.self.view_is) (read-no_place c.self.inside.customers.items c.args.address (sym c.in-None.ensures))) there)
+    absurd (not_there (customer_at c.args.self.now c.args.address)
+    (rw (← c.self.view_is) (read-no_place c.self.inside.customers.items c.args.address (sym c.in-None.ensures))) there)

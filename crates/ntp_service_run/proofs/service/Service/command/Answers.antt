@@ -10,7 +10,8 @@ returns-in-Enrol-clause-tells g c = λ history stands.
 pub returns-in-Revoke-clause-tells : goal.returns-in-Revoke-clause-tells
 returns-in-Revoke-clause-tells g c = λ history stands.
     let y = c.revoke.ensures in
-    rw c.in-Revoke.is (revoke-tells _ c.revoke.new.self history _ (rw c.self.view_is stands) c.revoke.result y.refused y.only y.ok y.err y.agrees)
+    rw c.in-Revoke.is (revoke-tells _ c.revoke.new.self history _
+    (rw c.self.view_is stands) c.revoke.result y.refused y.only y.ok y.err y.agrees)
 
 pub returns-in-Enrol-clause-taken : goal.returns-in-Enrol-clause-taken
 returns-in-Enrol-clause-taken g c = λ history stands.
@@ -19,4 +20,5 @@ returns-in-Enrol-clause-taken g c = λ history stands.
     rw c.in-Enrol.is (λ h. t.0 (e.0 h), λ h. e.1 (t.1 h))
 
 pub returns-in-Revoke-clause-taken : goal.returns-in-Revoke-clause-taken
-returns-in-Revoke-clause-taken g c = λ history stands. rw c.in-Revoke.is (λ h. not-taken c.revoke.result c.revoke.ensures.only h, λ h. absurd h)
+returns-in-Revoke-clause-taken g c =
+    λ history stands. rw c.in-Revoke.is (λ h. not-taken c.revoke.result c.revoke.ensures.only h, λ h. absurd h)

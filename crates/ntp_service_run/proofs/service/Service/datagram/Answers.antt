@@ -9,10 +9,13 @@ returns-in_default-clause-tells g c = λ history stands.
 
 pub invariant_of-self-2 : goal.invariant_of-self-2
 invariant_of-self-2 g c =
-    agrees-with_customer c.self.inside.register c.args.address c.in-Some.customer.now c.answer_octets.new.customer (sym c.in-Some.ensures.value) c.answer_octets.ensures.numbers c.self.invariant
+    agrees-with_customer c.self.inside.register c.args.address c.in-Some.customer.now c.answer_octets.new.customer
+    (sym c.in-Some.ensures.value) c.answer_octets.ensures.numbers c.self.invariant
 
 pub returns-clause-tells : goal.returns-clause-tells
 returns-clause-tells g c = λ history stands.
     let y = c.answer_octets.ensures in
-    datagram-customer c.self.inside.register history c.args.address c.args.receipt c.args.transmit c.args.reference.now c.args.octets.now (rw (← c.self.view_is) at stands)
-    c.in-Some.customer.now c.answer_octets.new.customer c.answer_octets.result (sym c.in-Some.ensures.value) y.answer y.after (invariant_of-self-2 g c)
+    datagram-customer c.self.inside.register history c.args.address c.args.receipt c.args.transmit c.args.reference.now c.args.octets.now
+    (rw (← c.self.view_is) at stands)
+    c.in-Some.customer.now c.answer_octets.new.customer c.answer_octets.result (sym c.in-Some.ensures.value) y.answer y.after
+    (invariant_of-self-2 g c)

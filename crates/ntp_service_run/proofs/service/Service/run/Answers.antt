@@ -4,21 +4,30 @@ use Rattle.ntp_service_run.proofs.Runs.{Goes, Goes-nil, Goes-push, Goes-tells}
 use Rattle.ntp_service_run.proofs.service.Service.run.Goals as goal
 
 pub loop-event-init : goal.loop-event-init
-loop-event-init g c = record { count = c.in-Ok.ensures.len; room = c.in-Ok.ensures.capacity; goes = λ history stands. rw c.in-Ok.ensures.items (Goes-nil history _ stands) }
+loop-event-init g c =
+    record {
+      count = c.in-Ok.ensures.len;
+      room = c.in-Ok.ensures.capacity;
+      goes = λ history stands. rw c.in-Ok.ensures.items
+          (Goes-nil history _ stands);
+    }
 
 pub loop-event-preserved : goal.loop-event-preserved
 loop-event-preserved g c =
     let i = c.loop-event.invariant in
     let e = c.event-item.result in
     let p = c.push_reserved.ensures in
-    let more = take_more c.args.events.now c.loop-event.event-index e c.loop-event-test.true ∙ ap (λ x. take c.loop-event.event-index c.args.events.now ++ x ∷ []) (sym c.event-item.is) in
+    let more = take_more c.args.events.now c.loop-event.event-index e c.loop-event-test.true
+    ∙ ap (λ x. take c.loop-event.event-index c.args.events.now ++ x ∷ []) (sym c.event-item.is) in
     record {
       count = p.len ∙ ap (λ n. n + 1) i.count;
       room = omega (arith, i.room, p.capacity);
-      goes = λ history stands. rw (more, p.items) (Goes-push history _ _ _ _ e c.apply.result (i.goes history stands) (λ so_far. c.apply.ensures _ so_far));
+      goes = λ history stands. rw (more, p.items)
+          (Goes-push history _ _ _ _ e c.apply.result (i.goes history stands) (λ so_far. c.apply.ensures _ so_far));
     }
 
 pub returns-clause-tells : goal.returns-clause-tells
 returns-clause-tells g c = λ history stands.
     let all = take_all c.loop-event.event-index c.args.events.now (omega arith) in
-    Goes-tells history _ _ _ (subst (λ events. Goes history events c.loop-event.outcomes.items c.loop-event.self) all (c.loop-event.invariant.goes history stands))
+    Goes-tells history _ _ _ (subst (λ events. Goes history events c.loop-event.outcomes.items c.loop-event.self) all
+    (c.loop-event.invariant.goes history stands))

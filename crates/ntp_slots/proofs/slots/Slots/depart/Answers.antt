@@ -9,15 +9,16 @@ use Rattle.ntp_slots.proofs.slots.Slots.depart.Goals as goal
 pub returns-clause-departed : goal.returns-clause-departed
 unfolding departed
 returns-clause-departed g c =
-    let at : position (is_unused_at c.args.receive) c.self.inside.kept.items ≡ Some c.in-Some.departed = cc in
-    let left : c.fresh-transmit.result ≡ fresh c.args.moment.stamp (receives c.self.inside.kept.items) = cc in
-    written-at_place c.args.receive (λ x. record x { transmit = c.fresh-transmit.result }) c.self.inside.kept.items _ c.in-Some.departed _ c.self.invariant.distinct at c.as_mut_slice.ensures.value
-    ∙ ap (λ t. with_unused c.self.inside.kept.items c.args.receive (λ x. record x { transmit = t })) left
+    let at : position (is_unused_at c.args.receive) c.self.inside.exchanges.items ≡ Some c.in-Some.departed = cc in
+    let left : c.fresh-transmit.result ≡ fresh c.args.moment.stamp (receives c.self.inside.exchanges.items) = cc in
+    written-at_place c.args.receive (λ x. record x { transmit = c.fresh-transmit.result }) c.self.inside.exchanges.items _ c.in-Some.departed _ c.self.invariant.distinct at c.as_mut_slice.ensures.value
+    ∙ ap (λ t. with_unused c.self.inside.exchanges.items c.args.receive (λ x. record x { transmit = t })) left
     ∙ ap (λ xs. departed xs c.args.receive c.args.moment) c.self.view_is
 
 pub invariant_of-self : goal.invariant_of-self
 invariant_of-self g c =
-    rw (returns-clause-departed g c, ← c.self.view_is) (AreSaved-departed c.self.inside.kept.items c.args.receive c.args.moment c.self.invariant)
+    rw (returns-clause-departed g c, ← c.self.view_is)
+    (AreSaved-departed c.self.inside.exchanges.items c.args.receive c.args.moment c.self.invariant)
 
 pub returns-clause-found : goal.returns-clause-found
 returns-clause-found g c =
@@ -36,5 +37,6 @@ pub returns-in_default-clause-departed : goal.returns-in_default-clause-departed
 unfolding departed
 returns-in_default-clause-departed g c =
     let at : position (is_unused_at c.args.receive) c.args.self.now ≡ None = cc in
-    sym (unchanged-from_none c.args.receive (λ x. record x { transmit = fresh c.args.moment.stamp (receives c.args.self.now) }) c.args.self.now
+    sym (unchanged-from_none c.args.receive
+    (λ x. record x { transmit = fresh c.args.moment.stamp (receives c.args.self.now) }) c.args.self.now
     (find-from_no_position (is_unused_at c.args.receive) c.args.self.now at))

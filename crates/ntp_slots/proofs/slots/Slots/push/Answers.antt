@@ -13,14 +13,14 @@ returns-clause-pushed g c =
     let x : Slot = new_exchange c.args.receive c.args.transmit in
     elim c.if-is_full.branch [
       | then-is_full w ↦
-          let all : length c.self.inside.kept.items ≡ most_slots = eqb-true _ _ (sym c.is_full.ensures.value ∙ w.if-is_full.true) in
-          let gone : c.push.new.self.items ≡ remove c.self.inside.kept.items 0 ++ x ∷ [] = cc in
-          gone ∙ sym (recent-push_full c.self.inside.kept.items x all) ∙ ap (λ xs. recent (xs ++ x ∷ [])) c.self.view_is
+          let all : length c.self.inside.exchanges.items ≡ most_slots = eqb-true _ _ (sym c.is_full.ensures.value ∙ w.if-is_full.true) in
+          let gone : c.push.new.self.items ≡ remove c.self.inside.exchanges.items 0 ++ x ∷ [] = cc in
+          gone ∙ sym (recent-push_full c.self.inside.exchanges.items x all) ∙ ap (λ xs. recent (xs ++ x ∷ [])) c.self.view_is
       | else-is_full w ↦
-          let some_room : length c.self.inside.kept.items < most_slots =
+          let some_room : length c.self.inside.exchanges.items < most_slots =
           omega (arith, eqb-false _ _ (sym c.is_full.ensures.value ∙ w.if-is_full.false), c.self.invariant.few) in
-          let kept : c.push.new.self.items ≡ c.self.inside.kept.items ++ x ∷ [] = cc in
-          kept ∙ sym (recent-push c.self.inside.kept.items x some_room) ∙ ap (λ xs. recent (xs ++ x ∷ [])) c.self.view_is
+          let kept : c.push.new.self.items ≡ c.self.inside.exchanges.items ++ x ∷ [] = cc in
+          kept ∙ sym (recent-push c.self.inside.exchanges.items x some_room) ∙ ap (λ xs. recent (xs ++ x ∷ [])) c.self.view_is
     ]
 
 pub invariant_of-self : goal.invariant_of-self

@@ -8,9 +8,9 @@ use Rattle.ntp_slots.proofs.slots.Slots.spend.Goals as goal
 pub invariant_of-self : goal.invariant_of-self
 unfolding spent
 invariant_of-self g c =
-    let at : position (is_unused_at c.args.receive) c.self.inside.kept.items ≡ Some c.in-Some.spent = cc in
-    rw (written-at_place c.args.receive (λ x. record x { used = true }) c.self.inside.kept.items _ c.in-Some.spent _ c.self.invariant.distinct at c.as_mut_slice.ensures.value)
-    (AreSaved-spent c.self.inside.kept.items c.args.receive c.self.invariant)
+    let at : position (is_unused_at c.args.receive) c.self.inside.exchanges.items ≡ Some c.in-Some.spent = cc in
+    rw (written-at_place c.args.receive (λ x. record x { used = true }) c.self.inside.exchanges.items _ c.in-Some.spent _ c.self.invariant.distinct at c.as_mut_slice.ensures.value)
+    (AreSaved-spent c.self.inside.exchanges.items c.args.receive c.self.invariant)
 
 pub returns-clause-found : goal.returns-clause-found
 returns-clause-found g c =
@@ -20,8 +20,8 @@ returns-clause-found g c =
 pub returns-clause-spent : goal.returns-clause-spent
 unfolding spent
 returns-clause-spent g c =
-    let at : position (is_unused_at c.args.receive) c.self.inside.kept.items ≡ Some c.in-Some.spent = cc in
-    written-at_place c.args.receive (λ x. record x { used = true }) c.self.inside.kept.items _ c.in-Some.spent _ c.self.invariant.distinct at c.as_mut_slice.ensures.value
+    let at : position (is_unused_at c.args.receive) c.self.inside.exchanges.items ≡ Some c.in-Some.spent = cc in
+    written-at_place c.args.receive (λ x. record x { used = true }) c.self.inside.exchanges.items _ c.in-Some.spent _ c.self.invariant.distinct at c.as_mut_slice.ensures.value
     ∙ ap (λ xs. spent xs c.args.receive) c.self.view_is
 
 pub returns-clause-saved : goal.returns-clause-saved
@@ -36,4 +36,5 @@ pub returns-in_default-clause-spent : goal.returns-in_default-clause-spent
 unfolding spent
 returns-in_default-clause-spent g c =
     let at : position (is_unused_at c.args.receive) c.args.self.now ≡ None = cc in
-    sym (unchanged-from_none c.args.receive (λ x. record x { used = true }) c.args.self.now (find-from_no_position (is_unused_at c.args.receive) c.args.self.now at))
+    sym (unchanged-from_none c.args.receive (λ x. record x { used = true }) c.args.self.now
+    (find-from_no_position (is_unused_at c.args.receive) c.args.self.now at))

@@ -11,18 +11,8 @@ use Rattle.ntp_service.specs.Replay.{Replays, StopsAt}
 
 -- the status for the fault of a line: 1, and 4 for want of memory (profile)
 abbrev pub line_status : LineFault → ℕ
-line_status line_fault.Word = 1
-line_status line_fault.Count = 1
-line_status line_fault.Address = 1
-line_status line_fault.Number = 1
-line_status line_fault.Algorithm = 1
-line_status line_fault.KeyText = 1
-line_status line_fault.Budget = 1
 line_status line_fault.NoMemory = 4
-line_status line_fault.Moment = 1
-line_status line_fault.Stamp = 1
-line_status line_fault.Reference = 1
-line_status line_fault.Hex = 1
+line_status other = 1
 
 -- the status for what stopped a replay: 1 for the text, 3 for a read or a write, 4 for want of memory (profile)
 abbrev pub status_of : ReplayFaultKind → ℕ
@@ -30,8 +20,7 @@ status_of (Line fault) = line_status fault
 status_of Read = 3
 status_of Write = 3
 status_of NoMemory = 4
-status_of LineLong = 1
-status_of NotUtf8 = 1
+status_of other = 1
 
 -- a replay of a text ends with a status, and wrote this: with 0 only where the whole text was replayed, and else with that
 -- of a fault that stopped it (profile)

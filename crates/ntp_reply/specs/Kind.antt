@@ -1,14 +1,14 @@
 -- What a datagram is to the address from which it came.
 use Rattle.std.specs.Prelude.{ℕ, List, ◌==◌, ◌||◌, if◌then◌else◌, Option, Some, None, Result, Ok, Err}
 use Rattle.ntp_packet.specs.Header.{HeaderFields}
-use Rattle.ntp_tail.specs.Tail.{TailValue, NoTail, BareTail, Md5Tail, Sha1Tail}
+use Rattle.ntp_tail.specs.Tail.{TailValue, NoTail, BareTail}
 use Rattle.ntp_tail.specs.Request.{RequestValue}
 use Rattle.ntp_tail.specs.declared.malformed.Malformed.{Malformed}
 use Rattle.ntp_mac.specs.Key.{SymmetricKey}
 use Rattle.ntp_mac.specs.Reading.{reading_of}
 use Rattle.ntp_mac.specs.Signed.{is_signed}
 use Rattle.ntp_register.specs.Customer.{Enrolment}
-use Rattle.ntp_reply.specs.Life.{Life, Unregistered, Revoked, Enrolled}
+use Rattle.ntp_reply.specs.Life.{Life, Unregistered, enrolment_in}
 use Rattle.ntp_reply.specs.declared.answers.Reason.{Reason}
 use Rattle.ntp_reply.specs.declared.answers.Reason.TheVariants as reason
 
@@ -28,8 +28,7 @@ mac_kind e r = if is_signed e.key e.number r then Signed e.key e.number r.header
 abbrev pub tail_kind : Enrolment → RequestValue → TailValue → Kind
 tail_kind e r NoTail = RefusedByDeny r.header
 tail_kind e r (BareTail number) = PassedOver reason.Bare
-tail_kind e r (Md5Tail number digest) = mac_kind e r
-tail_kind e r (Sha1Tail number digest) = mac_kind e r
+tail_kind e r other = mac_kind e r
 
 -- a client's request of version 3 or 4, from an address that is enrolled, or revoked (profile)
 abbrev pub client_kind : Option Enrolment → RequestValue → Kind
@@ -51,5 +50,4 @@ octets_kind enrolment (Err fault) = PassedOver (reason.Malformed fault)
 -- a datagram: of an address that was never enrolled the octets are not looked at (profile)
 abbrev pub kind_of : Life → List ℕ → Kind
 kind_of Unregistered octets = PassedOver reason.Unregistered
-kind_of (Revoked refusals) octets = octets_kind None (reading_of octets)
-kind_of (Enrolled e queries refusals) octets = octets_kind (Some e) (reading_of octets)
+kind_of life octets = octets_kind (enrolment_in life) (reading_of octets)

@@ -13,9 +13,8 @@ pub data Life : Type 0 where
 
 -- the enrolment that an address has now, if it has one (profile)
 abbrev pub enrolment_in : Life → Option Enrolment
-enrolment_in Unregistered = None
-enrolment_in (Revoked refusals) = None
 enrolment_in (Enrolled e queries refusals) = Some e
+enrolment_in other = None
 
 -- how many signed queries of a window get the time: none of an address that is not enrolled (profile)
 abbrev pub budget_in : Life → ℕ
@@ -23,9 +22,8 @@ budget_in life = option_map_or (λ e. e.budget) (enrolment_in life) 0
 
 -- the windows of all signed queries since the address was enrolled (profile)
 abbrev pub queries_in : Life → List ℕ
-queries_in Unregistered = []
-queries_in (Revoked refusals) = []
 queries_in (Enrolled e queries refusals) = queries
+queries_in other = []
 
 -- the windows of all refusals since the address was enrolled last (profile)
 abbrev pub refusals_in : Life → List ℕ
@@ -40,9 +38,8 @@ with_refusal (Revoked refusals) w = Revoked (refusals ++ w ∷ [])
 with_refusal (Enrolled e queries refusals) w = Enrolled e queries (refusals ++ w ∷ [])
 
 abbrev pub with_query : Life → ℕ → Life
-with_query Unregistered w = Unregistered
-with_query (Revoked refusals) w = Revoked refusals
 with_query (Enrolled e queries refusals) w = Enrolled e (queries ++ w ∷ []) refusals
+with_query other w = other
 
 -- what is kept of a life: nothing of an address that was never enrolled, and of windows the tallies (profile)
 abbrev pub short : Life → Option CustomerState

@@ -17,20 +17,12 @@ use Rattle.ntp_reply.specs.declared.answers.Kiss.TheVariants.{Rate, Deny}
 abbrev pub occasion_of : Moment → Moment → ReferenceState → Occasion
 occasion_of receipt transmit reference = record { receipt = receipt; transmit = transmit; reference = reference }
 
--- the new receive stamp, where these stamps are saved (profile)
-abbrev pub receive_stamp : Occasion → List Stamp → Stamp
-receive_stamp o saved = fresh o.receipt.stamp saved
-
--- the new transmit stamp, where these receive stamps are in use, the new one with them (profile)
-abbrev pub transmit_stamp : Occasion → List Stamp → Stamp
-transmit_stamp o receives = fresh o.transmit.stamp receives
-
--- the new stamps of a reply, where these receive stamps and these transmit stamps are saved (profile)
+-- the new stamps of a reply, where these receive stamps and these transmit stamps are saved: the receive stamp avoids all of them,
+-- the transmit stamp the receive stamps and the new one (profile)
 abbrev pub new_stamps : Occasion → List Stamp → List Stamp → NewStamps
-new_stamps o receives transmits = record {
-  receive = receive_stamp o (receives ++ transmits);
-  transmit = transmit_stamp o (receives ++ receive_stamp o (receives ++ transmits) ∷ []);
-}
+new_stamps o receives transmits =
+    let receive = fresh o.receipt.stamp (receives ++ transmits) in
+    record { receive = receive; transmit = fresh o.transmit.stamp (receives ++ receive ∷ []) }
 
 -- the stratum in a packet: 0 where the clock is unsynchronised (RFC 5905, 7.3)
 abbrev pub shown_stratum : ReferenceState → ℕ

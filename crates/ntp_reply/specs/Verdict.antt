@@ -53,9 +53,8 @@ kind_answer life o (Signed key number request) = signed_answer life o key number
 -- the life after a datagram of a kind: refusals and signed queries are counted, whether they were answered or not (profile)
 abbrev pub after_kind : Life → Occasion → Kind → Life
 after_kind life o (PassedOver why) = life
-after_kind life o (RefusedByDeny request) = with_refusal life (window_at o)
-after_kind life o (RefusedByNak request) = with_refusal life (window_at o)
 after_kind life o (Signed key number request) = with_query life (window_at o)
+after_kind life o refusal = with_refusal life (window_at o)
 
 -- the answer to a packet, and the life after it (profile)
 abbrev pub packet_answer : Life → Occasion → RequestValue → Answer

@@ -24,17 +24,15 @@ pub record StandsFor {A : Type 0} (service : Registry) (history : List (Event A)
 
 -- the refusals that a neighbour, or want of memory, can cause (profile)
 abbrev pub is_foreign : Refusal → Bool
-is_foreign AlreadyEnrolled = false
 is_foreign KeyTaken = true
 is_foreign NoMemory = true
-is_foreign NotEnrolled = false
+is_foreign other = false
 
 -- whether a command with this outcome is struck out: it was refused for want of memory, or for a key number that another address
 -- holds; no datagram has such an outcome (profile)
 abbrev pub is_struck : Outcome → Bool
-is_struck (outcome.Datagram answer) = false
-is_struck outcome.Done = false
 is_struck (outcome.Refused refusal) = is_foreign refusal
+is_struck other = false
 
 -- the outcome of a command (profile)
 abbrev pub command_outcome : Result (Unit {0}) Refusal → Outcome
@@ -64,9 +62,8 @@ IsEnrolledWith life number = Contains (option_map_or numbers_in (enrolment_in li
 
 -- an event is an enrolment of an address that is not enrolled (profile)
 abbrev pub IsNewEnrolment : {A : Type 0} → List (Event A) → Event A → Type 0
-IsNewEnrolment history (event.Datagram address receipt transmit reference octets) = ⊥
 IsNewEnrolment history (event.Command (Enrol address number key budget)) = is_some (enrolment_in (life_of (own address history))) ≡ false
-IsNewEnrolment history (event.Command (Revoke address)) = ⊥
+IsNewEnrolment history other = ⊥
 
 -- an address other than this one is enrolled with the number (profile)
 abbrev pub IsHeldByAnother : {A : Type 0} → List (Event A) → Address → ℕ → Type 0
@@ -74,10 +71,9 @@ IsHeldByAnother history address number = (other : Address) × (other ≢ address
 
 -- an event is such an enrolment, with a number with which another address is enrolled (profile)
 abbrev pub IsTaken : {A : Type 0} → List (Event A) → Event A → Type 0
-IsTaken history (event.Datagram address receipt transmit reference octets) = ⊥
 IsTaken history (event.Command (Enrol address number key budget)) =
     IsNewEnrolment history (event.Command (Enrol address number key budget)) × IsHeldByAnother history address (non_zero_u16_get number)
-IsTaken history (event.Command (Revoke address)) = ⊥
+IsTaken history other = ⊥
 
 -- the outcome of one event, after a history: unless it is struck out, the answer of the model to the address's own events; and
 -- each of the two refusals that strike a command out has its cause (profile)

@@ -47,7 +47,7 @@ fn queries(alloc: Global, algorithm: Algorithm, count: u64) -> u64 {
     ) else {
         return 0;
     };
-    let (Some(number), Some(budget)) = (NonZero::<u16>::new(7), NonZero::<u16>::new(10)) else {
+    let (Some(number), Some(budget)) = (NonZero::<u16>::new(7), NonZero::<u16>::new(65_535)) else {
         return 0;
     };
     let mut service = Service::new(alloc);

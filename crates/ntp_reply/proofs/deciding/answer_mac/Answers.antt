@@ -7,7 +7,8 @@ pub returns-then-verifies-clause-no_longer : goal.returns-then-verifies-clause-n
 returns-then-verifies-clause-no_longer g c =
     let reading = rw c.request.view_is at c.request.invariant in
     let fits = signed-fits _ _ c.args.request.now reading (c.if-verifies.ensures.signed.0 refl) in
-    enrolled-fits (enrolment_at c.args.customer.now) c.key.result.now _ _ c.requires.enrolled c.key.ensures c.serve_signed.ensures.octets fits
+    enrolled-fits (enrolment_at c.args.customer.now) c.key.result.now _ _ c.requires.enrolled c.key.ensures
+    c.serve_signed.ensures.octets fits
 
 pub returns-else-verifies-clause-no_longer : goal.returns-else-verifies-clause-no_longer
 returns-else-verifies-clause-no_longer g c =

@@ -7,7 +7,11 @@ use Rattle.ntp_register.proofs.store.Register.customer_mut.Goals as goal
 pub returns-in-Some : goal.returns-in-Some
 returns-in-Some g c =
     rw (← c.self.view_is) (
-      same_return (λ w i. record { customers = write-place c.self.inside.customers.items c.in-Some.place c.index_mut.result.now c.args.address (sym c.in-Some.ensures) c.index_mut.ensures.value w i; holders = from_entries c.self.inside.holders.items }),
+      same_return (λ w i. record {
+        customers = write-place c.self.inside.customers.items c.in-Some.place c.index_mut.result.now
+            c.args.address (sym c.in-Some.ensures) c.index_mut.ensures.value w i;
+        holders = from_entries c.self.inside.holders.items;
+      }),
       record {
         writes_back = tt;
         value = sym

@@ -5,7 +5,9 @@ use Rattle.ntp_service_run.proofs.service.Service.command.Goals as goal
 pub returns-in-Enrol-clause-tells : goal.returns-in-Enrol-clause-tells
 returns-in-Enrol-clause-tells g c = λ history stands.
     let y = c.enrol.ensures in
-    rw c.in-Enrol.is (enrol-tells _ c.enrol.new.self history _ (rw c.self.view_is stands) _ _ _ c.enrol.result _ _ c.get.ensures.value c.get-in-Enrol.ensures.value y.already y.taken y.never y.ok y.err y.agrees)
+    rw c.in-Enrol.is (enrol-tells _ c.enrol.new.self history _
+    (rw c.self.view_is stands) _ _ _ c.enrol.result _ _ c.get.ensures.value
+    c.get-in-Enrol.ensures.value y.already y.taken y.never y.ok y.err y.agrees)
 
 pub returns-in-Revoke-clause-tells : goal.returns-in-Revoke-clause-tells
 returns-in-Revoke-clause-tells g c = λ history stands.
@@ -15,7 +17,8 @@ returns-in-Revoke-clause-tells g c = λ history stands.
 
 pub returns-in-Enrol-clause-taken : goal.returns-in-Enrol-clause-taken
 returns-in-Enrol-clause-taken g c = λ history stands.
-    let t = taken-so _ history (rw c.self.view_is stands) c.in-Enrol.address c.in-Enrol.number c.in-Enrol.key c.in-Enrol.budget c.get.result c.get.ensures.value in
+    let t = taken-so _ history (rw c.self.view_is stands) c.in-Enrol.address c.in-Enrol.number c.in-Enrol.key c.in-Enrol.budget
+    c.get.result c.get.ensures.value in
     let e = c.enrol.ensures.taken in
     rw c.in-Enrol.is (λ h. t.0 (e.0 h), λ h. e.1 (t.1 h))
 

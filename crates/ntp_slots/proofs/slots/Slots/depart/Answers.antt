@@ -11,7 +11,9 @@ unfolding departed
 returns-clause-departed g c =
     let at : position (is_unused_at c.args.receive) c.self.inside.exchanges.items ≡ Some c.in-Some.departed = cc in
     let left : c.fresh-transmit.result ≡ fresh c.args.moment.stamp (receives c.self.inside.exchanges.items) = cc in
-    written-at_place c.args.receive (λ x. record x { transmit = c.fresh-transmit.result }) c.self.inside.exchanges.items _ c.in-Some.departed _ c.self.invariant.distinct at c.as_mut_slice.ensures.value
+    written-at_place c.args.receive
+    (λ x. record x { transmit = c.fresh-transmit.result }) c.self.inside.exchanges.items _ c.in-Some.departed _
+    c.self.invariant.distinct at c.as_mut_slice.ensures.value
     ∙ ap (λ t. with_unused c.self.inside.exchanges.items c.args.receive (λ x. record x { transmit = t })) left
     ∙ ap (λ xs. departed xs c.args.receive c.args.moment) c.self.view_is
 

@@ -26,7 +26,8 @@ returns-clause-pushed g c =
 pub invariant_of-self : goal.invariant_of-self
 invariant_of-self g c =
     let were : AreSaved c.args.self.now = rw (← c.self.view_is) c.self.invariant in
-    rw (returns-clause-pushed g c) (AreSaved-push c.args.self.now c.args.receive c.args.transmit were c.requires.receive_free c.requires.transmit_free)
+    rw (returns-clause-pushed g c) (AreSaved-push c.args.self.now c.args.receive c.args.transmit were c.requires.receive_free
+    c.requires.transmit_free)
 
 pub returns-clause-saved : goal.returns-clause-saved
 returns-clause-saved g c = invariant_of-self g c

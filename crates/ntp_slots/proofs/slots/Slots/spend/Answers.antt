@@ -9,7 +9,9 @@ pub invariant_of-self : goal.invariant_of-self
 unfolding spent
 invariant_of-self g c =
     let at : position (is_unused_at c.args.receive) c.self.inside.exchanges.items ≡ Some c.in-Some.spent = cc in
-    rw (written-at_place c.args.receive (λ x. record x { used = true }) c.self.inside.exchanges.items _ c.in-Some.spent _ c.self.invariant.distinct at c.as_mut_slice.ensures.value)
+    rw (written-at_place c.args.receive
+    (λ x. record x { used = true }) c.self.inside.exchanges.items _ c.in-Some.spent _ c.self.invariant.distinct at
+    c.as_mut_slice.ensures.value)
     (AreSaved-spent c.self.inside.exchanges.items c.args.receive c.self.invariant)
 
 pub returns-clause-found : goal.returns-clause-found
@@ -21,7 +23,9 @@ pub returns-clause-spent : goal.returns-clause-spent
 unfolding spent
 returns-clause-spent g c =
     let at : position (is_unused_at c.args.receive) c.self.inside.exchanges.items ≡ Some c.in-Some.spent = cc in
-    written-at_place c.args.receive (λ x. record x { used = true }) c.self.inside.exchanges.items _ c.in-Some.spent _ c.self.invariant.distinct at c.as_mut_slice.ensures.value
+    written-at_place c.args.receive
+    (λ x. record x { used = true }) c.self.inside.exchanges.items _ c.in-Some.spent _ c.self.invariant.distinct at
+    c.as_mut_slice.ensures.value
     ∙ ap (λ xs. spent xs c.args.receive) c.self.view_is
 
 pub returns-clause-saved : goal.returns-clause-saved

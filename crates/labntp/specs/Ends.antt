@@ -5,7 +5,7 @@ use Rattle.ntp_admin.specs.declared.line_fault.LineFault.{LineFault}
 use Rattle.ntp_admin.specs.declared.line_fault.LineFault.TheVariants as line_fault
 use Rattle.ntp_service.specs.faults.ReplayFault.{ReplayFault}
 use Rattle.ntp_service.specs.faults.ReplayFaultKind.{ReplayFaultKind}
-use Rattle.ntp_service.specs.faults.ReplayFaultKind.TheVariants.{Line, Read, Write, NoMemory, LineLong, NotUtf8}
+use Rattle.ntp_service.specs.faults.ReplayFaultKind.TheVariants.{Line, Read, Write, NoMemory}
 use Rattle.ntp_service.specs.Script.{lines_of}
 use Rattle.ntp_service.specs.Replay.{Replays, StopsAt}
 

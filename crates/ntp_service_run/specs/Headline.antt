@@ -4,11 +4,11 @@ use Rattle.std.specs.Option.{option_map_or}
 use Rattle.std.specs.Int.NonZero.{non_zero_u16_get}
 use Rattle.ntp_register.specs.declared.address.Address.{Address}
 use Rattle.ntp_register.specs.declared.refusal.Refusal.{Refusal}
-use Rattle.ntp_register.specs.declared.refusal.Refusal.TheVariants.{AlreadyEnrolled, KeyTaken, NoMemory, NotEnrolled}
+use Rattle.ntp_register.specs.declared.refusal.Refusal.TheVariants.{KeyTaken, NoMemory}
 use Rattle.ntp_register.specs.Registry.{Registry, Agrees, customer_at}
 use Rattle.ntp_register.specs.Customer.{numbers_in}
 use Rattle.ntp_reply.specs.Life.{Life, enrolment_in, short}
-use Rattle.ntp_admin.specs.declared.command.Command.TheVariants.{Enrol, Revoke}
+use Rattle.ntp_admin.specs.declared.command.Command.TheVariants.{Enrol}
 use Rattle.ntp_admin.specs.declared.event.Event.{Event}
 use Rattle.ntp_admin.specs.declared.event.Event.TheVariants as event
 use Rattle.ntp_admin.specs.declared.outcome.Outcome.{Outcome}

@@ -9,7 +9,7 @@ use Rattle.std.proofs.lemmas.List.Quantifiers.{position-Some}
 use Rattle.std.proofs.lemmas.Option.{slice_get_cases}
 use Rattle.ntp_time.specs.declared.stamp.Stamp.{Stamp}
 use Rattle.ntp_slots.specs.declared.slot.Slot.{Slot}
-use Rattle.ntp_slots.specs.Exchanges.{receives, with_unused, is_unused_at, unused_at}
+use Rattle.ntp_slots.specs.Exchanges.{receives, transmits, all_stamps, with_unused, is_unused_at, unused_at, spent}
 
 -- what is found is a member that passes
 pub find-member : {X : Type 0} (p : X → Bool) (xs : List X) (x : X) → find p xs ≡ Some x → Contains xs x × (p x ≡ true)
@@ -124,12 +124,28 @@ unchanged-from_none receive change xs none = map-unfound (is_unused_at receive) 
 pub length-with_unused : (receive : Stamp) (change : Slot → Slot) (xs : List Slot) → length (with_unused xs receive change) ≡ length xs
 length-with_unused receive change xs = length-map xs (λ x. cond (is_unused_at receive x) (change x) x)
 
--- a change that keeps the receive stamp keeps them all
+-- a change that keeps a stamp keeps them all
+map-with_unused : (f : Slot → Stamp) (receive : Stamp) (change : Slot → Slot) (xs : List Slot) → ((x : Slot) → f (change x) ≡ f x)
+    → map f (with_unused xs receive change) ≡ map f xs
+map-with_unused f receive change [] keeps = refl
+map-with_unused f receive change (x ∷ xs) keeps =
+    elim (cases_Bool (is_unused_at receive x)) [
+      | inl here ↦ rw (here, keeps x, map-with_unused f receive change xs keeps) refl
+      | inr past ↦ rw (past, map-with_unused f receive change xs keeps) refl
+    ]
+
 pub receives-with_unused : (receive : Stamp) (change : Slot → Slot) (xs : List Slot) → ((x : Slot) → (change x).receive ≡ x.receive)
     → receives (with_unused xs receive change) ≡ receives xs
-receives-with_unused receive change [] keeps = refl
-receives-with_unused receive change (x ∷ xs) keeps =
-    elim (cases_Bool (is_unused_at receive x)) [
-      | inl here ↦ rw (here, keeps x, receives-with_unused receive change xs keeps) refl
-      | inr past ↦ rw (past, receives-with_unused receive change xs keeps) refl
-    ]
+receives-with_unused receive change xs keeps = map-with_unused (λ x. x.receive) receive change xs keeps
+
+-- where an exchange is spent, all stamps stay
+pub receives-spent : (xs : List Slot) (receive : Stamp) → receives (spent xs receive) ≡ receives xs
+unfolding spent
+receives-spent xs receive = receives-with_unused receive (λ x. record x { used = true }) xs (λ x. refl)
+
+pub all_stamps-spent : (xs : List Slot) (receive : Stamp) → all_stamps (spent xs receive) ≡ all_stamps xs
+unfolding spent
+all_stamps-spent xs receive =
+    let same : transmits (spent xs receive) ≡ transmits xs =
+    map-with_unused (λ x. x.transmit) receive (λ x. record x { used = true }) xs (λ x. refl) in
+    rw (receives-spent xs receive, same) refl

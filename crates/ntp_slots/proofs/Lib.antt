@@ -1,3 +1,4 @@
 pub mod Recents
 pub mod Changes
 pub mod Saved
+mod NewStamps

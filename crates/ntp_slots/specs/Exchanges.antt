@@ -14,7 +14,7 @@ most_slots = 4
 unfoldable pub recent : List Slot → List Slot
 recent xs = drop (length xs - most_slots) xs
 
--- the list with these as its recent ones, and the older ones as they were (profile)
+-- the list with these in the place of its recent ones, as many as they are, and the older ones as they were (profile)
 unfoldable pub with_recent : List Slot → List Slot → List Slot
 with_recent xs ys = take (length xs - most_slots) xs ++ ys
 
@@ -53,7 +53,7 @@ is_unused_at receive x = not x.used && is_received_at receive x
 abbrev pub exchange_at : List Slot → Stamp → Option Slot
 exchange_at xs receive = find (is_received_at receive) xs
 
--- the unused exchange with this receive stamp (RFC 9769; profile)
+-- the unused exchange with this receive stamp (profile, after RFC 9769)
 abbrev pub unused_at : List Slot → Stamp → Option Slot
 unused_at xs receive = find (is_unused_at receive) xs
 
@@ -65,10 +65,10 @@ unless_used x = if x.used then None else Some x
 abbrev pub with_unused : List Slot → Stamp → (Slot → Slot) → List Slot
 with_unused xs receive change = map (λ x. if is_unused_at receive x then change x else x) xs
 
--- with that exchange marked used (RFC 9769; profile)
+-- with that exchange marked used (profile, after RFC 9769)
 unfoldable pub spent : List Slot → Stamp → List Slot
 spent xs receive = with_unused xs receive (λ x. record x { used = true })
 
--- with its transmit stamp that of the departure, or the first after it that no receive stamp is (RFC 9769; profile)
+-- with its transmit stamp that of the departure, or the first after it that is neither 0 nor a receive stamp (profile, after RFC 9769)
 unfoldable pub departed : List Slot → Stamp → Moment → List Slot
 departed xs receive m = with_unused xs receive (λ x. record x { transmit = fresh m.stamp (receives xs) })

@@ -1,4 +1,4 @@
-//! The last exchanges of a customer, for interleaved replies (RFC 9769; profile).
+//! The last exchanges of a customer, for interleaved replies (profile, after RFC 9769).
 //!
 //! An exchange is a time reply with the stamps of its receipt and of its departure. The last few of a
 //! customer are saved, so that a later reply can carry the stamp at which an earlier one really left.
@@ -6,6 +6,7 @@
 #![tactic(auto)]
 
 mod laws;
+mod new_stamps;
 mod no_memory;
 mod slot;
 mod slots;

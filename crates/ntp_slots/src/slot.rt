@@ -1,7 +1,7 @@
 //! One exchange.
 use ntp_time::Stamp;
 
-/// What is saved of a time reply (RFC 9769; profile).
+/// What is saved of a time reply (profile, after RFC 9769).
 #[derive(Clone, Copy, Debug, Default, PartialEq, Eq)]
 pub struct Slot {
     /// The receive stamp of the reply, by which a later request names it, in units of 2^-32 seconds.

@@ -50,6 +50,20 @@ impl<A: Allocator> Slots<A> {
         })
     }
 
+    /// What holds of every value, for proofs that need it; it does nothing when it is called.
+    pub fn are_saved(&self)
+        ensures { AreSaved self.now }
+    {
+        let _ = &self.exchanges;
+    }
+
+    // The exchanges, oldest first.
+    pub(crate) fn saved(&self) -> &[Slot]
+        ensures { result.now ≡ self.now }
+    {
+        self.exchanges.as_slice()
+    }
+
     /// The exchange with this receive stamp, used or not.
     pub fn find(&self, receive: Stamp) -> Option<Slot>
         ensures found { result ≡ exchange_at self.now receive }
@@ -83,7 +97,7 @@ impl<A: Allocator> Slots<A> {
         stamps
     }
 
-    /// Marks the unused exchange with this receive stamp as used (RFC 9769; profile). Where there is
+    /// Marks the unused exchange with this receive stamp as used (profile, after RFC 9769). Where there is
     /// none, the answer is `false` and nothing changes.
     pub fn spend(&mut self, receive: Stamp) -> bool
         ensures found { result ≡ is_some (unused_at self.old receive) }
@@ -118,8 +132,8 @@ impl<A: Allocator> Slots<A> {
     }
 
     /// A reply left at this moment: its transmit stamp becomes the moment's, or the first after it that
-    /// is neither 0 nor a saved receive stamp, where an unused exchange has this receive stamp (RFC 9769;
-    /// profile). Where there is none, the answer is `false` and nothing changes.
+    /// is neither 0 nor a saved receive stamp, where an unused exchange has this receive stamp (profile,
+    /// after RFC 9769). Where there is none, the answer is `false` and nothing changes.
     pub fn depart(&mut self, receive: Stamp, moment: Moment) -> bool
         ensures found { result ≡ is_some (unused_at self.old receive) }
         ensures departed { self.new ≡ departed self.old receive moment }

@@ -4,8 +4,8 @@ use Rattle.std.specs.Option.{option_map_or}
 use Rattle.std.proofs.lemmas.Cmp.{nat_cmp_total}
 use Rattle.std.specs.FinMap.{nat_cmp-IsAntisymmetric}
 use Rattle.ntp_register.specs.declared.address.Address.{Address}
-use Rattle.ntp_register.specs.Customer.{Enrolment, CustomerState, new_customer, revoked, numbers_of}
-use Rattle.ntp_register.specs.Registry.{Registry, customer_at, numbers_at, holder_of, with_customer, with_holder, without_holder, without_holders, after_enrol, after_revoke}
+use Rattle.ntp_register.specs.Customer.{Enrolment, CustomerState, new_customer, revoked, rebudgeted, numbers_of}
+use Rattle.ntp_register.specs.Registry.{Registry, customer_at, numbers_at, holder_of, with_customer, with_holder, without_holder, without_holders, after_enrol, after_revoke, after_budget}
 use Rattle.ntp_register.proofs.Keys.{get-insert-here, get-insert-there, get-remove-here, get-remove-there, insert-present, remove-insert}
 use Rattle.ntp_register.proofs.AddressLaws.{address_cmp_total, address_cmp-IsAntisymmetric, same_or_other_number}
 use Rattle.ntp_register.proofs.Members.{Contains-here, Contains-there, Contains-cases}
@@ -32,7 +32,9 @@ module _ (r : Registry) (address : Address) (c : CustomerState) where
 
   -- to write what is there
   pub with_customer-present : customer_at r address ≡ Some c → with_customer r address c ≡ r
-  with_customer-present there = λ i. record { customers = insert-present address_cmp_total address_cmp-IsAntisymmetric r.customers address c there i; holders = r.holders }
+  with_customer-present there =
+      let same = insert-present address_cmp_total address_cmp-IsAntisymmetric r.customers address c there in
+      λ i. record { customers = same i; holders = r.holders }
 
 -- ---- a holder was put in or taken out
 module _ (r : Registry) (number : ℕ) where
@@ -140,3 +142,17 @@ module _ (r : Registry) (address : Address) (c : CustomerState) (there : custome
   holder_of-after_revoke-other number never =
       ap (λ s. holder_of s number) after_revoke-customer
       ∙ holder_of-without_holders-other (with_customer r address (revoked c)) (numbers_of c) number never
+
+-- ---- an address, whose customer is c, has another budget
+module _ (r : Registry) (address : Address) (budget : ℕ) (c : CustomerState) (there : customer_at r address ≡ Some c) where
+  after_budget-customer : after_budget r address budget ≡ with_customer r address (rebudgeted c budget)
+  after_budget-customer = ap (λ o. option_map_or (λ d. with_customer r address (rebudgeted d budget)) o r) there
+
+  pub customer_at-after_budget : customer_at (after_budget r address budget) address ≡ Some (rebudgeted c budget)
+  customer_at-after_budget =
+      ap (λ s. customer_at s address) after_budget-customer ∙ customer_at-with_customer r address (rebudgeted c budget)
+
+  pub customer_at-after_budget-other : (other : Address) → other ≢ address
+      → customer_at (after_budget r address budget) other ≡ customer_at r other
+  customer_at-after_budget-other other ne =
+      ap (λ s. customer_at s other) after_budget-customer ∙ customer_at-with_customer-other r address (rebudgeted c budget) other ne

@@ -5,6 +5,8 @@ use Rattle.std.specs.Coded.{Coded, code_by, coded×, coded_list, coded_option, c
 use Rattle.std.specs.FinMap as map
 use Rattle.ntp_budget.specs.Tally.{Tally}
 use Rattle.ntp_budget.specs.Codes.{coded_tally}
+use Rattle.ntp_slots.specs.declared.slot.Slot.{Slot}
+use Rattle.ntp_slots.specs.Codes.{coded_exchanges}
 use Rattle.ntp_mac.specs.Key.{SymmetricKey}
 use Rattle.ntp_mac.specs.declared.key.Algorithm.{Algorithm}
 use Rattle.ntp_mac.specs.declared.key.Algorithm.TheVariants.{Md5, Sha1}
@@ -45,11 +47,12 @@ coded_enrolment =
     code_by (SymmetricKey × (ℕ × ℕ)) (coded× coded_key (coded× coded_ℕ coded_ℕ)) (λ e. (e.key, (e.number, e.budget)))
     (λ p. record { key = p.0; number = p.1.0; budget = p.1.1 }) (λ _. refl)
 
--- an account as its enrolment and its tally
+-- an account as its enrolment, and its tally with its exchanges
 abbrev pub coded_account : Coded Account
 coded_account =
-    code_by (Enrolment × Tally) (coded× coded_enrolment coded_tally) (λ a. (a.enrolment, a.queries))
-    (λ p. record { enrolment = p.0; queries = p.1 }) (λ _. refl)
+    code_by (Enrolment × (Tally × List Slot)) (coded× coded_enrolment (coded× coded_tally coded_exchanges))
+    (λ a. (a.enrolment, (a.queries, a.exchanges)))
+    (λ p. record { enrolment = p.0; queries = p.1.0; exchanges = p.1.1 }) (λ _. refl)
 
 -- a customer as its account and its tally
 abbrev pub coded_customer : Coded CustomerState

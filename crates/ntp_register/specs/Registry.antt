@@ -5,7 +5,7 @@ use Rattle.std.specs.Ordering.{nat_cmp}
 use Rattle.std.specs.FinMap as map
 use Rattle.ntp_register.specs.declared.address.Address.{Address}
 use Rattle.ntp_register.specs.Address.{address_cmp}
-use Rattle.ntp_register.specs.Customer.{Enrolment, CustomerState, new_customer, revoked, is_enrolled, numbers_of}
+use Rattle.ntp_register.specs.Customer.{Enrolment, CustomerState, new_customer, revoked, rebudgeted, is_enrolled, numbers_of}
 
 -- the customers by address, and the holder of each key number that is held (profile)
 pub record Registry : Type 0 where
@@ -61,3 +61,7 @@ after_enrol r address e = with_customer (with_holder r e.number address) address
 -- after an address is revoked: its enrolment goes, and its numbers are free again (profile)
 abbrev pub after_revoke : Registry → Address → Registry
 after_revoke r address = option_map_or (λ c. without_holders (with_customer r address (revoked c)) (numbers_of c)) (customer_at r address) r
+
+-- after an address has another budget, if it is enrolled (profile)
+abbrev pub after_budget : Registry → Address → ℕ → Registry
+after_budget r address budget = option_map_or (λ c. with_customer r address (rebudgeted c budget)) (customer_at r address) r

@@ -3,11 +3,12 @@
 //! address. Each keeps that.
 ghost use Rattle.std.specs.Prelude.{◌≡◌, ◌≢◌, ◌↔◌, ◌<◌, true, false, None, OnOk, OnErr, IfErr, IsSome};
 ghost use Rattle.ntp_register.specs.Customer.{enrolment_of};
-ghost use Rattle.ntp_register.specs.Registry.{Agrees, is_enrolled_at, holder_of, after_enrol, after_revoke};
+ghost use Rattle.ntp_register.specs.Registry.{Agrees, is_enrolled_at, holder_of, after_enrol, after_revoke, after_budget};
 
 use crate::{Address, Customer, Refusal, Register};
 use ntp_mac::Key;
-use std::alloc::{AllocError, Allocator};
+use ntp_slots::{NoMemory, Slots};
+use std::alloc::Allocator;
 
 impl<A: Allocator + Copy> Register<A> {
     /// Enrols an address with a key, its number and a budget (profile). A revoked address may be enrolled
@@ -67,6 +68,30 @@ impl<A: Allocator + Copy> Register<A> {
         Ok(())
     }
 
+    /// Gives an enrolled address another budget. What was counted and what is saved stays, and the budget may change while
+    /// a window runs (profile).
+    ///
+    /// Refused with `NotEnrolled` alone.
+    pub fn set_budget(&mut self, address: Address, budget: u16) -> Result<(), Refusal>
+        requires budget_given { 0 < budget }
+        requires agrees { Agrees self.old }
+
+        ensures refused { (result ≡ Err Refusal.NotEnrolled) ↔ (is_enrolled_at self.old address ≡ false) }
+        ensures only { IfErr result (λ e. e ≡ Refusal.NotEnrolled) }
+
+        ensures ok { OnOk result (self.new ≡ after_budget self.old address budget) }
+        ensures err { OnErr result (self.new ≡ self.old) }
+        ensures agrees { Agrees self.new }
+    {
+        let Some(customer) = self.customer_mut(address) else {
+            return Err(Refusal::NotEnrolled);
+        };
+        if !customer.set_budget(budget) {
+            return Err(Refusal::NotEnrolled);
+        }
+        Ok(())
+    }
+
     // Enrols an address that is not enrolled, with a number that is free. Where the customer finds no
     // memory, the number is freed again.
     fn admit(
@@ -75,7 +100,7 @@ impl<A: Allocator + Copy> Register<A> {
         number: u16,
         key: Key,
         budget: u16,
-    ) -> Result<(), AllocError>
+    ) -> Result<(), NoMemory>
         requires number_given { 0 < number }
         requires budget_given { 0 < budget }
         requires new { is_enrolled_at self.old address ≡ false }
@@ -86,12 +111,13 @@ impl<A: Allocator + Copy> Register<A> {
         ensures err { OnErr result (self.new ≡ self.old) }
         ensures agrees { Agrees self.new }
     {
+        let slots = Slots::new(self.allocator())?;
         self.put_holder(number, address)?;
-        match self.put_customer(address, Customer::new(number, key, budget)) {
+        match self.put_customer(address, Customer::new(number, key, budget, slots)) {
             Ok(()) => Ok(()),
-            Err(error) => {
+            Err(refused) => {
                 self.take_holder(number);
-                Err(error)
+                Err(NoMemory::from(refused))
             }
         }
     }

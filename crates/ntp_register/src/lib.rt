@@ -5,6 +5,7 @@
 //! maps, with no order of entries and no spare room.
 #![tactic(auto)]
 
+mod account;
 mod address;
 mod commands;
 mod customer;

@@ -1,5 +1,5 @@
 //! Why a command is refused.
-use std::alloc::AllocError;
+use ntp_slots::NoMemory;
 
 /// Why a command was refused (profile), in the order in which the causes of one command are looked for.
 #[derive(Clone, Copy, Debug, PartialEq, Eq)]
@@ -14,13 +14,13 @@ pub enum Refusal {
     NotEnrolled,
 }
 
-impl From<AllocError> for Refusal {
+impl From<NoMemory> for Refusal {
     ghost use Rattle.std.specs.Prelude.{◌≡◌};
     ghost use Rattle.ntp_register.specs.declared.refusal.Refusal.TheVariants.{NoMemory};
 
     ghost from_gives = { λ _ e. e ≡ NoMemory };
 
-    fn from(_e: AllocError) -> Refusal {
+    fn from(_e: NoMemory) -> Refusal {
         Refusal::NoMemory
     }
 }

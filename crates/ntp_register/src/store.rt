@@ -75,6 +75,11 @@ impl<A: Allocator + Copy> Register<A> {
         }
     }
 
+    // The allocator from which the register takes its memory.
+    pub(crate) fn allocator(&self) -> A {
+        *self.customers.allocator()
+    }
+
     // Puts a customer at an address. One that is there already is replaced, which takes no memory.
     pub(crate) fn put_customer(
         &mut self,

@@ -17,9 +17,9 @@ returns-in-Err-clause-agrees g c = rw (returns-in-Err-clause-err g c) c.requires
 pub returns-in-Ok-clause-ok : goal.returns-in-Ok-clause-ok
 returns-in-Ok-clause-ok g c =
     c.in-Ok.ensures.ok
-    ∙ ap (λ r. with_customer r c.args.address c.new.result) c.in_ok-put_holder.ensures.ok
+    ∙ ap (λ r. with_customer r c.args.address c.new-2.result) c.in_ok-put_holder.ensures.ok
     ∙ ap (λ (customer : CustomerState). with_customer
-    (with_holder c.args.self.now c.args.number c.args.address) c.args.address customer) c.new.ensures
+    (with_holder c.args.self.now c.args.number c.args.address) c.args.address customer) c.new-2.ensures
 
 pub returns-in-Ok-clause-agrees : goal.returns-in-Ok-clause-agrees
 returns-in-Ok-clause-agrees g c =

@@ -1,0 +1,122 @@
+-- The octets of the replies.
+use Rattle.std.specs.Prelude.{◌≢◌, ℕ, pos, List, [], ◌∷◌, ◌++◌, ◌==◌, if◌then◌else◌, Option, Some, None}
+use Rattle.ntp_time.specs.declared.stamp.Stamp.{Stamp}
+use Rattle.ntp_time.specs.declared.stamp.Short.{Short}
+use Rattle.ntp_time.specs.declared.moment.Moment.{Moment}
+use Rattle.ntp_time.specs.Fresh.{fresh}
+use Rattle.ntp_slots.specs.declared.slot.Slot.{Slot}
+use Rattle.ntp_slots.specs.Exchanges.{receives, all_stamps}
+use Rattle.ntp_packet.specs.Header.{HeaderFields, header_octets}
+use Rattle.ntp_mac.specs.Key.{SymmetricKey}
+use Rattle.ntp_mac.specs.Mac.{mac_of, nak_octets}
+use Rattle.ntp_reply_packets.specs.Reference.{ReferenceState}
+use Rattle.ntp_reply_packets.specs.declared.occasion.Occasion.{Occasion}
+use Rattle.ntp_reply_packets.specs.declared.occasion.NewStamps.{NewStamps}
+use Rattle.ntp_reply_packets.specs.declared.kiss.Kiss.{Kiss}
+use Rattle.ntp_reply_packets.specs.declared.kiss.Kiss.TheVariants.{Rate, Deny}
+
+-- the occasion of these: when a datagram came, the transmit moment of the reply to it, and the state of the clock (profile)
+abbrev pub occasion_of : Moment → Moment → ReferenceState → Occasion
+occasion_of receipt transmit reference = record { receipt = receipt; transmit = transmit; reference = reference }
+
+-- the new stamps of a reply, where these exchanges are saved: the receive stamp avoids all their stamps, the transmit stamp their receive
+-- stamps and the new one (profile)
+abbrev pub new_stamps : Occasion → List Slot → NewStamps
+new_stamps o saved =
+    let receive = fresh o.receipt.stamp (all_stamps saved) in
+    record { receive = receive; transmit = fresh o.transmit.stamp (receives saved ++ receive ∷ []) }
+
+-- the stratum in a packet: 0 where the clock is unsynchronised (RFC 5905, 7.3)
+abbrev pub shown_stratum : ReferenceState → ℕ
+shown_stratum r = if r.stratum == 16 then 0 else r.stratum
+
+-- the identifier in a packet: none where the stratum is 0, since it would be read as a kiss code (RFC 5905, 7.4; profile)
+abbrev pub shown_id : ReferenceState → List ℕ
+shown_id r = if r.stratum == 16 then 0 ∷ 0 ∷ 0 ∷ 0 ∷ [] else r.id
+
+-- the header of a time reply and of a crypto-NAK, with this origin and these stamps (RFC 5905, 9.2)
+abbrev pub reply_fields : ReferenceState → HeaderFields → Stamp → Stamp → Stamp → HeaderFields
+reply_fields reference request origin receive transmit = record {
+  leap = reference.leap;
+  version = request.version;
+  mode = 4;
+  stratum = shown_stratum reference;
+  poll = request.poll;
+  precision = reference.precision;
+  root_delay = reference.root_delay;
+  root_dispersion = reference.root_dispersion;
+  reference_id = shown_id reference;
+  reference = reference.reference;
+  origin = origin;
+  receive = receive;
+  transmit = transmit;
+}
+
+-- the basic one: its origin is the request's transmit stamp (RFC 5905, 9.2), and both other stamps are new (profile)
+abbrev pub basic_fields : Occasion → HeaderFields → NewStamps → HeaderFields
+basic_fields o request stamps = reply_fields o.reference request request.transmit stamps.receive stamps.transmit
+
+-- the header of a time reply: interleaved with an exchange that was matched, whose transmit stamp it has, with the request's receive stamp
+-- as its origin (profile, after RFC 9769); else basic
+abbrev pub time_fields : Occasion → HeaderFields → Option Slot → NewStamps → HeaderFields
+time_fields o request None stamps = basic_fields o request stamps
+time_fields o request (Some matched) stamps = reply_fields o.reference request request.receive stamps.receive matched.transmit
+
+-- the kiss codes (RFC 5905, 7.4)
+abbrev pub kiss_code : Kiss → List ℕ
+kiss_code Rate = 82 ∷ 65 ∷ 84 ∷ 69 ∷ []
+kiss_code Deny = 68 ∷ 69 ∷ 78 ∷ 89 ∷ []
+
+-- the stamp of unknown time (RFC 5905, 6)
+abbrev pub no_stamp : Stamp
+no_stamp = record { 0 = 0 }
+
+-- no delay and no dispersion (profile)
+abbrev pub no_short : Short
+no_short = record { 0 = 0 }
+
+-- the transmit stamp of a kiss: the request's, but never 0, so that no client takes it for none (profile)
+abbrev pub kiss_transmit : Stamp → Stamp
+kiss_transmit transmit = if transmit.0 == 0 then record { 0 = 1 } else transmit
+
+-- the header of a kiss-o'-death (RFC 5905, 7.4; the fields that it leaves open: profile)
+abbrev pub kiss_fields : Kiss → HeaderFields → HeaderFields
+kiss_fields kiss request = record {
+  leap = 3;
+  version = request.version;
+  mode = 4;
+  stratum = 0;
+  poll = request.poll;
+  precision = pos 0;
+  root_delay = no_short;
+  root_dispersion = no_short;
+  reference_id = kiss_code kiss;
+  reference = no_stamp;
+  origin = request.transmit;
+  receive = no_stamp;
+  transmit = kiss_transmit request.transmit;
+}
+
+-- octets with the MAC of a key and its number behind them (RFC 5905, 7.3; with SHA-1: profile)
+abbrev pub sealed : SymmetricKey → ℕ → List ℕ → List ℕ
+sealed key number octets = octets ++ mac_of key number octets
+
+-- a time reply: signed (RFC 5905, 9.2; with SHA-1: profile)
+abbrev pub time_octets : SymmetricKey → ℕ → HeaderFields → List ℕ
+time_octets key number fields = sealed key number (header_octets fields)
+
+-- a crypto-NAK: four zeros in the place of the MAC (RFC 5905)
+abbrev pub crypto_nak_octets : HeaderFields → List ℕ
+crypto_nak_octets fields = header_octets fields ++ nak_octets
+
+-- a DENY: unsigned (RFC 5905, 7.4; profile)
+abbrev pub deny_octets : HeaderFields → List ℕ
+deny_octets request = header_octets (kiss_fields Deny request)
+
+-- a RATE: signed (RFC 5905, 7.4; profile)
+abbrev pub rate_octets : SymmetricKey → ℕ → HeaderFields → List ℕ
+rate_octets key number request = sealed key number (header_octets (kiss_fields Rate request))
+
+-- the receive and the transmit stamp differ, and the transmit stamp is not 0 (profile, after RFC 9769)
+abbrev pub HasDistinctStamps : HeaderFields → Type 0
+HasDistinctStamps h = (h.receive ≢ h.transmit) × (h.transmit.0 ≢ 0)

@@ -1,3 +1,5 @@
 mod Lengths
+pub mod KeptExchanges
+pub mod ApartExchanges
 pub mod OctetsKinds
 pub mod ShortLives

@@ -14,4 +14,4 @@ pub kind-read : (life : Life) (c : CustomerState) (octets : List ℕ) (reading :
     → octets_kind (enrolment_in life) reading ≡ kind_of life octets
 kind-read Unregistered c octets reading there is = absurd (none-some c there)
 kind-read (Revoked refusals) c octets reading there is = ap (octets_kind None) is
-kind-read (Enrolled e queries refusals) c octets reading there is = ap (octets_kind (Some e)) is
+kind-read (Enrolled e queries refusals exchanges) c octets reading there is = ap (octets_kind (Some e)) is

@@ -12,8 +12,8 @@ use Rattle.ntp_reply.specs.Life.{Life, Unregistered, enrolment_in}
 use Rattle.ntp_reply.specs.declared.answers.Reason.{Reason}
 use Rattle.ntp_reply.specs.declared.answers.Reason.TheVariants as reason
 
--- what a datagram is, apart from what it is answered: passed over for one of the first reasons, up to a bare key number; refused, by a DENY or by a crypto-NAK; or a query
--- that is signed under a key with its number. A header is the request's (profile)
+-- what a datagram is, apart from what it is answered: passed over, for a reason that no count gives; refused, by a DENY or by a
+-- crypto-NAK; or a query that is signed under a key with its number. A header is the request's (profile)
 pub data Kind : Type 0 where
   PassedOver : Reason → Kind
   RefusedByDeny : HeaderFields → Kind

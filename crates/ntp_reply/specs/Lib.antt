@@ -1,5 +1,6 @@
-pub mod Reference
+pub use Rattle.ntp_reply_packets.specs.Reference
+pub use Rattle.ntp_reply_packets.specs.Replies
 pub mod Life
 pub mod Kind
-pub mod Replies
+pub mod Exchanged
 pub mod Verdict

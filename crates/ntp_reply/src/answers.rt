@@ -4,15 +4,6 @@ use ntp_mac::Reply;
 use ntp_tail::Malformed;
 use ntp_time::Stamp;
 
-/// The kiss codes that the server sends (RFC 5905, 7.4).
-#[derive(Clone, Copy, Debug, PartialEq, Eq)]
-pub enum Kiss {
-    /// `RATE`: the customer asks too often.
-    Rate,
-    /// `DENY`: the server refuses to serve the sender.
-    Deny,
-}
-
 /// Why a datagram gets no reply (profile).
 #[derive(Clone, Copy, Debug, PartialEq, Eq)]
 pub enum Reason {

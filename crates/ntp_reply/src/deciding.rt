@@ -4,15 +4,15 @@ ghost use Rattle.ntp_tail.specs.Tail.{tail_octets};
 ghost use Rattle.ntp_register.specs.Customer.{enrolment_at, numbers_of};
 ghost use Rattle.ntp_reply.specs.Life.{Life, short};
 ghost use Rattle.ntp_reply.specs.Kind.{mac_kind};
-ghost use Rattle.ntp_reply.specs.Replies.{occasion_of};
+ghost use Rattle.ntp_reply_packets.specs.Replies.{occasion_of};
 ghost use Rattle.ntp_reply.specs.Verdict.{packet_answer, after_packet, verdict, after_datagram, kind_answer, after_kind, reply_length, request_length};
 
-use crate::occasion::Occasion;
 use crate::refusing::{deny, nak};
 use crate::serving::serve_signed;
 use crate::{Answer, Reason, Reference};
 use ntp_mac::verifies;
 use ntp_register::Customer;
+use ntp_reply_packets::Occasion;
 use ntp_tail::{Request, Tail, read_request};
 use ntp_time::Moment;
 use std::alloc::Allocator;

@@ -1,10 +1,10 @@
 //! What holds of the definitions, whatever code meets them.
 ghost use Rattle.std.specs.Prelude.{◌≡◌, Some};
-ghost use Rattle.ntp_register.specs.Customer.{CustomerState, AreTallies};
+ghost use Rattle.ntp_register.specs.Customer.{CustomerState, IsCustomer};
 ghost use Rattle.ntp_reply.specs.Life.{Life, short};
 
 /// Each customer is what is kept of some life, so what is said for each such life is said of one at least. This is
 /// a law, and does nothing when it is called.
 pub fn a_customer_has_a_life()
-    ensures { (customer : CustomerState) → AreTallies customer → (life : Life) × (short life ≡ Some customer) }
+    ensures { (customer : CustomerState) → IsCustomer customer → (life : Life) × (short life ≡ Some customer) }
 {}

@@ -1,16 +1,17 @@
-//! The decision on a request of a customer, and the octets of the reply to it.
+//! The decision on a request of a customer, and what it leaves of the customer. The headers of the replies, and the
+//! state of the clock that they tell, are those of `ntp_reply_packets`, which it passes on.
 #![tactic(auto)]
 
 mod answers;
 mod deciding;
+mod departing;
+mod exchanging;
 mod laws;
-mod occasion;
-mod packets;
-mod reference;
 mod refusing;
 mod serving;
 
-pub use answers::{Answer, Kiss, Reason};
+pub use answers::{Answer, Reason};
 pub use deciding::{answer, answer_octets};
+pub use departing::depart;
 pub use laws::a_customer_has_a_life;
-pub use reference::{BadReference, Reference};
+pub use ntp_reply_packets::{BadReference, Kiss, Reference};

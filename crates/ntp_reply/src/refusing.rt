@@ -1,17 +1,17 @@
 //! Refusals: each is counted, and few of a window are sent.
-ghost use Rattle.std.specs.Prelude.{◌≡◌, ◌≤◌, Some, nat_lt};
+ghost use Rattle.std.specs.Prelude.{◌≡◌, ◌≤◌, Some, IsSome, nat_lt};
 ghost use Rattle.ntp_budget.specs.Tally.{count_in};
-ghost use Rattle.ntp_register.specs.Customer.{numbers_of};
+ghost use Rattle.ntp_register.specs.Customer.{enrolment_at, numbers_of};
 ghost use Rattle.ntp_reply.specs.Life.{Life, short, refusals_in, with_refusal};
 ghost use Rattle.ntp_reply.specs.Kind.{RefusedByDeny, RefusedByNak};
 ghost use Rattle.ntp_reply.specs.Verdict.{kind_answer, after_kind, refusals_sent, reply_length};
 
-use crate::occasion::{Occasion, new_stamps};
-use crate::packets::{basic_fields, kiss_fields};
-use crate::{Answer, Kiss, Reason};
+use crate::exchanging::new_stamps;
+use crate::{Answer, Reason};
 use ntp_mac::{Reply, add_nak};
 use ntp_packet::Header;
 use ntp_register::Customer;
+use ntp_reply_packets::{Kiss, Occasion, basic_fields, kiss_fields};
 use std::alloc::Allocator;
 
 /// How many refusals of a window are sent (profile).
@@ -23,7 +23,7 @@ fn refuse<A: Allocator + Copy>(customer: &mut Customer<A>, window: u64) -> bool
         → result ≡ nat_lt (count_in (refusals_in life) window) refusals_sent }
     ensures after { (life : Life) → short life ≡ Some customer.old
         → Some customer.new ≡ short (with_refusal life window) }
-    ensures numbers { numbers_of customer.new ≡ numbers_of customer.old }
+    ensures enrolment { enrolment_at customer.new ≡ enrolment_at customer.old }
 {
     customer.charge_refusal(window) < REFUSALS_SENT
 }
@@ -47,12 +47,13 @@ pub(crate) fn deny<A: Allocator + Copy>(
     Answer::Deny(Reply::from_header(&kiss_fields(Kiss::Deny, request)))
 }
 
-// A crypto-NAK, or silence where enough refusals were sent.
+// A crypto-NAK to an enrolled customer, or silence where enough refusals were sent. Its stamps are saved nowhere.
 pub(crate) fn nak<A: Allocator + Copy>(
     customer: &mut Customer<A>,
     request: &Header,
     occasion: &Occasion,
 ) -> Answer
+    requires { IsSome (enrolment_at customer.old) }
     ensures answer { (life : Life) → short life ≡ Some customer.old
         → result ≡ kind_answer life occasion.now (RefusedByNak request.now) }
     ensures after { (life : Life) → short life ≡ Some customer.old
@@ -63,7 +64,7 @@ pub(crate) fn nak<A: Allocator + Copy>(
     if !refuse(customer, occasion.receipt.window()) {
         return Answer::Silent(Reason::Muted);
     }
-    let fields = basic_fields(occasion, request, new_stamps(occasion));
+    let fields = basic_fields(occasion, request, new_stamps(occasion, customer.slots()));
     let mut reply = Reply::from_header(&fields);
     add_nak(&mut reply);
     Answer::Nak(reply)

@@ -1,18 +1,19 @@
 //! Signed queries: each is counted, and as many of a window as the budget get the time.
-ghost use Rattle.std.specs.Prelude.{◌≡◌, ◌≤◌, ◌+◌, Some, IsSome, IfSome, []};
+ghost use Rattle.std.specs.Prelude.{◌≡◌, ◌≤◌, ◌+◌, Some, IsSome, IfSome};
 ghost use Rattle.ntp_mac.specs.Digest.{digest_length};
 ghost use Rattle.ntp_register.specs.Customer.{enrolment_at, numbers_of};
 ghost use Rattle.ntp_reply.specs.Life.{Life, short};
+ghost use Rattle.ntp_reply.specs.Exchanged.{after_time};
 ghost use Rattle.ntp_reply.specs.Kind.{Signed};
-ghost use Rattle.ntp_reply.specs.Replies.{new_stamps, rate_octets};
+ghost use Rattle.ntp_reply_packets.specs.Replies.{rate_octets};
 ghost use Rattle.ntp_reply.specs.Verdict.{kind_answer, after_kind, timed, reply_length};
 
-use crate::occasion::{Occasion, new_stamps};
-use crate::packets::{basic_fields, kiss_fields};
-use crate::{Answer, Kiss, Reason};
+use crate::exchanging::exchange;
+use crate::{Answer, Reason};
 use ntp_mac::{Reply, seal};
 use ntp_packet::Header;
 use ntp_register::Customer;
+use ntp_reply_packets::{Kiss, Occasion, kiss_fields, time_fields};
 use std::alloc::Allocator;
 
 // The answer to a signed query of an enrolled customer, by its budget.
@@ -40,18 +41,23 @@ pub(crate) fn serve_signed<A: Allocator + Copy>(
     }
 }
 
-// The time, signed.
+// The time, signed: interleaved where the request asks about a saved exchange.
 fn time<A: Allocator + Copy>(
-    customer: &Customer<A>,
+    customer: &mut Customer<A>,
     request: &Header,
     occasion: &Occasion,
 ) -> Answer
-    requires { IsSome (enrolment_at customer.now) }
-    ensures answer { IfSome (enrolment_at customer.now) (λ e. result ≡ timed e.key e.number occasion.now request.now (new_stamps occasion.now [] [])) }
-    ensures octets { IfSome (enrolment_at customer.now) (λ e. reply_length result ≡ 52 + digest_length e.key.algorithm) }
+    requires { IsSome (enrolment_at customer.old) }
+    ensures answer { IfSome customer.old.account
+        (λ a. result ≡ timed a.enrolment.key a.enrolment.number occasion.now request.now a.exchanges) }
+    ensures after { (life : Life) → short life ≡ Some customer.old
+        → Some customer.new ≡ short (after_time life occasion.now request.now) }
+    ensures enrolment { enrolment_at customer.new ≡ enrolment_at customer.old }
+    ensures octets { IfSome (enrolment_at customer.old) (λ e. reply_length result ≡ 52 + digest_length e.key.algorithm) }
 {
-    let stamps = new_stamps(occasion);
-    let mut reply = Reply::from_header(&basic_fields(occasion, request, stamps));
+    let exchanged = exchange(customer.slots_mut(), request, occasion);
+    let stamps = exchanged.stamps;
+    let mut reply = Reply::from_header(&time_fields(occasion, request, exchanged.matched, stamps));
     seal(customer.key(), customer.number(), &mut reply);
     Answer::Time {
         reply,

@@ -1,0 +1,38 @@
+-- Exchanges: which one a request asks about, and what a time reply and a departure leave of them.
+use Rattle.std.specs.Prelude.{Bool, List, [], ◌∷◌, ◌++◌, ◌==◌, if◌then◌else◌, Option, None, is_some}
+use Rattle.ntp_time.specs.declared.stamp.Stamp.{Stamp}
+use Rattle.ntp_time.specs.declared.moment.Moment.{Moment}
+use Rattle.ntp_packet.specs.Header.{HeaderFields}
+use Rattle.ntp_slots.specs.declared.slot.Slot.{Slot}
+use Rattle.ntp_slots.specs.Exchanges.{with_recent, new_exchange, unused_at, spent, departed}
+use Rattle.ntp_reply_packets.specs.declared.occasion.Occasion.{Occasion}
+use Rattle.ntp_reply_packets.specs.declared.occasion.NewStamps.{NewStamps}
+use Rattle.ntp_reply_packets.specs.Replies.{new_stamps}
+use Rattle.ntp_reply.specs.Life.{Life, exchanges_in, recent_in, with_exchanges}
+
+-- the saved exchange that a request asks about: the unused one whose receive stamp is the request's origin, where the request's
+-- receive and transmit stamps differ. There is at most one (profile, after RFC 9769)
+abbrev pub matched : List Slot → HeaderFields → Option Slot
+matched saved request = if request.receive.0 == request.transmit.0 then None else unused_at saved request.origin
+
+-- the saved exchanges with that one marked used (profile, after RFC 9769)
+abbrev pub with_match_used : List Slot → HeaderFields → List Slot
+with_match_used saved request = if is_some (matched saved request) then spent saved request.origin else saved
+
+-- the new stamps of a reply on an occasion, beside the recent exchanges (profile)
+abbrev pub stamps_of : Life → Occasion → NewStamps
+stamps_of life o = new_stamps o (recent_in life)
+
+-- the life after a time reply: the exchange that was asked about is used, and there is a new one (profile, after RFC 9769)
+abbrev pub after_time : Life → Occasion → HeaderFields → Life
+after_time life o request =
+    let new = new_exchange (stamps_of life o).receive (stamps_of life o).transmit in
+    with_exchanges life (with_recent (exchanges_in life) (with_match_used (recent_in life) request) ++ new ∷ [])
+
+-- whether a departure is noted: a recent exchange that is unused has this receive stamp (profile, after RFC 9769)
+abbrev pub is_noted : Life → Stamp → Bool
+is_noted life receive = is_some (unused_at (recent_in life) receive)
+
+-- the life after a departure: that exchange has its transmit stamp (profile, after RFC 9769)
+abbrev pub after_departure : Life → Stamp → Moment → Life
+after_departure life receive m = with_exchanges life (with_recent (exchanges_in life) (departed (recent_in life) receive m))

@@ -1,0 +1,25 @@
+//! Reports of departures.
+ghost use Rattle.std.specs.Prelude.{◌≡◌, Some};
+ghost use Rattle.ntp_register.specs.Customer.{numbers_of};
+ghost use Rattle.ntp_reply.specs.Life.{Life, short};
+ghost use Rattle.ntp_reply.specs.Exchanged.{is_noted, after_departure};
+
+use ntp_register::Customer;
+use ntp_time::{Moment, Stamp};
+use std::alloc::Allocator;
+
+/// A reply to a customer with this receive stamp left at this moment: its transmit stamp becomes the moment's, or the first
+/// after it that may be taken, where the customer is enrolled and its exchange is saved and unused (profile, after RFC 9769).
+/// Otherwise the answer is `false` and nothing changes. It takes no memory.
+pub fn depart<A: Allocator + Copy>(
+    customer: &mut Customer<A>,
+    receive: Stamp,
+    moment: Moment,
+) -> bool
+    ensures noted { (life : Life) → short life ≡ Some customer.old → result ≡ is_noted life receive }
+    ensures after { (life : Life) → short life ≡ Some customer.old
+        → Some customer.new ≡ short (after_departure life receive moment) }
+    ensures numbers { numbers_of customer.new ≡ numbers_of customer.old }
+{
+    customer.is_enrolled() && customer.slots_mut().depart(receive, moment)
+}

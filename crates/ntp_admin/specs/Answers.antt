@@ -60,5 +60,7 @@ line_feed = 10 ∷ []
 -- the line of an outcome (profile)
 unfoldable pub text_of : Outcome → List ℕ
 text_of (outcome.Datagram answer) = answer_text answer ++ line_feed
+text_of outcome.Noted = codes "noted" ++ line_feed
+text_of outcome.NotNoted = codes "not-noted" ++ line_feed
 text_of outcome.Done = codes "done" ++ line_feed
 text_of (outcome.Refused why) = codes "refused " ++ refusal_text why ++ line_feed

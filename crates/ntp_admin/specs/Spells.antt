@@ -2,7 +2,7 @@
 use Rattle.std.specs.Prelude.{◌≡◌, ℕ, Bool, false, if◌then◌else◌, List, [], ◌∷◌, codes, Result, Ok, Err}
 use Rattle.std.specs.Option.{ok_or}
 use Rattle.std.specs.Str.{bytes_eq}
-use Rattle.ntp_admin.specs.Words.{words, address_in, number_in, algorithm_in, key_in, moment_in, reference_in, octets_in}
+use Rattle.ntp_admin.specs.Words.{words, address_in, number_in, algorithm_in, key_in, stamp_in, moment_in, reference_in, octets_in}
 use Rattle.ntp_admin.specs.declared.command.Command.{Command}
 use Rattle.ntp_admin.specs.declared.command.Command.TheVariants as command
 use Rattle.ntp_admin.specs.declared.event.Event.{Event}
@@ -34,12 +34,21 @@ revoke_in (address ∷ []) = do
   Ok (command.Revoke a)
 revoke_in other = Err fault.Count
 
+-- the words behind `budget` (profile)
+abbrev pub budget_in : List (List ℕ) → Result Command LineFault
+budget_in (address ∷ budget ∷ []) = do
+  a ← ok_or (address_in address) fault.Address
+  b ← ok_or (number_in budget) fault.Budget
+  Ok (command.Budget a b)
+budget_in other = Err fault.Count
+
 -- a command, by its first word (profile)
 unfoldable pub command_in : List (List ℕ) → Result Command LineFault
 command_in [] = Err fault.Word
 command_in (first ∷ others) =
     if bytes_eq first (codes "enrol") then enrol_in others
     else if bytes_eq first (codes "revoke") then revoke_in others
+    else if bytes_eq first (codes "budget") then budget_in others
     else Err fault.Word
 
 -- the words behind `datagram` (profile)
@@ -53,6 +62,15 @@ datagram_in (address ∷ receipt ∷ transmit ∷ reference ∷ octets ∷ []) =
   Ok (event.Datagram a r t s o)
 datagram_in other = Err fault.Count
 
+-- the words behind `departed` (profile)
+abbrev pub departed_in : {A : Type 0} → List (List ℕ) → Result (Event A) LineFault
+departed_in (address ∷ receive ∷ moment ∷ []) = do
+  a ← ok_or (address_in address) fault.Address
+  s ← ok_or (stamp_in receive) fault.Stamp
+  m ← ok_or (moment_in moment) fault.Moment
+  Ok (event.Departed a s m)
+departed_in other = Err fault.Count
+
 -- whether the first word is `datagram` (profile)
 abbrev pub is_datagram : List (List ℕ) → Bool
 is_datagram [] = false
@@ -63,6 +81,7 @@ unfoldable pub event_in : {A : Type 0} → List (List ℕ) → Result (Event A) 
 event_in [] = Err fault.Word
 event_in (first ∷ others) =
     if bytes_eq first (codes "datagram") then datagram_in others
+    else if bytes_eq first (codes "departed") then departed_in others
     else do
       c ← command_in (first ∷ others)
       Ok (event.Command c)

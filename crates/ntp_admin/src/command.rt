@@ -18,4 +18,9 @@ pub enum Command {
     Revoke {
         address: Address,
     },
+    /// Gives an enrolled address another budget of signed queries in a window; what was counted stays.
+    Budget {
+        address: Address,
+        budget: NonZero<u16>,
+    },
 }

@@ -3,7 +3,7 @@
 use crate::{Command, Octets};
 use ntp_register::Address;
 use ntp_reply::Reference;
-use ntp_time::Moment;
+use ntp_time::{Moment, Stamp};
 use std::alloc::{Allocator, Global};
 
 /// One event. Each names one address.
@@ -16,6 +16,12 @@ pub enum Event<A: Allocator = Global> {
         transmit: Moment,
         reference: Reference,
         octets: Octets<A>,
+    },
+    /// The reply to an address whose receive stamp was `receive` departed at `moment`.
+    Departed {
+        address: Address,
+        receive: Stamp,
+        moment: Moment,
     },
     /// An administrator gave a command.
     Command(Command),

@@ -11,7 +11,7 @@ mod printing;
 mod reading;
 #[cfg(test)]
 mod tests;
-mod words;
+pub mod words;
 
 pub use command::Command;
 pub use event::Event;

@@ -8,6 +8,10 @@ use ntp_reply::Answer;
 pub enum Outcome {
     /// To a datagram.
     Datagram(Answer),
+    /// To a departure: it was noted for the exchange that it names.
+    Noted,
+    /// To a departure: there is no such exchange, and nothing changed.
+    NotNoted,
     /// The command was carried out.
     Done,
     /// The command was refused, and changed nothing.

@@ -22,6 +22,8 @@ pub fn print_answer<A: Allocator + Copy>(alloc: A, outcome: &Outcome) -> Result<
             let answer = answer_text(alloc, answer)?;
             format!(in alloc; "{answer}\n")?
         }
+        Outcome::Noted => String::from_str(alloc, "noted\n")?,
+        Outcome::NotNoted => String::from_str(alloc, "not-noted\n")?,
         Outcome::Done => String::from_str(alloc, "done\n")?,
         Outcome::Refused(refusal) => {
             let refusal = refusal_word(*refusal);

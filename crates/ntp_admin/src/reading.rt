@@ -1,7 +1,7 @@
 //! Lines to commands and events.
 ghost use Rattle.std.specs.Prelude.{◌≡◌, ◌≢◌, ◌⊎◌, IfOk, IfErr, ◌∷◌, Err, true};
 ghost use Rattle.ntp_admin.specs.Words.{words};
-ghost use Rattle.ntp_admin.specs.Spells.{enrol_in, revoke_in, command_in, datagram_in, event_in, is_datagram, SpellsCommand, HasCommandFault, Spells, HasFault};
+ghost use Rattle.ntp_admin.specs.Spells.{enrol_in, revoke_in, budget_in, command_in, datagram_in, departed_in, event_in, is_datagram, SpellsCommand, HasCommandFault, Spells, HasFault};
 
 use crate::parts::Parts;
 use crate::{Command, Event, LineFault, words};
@@ -12,6 +12,7 @@ use std::alloc::Allocator;
 /// ```text
 /// enrol ADDRESS NUMBER ALGORITHM KEY BUDGET
 /// revoke ADDRESS
+/// budget ADDRESS BUDGET
 /// ```
 ///
 /// The fault is the first in this order: the first word, the number of words, then the words from left to
@@ -26,13 +27,15 @@ pub fn parse_command(line: &str) -> Result<Command, LineFault>
     command(first, words)
 }
 
-/// The event that a line says: a command, or the form
+/// The event that a line says: a command, or one of the forms
 ///
 /// ```text
 /// datagram ADDRESS RECEIPT TRANSMIT REFERENCE OCTETS
+/// departed ADDRESS RECEIVE MOMENT
 /// ```
 ///
-/// The fault is the first in the order of `parse_command`, or want of memory, and that of a datagram alone.
+/// RECEIVE is a stamp, RECEIPT, TRANSMIT and MOMENT are moments. The fault is the first in the order of
+/// `parse_command`, or want of memory, and that of a datagram alone.
 #[tactic(auto, unfolding(crate::specs::Spells::event_in, crate::specs::Spells::command_in))]
 pub fn parse_event<A: Allocator + Copy>(alloc: A, line: &str) -> Result<Event<A>, LineFault>
     ensures only { IfOk result (λ event. Spells line.now event) }
@@ -44,6 +47,7 @@ pub fn parse_event<A: Allocator + Copy>(alloc: A, line: &str) -> Result<Event<A>
     let first = words.next().ok_or(LineFault::Word)?;
     match first {
         "datagram" => datagram(alloc, words),
+        "departed" => departure(words),
         _ => Ok(Event::Command(command(first, words)?)),
     }
 }
@@ -57,6 +61,7 @@ fn command(first: &str, others: Parts<'_>) -> Result<Command, LineFault>
     match first {
         "enrol" => enrolment(others),
         "revoke" => revocation(others),
+        "budget" => new_budget(others),
         _ => Err(LineFault::Word),
     }
 }
@@ -96,6 +101,19 @@ fn revocation(mut words: Parts<'_>) -> Result<Command, LineFault>
     Ok(Command::Revoke { address })
 }
 
+// What stands behind `budget`.
+fn new_budget(mut words: Parts<'_>) -> Result<Command, LineFault>
+    ensures command { result ≡ budget_in words.entry }
+    ensures memory { result ≢ Err LineFault.NoMemory }
+{
+    let address = words.word()?;
+    let budget = words.word()?;
+    words.end()?;
+    let address = words::address(address).ok_or(LineFault::Address)?;
+    let budget = words::number(budget).ok_or(LineFault::Budget)?;
+    Ok(Command::Budget { address, budget })
+}
+
 // What stands behind `datagram`.
 fn datagram<A: Allocator + Copy>(alloc: A, mut words: Parts<'_>) -> Result<Event<A>, LineFault>
     ensures only { IfOk result (λ event. datagram_in words.entry ≡ Ok event) }
@@ -113,5 +131,24 @@ fn datagram<A: Allocator + Copy>(alloc: A, mut words: Parts<'_>) -> Result<Event
         transmit: words::moment(transmit).ok_or(LineFault::Moment)?,
         reference: words::reference(reference).ok_or(LineFault::Reference)?,
         octets: words::octets(alloc, octets)?,
+    })
+}
+
+// What stands behind `departed`.
+fn departure<A: Allocator>(mut words: Parts<'_>) -> Result<Event<A>, LineFault>
+    ensures event { result ≡ departed_in words.entry }
+    ensures memory { result ≢ Err LineFault.NoMemory }
+{
+    let address = words.word()?;
+    let receive = words.word()?;
+    let moment = words.word()?;
+    words.end()?;
+    let address = words::address(address).ok_or(LineFault::Address)?;
+    let receive = words::stamp(receive).ok_or(LineFault::Stamp)?;
+    let moment = words::moment(moment).ok_or(LineFault::Moment)?;
+    Ok(Event::Departed {
+        address,
+        receive,
+        moment,
     })
 }

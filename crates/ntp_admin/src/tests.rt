@@ -38,12 +38,19 @@ fn commands(rt: HostRuntime) -> Result<(), Fail> {
     let end = Command::Revoke {
         address: Address([255, 0, 0, 1]),
     };
+    let change = Command::Budget {
+        address: Address([192, 0, 2, 10]),
+        budget: NonZero::<u16>::new(4).ok_or("no budget")?,
+    };
     assert!(rt; parse_command(FIRST) == Ok(first));
     assert!(rt; parse_command(SECOND) == Ok(second));
     assert!(rt; parse_command("revoke 255.0.0.1") == Ok(end));
-    match parse_event(rt.alloc(), FIRST)? {
-        Event::Command(command) => assert!(rt; command == first),
-        Event::Datagram { .. } => panic!(rt; "no datagram"),
+    assert!(rt; parse_command("budget 192.0.2.10 4") == Ok(change));
+    for (line, expected) in [(FIRST, first), ("budget 192.0.2.10 4", change)] {
+        match parse_event(rt.alloc(), line)? {
+            Event::Command(command) => assert!(rt; command == expected, "of {line}"),
+            _ => panic!(rt; "no command"),
+        }
     }
     Ok(())
 }
@@ -83,7 +90,7 @@ fn a_datagram(rt: HostRuntime) -> Result<(), Fail> {
             assert_eq!(rt; octets.as_slice().first(), Some(&0x23));
             assert_eq!(rt; &octets.as_slice()[44..], [0x80, 0, 0, 0].as_slice());
         }
-        Event::Command(_) => panic!(rt; "no command"),
+        _ => panic!(rt; "no datagram"),
     }
     Ok(())
 }
@@ -94,7 +101,40 @@ fn an_empty_datagram(rt: HostRuntime) -> Result<(), Fail> {
         "datagram 0.0.0.0 4294967295:0000000000000000 0:0000000000000000 0310ec00000000000000104e495354ec00000000000000 -";
     match parse_event(rt.alloc(), line)? {
         Event::Datagram { octets, .. } => assert!(rt; octets.as_slice().is_empty()),
-        Event::Command(_) => panic!(rt; "no command"),
+        _ => panic!(rt; "no datagram"),
+    }
+    Ok(())
+}
+
+#[test]
+fn departures(rt: HostRuntime) -> Result<(), Fail> {
+    let lines = [
+        (
+            "departed 192.0.2.10 ec00001090000000 0:ec00001090000180",
+            Address([192, 0, 2, 10]),
+        ),
+        (
+            "departed 192.0.2.99 EC00001090000000 0:ec00001090000180",
+            Address([192, 0, 2, 99]),
+        ),
+    ];
+    let departs = Moment {
+        era: 0,
+        stamp: Stamp(0xec00_0010_9000_0180),
+    };
+    for (line, from) in lines {
+        match parse_event(rt.alloc(), line)? {
+            Event::Departed {
+                address,
+                receive,
+                moment,
+            } => {
+                assert_eq!(rt; address, from);
+                assert_eq!(rt; receive, Stamp(0xec00_0010_9000_0000));
+                assert_eq!(rt; moment, departs);
+            }
+            _ => panic!(rt; "no departure"),
+        }
     }
     Ok(())
 }
@@ -115,11 +155,34 @@ fn faults_of_a_line(rt: HostRuntime) -> Result<(), Fail> {
         ("enrol 192.0.2.10 7 md5 6b657 10", LineFault::KeyText),
         ("enrol 192.0.2.10 7 md5  10", LineFault::KeyText),
         ("enrol 192.0.2.10 7 md5 6b6579 +1", LineFault::Budget),
+        ("Budget 192.0.2.10 5", LineFault::Word),
+        ("budget 192.0.2.10", LineFault::Count),
+        ("budget 192.0.2.10 5 5", LineFault::Count),
+        ("budget 192.0.2.256 0", LineFault::Address),
+        ("budget 192.0.2.10 0", LineFault::Budget),
+        ("budget 192.0.2.10 65536", LineFault::Budget),
     ];
     for (line, fault) in lines {
         assert!(rt; parse_command(line) == Err(fault), "of {line}");
     }
-    let datagrams = [
+    let others = [
+        ("departed 192.0.2.10 ec00001090000000", LineFault::Count),
+        (
+            "departed 192.0.2 ec0000109000000 0:ec00001090000180",
+            LineFault::Address,
+        ),
+        (
+            "departed 192.0.2.10 ec0000109000000 0:ec00001090000180",
+            LineFault::Stamp,
+        ),
+        (
+            "departed 192.0.2.10 ec0000109000000 01:ec00001090000180",
+            LineFault::Stamp,
+        ),
+        (
+            "departed 192.0.2.10 ec00001090000000 01:ec00001090000180",
+            LineFault::Moment,
+        ),
         (
             "datagram 192.0.2.10 01:ec00001090000000 0:ec00001090000100 0001ec00000000000000104e495354ec00000000000000 -",
             LineFault::Moment,
@@ -129,7 +192,7 @@ fn faults_of_a_line(rt: HostRuntime) -> Result<(), Fail> {
             LineFault::Moment,
         ),
         (
-            "datagram 192.0.2.10 0:ec00001090000000 0:ec00001090000100 0001ec00000000000000104e495354ec0000000000000 -",
+            "datagram 192.0.2.10 0:ec00001090000000 0:ec00001090000100 0001ec00000000000000104e495354ec0000000000000 23000600000000000000000000000000000000000000000000000000000000000000000000000000ec00001080000000",
             LineFault::Reference,
         ),
         (
@@ -145,7 +208,7 @@ fn faults_of_a_line(rt: HostRuntime) -> Result<(), Fail> {
             LineFault::Hex,
         ),
     ];
-    for (line, fault) in datagrams {
+    for (line, fault) in others {
         assert!(rt; parse_command(line) == Err(LineFault::Word), "of {line}");
         match parse_event(rt.alloc(), line) {
             Err(found) => assert!(rt; found == fault, "of {line}"),
@@ -219,8 +282,10 @@ fn lines_of_silence(rt: HostRuntime) {
 }
 
 #[test]
-fn lines_of_commands(rt: HostRuntime) {
+fn lines_of_departures_and_commands(rt: HostRuntime) {
     let outcomes = [
+        (Outcome::Noted, "noted\n"),
+        (Outcome::NotNoted, "not-noted\n"),
         (Outcome::Done, "done\n"),
         (
             Outcome::Refused(Refusal::AlreadyEnrolled),

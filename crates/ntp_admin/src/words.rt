@@ -58,7 +58,7 @@ fn octet(word: &str) -> Option<u8>
 }
 
 /// An address: four numbers from 0 to 255 with dots between them.
-pub(crate) fn address(word: &str) -> Option<Address>
+pub fn address(word: &str) -> Option<Address>
     ensures { result ≡ address_in word.now }
 {
     let mut parts = Parts::new(word, '.');
@@ -81,7 +81,7 @@ pub(crate) fn number(word: &str) -> Option<NonZero<u16>>
 }
 
 /// A digest algorithm: `md5` or `sha1`.
-pub(crate) fn algorithm(word: &str) -> Option<Algorithm>
+pub fn algorithm(word: &str) -> Option<Algorithm>
     ensures { result ≡ algorithm_in word.now }
 {
     match word {
@@ -92,7 +92,7 @@ pub(crate) fn algorithm(word: &str) -> Option<Algorithm>
 }
 
 /// A key for an algorithm: 2 to 64 hexadecimal digits, an even number.
-pub(crate) fn key(algorithm: Algorithm, word: &str) -> Option<Key>
+pub fn key(algorithm: Algorithm, word: &str) -> Option<Key>
     ensures { result ≡ option_map (λ octets. record { algorithm = algorithm; octets = octets }) (key_in word.now) }
 {
     let len = word.len() / 2;
@@ -130,7 +130,7 @@ pub(crate) fn moment(word: &str) -> Option<Moment>
 
 /// A reference state: 46 hexadecimal digits, which spell leap (1 octet), stratum (1), precision (1), root
 /// delay (4), root dispersion (4), identifier (4) and reference stamp (8).
-pub(crate) fn reference(word: &str) -> Option<Reference>
+pub fn reference(word: &str) -> Option<Reference>
     ensures { result ≡ reference_in word.now }
 {
     let octets = <[u8; REFERENCE_OCTETS]>::from_hex(word).ok()?;

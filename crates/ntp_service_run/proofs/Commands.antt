@@ -8,12 +8,13 @@ use Rattle.ntp_mac.specs.Key.{SymmetricKey}
 use Rattle.ntp_register.specs.declared.address.Address.{Address}
 use Rattle.ntp_register.specs.declared.refusal.Refusal.{Refusal}
 use Rattle.ntp_register.specs.declared.refusal.Refusal.TheVariants.{AlreadyEnrolled, KeyTaken, NoMemory, NotEnrolled}
-use Rattle.ntp_register.specs.Customer.{CustomerState, Enrolment, enrolment_of, new_customer, revoked}
-use Rattle.ntp_register.specs.Registry.{Registry, Agrees, customer_at, is_enrolled_at, holder_of, after_enrol, after_revoke}
-use Rattle.ntp_register.proofs.Lookups.{customer_at-after_enrol, customer_at-after_enrol-other, customer_at-after_revoke, customer_at-after_revoke-other}
-use Rattle.ntp_reply.specs.Life.{Life, Unregistered, Revoked, Enrolled, enrolment_in, refusals_in, short}
+use Rattle.ntp_register.specs.Customer.{CustomerState, Enrolment, enrolment_of, new_customer, revoked, rebudgeted}
+use Rattle.ntp_register.specs.Registry.{Registry, Agrees, customer_at, is_enrolled_at, holder_of, after_enrol, after_revoke, after_budget}
+use Rattle.ntp_register.proofs.Lookups.{customer_at-after_enrol, customer_at-after_enrol-other, customer_at-after_revoke, customer_at-after_revoke-other, customer_at-after_budget, customer_at-after_budget-other}
+use Rattle.ntp_reply.proofs.KeptExchanges.{short-new}
+use Rattle.ntp_reply.specs.Life.{Life, Unregistered, Revoked, Enrolled, enrolment_in, refusals_in, with_new_budget, short}
 use Rattle.ntp_admin.specs.declared.command.Command.{Command}
-use Rattle.ntp_admin.specs.declared.command.Command.TheVariants.{Enrol, Revoke}
+use Rattle.ntp_admin.specs.declared.command.Command.TheVariants.{Enrol, Revoke, Budget}
 use Rattle.ntp_admin.specs.declared.event.Event.{Event}
 use Rattle.ntp_admin.specs.declared.event.Event.TheVariants as event
 use Rattle.ntp_admin.specs.declared.outcome.Outcome.TheVariants.{Done, Refused}
@@ -22,6 +23,7 @@ use Rattle.ntp_service_run.specs.Model.{life_of}
 use Rattle.ntp_service_run.specs.Headline.{StandsFor, TellsOne, IsAnswered, IsTaken, IsNewEnrolment, is_struck, command_outcome}
 use Rattle.ntp_service_run.proofs.Histories.{stands-step, stands-same}
 use Rattle.ntp_service_run.proofs.Holders.{enrolled-is, taken-so}
+use Rattle.ntp_service_run.proofs.KeptLives.{short-new_budget}
 
 -- a test that is not true is false
 not-true : (b : Bool) → (b ≡ true → ⊥) → b ≡ false
@@ -48,13 +50,19 @@ short-revoked : (life : Life) (c : CustomerState) → short life ≡ Some c → 
     → Some (revoked c) ≡ short (Revoked (refusals_in life))
 short-revoked Unregistered c e is = absurd (none-some c e)
 short-revoked (Revoked refusals) c e is = absurd (true≢false (sym is))
-short-revoked (Enrolled l queries refusals) c e is = ap (λ o. option_map revoked o) (sym e)
+short-revoked (Enrolled l queries refusals exchanges) c e is = ap (λ o. option_map revoked o) (sym e)
 
 -- something is kept of a life that is enrolled
 kept-enrolled : (life : Life) → is_some (enrolment_in life) ≡ true → (c : CustomerState) × (short life ≡ Some c)
 kept-enrolled Unregistered is = absurd (true≢false (sym is))
 kept-enrolled (Revoked refusals) is = absurd (true≢false (sym is))
-kept-enrolled (Enrolled l queries refusals) is = (_, refl)
+kept-enrolled (Enrolled l queries refusals exchanges) is = (_, refl)
+
+-- a life that is not enrolled has no budget to change
+unbudgeted : (life : Life) (budget : ℕ) → is_some (enrolment_in life) ≡ false → with_new_budget life budget ≡ life
+unbudgeted Unregistered budget out = refl
+unbudgeted (Revoked refusals) budget out = refl
+unbudgeted (Enrolled l queries refusals exchanges) budget out = absurd (true≢false out)
 
 module _ {A : Type 0} (r s : Registry) (history : List (Event A)) (address : Address) (stands : StandsFor r history) where
   abbrev life : Life
@@ -114,8 +122,8 @@ module _ {A : Type 0} (r s : Registry) (history : List (Event A)) (address : Add
           };
           stands = stands-step r s history (event.Command enrolment) stands
               (ap (λ x. customer_at x address) ok ∙ customer_at-after_enrol r address (enrolment_of n key b)
-              ∙ ap (λ t. Some (new_customer t)) given
-              ∙ ap (λ (t : Bool). short (if t then life else Enrolled terms [] [])) (sym out))
+              ∙ ap (λ t. Some (new_customer t)) given ∙ short-new terms
+              ∙ ap (λ (t : Bool). short (if t then life else Enrolled terms [] [] [])) (sym out))
               (λ a ne. ap (λ x. customer_at x a) ok ∙ customer_at-after_enrol-other r address (enrolment_of n key b) a ne)
               agrees;
         }
@@ -131,7 +139,8 @@ module _ {A : Type 0} (r s : Registry) (history : List (Event A)) (address : Add
             memory = memory-in (Err AlreadyEnrolled) already;
           };
           stands = subst (λ x. StandsFor x (history ++ event.Command enrolment ∷ [])) (sym err)
-              (stands-same r history (event.Command enrolment) stands (ap (λ (t : Bool). if t then life else Enrolled terms [] []) in_it));
+              (stands-same r history (event.Command enrolment) stands
+              (ap (λ (t : Bool). if t then life else Enrolled terms [] [] []) in_it));
         }
     enrol-tells (Err KeyTaken) n b en eb already taken never ok err agrees =
         struck KeyTaken refl (Err KeyTaken) refl err
@@ -192,3 +201,47 @@ module _ {A : Type 0} (r s : Registry) (history : List (Event A)) (address : Add
   revoke-tells (Err AlreadyEnrolled) refused only ok err agrees = absurd cc
   revoke-tells (Err KeyTaken) refused only ok err agrees = absurd cc
   revoke-tells (Err NoMemory) refused only ok err agrees = absurd cc
+
+  module _ (budget : NonZeroU16) where
+    abbrev change : Command
+    change = Budget address budget
+
+    pub budget-tells : (result : Result (Unit {0}) Refusal) (b : ℕ) → b ≡ non_zero_u16_get budget
+        → (result ≡ Err NotEnrolled) ↔ (is_enrolled_at r address ≡ false) → IfErr result (λ e. e ≡ NotEnrolled)
+        → OnOk result (s ≡ after_budget r address b) → OnErr result (s ≡ r) → Agrees s
+        → TellsOne history (event.Command change) (command_outcome result) s
+    budget-tells (Ok done) b eb refused only ok err agrees =
+        let in_it : enrolled ≡ true = inside (not-false (is_enrolled_at r address) (λ h. fresh-done (refused.1 h))) in
+        let c = kept-enrolled life in_it in
+        let was : customer_at r address ≡ Some c.0 = stands.entries address ∙ c.1 in
+        record {
+          answered = record {
+            as_model = λ e. ap (λ (t : Bool). if t then Done else Refused NotEnrolled) (sym in_it);
+            taken = (λ e. absurd cc, λ h. absurd h);
+            memory = λ e. absurd cc;
+          };
+          stands = stands-step r s history (event.Command change) stands
+              (ap (λ x. customer_at x address) ok ∙ customer_at-after_budget r address b c.0 was
+              ∙ ap (λ n. Some (rebudgeted c.0 n)) eb
+              ∙ ap (option_map (λ d. rebudgeted d (non_zero_u16_get budget))) (sym c.1)
+              ∙ short-new_budget life (non_zero_u16_get budget))
+              (λ a ne. ap (λ x. customer_at x a) ok ∙ customer_at-after_budget-other r address b c.0 was a ne)
+              agrees;
+        }
+      where
+        fresh-done : Ok done ≡ Err NotEnrolled → ⊥
+        fresh-done e = cc
+    budget-tells (Err NotEnrolled) b eb refused only ok err agrees =
+        let out : enrolled ≡ false = outside (refused.0 refl) in
+        record {
+          answered = record {
+            as_model = λ e. ap (λ (t : Bool). if t then Done else Refused NotEnrolled) (sym out);
+            taken = (λ e. absurd cc, λ h. absurd h);
+            memory = λ e. absurd cc;
+          };
+          stands = subst (λ x. StandsFor x (history ++ event.Command change ∷ [])) (sym err)
+              (stands-same r history (event.Command change) stands (unbudgeted life (non_zero_u16_get budget) out));
+        }
+    budget-tells (Err AlreadyEnrolled) b eb refused only ok err agrees = absurd cc
+    budget-tells (Err KeyTaken) b eb refused only ok err agrees = absurd cc
+    budget-tells (Err NoMemory) b eb refused only ok err agrees = absurd cc

@@ -1,7 +1,9 @@
--- One datagram, by what the register has at its address.
-use Rattle.std.proofs.Common.{◌≡◌, ℕ, false, Some, None, List, refl, sym, ap, ◌∙◌, subst}
+-- One datagram, and one departure, by what the register has at its address.
+use Rattle.std.proofs.Common.{◌≡◌, ℕ, Bool, true, false, Some, None, List, [], ◌∷◌, ◌++◌, refl, sym, ap, ◌∙◌, subst}
 use Rattle.std.proofs.lemmas.Option.{none-some}
+use Rattle.std.specs.Prelude.{if◌then◌else◌}
 use Rattle.ntp_time.specs.declared.moment.Moment.{Moment}
+use Rattle.ntp_time.specs.declared.stamp.Stamp.{Stamp}
 use Rattle.ntp_register.specs.declared.address.Address.{Address}
 use Rattle.ntp_register.specs.Customer.{CustomerState}
 use Rattle.ntp_register.specs.Registry.{Registry, Agrees, customer_at, with_customer}
@@ -9,6 +11,8 @@ use Rattle.ntp_register.proofs.Lookups.{customer_at-with_customer, customer_at-w
 use Rattle.ntp_reply.specs.Reference.{ReferenceState}
 use Rattle.ntp_reply.specs.Life.{Life, Unregistered, Revoked, Enrolled, short}
 use Rattle.ntp_reply.specs.Replies.{occasion_of}
+use Rattle.ntp_reply.specs.Exchanged.{is_noted, after_departure}
+use Rattle.ntp_reply.proofs.KeptExchanges.{none-noted}
 use Rattle.ntp_reply.specs.Verdict.{verdict, after_datagram}
 use Rattle.ntp_reply.specs.declared.answers.Answer.{Answer}
 use Rattle.ntp_reply.specs.declared.answers.Answer.TheVariants.{Silent}
@@ -17,7 +21,7 @@ use Rattle.ntp_admin.specs.declared.event.Event.{Event}
 use Rattle.ntp_admin.specs.declared.event.Event.TheVariants as event
 use Rattle.ntp_admin.specs.declared.outcome.Outcome.TheVariants as outcome
 use Rattle.ntp_service_run.specs.Events.{own}
-use Rattle.ntp_service_run.specs.Model.{life_of, after, answer_to}
+use Rattle.ntp_service_run.specs.Model.{life_of, after, answer_to, departure_outcome}
 use Rattle.ntp_service_run.specs.Headline.{StandsFor, IsAnswered, TellsOne, is_struck}
 use Rattle.ntp_service_run.proofs.Histories.{stands-step, stands-same}
 
@@ -25,7 +29,7 @@ use Rattle.ntp_service_run.proofs.Histories.{stands-step, stands-same}
 pub never-enrolled : (life : Life) → short life ≡ None → life ≡ Unregistered
 never-enrolled Unregistered e = refl
 never-enrolled (Revoked refusals) e = absurd (none-some _ (sym e))
-never-enrolled (Enrolled l queries refusals) e = absurd (none-some _ (sym e))
+never-enrolled (Enrolled l queries refusals exchanges) e = absurd (none-some _ (sym e))
 
 module _ {A : Type 0} (r : Registry) (history : List (Event A)) (address : Address) (receipt transmit : Moment)
     (reference : ReferenceState) (octets : List ℕ) (stands : StandsFor r history) where
@@ -63,3 +67,59 @@ module _ {A : Type 0} (r : Registry) (history : List (Event A)) (address : Addre
             (λ other ne. customer_at-with_customer-other r address w other ne)
             agrees;
       }
+
+module _ {A : Type 0} (r : Registry) (history : List (Event A)) (address : Address) (receive : Stamp) (m : Moment)
+    (stands : StandsFor r history) where
+  abbrev departure : Event A
+  departure = event.Departed address receive m
+
+  abbrev lived : Life
+  lived = life_of (own address history)
+
+  -- a departure is refused nothing
+  unrefused : (noted : Bool) → noted ≡ is_noted lived receive → IsAnswered history departure (departure_outcome noted)
+  unrefused true is = record {
+    as_model = λ e. ap departure_outcome is;
+    taken = (λ e. absurd cc, λ h. absurd h);
+    memory = λ e. absurd cc;
+  }
+  unrefused false is = record {
+    as_model = λ e. ap departure_outcome is;
+    taken = (λ e. absurd cc, λ h. absurd h);
+    memory = λ e. absurd cc;
+  }
+
+  unstruck : (noted : Bool) → is_struck (departure_outcome noted) ≡ false
+  unstruck true = refl
+  unstruck false = refl
+
+  -- so the service goes on to stand for one event more
+  departed-so : (noted : Bool) (s : Registry) → noted ≡ is_noted lived receive → StandsFor s (history ++ departure ∷ [])
+      → TellsOne history departure (departure_outcome noted) s
+  departed-so noted s is goes_on = record {
+    answered = unrefused noted is;
+    stands = subst (λ (b : Bool). StandsFor s (if b then history else history ++ departure ∷ [])) (sym (unstruck noted)) goes_on;
+  }
+
+  -- the register has nothing
+  pub departed-unregistered : customer_at r address ≡ None → TellsOne history departure (departure_outcome false) r
+  departed-unregistered none =
+      let never = never-enrolled lived (sym (stands.entries address) ∙ none) in
+      departed-so false r (unnoted ∙ ap (λ l. is_noted l receive) (sym never))
+      (stands-same r history departure stands (subst (λ l. after l departure ≡ l) (sym never) refl))
+    where
+      unnoted : false ≡ is_noted Unregistered receive
+      unnoted = none-noted Unregistered receive refl
+
+  -- the register has a customer, for whom it is noted as the life says, and who is then w
+  pub departed-customer : (c w : CustomerState) (noted : Bool) → customer_at r address ≡ Some c
+      → ((l : Life) → short l ≡ Some c → noted ≡ is_noted l receive)
+      → ((l : Life) → short l ≡ Some c → Some w ≡ short (after_departure l receive m))
+      → Agrees (with_customer r address w) → TellsOne history departure (departure_outcome noted) (with_customer r address w)
+  departed-customer c w noted there says goes_on agrees =
+      let has : short lived ≡ Some c = sym (stands.entries address) ∙ there in
+      departed-so noted (with_customer r address w) (says lived has)
+      (stands-step r (with_customer r address w) history departure stands
+      (customer_at-with_customer r address w ∙ goes_on lived has)
+      (λ other ne. customer_at-with_customer-other r address w other ne)
+      agrees)

@@ -24,12 +24,12 @@ use Rattle.ntp_service_run.specs.Headline.{StandsFor, IsEnrolledWith, IsTaken}
 numbers-short : (life : Life) → numbers_held (short life) ≡ option_map_or numbers_in (enrolment_in life) []
 numbers-short Unregistered = refl
 numbers-short (Revoked refusals) = refl
-numbers-short (Enrolled e queries refusals) = refl
+numbers-short (Enrolled e queries refusals exchanges) = refl
 
 enrolled-short : (life : Life) → option_map_or is_enrolled (short life) false ≡ is_some (enrolment_in life)
 enrolled-short Unregistered = refl
 enrolled-short (Revoked refusals) = refl
-enrolled-short (Enrolled e queries refusals) = refl
+enrolled-short (Enrolled e queries refusals exchanges) = refl
 
 the-some : {X : Type 0} (o : Option X) → IsSome o → (x : X) × (o ≡ Some x)
 the-some None h = absurd (true≢false (sym h))

@@ -4,3 +4,4 @@ mod Commands
 pub mod Runs
 mod Holders
 mod KeptLives
+mod ApartLives

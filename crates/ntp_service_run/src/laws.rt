@@ -1,9 +1,14 @@
 //! What holds of the definitions, whatever code meets them.
 ghost use Rattle.std.specs.Prelude.{◌≡◌, ℕ, ◌<◌, List, ◌++◌};
 ghost use Rattle.ntp_budget.specs.Tally.{most_counted};
+ghost use Rattle.ntp_packet.specs.Header.{HeaderFields};
+ghost use Rattle.ntp_slots.specs.Exchanges.{AreSaved};
 ghost use Rattle.ntp_register.specs.Registry.{Registry};
 ghost use Rattle.ntp_register.specs.declared.address.Address.{Address};
-ghost use Rattle.ntp_reply.specs.Life.{Life, budget_in, short};
+ghost use Rattle.ntp_reply_packets.specs.declared.occasion.Occasion.{Occasion};
+ghost use Rattle.ntp_reply_packets.specs.Replies.{HasDistinctStamps, basic_fields, time_fields};
+ghost use Rattle.ntp_reply.specs.Life.{Life, budget_in, recent_in, short};
+ghost use Rattle.ntp_reply.specs.Exchanged.{matched, stamps_of};
 ghost use Rattle.ntp_admin.specs.declared.event.Event.{Event};
 ghost use Rattle.ntp_admin.specs.declared.outcome.Outcome.{Outcome};
 ghost use Rattle.ntp_service_run.specs.Events.{own};
@@ -36,4 +41,15 @@ pub fn no_neighbour_is_felt<A: Allocator>()
 pub fn a_number_has_one_holder<A: Allocator>()
     ensures { (service : Registry) (history : List (Event A)) (one two : Address) (number : ℕ) → StandsFor service history
         → IsEnrolledWith (life_of (own one history)) number → IsEnrolledWith (life_of (own two history)) number → one ≡ two }
+{}
+
+/// Whatever events an address had: of the exchanges that are saved of it no stamp is 0, no two have one receive stamp, and no
+/// transmit stamp is a receive stamp; and no time reply and no crypto-NAK to it has equal receive and transmit stamps, or a
+/// transmit stamp 0. (Of a kiss that is a law of `ntp_reply_packets`.) This is a law, and does nothing when it is called.
+pub fn stamps_are_told_apart<A: Allocator>()
+    ensures saved { (events : List (Event A)) → AreSaved (recent_in (life_of events)) }
+    ensures time { (events : List (Event A)) (o : Occasion) (request : HeaderFields)
+        → HasDistinctStamps (time_fields o request (matched (recent_in (life_of events)) request) (stamps_of (life_of events) o)) }
+    ensures nak { (events : List (Event A)) (o : Occasion) (request : HeaderFields)
+        → HasDistinctStamps (basic_fields o request (stamps_of (life_of events) o)) }
 {}

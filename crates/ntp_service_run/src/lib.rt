@@ -6,5 +6,8 @@ mod laws;
 mod running;
 mod service;
 
-pub use laws::{a_number_has_one_holder, no_neighbour_is_felt, what_is_kept_of_a_life_tells_all};
+pub use laws::{
+    a_number_has_one_holder, no_neighbour_is_felt, stamps_are_told_apart,
+    what_is_kept_of_a_life_tells_all,
+};
 pub use service::Service;

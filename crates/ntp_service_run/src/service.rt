@@ -3,12 +3,13 @@ ghost use Rattle.std.specs.Prelude.{◌≡◌, ◌↔◌, ◌≤◌, List, [], l
 ghost use Rattle.ntp_register.specs.Registry.{customer_at};
 ghost use Rattle.ntp_reply.specs.Verdict.{reply_length};
 ghost use Rattle.ntp_admin.specs.declared.event.Event.{Event};
+ghost use Rattle.ntp_service_run.specs.Model.{departure_outcome};
 ghost use Rattle.ntp_service_run.specs.Headline.{StandsFor, TellsOne, IsTaken, command_outcome};
 
 use ntp_admin::{Command, Event, Outcome};
 use ntp_register::{Address, Refusal, Register};
-use ntp_reply::{Answer, Reason, Reference, answer_octets};
-use ntp_time::Moment;
+use ntp_reply::{Answer, Reason, Reference, answer_octets, depart};
+use ntp_time::{Moment, Stamp};
 use std::alloc::{Allocator, Global};
 use std::marker::Model;
 
@@ -70,6 +71,20 @@ impl<A: Allocator + Copy> Service<A> {
         answer_octets(customer, receipt, transmit, reference, octets)
     }
 
+    /// A reply to an address, whose receive stamp was `receive`, left at `moment`. Where the exchange is saved and unused, a
+    /// later reply can carry that moment's stamp, and the answer is `true` (profile, after RFC 9769). Otherwise the answer is
+    /// `false` and nothing changes. It takes no memory.
+    pub fn departed(&mut self, address: Address, receive: Stamp, moment: Moment) -> bool
+        ensures tells { (history : List (Event A)) → StandsFor self.old history
+            → TellsOne history (Event.Departed address receive moment) (departure_outcome result) self.new }
+        ensures no_entry { IsNone (customer_at self.old address) → self.new ≡ self.old }
+    {
+        let Some(receiver) = self.register.customer_mut(address) else {
+            return false;
+        };
+        depart(receiver, receive, moment)
+    }
+
     /// Carries a command out, or refuses it and changes nothing. `NoMemory` comes last, and of an
     /// enrolment alone.
     pub fn command(&mut self, command: &Command) -> Result<(), Refusal>
@@ -89,10 +104,11 @@ impl<A: Allocator + Copy> Service<A> {
                 .register
                 .enrol(*address, number.get(), *key, budget.get()),
             Command::Revoke { address } => self.register.revoke(*address),
+            Command::Budget { address, budget } => self.register.set_budget(*address, budget.get()),
         }
     }
 
-    /// The outcome of one event: what `datagram` or `command` answers to it.
+    /// The outcome of one event: what `datagram`, `departed` or `command` answers to it.
     pub fn apply(&mut self, event: &Event<A>) -> Outcome
         ensures { (history : List (Event A)) → StandsFor self.old history → TellsOne history event.now result self.new }
     {
@@ -110,8 +126,24 @@ impl<A: Allocator + Copy> Service<A> {
                 reference,
                 octets.as_slice(),
             )),
+            Event::Departed {
+                address,
+                receive,
+                moment,
+            } => outcome_of_departure(self.departed(*address, *receive, *moment)),
             Event::Command(command) => outcome_of(self.command(command)),
         }
+    }
+}
+
+// The outcome of a report of a departure.
+fn outcome_of_departure(noted: bool) -> Outcome
+    ensures { result ≡ departure_outcome noted }
+{
+    if noted {
+        Outcome::Noted
+    } else {
+        Outcome::NotNoted
     }
 }
 

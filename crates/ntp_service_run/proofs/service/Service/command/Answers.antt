@@ -1,4 +1,4 @@
-use Rattle.ntp_service_run.proofs.Commands.{enrol-tells, revoke-tells}
+use Rattle.ntp_service_run.proofs.Commands.{enrol-tells, revoke-tells, budget-tells}
 use Rattle.ntp_service_run.proofs.Holders.{taken-so, not-taken}
 use Rattle.ntp_service_run.proofs.service.Service.command.Goals as goal
 
@@ -25,3 +25,13 @@ returns-in-Enrol-clause-taken g c = λ history stands.
 pub returns-in-Revoke-clause-taken : goal.returns-in-Revoke-clause-taken
 returns-in-Revoke-clause-taken g c =
     λ history stands. rw c.in-Revoke.is (λ h. not-taken c.revoke.result c.revoke.ensures.only h, λ h. absurd h)
+
+pub returns-in-Budget-clause-tells : goal.returns-in-Budget-clause-tells
+returns-in-Budget-clause-tells g c = λ history stands.
+    let y = c.set_budget.ensures in
+    rw c.in-Budget.is (budget-tells _ c.set_budget.new.self history _
+    (rw c.self.view_is stands) _ c.set_budget.result _ c.get-in-Budget.ensures.value y.refused y.only y.ok y.err y.agrees)
+
+pub returns-in-Budget-clause-taken : goal.returns-in-Budget-clause-taken
+returns-in-Budget-clause-taken g c =
+    λ history stands. rw c.in-Budget.is (λ h. not-taken c.set_budget.result c.set_budget.ensures.only h, λ h. absurd h)

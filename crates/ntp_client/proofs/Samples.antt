@@ -82,7 +82,7 @@ module _ (key : SymmetricKey) (number : ℕ) where
       mode false test is = absurd (cc)
 
   -- a signed reply has a MAC, and is taken for what its header says
-  signed-taken : (p : Pairing) (r : RequestValue) (x : Sample) → IsSigned key number r
+  pub signed-taken : (p : Pairing) (r : RequestValue) (x : Sample) → IsSigned key number r
       → tail_taken key number p r x r.tail ≡ authentic_taken p r.header x
   unfolding IsSigned
   signed-taken p r x signed =

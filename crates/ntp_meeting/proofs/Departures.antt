@@ -1,0 +1,44 @@
+-- The exchange that a report of a departure leaves at the server.
+use Rattle.std.proofs.Common.{◌≡◌, List, [], ◌∷◌, Some, inl, inr, refl, sym, ap, ◌∙◌, arith}
+use Rattle.std.proofs.lemmas.Bool.{cases_Bool}
+use Rattle.std.proofs.lemmas.Option.{none-some}
+use Rattle.ntp_time.specs.declared.stamp.Stamp.{Stamp}
+use Rattle.ntp_time.specs.declared.moment.Moment.{Moment}
+use Rattle.ntp_time.specs.Fresh.{fresh}
+use Rattle.ntp_slots.specs.declared.slot.Slot.{Slot}
+use Rattle.ntp_slots.specs.Exchanges.{recent, receives, is_unused_at, unused_at, with_unused, departed}
+use Rattle.ntp_slots.proofs.Recents.{recent-all, recent-departed}
+use Rattle.ntp_reply.specs.Life.{Life, Unregistered, Revoked, Enrolled, recent_in}
+use Rattle.ntp_reply.specs.Exchanged.{after_departure}
+
+-- where an exchange is found, it is found with its change
+change-found : (receive : Stamp) (change : Slot → Slot) → ((x : Slot) → is_unused_at receive (change x) ≡ is_unused_at receive x)
+    → (xs : List Slot) (x : Slot) → unused_at xs receive ≡ Some x → unused_at (with_unused xs receive change) receive ≡ Some (change x)
+change-found receive change keeps [] x found = absurd (cc)
+change-found receive change keeps (y ∷ ys) x found =
+    elim (cases_Bool (is_unused_at receive y)) [
+      | inl here ↦
+          let at : Some y ≡ Some x = rw here at found in
+          rw (here, keeps y, here) (cc)
+      | inr past ↦
+          let later : unused_at ys receive ≡ Some x = rw past at found in
+          rw (past, past) (change-found receive change keeps ys x later)
+    ]
+
+-- after its departure it is found with the departure's stamp
+departed-found : (xs : List Slot) (receive : Stamp) (m : Moment) (x : Slot) → unused_at xs receive ≡ Some x
+    → unused_at (departed xs receive m) receive ≡ Some (record x { transmit = fresh m.stamp (receives xs) })
+unfolding departed
+departed-found xs receive m x found =
+    change-found receive (λ y. record y { transmit = fresh m.stamp (receives xs) }) (λ y. refl) xs x found
+
+none-saved : (receive : Stamp) (x : Slot) → unused_at (recent []) receive ≡ Some x → ⊥
+none-saved receive x found = none-some x (sym (ap (λ xs. unused_at xs receive) (recent-all [] (omega arith))) ∙ found)
+
+pub departure-found : (life : Life) (receive : Stamp) (m : Moment) (x : Slot) → unused_at (recent_in life) receive ≡ Some x
+    → unused_at (recent_in (after_departure life receive m)) receive
+    ≡ Some (record x { transmit = fresh m.stamp (receives (recent_in life)) })
+departure-found Unregistered receive m x found = absurd (none-saved receive x found)
+departure-found (Revoked refusals) receive m x found = absurd (none-saved receive x found)
+departure-found (Enrolled e queries refusals exchanges) receive m x found =
+    ap (λ xs. unused_at xs receive) (recent-departed exchanges receive m) ∙ departed-found (recent exchanges) receive m x found

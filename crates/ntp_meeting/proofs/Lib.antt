@@ -1,0 +1,14 @@
+mod Octets
+mod Readings
+mod Stamps
+mod Headers
+mod Asked
+mod Matches
+mod Speaks
+mod Served
+mod Refused
+mod Replies
+mod Meetings
+mod Saved
+mod Departures
+mod Carried

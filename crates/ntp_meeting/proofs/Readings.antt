@@ -1,0 +1,92 @@
+-- A header and a tail are read as those.
+use Rattle.std.proofs.Common.{◌≡◌, ℕ, ◌^◌, ◌<◌, List, [], ◌++◌, Ok, refl, sym, ap, subst, ◌∙◌, append-nil, arith}
+use Rattle.std.specs.Int.{w32, to_be_bytes}
+use Rattle.std.proofs.lemmas.List.Elements.{All-append}
+use Rattle.ntp_packet.specs.Header.{HeaderFields, IsHeader, header_octets}
+use Rattle.ntp_packet.proofs.Readings.{length-header_octets}
+use Rattle.ntp_tail.specs.Tail.{TailValue, NoTail, BareTail, tail_octets, IsTail}
+use Rattle.ntp_tail.specs.Request.{RequestValue, IsRequest, signed_octets}
+use Rattle.ntp_tail.proofs.Octets.{AreOctets-all}
+use Rattle.ntp_tail.proofs.Tails.{length-tail}
+use Rattle.ntp_mac.specs.Key.{SymmetricKey}
+use Rattle.ntp_mac.specs.Digest.{hash, digest_of, digest_octets}
+use Rattle.ntp_mac.specs.Mac.{mac_of, nak_octets}
+use Rattle.ntp_mac.specs.Reading.{reading_of}
+use Rattle.ntp_mac.specs.Signed.{IsSigned, mac_tail}
+use Rattle.ntp_mac.specs.declared.digests.Digest.{Digest}
+use Rattle.ntp_mac.specs.declared.digests.Digest.TheVariants as digest
+use Rattle.ntp_mac.specs.declared.key.Algorithm.{Algorithm}
+use Rattle.ntp_mac.specs.declared.key.Algorithm.TheVariants.{Md5, Sha1}
+use Rattle.ntp_mac.proofs.ReadAs.{only-reading_of}
+use Rattle.md5.proofs.StandardFacts.{length-md5}
+use Rattle.ntp_meeting.proofs.Octets.{Octets, Octets-header, Octets-zeros, Octets-mac, length-sha1}
+
+-- a packet of a header and a tail, with no field
+abbrev pub packet : HeaderFields → TailValue → RequestValue
+packet h tail = record { header = h; fields = []; signed = header_octets h; tail = tail }
+
+-- its octets are that packet
+IsRequest-packet : (h : HeaderFields) (tail : TailValue) → IsHeader h → IsTail tail
+    → IsRequest (header_octets h ++ tail_octets tail) (packet h tail)
+unfolding signed_octets
+IsRequest-packet h tail is is-tail = record {
+  reading = record {
+    header = is;
+    signed = sym (append-nil (header_octets h));
+    fields = tt;
+    tail = is-tail;
+    fits = omega (arith, length-header_octets h is, length-tail tail is-tail);
+  };
+  spelled = refl;
+}
+
+-- and are read as it
+read-packet : (h : HeaderFields) (tail : TailValue) → IsHeader h → IsTail tail → Octets (header_octets h ++ tail_octets tail)
+    → reading_of (header_octets h ++ tail_octets tail) ≡ Ok (packet h tail)
+read-packet h tail is is-tail octets =
+    sym (only-reading_of _ (Ok (packet h tail)) (AreOctets-all _ octets) (IsRequest-packet h tail is is-tail))
+
+-- a header alone
+pub read-header : (h : HeaderFields) → IsHeader h → reading_of (header_octets h) ≡ Ok (packet h NoTail)
+unfolding tail_octets
+read-header h is =
+    let nil : header_octets h ++ [] ≡ header_octets h = append-nil (header_octets h) in
+    ap reading_of (sym nil) ∙ read-packet h NoTail is tt (subst Octets (sym nil) (Octets-header h is))
+
+-- a header and four zeros
+pub read-nak : (h : HeaderFields) → IsHeader h → reading_of (header_octets h ++ nak_octets) ≡ Ok (packet h (BareTail 0))
+unfolding tail_octets
+read-nak h is =
+    read-packet h (BareTail 0) is (omega arith) (All-append (λ octet. octet < 256) (header_octets h) _ (Octets-header h is) Octets-zeros)
+
+-- the packet of a header that is sealed under a key with its number
+abbrev pub sealed_packet : SymmetricKey → ℕ → HeaderFields → RequestValue
+sealed_packet key number h = packet h (mac_tail number (digest_of key (header_octets h)))
+
+tail_octets-mac_tail : (number : ℕ) (d : Digest) → tail_octets (mac_tail number d) ≡ to_be_bytes w32 number ++ digest_octets d
+unfolding tail_octets
+tail_octets-mac_tail number (digest.Md5 octets) = refl
+tail_octets-mac_tail number (digest.Sha1 octets) = refl
+
+IsTail-mac_tail : (number : ℕ) (algorithm : Algorithm) (message : List ℕ) → number < 2 ^ 32
+    → IsTail (mac_tail number (hash algorithm message))
+IsTail-mac_tail number Md5 message fits = (fits, length-md5 message)
+IsTail-mac_tail number Sha1 message fits = (fits, length-sha1 message)
+
+-- it is signed so
+pub signed-sealed : (key : SymmetricKey) (number : ℕ) (h : HeaderFields) → IsSigned key number (sealed_packet key number h)
+unfolding IsSigned
+signed-sealed key number h = refl
+
+-- and its octets are read as it
+pub read-sealed : (key : SymmetricKey) (number : ℕ) (h : HeaderFields) → IsHeader h → number < 2 ^ 32
+    → reading_of (header_octets h ++ mac_of key number (header_octets h)) ≡ Ok (sealed_packet key number h)
+unfolding mac_of
+read-sealed key number h is fits =
+    let digest : Digest = digest_of key (header_octets h) in
+    let same : to_be_bytes w32 number ++ digest_octets digest ≡ tail_octets (mac_tail number digest) =
+    sym (tail_octets-mac_tail number digest) in
+    ap (λ mac. reading_of (header_octets h ++ mac)) same
+    ∙ read-packet h (mac_tail number digest) is (IsTail-mac_tail number key.algorithm (key.octets ++ header_octets h) fits)
+    (subst (λ mac. Octets (header_octets h ++ mac)) same
+    (All-append (λ octet. octet < 256) (header_octets h) _ (Octets-header h is) (Octets-mac key number (header_octets h))))

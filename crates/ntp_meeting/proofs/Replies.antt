@@ -1,0 +1,125 @@
+-- What a client takes a server's reply for.
+use Rattle.std.proofs.Common.{◌≡◌, ◌≢◌, ℕ, ◌^◌, ◌<◌, ◌≤◌, List, Some, Ok, refl, ap, ◌∙◌, arith}
+use Rattle.std.proofs.lemmas.Bool.{eq-eqb, ne_eqb}
+use Rattle.ntp_time.specs.declared.stamp.Stamp.{Stamp}
+use Rattle.ntp_time.specs.declared.moment.Moment.{Moment}
+use Rattle.ntp_packet.specs.Header.{HeaderFields, IsHeader}
+use Rattle.ntp_tail.specs.Tail.{NoTail, BareTail}
+use Rattle.ntp_tail.specs.Request.{RequestValue}
+use Rattle.ntp_mac.specs.Key.{SymmetricKey}
+use Rattle.ntp_mac.specs.Reading.{reading_of}
+use Rattle.ntp_client.specs.declared.exchange.Outstanding.{Outstanding}
+use Rattle.ntp_client.specs.declared.pairing.Pairing.{Pairing}
+use Rattle.ntp_client.specs.declared.pairing.Pairing.TheVariants.{Basic}
+use Rattle.ntp_client.specs.declared.taken.Taken.TheVariants as taken
+use Rattle.ntp_client.specs.declared.taken.Distrust.TheVariants as distrust
+use Rattle.ntp_client.specs.State.{ClientState}
+use Rattle.ntp_client.specs.Query.{query_fields}
+use Rattle.ntp_client.specs.Pairing.{pairing_of, sample_of}
+use Rattle.ntp_client.specs.Sample.{IsTimeReply}
+use Rattle.ntp_client.specs.Taking.{authentic_taken, packet_taken, paired_taken, reading_taken, asked_taken, taken_for}
+use Rattle.ntp_client.proofs.Pairings.{basic-pairing}
+use Rattle.ntp_client.proofs.Authentic.{time-taken}
+use Rattle.ntp_client.proofs.Samples.{signed-taken}
+use Rattle.ntp_reply_packets.specs.Reference.{ReferenceState, IsReference}
+use Rattle.ntp_reply_packets.specs.Replies.{reply_fields, basic_fields, kiss_fields, shown_stratum}
+use Rattle.ntp_reply_packets.specs.Replies.{time_octets, rate_octets, deny_octets, crypto_nak_octets}
+use Rattle.ntp_reply_packets.specs.declared.occasion.Occasion.{Occasion}
+use Rattle.ntp_reply_packets.specs.declared.kiss.Kiss.TheVariants.{Rate, Deny}
+use Rattle.ntp_reply.specs.Life.{Life}
+use Rattle.ntp_reply.specs.Exchanged.{stamps_of}
+use Rattle.ntp_meeting.specs.Meeting.{Waits, FitsPacket}
+use Rattle.ntp_meeting.proofs.Stamps.{receive-known, receive-fits, transmit-fits}
+use Rattle.ntp_meeting.proofs.Headers.{IsHeader-reply, IsHeader-kiss}
+use Rattle.ntp_meeting.proofs.Readings.{packet, sealed_packet, signed-sealed, read-header, read-nak, read-sealed}
+
+-- while a request waits, octets are taken for the packet that they are read as
+pub read-taken : (c : ClientState) (q : Outstanding) (octets : List ℕ) (r : RequestValue) (at : Moment) → c.outstanding ≡ Some q
+    → reading_of octets ≡ Ok r → taken_for c octets at ≡ packet_taken c.key c.number q r at
+read-taken c q octets r at there read =
+    ap (λ o. asked_taken c.key c.number o octets at) there ∙ ap (reading_taken c.key c.number q at) read
+
+-- a reply to the request's transmit stamp is paired with the request
+basic-taken : (key : SymmetricKey) (number : ℕ) (q : Outstanding) (r : RequestValue) (at : Moment) → r.header.origin ≡ q.transmit
+    → paired_taken key number q r at (pairing_of q r.header.origin) ≡ paired_taken key number q r at (Some Basic)
+basic-taken key number q r at is = ap (paired_taken key number q r at) (basic-pairing q r.header.origin is)
+
+-- a RATE is taken for one
+pub rate-taken : (c : ClientState) (q : Outstanding) (at : Moment) → Waits c q
+    → taken_for c (rate_octets c.key c.number (query_fields q)) at ≡ taken.Rate
+rate-taken c q at waits =
+    let h : HeaderFields = kiss_fields Rate (query_fields q) in
+    let r : RequestValue = sealed_packet c.key c.number h in
+    read-taken c q _ r at waits.outstanding (read-sealed c.key c.number h (IsHeader-kiss Rate q waits.header) waits.number)
+    ∙ basic-taken c.key c.number q r at refl
+    ∙ signed-taken c.key c.number Basic r (sample_of q Basic h at) (signed-sealed c.key c.number h)
+
+-- a DENY is taken for one
+pub deny-taken : (c : ClientState) (q : Outstanding) (at : Moment) → Waits c q → taken_for c (deny_octets (query_fields q)) at ≡ taken.Deny
+deny-taken c q at waits =
+    let h : HeaderFields = kiss_fields Deny (query_fields q) in
+    let r : RequestValue = packet h NoTail in
+    read-taken c q _ r at waits.outstanding (read-header h (IsHeader-kiss Deny q waits.header)) ∙ basic-taken c.key c.number q r at refl
+
+-- a crypto-NAK is taken for one
+pub nak-taken : (c : ClientState) (q : Outstanding) (life : Life) (o : Occasion) (at : Moment) → Waits c q → FitsPacket o.reference
+    → taken_for c (crypto_nak_octets (basic_fields o (query_fields q) (stamps_of life o))) at ≡ taken.Nak
+nak-taken c q life o at waits fits =
+    let h : HeaderFields = basic_fields o (query_fields q) (stamps_of life o) in
+    let is : IsHeader h =
+    IsHeader-reply o.reference q q.transmit _ _ fits waits.header waits.header.transmit (receive-fits life o) (transmit-fits life o) in
+    let r : RequestValue = packet h (BareTail 0) in
+    read-taken c q _ r at waits.outstanding (read-nak h is) ∙ basic-taken c.key c.number q r at refl
+
+-- the header of a signed reply, with the new receive stamp
+abbrev stamped : Life → Occasion → Outstanding → Stamp → Stamp → HeaderFields
+stamped life o q origin transmit = reply_fields o.reference (query_fields q) origin (stamps_of life o).receive transmit
+
+-- a signed reply of a pairing is taken for what its header says
+signed-reply : (c : ClientState) (q : Outstanding) (life : Life) (o : Occasion) (at : Moment) (p : Pairing) (origin transmit : Stamp)
+    → Waits c q → FitsPacket o.reference → origin.0 < 2 ^ 64 → transmit.0 < 2 ^ 64 → pairing_of q origin ≡ Some p
+    → taken_for c (time_octets c.key c.number (stamped life o q origin transmit)) at
+    ≡ authentic_taken p (stamped life o q origin transmit) (sample_of q p (stamped life o q origin transmit) at)
+signed-reply c q life o at p origin transmit waits fits origin_fits transmit_fits paired =
+    let h : HeaderFields = stamped life o q origin transmit in
+    let r : RequestValue = sealed_packet c.key c.number h in
+    let is : IsHeader h =
+    IsHeader-reply o.reference q origin _ transmit fits waits.header origin_fits (receive-fits life o) transmit_fits in
+    read-taken c q _ r at waits.outstanding (read-sealed c.key c.number h is waits.number)
+    ∙ ap (paired_taken c.key c.number q r at) paired
+    ∙ signed-taken c.key c.number p r (sample_of q p h at) (signed-sealed c.key c.number h)
+
+-- the stratum of a clock that is synchronised
+stratum-synchronised : (r : ReferenceState) → IsReference r → r.leap ≢ 3 → (1 ≤ shown_stratum r) × (shown_stratum r ≤ 15)
+stratum-synchronised r is clock =
+    let known : r.stratum ≢ 16 = λ same. clock (is.together.1 same) in
+    rw (ne_eqb r.stratum 16 known) (is.stratum_from, omega (arith, is.stratum_to, known))
+
+-- of such a clock, and with a transmit stamp of known time, for the sample of its pairing
+pub sample-taken : (c : ClientState) (q : Outstanding) (life : Life) (o : Occasion) (at : Moment) (p : Pairing) (origin transmit : Stamp)
+    → Waits c q → FitsPacket o.reference → o.reference.leap ≢ 3 → transmit.0 ≢ 0 → origin.0 < 2 ^ 64 → transmit.0 < 2 ^ 64
+    → pairing_of q origin ≡ Some p
+    → taken_for c (time_octets c.key c.number (stamped life o q origin transmit)) at
+    ≡ taken.Sample (sample_of q p (stamped life o q origin transmit) at)
+sample-taken c q life o at p origin transmit waits fits clock known origin_fits transmit_fits paired =
+    let h : HeaderFields = stamped life o q origin transmit in
+    let stratum = stratum-synchronised o.reference fits.state clock in
+    let time : IsTimeReply h = record {
+      mode = refl;
+      version = refl;
+      leap = clock;
+      stratum_from = stratum.0;
+      stratum_to = stratum.1;
+      receive = receive-known life o;
+      transmit = known;
+    } in
+    signed-reply c q life o at p origin transmit waits fits origin_fits transmit_fits paired ∙ time-taken p h (sample_of q p h at) time
+
+-- of a clock that is unsynchronised, for that
+pub unsynchronised-taken : (c : ClientState) (q : Outstanding) (life : Life) (o : Occasion) (at : Moment) (p : Pairing)
+    (origin transmit : Stamp) → Waits c q → FitsPacket o.reference → o.reference.leap ≡ 3 → origin.0 < 2 ^ 64 → transmit.0 < 2 ^ 64
+    → pairing_of q origin ≡ Some p
+    → taken_for c (time_octets c.key c.number (stamped life o q origin transmit)) at ≡ taken.Refused distrust.Unsynchronised
+unsynchronised-taken c q life o at p origin transmit waits fits clock origin_fits transmit_fits paired =
+    signed-reply c q life o at p origin transmit waits fits origin_fits transmit_fits paired
+    ∙ rw (eq-eqb o.reference.stratum 16 (fits.state.together.0 clock), eq-eqb o.reference.leap 3 clock) refl

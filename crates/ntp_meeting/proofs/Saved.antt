@@ -1,0 +1,75 @@
+-- The exchange that a time reply leaves at the server.
+use Rattle.std.proofs.Common.{◌≡◌, ◌≢◌, ℕ, ◌-◌, ◌≤◌, Bool, true, false, Some, None, Option, refl, sym, ap, subst, ◌∙◌, arith}
+use Rattle.std.proofs.Common.{List, [], ◌∷◌, ◌++◌, length, take, drop}
+use Rattle.std.specs.Prelude.{Contains, is_some, if◌then◌else◌}
+use Rattle.std.proofs.lemmas.Bool.{eq-eqb}
+use Rattle.std.proofs.lemmas.Option.{none-some}
+use Rattle.std.proofs.lemmas.List.{length-append, take-append-drop, drop-append-le}
+use Rattle.std.proofs.lemmas.List.Elements.{Contains-append_left, Contains-append_right}
+use Rattle.std.proofs.lemmas.List.Folds.{find-append}
+use Rattle.ntp_time.specs.declared.stamp.Stamp.{Stamp}
+use Rattle.ntp_time.proofs.Freshness.{fresh-apart}
+use Rattle.ntp_packet.specs.Header.{HeaderFields}
+use Rattle.ntp_slots.specs.declared.slot.Slot.{Slot}
+use Rattle.ntp_slots.specs.Exchanges.{recent, new_exchange, receives, transmits, all_stamps, is_unused_at, unused_at, spent}
+use Rattle.ntp_slots.proofs.Changes.{receives-spent}
+use Rattle.ntp_slots.proofs.Saved.{Contains-map}
+use Rattle.ntp_register.specs.Customer.{Enrolment}
+use Rattle.ntp_reply_packets.specs.declared.occasion.Occasion.{Occasion}
+use Rattle.ntp_reply.specs.Life.{Life, Unregistered, Revoked, Enrolled, enrolment_in, recent_in, with_query}
+use Rattle.ntp_reply.specs.Exchanged.{matched, with_match_used, stamps_of, after_time}
+use Rattle.ntp_reply.proofs.KeptExchanges.{recent-time}
+use Rattle.ntp_meeting.proofs.Stamps.{receive-few}
+use Rattle.ntp_meeting.proofs.Matches.{found-member}
+
+-- no exchange is found by a stamp that no receive stamp is
+none-found : (xs : List Slot) (receive : Stamp) → ((x : Slot) → Contains xs x → x.receive ≢ receive) → (o : Option Slot)
+    → unused_at xs receive ≡ o → o ≡ None
+none-found xs receive apart None found = refl
+none-found xs receive apart (Some y) found =
+    let at = found-member xs receive y found in absurd (apart y at.0 (ap (λ n. record { 0 = n }) at.1))
+
+-- a new exchange is found behind such ones, and is recent
+new-found : (xs : List Slot) (receive transmit : Stamp) → ((x : Slot) → Contains xs x → x.receive ≢ receive)
+    → unused_at (recent (xs ++ new_exchange receive transmit ∷ [])) receive ≡ Some (new_exchange receive transmit)
+unfolding recent
+new-found xs receive transmit apart =
+    let new : List Slot = new_exchange receive transmit ∷ [] in
+    let n : ℕ = length (xs ++ new) - 4 in
+    let front : List Slot = drop n xs in
+    let few : n ≤ length xs = omega (arith, length-append xs new) in
+    let absent : unused_at front receive ≡ None = none-found front receive
+    (λ x member. apart x (subst (λ ys. Contains ys x) (take-append-drop n xs) (Contains-append_right (take n xs) front x member))) _ refl in
+    let here : unused_at new receive ≡ Some (new_exchange receive transmit) = rw (eq-eqb receive.0 receive.0 refl) refl in
+    ap (λ ys. unused_at ys receive) (drop-append-le n xs new few) ∙ find-append (is_unused_at receive) front new ∙ rw (absent, here) refl
+
+-- with one marked used, all receive stamps stay
+receives-with_match_used : (xs : List Slot) (h : HeaderFields) → receives (with_match_used xs h) ≡ receives xs
+receives-with_match_used xs h = by_match (is_some (matched xs h))
+  where
+    by_match : (b : Bool) → receives (if b then spent xs h.origin else xs) ≡ receives xs
+    by_match true = receives-spent xs h.origin
+    by_match false = refl
+
+-- the new receive stamp is none of them
+new-apart : (life : Life) (o : Occasion) (h : HeaderFields) (x : Slot) → Contains (with_match_used (recent_in life) h) x
+    → x.receive ≢ (stamps_of life o).receive
+new-apart life o h x member =
+    let saved : List Slot = recent_in life in
+    let among : Contains (receives saved) x.receive =
+    subst (λ stamps. Contains stamps x.receive) (receives-with_match_used saved h)
+    (Contains-map (λ (y : Slot). y.receive) (with_match_used saved h) x member) in
+    fresh-apart o.receipt.stamp (all_stamps saved) (receive-few life o) x.receive
+    (Contains-append_left (receives saved) (transmits saved) _ among)
+
+-- after a time reply of an enrolled address its exchange is found
+pub time-found : (life : Life) (e : Enrolment) (o : Occasion) (h : HeaderFields) (w : ℕ) → enrolment_in life ≡ Some e
+    → unused_at (recent_in (after_time (with_query life w) o h)) (stamps_of life o).receive
+    ≡ Some (new_exchange (stamps_of life o).receive (stamps_of life o).transmit)
+time-found Unregistered e o h w there = absurd (none-some e there)
+time-found (Revoked refusals) e o h w there = absurd (none-some e there)
+time-found (Enrolled d queries refusals exchanges) e o h w there =
+    let life : Life = Enrolled d queries refusals exchanges in
+    let stamps = stamps_of life o in
+    ap (λ xs. unused_at xs stamps.receive) (sym (recent-time exchanges h (new_exchange stamps.receive stamps.transmit ∷ [])))
+    ∙ new-found (with_match_used (recent exchanges) h) stamps.receive stamps.transmit (new-apart life o h)

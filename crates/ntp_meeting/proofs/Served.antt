@@ -1,0 +1,62 @@
+-- What the answer to a signed query is, and what it leaves.
+use Rattle.std.proofs.Common.{◌≡◌, ℕ, Bool, true, false, ◌==◌, nat_lt, ◌<◌, lt-ltb, List, refl}
+use Rattle.std.specs.Prelude.{if◌then◌else◌}
+use Rattle.ntp_time.specs.declared.stamp.Stamp.{Stamp}
+use Rattle.ntp_packet.specs.Header.{HeaderFields}
+use Rattle.ntp_mac.specs.Key.{SymmetricKey}
+use Rattle.ntp_reply_packets.specs.declared.occasion.Occasion.{Occasion}
+use Rattle.ntp_reply_packets.specs.Replies.{time_fields, time_octets, rate_octets}
+use Rattle.ntp_reply.specs.Life.{Life, recent_in, budget_in, with_query}
+use Rattle.ntp_reply.specs.Exchanged.{matched, stamps_of, after_time}
+use Rattle.ntp_reply.specs.Kind.{Signed}
+use Rattle.ntp_reply.specs.Verdict.{kind_answer, after_kind, query_count, window_at, timed}
+use Rattle.ntp_reply.specs.declared.answers.Answer.{Answer}
+use Rattle.ntp_reply.specs.declared.answers.Answer.TheVariants as answer
+use Rattle.ntp_reply.specs.declared.answers.Reason.TheVariants as reason
+
+-- the answer to a signed query, by whether the budget has room and by whether it was just spent
+abbrev by_budget : Bool → Bool → List ℕ → Stamp → List ℕ → Answer
+by_budget within last time receive rate =
+    if within then answer.Time time receive else if last then answer.Rate rate else answer.Silent reason.OverBudget
+
+only-time : (within last : Bool) (time rate reply : List ℕ) (receive saved : Stamp)
+    → by_budget within last time receive rate ≡ answer.Time reply saved → (within ≡ true) × (reply ≡ time) × (saved ≡ receive)
+only-time true last time rate reply receive saved is = (refl, cc, cc)
+only-time false true time rate reply receive saved is = absurd (cc)
+only-time false false time rate reply receive saved is = absurd (cc)
+
+only-rate : (within last : Bool) (time rate reply : List ℕ) (receive : Stamp)
+    → by_budget within last time receive rate ≡ answer.Rate reply → reply ≡ rate
+only-rate true last time rate reply receive is = absurd (cc)
+only-rate false true time rate reply receive is = cc
+only-rate false false time rate reply receive is = absurd (cc)
+
+module _ (life : Life) (o : Occasion) (key : SymmetricKey) (number : ℕ) (h : HeaderFields) where
+  abbrev within : Bool
+  within = nat_lt (query_count life o) (budget_in life)
+
+  abbrev last : Bool
+  last = query_count life o == budget_in life
+
+  abbrev time : List ℕ
+  time = time_octets key number (time_fields o h (matched (recent_in life) h) (stamps_of life o))
+
+  -- the time is in its octets, with the new receive stamp beside them
+  pub told-time : (reply : List ℕ) (saved : Stamp) → kind_answer life o (Signed key number h) ≡ answer.Time reply saved
+      → (reply ≡ time) × (saved ≡ (stamps_of life o).receive)
+  told-time reply saved is =
+      let only = only-time within last time (rate_octets key number h) reply (stamps_of life o).receive saved is in (only.1, only.2)
+
+  -- and the life is that after a time reply
+  pub after-told_time : (reply : List ℕ) (saved : Stamp) → kind_answer life o (Signed key number h) ≡ answer.Time reply saved
+      → after_kind life o (Signed key number h) ≡ after_time (with_query life (window_at o)) o h
+  after-told_time reply saved is =
+      rw (only-time within last time (rate_octets key number h) reply (stamps_of life o).receive saved is).0 refl
+
+  -- a RATE is in its octets
+  pub told-rate : (reply : List ℕ) → kind_answer life o (Signed key number h) ≡ answer.Rate reply → reply ≡ rate_octets key number h
+  told-rate reply is = only-rate within last time (rate_octets key number h) reply (stamps_of life o).receive is
+
+  -- while the budget has room, the answer is the time
+  pub is-timed : query_count life o < budget_in life → kind_answer life o (Signed key number h) ≡ timed key number o h (recent_in life)
+  is-timed room = rw (lt-ltb (query_count life o) (budget_in life) room) refl

@@ -1,0 +1,13 @@
+use Rattle.ntp_meeting.proofs.Matches.{asked-match}
+use Rattle.ntp_meeting.proofs.Meetings.{basic-met, interleaved-met}
+use Rattle.ntp_meeting.proofs.laws.a_time_reply_is_a_sample.Goals as goal
+
+pub returns-clause-asked : goal.returns-clause-asked
+returns-clause-asked c = asked-match
+
+pub returns-clause-basic : goal.returns-clause-basic
+returns-clause-basic c = λ client q life o reply saved at waits. basic-met client q life o at waits reply saved
+
+pub returns-clause-interleaved : goal.returns-clause-interleaved
+returns-clause-interleaved c =
+    λ client q life o reply saved at carried found waits. interleaved-met client q life o at waits reply saved carried found

@@ -1,0 +1,14 @@
+use Rattle.ntp_meeting.proofs.Carried.{carried-after, saved-after}
+use Rattle.ntp_meeting.proofs.Departures.{departure-found}
+use Rattle.ntp_meeting.proofs.laws.the_next_request_asks_about_the_exchange.Goals as goal
+
+pub returns-clause-carried : goal.returns-clause-carried
+returns-clause-carried c =
+    λ client q life o reply saved at s waits shares shown fits answered.
+    carried-after client q life o reply saved waits shares answered at s shown fits
+
+pub returns-clause-saved : goal.returns-clause-saved
+returns-clause-saved c = saved-after
+
+pub returns-clause-departed : goal.returns-clause-departed
+returns-clause-departed c = departure-found

@@ -1,0 +1,146 @@
+//! What holds of the definitions of both sides, whatever code meets them.
+ghost use Rattle.std.specs.Prelude.{◌≡◌, ◌≢◌, ◌^◌, ◌<◌, [], true, false, Some, None, IfSome, List, ℕ};
+ghost use Rattle.std.specs.Option.{option_and_then};
+ghost use Rattle.ntp_time.specs.declared.stamp.Stamp.{Stamp};
+ghost use Rattle.ntp_time.specs.declared.moment.Moment.{Moment};
+ghost use Rattle.ntp_time.specs.Fresh.{fresh};
+ghost use Rattle.ntp_packet.specs.Header.{header_octets};
+ghost use Rattle.ntp_slots.specs.declared.slot.Slot.{Slot};
+ghost use Rattle.ntp_slots.specs.Exchanges.{AreSaved, new_exchange, receives, unused_at};
+ghost use Rattle.ntp_client.specs.declared.exchange.Exchange.{Exchange};
+ghost use Rattle.ntp_client.specs.declared.exchange.Outstanding.{Outstanding};
+ghost use Rattle.ntp_client.specs.State.{ClientState, IsOutstanding};
+ghost use Rattle.ntp_client.specs.Query.{query_fields, next_query, after_query};
+ghost use Rattle.ntp_client.specs.Taking.{taken_for, after_taken};
+ghost use Rattle.ntp_reply_packets.specs.declared.occasion.Occasion.{Occasion};
+ghost use Rattle.ntp_reply.specs.Life.{Life, budget_in, recent_in};
+ghost use Rattle.ntp_reply.specs.Kind.{Signed, kind_of};
+ghost use Rattle.ntp_reply.specs.Exchanged.{matched, stamps_of, after_departure};
+ghost use Rattle.ntp_reply.specs.Verdict.{verdict, after_datagram, query_count, timed};
+ghost use Rattle.ntp_meeting.specs.Meeting.{Waits, SharesKey, FitsPacket, request_octets};
+
+use ntp_client::{Distrust, Sample, Taken};
+use ntp_reply::Answer;
+
+/// A client's request is a signed query to a server that has enrolled its address with the client's key, under the
+/// client's number.
+///
+/// - `waits`: the request that a client makes waits for its reply, with all the widths of a packet. Asked is that the key
+///   number and the stamps that it sends of an earlier exchange have theirs, as those of each client of the code have.
+/// - `signed`: while a request waits, its octets are a signed query, with the header that the client made.
+/// - `served`: so it is answered with the time, while the budget has room.
+///
+/// This is a law, and does nothing when it is called.
+pub fn a_request_is_a_signed_query()
+    ensures waits { (c : ClientState) (now : Moment) → c.number < 2 ^ 32
+        → IfSome c.sampled (λ e. (e.receive.0 < 2 ^ 64) × (e.arrival.0 < 2 ^ 64)) → Waits (after_query c now) (next_query c now) }
+    ensures signed { (c : ClientState) (q : Outstanding) (life : Life) → Waits c q → SharesKey life c
+        → kind_of life (request_octets c q) ≡ Signed c.key c.number (query_fields q) }
+    ensures served { (c : ClientState) (q : Outstanding) (life : Life) (o : Occasion) → Waits c q → SharesKey life c
+        → query_count life o < budget_in life
+        → verdict life o (request_octets c q) ≡ timed c.key c.number o (query_fields q) (recent_in life) }
+{}
+
+/// A time reply to a client's request is a sample for that client, while the request waits, whenever the reply comes.
+///
+/// - `asked`: the saved exchange that the server finds for a request is the unused one with the receive stamp of the
+///   exchange that the request carries. For a request that carries none it finds none. Asked is what holds of each
+///   client's request, that its receive stamp is known where it carries an exchange and is not its transmit stamp, and
+///   of the exchanges of each account.
+/// - `basic`: where the server finds none, the sample has the request's departure, its receipt and the reply's departure
+///   by the new stamps, and the reply's arrival.
+/// - `interleaved`: where it finds one, the sample is that of the exchange that the request carries, with the departure
+///   stamp that the server had saved of it.
+///
+/// For a sample, the request waits, the client's key is shared with the server, the server's reference state has the
+/// widths of a packet, and its clock is synchronised. In `interleaved` moreover the exchanges are such as an account
+/// keeps, and the stamp that was saved has 64 bits. This is a law, and does nothing when it is called.
+pub fn a_time_reply_is_a_sample()
+    ensures asked { (q : Outstanding) (saved : List Slot) → IsOutstanding q → AreSaved saved
+        → matched saved (query_fields q) ≡ option_and_then (λ e. unused_at saved e.receive) q.earlier }
+    ensures basic { (c : ClientState) (q : Outstanding) (life : Life) (o : Occasion) (reply : List ℕ) (saved : Stamp) (at : Moment)
+        → Waits c q → SharesKey life c → FitsPacket o.reference → o.reference.leap ≢ 3
+        → matched (recent_in life) (query_fields q) ≡ None
+        → verdict life o (request_octets c q) ≡ Answer.Time reply saved
+        → taken_for c reply at ≡ Taken.Sample (record {
+          t1 = q.transmit;
+          t2 = saved;
+          t3 = (stamps_of life o).transmit;
+          t4 = fresh at.stamp [];
+          interleaved = false;
+        }) }
+    ensures interleaved { (c : ClientState) (q : Outstanding) (life : Life) (o : Occasion) (reply : List ℕ) (saved : Stamp) (at : Moment)
+        (carried : Exchange) (found : Slot)
+        → Waits c q → SharesKey life c → FitsPacket o.reference → o.reference.leap ≢ 3
+        → q.earlier ≡ Some carried → matched (recent_in life) (query_fields q) ≡ Some found
+        → AreSaved (recent_in life) → found.transmit.0 < 2 ^ 64
+        → verdict life o (request_octets c q) ≡ Answer.Time reply saved
+        → taken_for c reply at ≡ Taken.Sample (record {
+          t1 = carried.transmit;
+          t2 = carried.receive;
+          t3 = found.transmit;
+          t4 = carried.arrival;
+          interleaved = true;
+        }) }
+{}
+
+/// After a time reply, the next request of the client asks when that reply departed, and the server can tell: so by
+/// `a_time_reply_is_a_sample` its time reply gives an interleaved sample, as long as the server saves the exchange.
+///
+/// - `carried`: the client that took a time reply for a sample carries the exchange: the request's departure, its
+///   receipt, and the reply's arrival. Asked is what gives a sample there, but that the clock is synchronised.
+/// - `saved`: the server finds the exchange by its receipt, unused, with the new transmit stamp.
+/// - `departed`: an exchange that it finds it also finds after a report of its departure, with the stamp of that.
+///
+/// This is a law, and does nothing when it is called.
+pub fn the_next_request_asks_about_the_exchange()
+    ensures carried { (c : ClientState) (q : Outstanding) (life : Life) (o : Occasion) (reply : List ℕ) (saved : Stamp) (at : Moment)
+        (s : Sample) → Waits c q → SharesKey life c → FitsPacket o.reference
+        → IfSome (matched (recent_in life) (query_fields q)) (λ found. found.transmit.0 < 2 ^ 64)
+        → verdict life o (request_octets c q) ≡ Answer.Time reply saved
+        → after_taken c reply at (Taken.Sample s) ≡ record {
+          key = c.key;
+          number = c.number;
+          outstanding = None;
+          sampled = Some (record { transmit = q.transmit; receive = saved; arrival = fresh at.stamp [] });
+        } }
+    ensures saved { (c : ClientState) (q : Outstanding) (life : Life) (o : Occasion) (reply : List ℕ) (saved : Stamp)
+        → Waits c q → SharesKey life c → verdict life o (request_octets c q) ≡ Answer.Time reply saved
+        → unused_at (recent_in (after_datagram life o (request_octets c q))) saved
+        ≡ Some (new_exchange saved (stamps_of life o).transmit) }
+    ensures departed { (life : Life) (receive : Stamp) (m : Moment) (found : Slot) → unused_at (recent_in life) receive ≡ Some found
+        → unused_at (recent_in (after_departure life receive m)) receive
+        ≡ Some (record found { transmit = fresh m.stamp (receives (recent_in life)) }) }
+{}
+
+/// Each other reply to a client's request is taken for what it is, while the request waits.
+///
+/// - `rate`: a RATE, where the client's key is shared with the server.
+/// - `nak`: a crypto-NAK, which goes to a request under another key or number than those of its address. Asked is that
+///   the server's reference state has the widths of a packet.
+/// - `deny`: a DENY to a request whose MAC was cut off.
+/// - `revoked`: a DENY to a whole request, which goes to an address that is revoked.
+/// - `unsynchronised`: a time reply of a server whose clock is not synchronised is refused for that. Asked is else what
+///   `a_time_reply_is_a_sample` asks.
+///
+/// Nothing else is asked of the life of the address. This is a law, and does nothing when it is called.
+pub fn other_replies_are_taken_for_what_they_are()
+    ensures rate { (c : ClientState) (q : Outstanding) (life : Life) (o : Occasion) (reply : List ℕ) (at : Moment)
+        → Waits c q → SharesKey life c → verdict life o (request_octets c q) ≡ Answer.Rate reply
+        → taken_for c reply at ≡ Taken.Rate }
+    ensures nak { (c : ClientState) (q : Outstanding) (life : Life) (o : Occasion) (reply : List ℕ) (at : Moment)
+        → Waits c q → FitsPacket o.reference → verdict life o (request_octets c q) ≡ Answer.Nak reply
+        → taken_for c reply at ≡ Taken.Nak }
+    ensures deny { (c : ClientState) (q : Outstanding) (life : Life) (o : Occasion) (reply : List ℕ) (at : Moment)
+        → Waits c q → verdict life o (header_octets (query_fields q)) ≡ Answer.Deny reply
+        → taken_for c reply at ≡ Taken.Deny }
+    ensures revoked { (c : ClientState) (q : Outstanding) (life : Life) (o : Occasion) (reply : List ℕ) (at : Moment)
+        → Waits c q → verdict life o (request_octets c q) ≡ Answer.Deny reply
+        → taken_for c reply at ≡ Taken.Deny }
+    ensures unsynchronised { (c : ClientState) (q : Outstanding) (life : Life) (o : Occasion) (reply : List ℕ) (saved : Stamp)
+        (at : Moment) → Waits c q → SharesKey life c → FitsPacket o.reference → o.reference.leap ≡ 3
+        → IsOutstanding q → AreSaved (recent_in life)
+        → IfSome (matched (recent_in life) (query_fields q)) (λ found. found.transmit.0 < 2 ^ 64)
+        → verdict life o (request_octets c q) ≡ Answer.Time reply saved
+        → taken_for c reply at ≡ Taken.Refused Distrust.Unsynchronised }
+{}

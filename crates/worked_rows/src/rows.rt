@@ -20,7 +20,7 @@ pub struct Row {
 }
 
 /// What names in braces stand for. A text may hold names in its turn. `{0^n}` is n zeros.
-pub const PIECES: [(&str, &str); 17] = [
+pub const PIECES: [(&str, &str); 22] = [
     // The customer's enrolment, and the neighbour's.
     ("A", "enrol 192.0.2.10 7 md5 6b6579 10"),
     ("B", "enrol 192.0.2.20 8 sha1 6f74686572 10"),
@@ -55,10 +55,36 @@ pub const PIECES: [(&str, &str); 17] = [
         "query in next",
         "datagram 192.0.2.10 0:{next} 0:ec00004000000100 {reference} 23{query}{mac}",
     ),
+    // The signed query, come in five seconds one after another, and what is answered.
+    (
+        "queries in five seconds",
+        "datagram 192.0.2.10 0:ec00001000000000 0:ec00001000000100 {reference} 23{query}{mac}\n\
+        datagram 192.0.2.10 0:ec00001100000000 0:ec00001100000100 {reference} 23{query}{mac}\n\
+        datagram 192.0.2.10 0:ec00001200000000 0:ec00001200000100 {reference} 23{query}{mac}\n\
+        datagram 192.0.2.10 0:ec00001300000000 0:ec00001300000100 {reference} 23{query}{mac}\n\
+        datagram 192.0.2.10 0:ec00001400000000 0:ec00001400000100 {reference} 23{query}{mac}",
+    ),
+    (
+        "times in five seconds",
+        "time ec00001000000000 240106ec{clock}{T}ec00001000000000ec000010000001000000000737ff63a8cbdc98adae6df5d38f5a2664\n\
+        time ec00001100000000 240106ec{clock}{T}ec00001100000000ec00001100000100000000072acb078ff989c63c8984d15edd68f58b\n\
+        time ec00001200000000 240106ec{clock}{T}ec00001200000000ec000012000001000000000705c744e659b4f3239261227f238be3cd\n\
+        time ec00001300000000 240106ec{clock}{T}ec00001300000000ec0000130000010000000007f1141426d24afea83acf43d6b2200958\n\
+        time ec00001400000000 240106ec{clock}{T}ec00001400000000ec00001400000100000000075b01cd6edd8420cf911c73f0e684eaf5",
+    ),
+    // A departure of the reply with receive stamp R, at another moment than its transmit stamp, D, says.
+    ("departed", "departed 192.0.2.10 {R} 0:{D}"),
+    ("D", "ec00001090000180"),
+    // A signed query that asks about the exchange with receive stamp R: its origin is R, its receive stamp the
+    // arrival of that reply.
+    (
+        "query about R",
+        "23000600{0^40}{R}ec000010a0000000ec0000118000000000000007ff099f8a9ae253f3a8183e892fcd9325",
+    ),
 ];
 
 /// The worked examples.
-pub const ROWS: [Row; 26] = [
+pub const ROWS: [Row; 32] = [
     Row {
         name: "a query without a MAC is told DENY",
         script: "{A}\n\
@@ -236,7 +262,7 @@ pub const ROWS: [Row; 26] = [
         written: "done\n\
             time {last} 240106ec{clock}{T}{last}ec00003f00000100000000070ba96fab2cacb3691f2ef607f7e47523\n\
             time {next} 240106ec{clock}{T}{next}ec00004000000100000000079ba2901b8ae11a4b953c735cd69acf11\n\
-            time {last} 240106ec{clock}{T}{last}ec00003f00000100000000070ba96fab2cacb3691f2ef607f7e47523\n",
+            time ec00003f00000001 240106ec{clock}{T}ec00003f00000001ec00003f000001000000000735d8fe43ef2d806824119b771eef8279\n",
         fault: None,
     },
     Row {
@@ -245,6 +271,62 @@ pub const ROWS: [Row; 26] = [
             datagram 192.0.2.10 1:{0^16} 1:{0^16} 0001ec{clock} 23{query}{mac}\n",
         written: "done\n\
             time 0000000000000001 240106ec{clock}{T}0000000000000001000000000000000200000007e06fa7ccf86c6c9f07b4e3df1b37f90b\n",
+        fault: None,
+    },
+    Row {
+        name: "an interleaved reply tells when its forerunner departed, once",
+        script: "{A}\n\
+            {datagram} 23{query}{mac}\n\
+            {departed}\n\
+            datagram 192.0.2.10 0:ec00001190000000 0:ec00001190000100 {reference} {query about R}\n\
+            datagram 192.0.2.10 0:ec00001191000000 0:ec00001191000100 {reference} {query about R}\n\
+            {departed}\n",
+        written: "done\n\
+            time {R} 240106ec{reply}00000007b26e576547e415ebd8461f86484912fe\n\
+            noted\n\
+            time ec00001190000000 240106ec{clock}ec000010a0000000ec00001190000000{D}00000007fb0ad8a5670777ce79f693029cc5eb80\n\
+            time ec00001191000000 240106ec{clock}ec00001180000000ec00001191000000ec0000119100010000000007c36fe35835de8febba20919aa8f3e1b9\n\
+            not-noted\n",
+        fault: None,
+    },
+    Row {
+        name: "five exchanges ago is too long ago for an interleaved reply",
+        script: "{A}\n\
+            {queries in five seconds}\n\
+            datagram 192.0.2.10 0:ec00001580000000 0:ec00001580000100 {reference} \
+            23000600{0^40}ec00001000000000ec00001480000000ec0000150000000000000007c1029bbd6585aceef7a289606544a90f\n",
+        written: "done\n\
+            {times in five seconds}\n\
+            time ec00001580000000 240106ec{clock}ec00001500000000ec00001580000000ec0000158000010000000007705376b33b9c3606914688fe2cc01b77\n",
+        fault: None,
+    },
+    Row {
+        name: "four exchanges ago is not too long ago",
+        script: "{A}\n\
+            {queries in five seconds}\n\
+            datagram 192.0.2.10 0:ec00001580000000 0:ec00001580000100 {reference} \
+            23000600{0^40}ec00001100000000ec00001480000000ec00001500000000000000076d449fd6d72cfc10d0525f2b9f9f138b\n",
+        written: "done\n\
+            {times in five seconds}\n\
+            time ec00001580000000 240106ec{clock}ec00001480000000ec00001580000000ec0000110000010000000007bc8df605e2c3508ed00ac4d926090ceb\n",
+        fault: None,
+    },
+    Row {
+        name: "new stamps avoid saved ones",
+        script: "{A}\n\
+            {datagram} 23{query}{mac}\n\
+            {datagram} 23{query}{mac}\n\
+            datagram 192.0.2.10 0:{X} 0:ec00001090000101 {reference} 23{query}{mac}\n",
+        written: "done\n\
+            time {R} 240106ec{reply}00000007b26e576547e415ebd8461f86484912fe\n\
+            time ec00001090000001 240106ec{clock}{T}ec00001090000001{X}000000071716831a106d7763376f40f0d48bfbae\n\
+            time ec00001090000101 240106ec{clock}{T}ec00001090000101ec0000109000010200000007b70b441c8bde2ddb4cab400836b6a7b9\n",
+        fault: None,
+    },
+    Row {
+        name: "no departure is noted of an address that was never enrolled",
+        script: "departed 192.0.2.99 {R} 0:{D}\n",
+        written: "not-noted\n",
         fault: None,
     },
     Row {
@@ -264,13 +346,37 @@ pub const ROWS: [Row; 26] = [
         fault: None,
     },
     Row {
-        name: "a revoked customer is told DENY",
+        name: "a revoked customer is told DENY, is not enrolled, and may be again",
         script: "{A}\n\
             revoke 192.0.2.10\n\
-            {datagram} 23{query}{mac}\n",
+            {datagram} 23{query}{mac}\n\
+            revoke 192.0.2.10\n\
+            budget 192.0.2.10 5\n\
+            {A}\n",
         written: "done\n\
             done\n\
-            {deny}\n",
+            {deny}\n\
+            refused not-enrolled\n\
+            refused not-enrolled\n\
+            done\n",
+        fault: None,
+    },
+    Row {
+        name: "a budget changes while a window runs, and its count stays",
+        script: "enrol 192.0.2.10 7 md5 6b6579 1\n\
+            {datagram} 23{query}{mac}\n\
+            {datagram} 23{query}{mac}\n\
+            {datagram} 23{query}{mac}\n\
+            budget 192.0.2.10 4\n\
+            {datagram} 23{query}{mac}\n\
+            {datagram} 23{query}{mac}\n",
+        written: "done\n\
+            time {R} 240106ec{reply}00000007b26e576547e415ebd8461f86484912fe\n\
+            rate e4000600{0^16}52415445{0^16}{T}{0^16}{T}000000075cc5bdaa8b502fef0193f5603208e8b7\n\
+            silent over-budget\n\
+            done\n\
+            time ec00001090000001 240106ec{clock}{T}ec00001090000001{X}000000071716831a106d7763376f40f0d48bfbae\n\
+            rate e4000600{0^16}52415445{0^16}{T}{0^16}{T}000000075cc5bdaa8b502fef0193f5603208e8b7\n",
         fault: None,
     },
     Row {

@@ -4,7 +4,7 @@ use crate::rows::ROWS;
 use ntp_admin::{Event, Outcome, print_answer};
 use ntp_service::{Service, Watched, replay};
 use refusing::Refusing;
-use std::alloc::{AllocError, Global};
+use std::alloc::{AllocError, Allocator, Global};
 use std::process::Abort;
 use std::test::Fail;
 
@@ -75,39 +75,57 @@ fn are_worked(
     Ok(())
 }
 
-// The script's datagrams are answered as it is worked where each allocation is refused, and ask for none.
+// The script's events are answered as it is worked where each allocation is refused to all but commands, and ask
+// for none.
 fn takes_no_memory(rt: &impl Abort, alloc: Global, example: &Example) -> Result<(), Fail> {
     let (events, _) = example.events(alloc)?;
     let memory = Refusing::new(alloc);
     let mut service = Service::new(&memory);
     let mut outcomes = Vec::new(alloc);
     for event in &events {
-        outcomes.push(match event {
-            Event::Command(command) => match service.command(command) {
-                Ok(()) => Outcome::Done,
-                Err(refusal) => Outcome::Refused(refusal),
-            },
-            Event::Datagram {
-                address,
-                receipt,
-                transmit,
-                reference,
-                octets,
-            } => {
-                let before = memory.calls();
-                memory.refuse_all();
-                let answer = service.datagram(
-                    *address,
-                    *receipt,
-                    *transmit,
-                    reference,
-                    octets.as_slice(),
-                );
-                memory.refuse_none();
-                assert_eq!(rt; memory.calls(), before, "{}", example.name);
-                Outcome::Datagram(answer)
-            }
-        })?;
+        let before = memory.calls();
+        let asks = matches!(event, Event::Command(_));
+        if !asks {
+            memory.refuse_all();
+        }
+        let outcome = outcome_of(&mut service, event);
+        memory.refuse_none();
+        assert!(rt; asks || memory.calls() == before, "{}", example.name);
+        outcomes.push(outcome)?;
     }
     are_worked(rt, alloc, example, &outcomes)
+}
+
+// What a service answers to an event, whose memory need not be the service's.
+fn outcome_of<A: Allocator + Copy>(service: &mut Service<A>, event: &Event) -> Outcome {
+    match event {
+        Event::Command(command) => match service.command(command) {
+            Ok(()) => Outcome::Done,
+            Err(refusal) => Outcome::Refused(refusal),
+        },
+        Event::Departed {
+            address,
+            receive,
+            moment,
+        } => {
+            if service.departed(*address, *receive, *moment) {
+                Outcome::Noted
+            } else {
+                Outcome::NotNoted
+            }
+        }
+        Event::Datagram {
+            address,
+            receipt,
+            transmit,
+            reference,
+            octets,
+        } => Outcome::Datagram(service.datagram(
+            *address,
+            *receipt,
+            *transmit,
+            reference,
+            octets.as_slice(),
+        )),
+    }
 }

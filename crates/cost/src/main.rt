@@ -1,7 +1,7 @@
 //! What a datagram costs: a program to be run under a counter of instructions, as docs/PERFORMANCE.md says.
 //!
-//! `cost query md5 N` answers N signed queries of one customer; `cost digests md5 N` computes the two digests of
-//! each alone; `cost fields F N` reads a request with F extension fields N times. It prints how many were answered,
+//! `cost query md5 N` answers N signed queries of one customer, and `cost interleaved md5 N` as many that each ask about
+//! the reply before; `cost digests md5 N` computes the two digests of each alone; `cost fields F N` reads a request with F extension fields N times. It prints how many were answered,
 //! computed or read.
 #![tactic(auto)]
 

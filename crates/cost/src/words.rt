@@ -2,10 +2,17 @@
 
 use ntp_mac::Algorithm;
 
+/// Which reply a query asks for.
+#[derive(Clone, Copy, PartialEq, Eq)]
+pub(crate) enum Query {
+    Basic,
+    Interleaved,
+}
+
 /// A word: what is counted, by which algorithm, how many fields, or how often.
 #[derive(Clone, Copy)]
 pub(crate) enum Word {
-    Query,
+    Asked(Query),
     Digests,
     Fields,
     By(Algorithm),
@@ -17,7 +24,8 @@ impl Word {
     // What a word says.
     pub(crate) fn of(word: &str) -> Word {
         match word {
-            "query" => Word::Query,
+            "query" => Word::Asked(Query::Basic),
+            "interleaved" => Word::Asked(Query::Interleaved),
             "digests" => Word::Digests,
             "fields" => Word::Fields,
             "md5" => Word::By(Algorithm::Md5),

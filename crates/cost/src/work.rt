@@ -2,7 +2,7 @@
 
 ghost use Rattle.std.specs.Prelude.{◌≤◌};
 
-use crate::words::Word;
+use crate::words::{Query, Word};
 use ntp_admin::Command;
 use ntp_mac::{Algorithm, Key, digest};
 use ntp_register::Address;
@@ -21,18 +21,30 @@ const HEADER: [u8; 48] = [
     0, 0, 0, 0, 0, 0, 0, 0, 0, 0xec, 0, 0, 0x10, 0x80, 0, 0, 0,
 ];
 
+/// The stamps at which the queries of a round come: more than exchanges are saved, so that each is free when it comes again.
+const RECEIPTS: [u64; 6] = [
+    0xec00_0010_0000_0000,
+    0xec00_0011_0000_0000,
+    0xec00_0012_0000_0000,
+    0xec00_0013_0000_0000,
+    0xec00_0014_0000_0000,
+    0xec00_0015_0000_0000,
+];
+
 // Does the work that the words ask for, and counts it; none where they ask for nothing.
 pub(crate) fn done(alloc: Global, words: [Word; 3]) -> u64 {
     match words {
-        [Word::Query, Word::By(algorithm), Word::Number(count)] => queries(alloc, algorithm, count),
+        [Word::Asked(kind), Word::By(algorithm), Word::Number(count)] => queries(
+            alloc, kind, algorithm, count,
+        ),
         [Word::Digests, Word::By(algorithm), Word::Number(count)] => digests(algorithm, count),
         [Word::Fields, Word::Number(many), Word::Number(count)] => fields(many, count),
         _ => 0,
     }
 }
 
-// Signed queries that were answered with the time.
-fn queries(alloc: Global, algorithm: Algorithm, count: u64) -> u64 {
+// Signed queries that were answered with the time. They come in rounds of six seconds.
+fn queries(alloc: Global, kind: Query, algorithm: Algorithm, count: u64) -> u64 {
     let Ok(key) = Key::new(algorithm, b"key") else {
         return 0;
     };
@@ -47,28 +59,23 @@ fn queries(alloc: Global, algorithm: Algorithm, count: u64) -> u64 {
     ) else {
         return 0;
     };
-    let (Some(number), Some(budget)) = (NonZero::<u16>::new(7), NonZero::<u16>::new(65_535)) else {
-        return 0;
-    };
     let mut service = Service::new(alloc);
-    let enrolment = Command::Enrol {
-        address: CUSTOMER,
-        number,
-        key,
-        budget,
-    };
-    if service.command(&enrolment).is_err() {
+    if !enrolled(&mut service, key) {
         return 0;
     }
-    let mut query = [0; 72];
-    query[..48].copy_from_slice(&HEADER);
-    query[51] = 7;
-    let length = sign(key, &mut query);
-    let receipt = moment(0xec00_0010_9000_0000);
-    let transmit = moment(0xec00_0010_9000_0100);
+    let mut round = [[0; 72]; 6];
+    for place in 0..6 {
+        fill(kind, RECEIPTS[(place + 5) % 6], &mut round[place]);
+        sign(key, &mut round[place]);
+    }
+    let length = query_length(algorithm);
     let mut answered = 0u64;
-    for _ in 0..count {
-        let answer = service.datagram(CUSTOMER, receipt, transmit, &reference, &query[..length]);
+    for turn in 0..count {
+        let place = (turn % 6) as usize;
+        let receipt = moment(RECEIPTS[place]);
+        let transmit = moment(RECEIPTS[place].wrapping_add(0x100));
+        let query = &round[place][..length];
+        let answer = service.datagram(CUSTOMER, receipt, transmit, &reference, query);
         if matches!(answer, Answer::Time { .. }) {
             answered = answered.saturating_add(1);
         }
@@ -76,19 +83,46 @@ fn queries(alloc: Global, algorithm: Algorithm, count: u64) -> u64 {
     answered
 }
 
-// Puts the digest behind the header and the number, and gives the length of the whole.
-fn sign(key: Key, query: &mut [u8; 72]) -> usize
+// Whether the customer could be enrolled.
+fn enrolled(service: &mut Service, key: Key) -> bool {
+    let (Some(number), Some(budget)) = (NonZero::<u16>::new(7), NonZero::<u16>::new(65_535)) else {
+        return false;
+    };
+    let enrolment = Command::Enrol {
+        address: CUSTOMER,
+        number,
+        key,
+        budget,
+    };
+    service.command(&enrolment).is_ok()
+}
+
+// Writes a query and the key number behind it. One that asks for an interleaved reply has the receive stamp of the reply
+// before it as its origin.
+fn fill(kind: Query, last: u64, query: &mut [u8; 72]) {
+    query[..48].copy_from_slice(&HEADER);
+    if kind == Query::Interleaved {
+        query[24..32].copy_from_slice(&last.to_be_bytes());
+        query[32..40].copy_from_slice(&last.wrapping_add(0x1000_0000).to_be_bytes());
+    }
+    query[51] = 7;
+}
+
+// How many octets a signed query has.
+fn query_length(algorithm: Algorithm) -> usize
     ensures { result ≤ 72 }
 {
-    match digest(&key, &HEADER) {
-        ntp_mac::Digest::Md5(octets) => {
-            query[52..68].copy_from_slice(&octets);
-            68
-        }
-        ntp_mac::Digest::Sha1(octets) => {
-            query[52..72].copy_from_slice(&octets);
-            72
-        }
+    match algorithm {
+        Algorithm::Md5 => 68,
+        Algorithm::Sha1 => 72,
+    }
+}
+
+// Puts the digest behind the header and the number.
+fn sign(key: Key, query: &mut [u8; 72]) {
+    match digest(&key, &query[..48]) {
+        ntp_mac::Digest::Md5(octets) => query[52..68].copy_from_slice(&octets),
+        ntp_mac::Digest::Sha1(octets) => query[52..72].copy_from_slice(&octets),
     }
 }
 

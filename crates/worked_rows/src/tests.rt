@@ -1,7 +1,7 @@
 //! Each worked example is answered the same as a script, as a list of events, and where no memory is left.
 use crate::example::Example;
 use crate::rows::ROWS;
-use ntp_admin::{Event, Outcome, print_answer};
+use ntp_admin::{Command, Event, Outcome, print_answer};
 use ntp_service::{Service, Watched, replay};
 use refusing::Refusing;
 use std::alloc::{AllocError, Allocator, Global};
@@ -25,7 +25,7 @@ fn each_row_is_run_as_it_is_worked(rt: HostRuntime) -> Result<(), Fail> {
 }
 
 #[test]
-fn no_datagram_of_a_row_takes_memory(rt: HostRuntime) -> Result<(), Fail> {
+fn nothing_but_an_enrolment_takes_memory(rt: HostRuntime) -> Result<(), Fail> {
     for row in &ROWS {
         takes_no_memory(&rt, rt.alloc(), &Example::of(rt.alloc(), row)?)?;
     }
@@ -75,7 +75,7 @@ fn are_worked(
     Ok(())
 }
 
-// The script's events are answered as it is worked where each allocation is refused to all but commands, and ask
+// The script's events are answered as it is worked where each allocation is refused to all but enrolments, and ask
 // for none.
 fn takes_no_memory(rt: &impl Abort, alloc: Global, example: &Example) -> Result<(), Fail> {
     let (events, _) = example.events(alloc)?;
@@ -84,7 +84,7 @@ fn takes_no_memory(rt: &impl Abort, alloc: Global, example: &Example) -> Result<
     let mut outcomes = Vec::new(alloc);
     for event in &events {
         let before = memory.calls();
-        let asks = matches!(event, Event::Command(_));
+        let asks = matches!(event, Event::Command(Command::Enrol { .. }));
         if !asks {
             memory.refuse_all();
         }

@@ -1,5 +1,6 @@
 //! Reports of departures.
 ghost use Rattle.std.specs.Prelude.{◌≡◌, Some};
+ghost use Rattle.std.specs.Bool.{OnFalse};
 ghost use Rattle.ntp_register.specs.Customer.{numbers_of};
 ghost use Rattle.ntp_reply.specs.Life.{Life, short};
 ghost use Rattle.ntp_reply.specs.Exchanged.{is_noted, after_departure};
@@ -19,6 +20,7 @@ pub fn depart<A: Allocator + Copy>(
     ensures noted { (life : Life) → short life ≡ Some customer.old → result ≡ is_noted life receive }
     ensures after { (life : Life) → short life ≡ Some customer.old
         → Some customer.new ≡ short (after_departure life receive moment) }
+    ensures unchanged { OnFalse result (customer.new ≡ customer.old) }
     ensures numbers { numbers_of customer.new ≡ numbers_of customer.old }
 {
     customer.is_enrolled() && customer.slots_mut().depart(receive, moment)

@@ -2,12 +2,13 @@
 use Rattle.std.proofs.Common.{◌≡◌, ℕ, Bool, true, false, Some, None, List, [], ◌∷◌, ◌++◌, refl, sym, ap, ◌∙◌, subst}
 use Rattle.std.proofs.lemmas.Option.{none-some}
 use Rattle.std.specs.Prelude.{if◌then◌else◌}
+use Rattle.std.specs.Bool.{OnFalse}
 use Rattle.ntp_time.specs.declared.moment.Moment.{Moment}
 use Rattle.ntp_time.specs.declared.stamp.Stamp.{Stamp}
 use Rattle.ntp_register.specs.declared.address.Address.{Address}
 use Rattle.ntp_register.specs.Customer.{CustomerState}
 use Rattle.ntp_register.specs.Registry.{Registry, Agrees, customer_at, with_customer}
-use Rattle.ntp_register.proofs.Lookups.{customer_at-with_customer, customer_at-with_customer-other}
+use Rattle.ntp_register.proofs.Lookups.{customer_at-with_customer, customer_at-with_customer-other, with_customer-present}
 use Rattle.ntp_reply.specs.Reference.{ReferenceState}
 use Rattle.ntp_reply.specs.Life.{Life, Unregistered, Revoked, Enrolled, short}
 use Rattle.ntp_reply.specs.Replies.{occasion_of}
@@ -123,3 +124,10 @@ module _ {A : Type 0} (r : Registry) (history : List (Event A)) (address : Addre
       (customer_at-with_customer r address w ∙ goes_on lived has)
       (λ other ne. customer_at-with_customer-other r address w other ne)
       agrees)
+
+-- where a customer is left as it was, so is the register
+pub unchanged-there : (noted : Bool) (r s : Registry) (address : Address) (c w : CustomerState) → s ≡ r → customer_at r address ≡ Some c
+    → OnFalse noted (w ≡ c) → OnFalse noted (with_customer r address w ≡ s)
+unchanged-there true r s address c w is there same = same
+unchanged-there false r s address c w is there same =
+    ap (with_customer r address) same ∙ with_customer-present r address c there ∙ sym is

@@ -1,5 +1,6 @@
 //! A service, one event at a time.
 ghost use Rattle.std.specs.Prelude.{◌≡◌, ◌↔◌, ◌≤◌, List, [], length, IsNone, OnErr};
+ghost use Rattle.std.specs.Bool.{OnFalse};
 ghost use Rattle.ntp_register.specs.Registry.{customer_at};
 ghost use Rattle.ntp_reply.specs.Verdict.{reply_length};
 ghost use Rattle.ntp_admin.specs.declared.event.Event.{Event};
@@ -77,6 +78,7 @@ impl<A: Allocator + Copy> Service<A> {
     pub fn departed(&mut self, address: Address, receive: Stamp, moment: Moment) -> bool
         ensures tells { (history : List (Event A)) → StandsFor self.old history
             → TellsOne history (Event.Departed address receive moment) (departure_outcome result) self.new }
+        ensures unchanged { OnFalse result (self.new ≡ self.old) }
         ensures no_entry { IsNone (customer_at self.old address) → self.new ≡ self.old }
     {
         let Some(receiver) = self.register.customer_mut(address) else {

@@ -5,3 +5,11 @@ pub use Rattle.ntp_service_replay.specs.Watched
 pub use Rattle.ntp_service_replay.specs.Script
 pub use Rattle.ntp_service_replay.specs.Replay
 pub use Rattle.ntp_service_replay.specs.declared.faults
+pub use Rattle.ntp_service_serve.specs.Port
+pub use Rattle.ntp_service_serve.specs.Memory
+pub use Rattle.ntp_service_serve.specs.Made
+pub use Rattle.ntp_service_serve.specs.Serving
+pub use Rattle.ntp_service_serve.specs.declared.memory_port
+pub use Rattle.ntp_service_serve.specs.declared.port
+pub use Rattle.ntp_service_serve.specs.declared.serving
+pub use Rattle.ntp_service_serve.specs.declared.turn

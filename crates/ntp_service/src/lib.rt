@@ -1,6 +1,10 @@
 //! The service: events in, outcomes out. Its layers are crates of their own, and this one passes on what they
-//! make public: `ntp_service_run` has the service and its promise, `ntp_service_replay` the replay of scripts.
+//! make public: `ntp_service_run` has the service and its promise, `ntp_service_replay` the replay of scripts,
+//! `ntp_service_serve` the server over a port.
 #![tactic(auto)]
 
 pub use ntp_service_replay::{ReplayFault, ReplayFaultKind, Watched, replay};
 pub use ntp_service_run::{Service, a_number_has_one_holder, no_neighbour_is_felt};
+pub use ntp_service_serve::{
+    Arrival, Incoming, MemoryPort, Port, PortFault, Sent, Served, Turn, serve,
+};

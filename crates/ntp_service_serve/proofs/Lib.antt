@@ -1,0 +1,3 @@
+mod OneTurn
+mod ManyTurns
+mod Receiving

@@ -1,0 +1,13 @@
+use Rattle.std.proofs.Common.{◌≤◌, ◌+◌}
+use Rattle.ntp_service_serve.proofs.ManyTurns.{Serving}
+use Rattle.ntp_service_serve.proofs.serving.serve.Given as goal
+
+abbrev pub invariant-loop-turn : goal.invariant-loop-turn
+invariant-loop-turn g l = record {
+  failures : g.P.Port.failure_count l.port ≤ g.P.Port.failure_count l.fn.port + l._turn;
+  arrivals : l.served.arrivals ≤ l._turn;
+  sent : l.served.sent ≤ l._turn;
+  departed : l.served.departed ≤ l._turn;
+  serving : Serving g.row.A.Denot l.reference l._turn (g.P.Port.told l.fn.port) (g.P.Port.told l.port)
+      (g.P.Port.failure_count l.fn.port) (g.P.Port.failure_count l.port) l.fn.service l.service l.served;
+}

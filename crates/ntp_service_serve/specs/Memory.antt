@@ -1,0 +1,33 @@
+-- What a port in memory tells.
+use Rattle.std.specs.Prelude.{ℕ, ◌-◌, Option, None, map, option_map, drop, slice_get, if◌then◌else◌}
+use Rattle.ntp_service_serve.specs.declared.turn.Incoming.{Incoming}
+use Rattle.ntp_service_serve.specs.declared.turn.Turn.{Turn}
+use Rattle.ntp_service_serve.specs.declared.memory_port.MemoryPort.{MemoryPort}
+use Rattle.ntp_service_serve.specs.Port.{IncomingValue, TurnValue, Told}
+
+-- a datagram of a list of turns, as a port tells it (profile)
+abbrev pub incoming_told : {A : Type 0} → Incoming A → IncomingValue
+incoming_told d = record { address = d.address; port = d.port; receipt = d.receipt; octets = d.octets }
+
+-- a turn of that list (profile)
+abbrev pub turn_told : {A : Type 0} → Turn A → TurnValue
+turn_told turn =
+    record { arrival = option_map incoming_told turn.arrival; transmit = turn.transmit; departure = turn.departure; sends = turn.sends }
+
+-- the present turn (profile)
+abbrev pub present_of : {A : Type 0} → MemoryPort A → Option TurnValue
+present_of p = if p.is_present then option_map turn_told (slice_get p.turns.items (p.begun - 1)) else None
+
+-- what the calls will answer from here on (profile)
+abbrev pub told_by : {A : Type 0} → MemoryPort A → Told
+told_by p = record {
+  coming = map turn_told (drop p.begun p.turns.items);
+  present = present_of p;
+  has_read_clock = p.has_read_clock;
+  has_tried_send = p.has_tried_send;
+  sent = p.sent.items;
+}
+
+-- how many calls failed (profile)
+abbrev pub failures_of : {A : Type 0} → MemoryPort A → ℕ
+failures_of p = p.failures

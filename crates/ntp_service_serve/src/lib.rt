@@ -1,0 +1,14 @@
+//! A server over any port, and a port in memory. It is a layer of `ntp_service`, which passes its calls on.
+#![tactic(auto)]
+
+mod memory_port;
+mod port;
+mod serving;
+#[cfg(test)]
+mod tests;
+mod turn;
+
+pub use memory_port::{MemoryPort, Sent};
+pub use port::{Arrival, Port, PortFault};
+pub use serving::{Served, serve};
+pub use turn::{Incoming, Turn};

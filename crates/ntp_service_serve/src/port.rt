@@ -1,0 +1,67 @@
+//! What a server asks of the network and of the clock.
+ghost use Rattle.std.specs.Prelude.{◌≡◌, ℕ, ◌+◌, ◌-◌, ◌≤◌, ◌<◌, ◌^◌, Option, None, IfOk, IfErr, is_err, if◌then◌else◌};
+ghost use Rattle.ntp_service_serve.specs.Port.{Told, most_datagram_octets, ReceiveTells, NowTells, SendTells};
+
+use ntp_register::Address;
+use ntp_time::Moment;
+
+/// How many octets of a datagram are taken at most: one more than a packet may have, so that a longer one is
+/// still told from the longest packet (profile).
+pub(crate) const MOST_DATAGRAM_OCTETS: usize = 1025;
+
+/// What is known of a datagram beside its octets.
+#[derive(Clone, Copy, Debug, PartialEq, Eq)]
+pub struct Arrival {
+    /// The address from which it came.
+    pub address: Address,
+    /// The UDP port from which it came.
+    pub port: u16,
+    /// How many octets it has, at most 1,025: a longer one is cut.
+    pub length: usize,
+    /// When it came.
+    pub receipt: Moment,
+}
+
+/// Why a call of a port gave nothing.
+#[derive(Clone, Copy, Debug, PartialEq, Eq)]
+pub enum PortFault {
+    /// No datagram could be received. It is `receive`'s alone.
+    Receive,
+    /// The reply could not be sent. It is `send`'s alone.
+    Send,
+}
+
+/// Where datagrams come from and replies go to, with the clock (profile).
+///
+/// A port may tell its turns: what its calls will answer, as a list of turns. Each `receive` begins one.
+pub trait Port {
+    // What its calls will answer from here on, where the port tells it.
+    ghost told: { Self → Option Told } = { λ _. None };
+
+    // How many calls failed.
+    ghost failure_count: { Self → ℕ };
+
+    /// Receives a datagram into the front of `datagram`, cut to 1,025 octets. The one fault is `Receive`.
+    fn receive(&mut self, datagram: &mut [u8; 1025]) -> Result<Arrival, PortFault>
+        requires { failure_count self.old < 2 ^ 64 - 1 }
+        ensures length { IfOk result (λ arrival. arrival.length ≤ most_datagram_octets) }
+        ensures fault { IfErr result (λ fault. fault ≡ PortFault.Receive) }
+        ensures failures { failure_count self.new ≡ failure_count self.old + (if is_err result then 1 else 0) }
+        ensures turns { ReceiveTells (told self.old) (told self.new) result datagram.new };
+
+    /// The moment that the clock shows. A call never fails.
+    fn now(&mut self) -> Moment
+        ensures failures { failure_count self.new ≡ failure_count self.old }
+        ensures turns { NowTells (told self.old) (told self.new) result };
+
+    /// Sends a reply to an address and a UDP port. The one fault is `Send`.
+    fn send(&mut self, address: Address, port: u16, reply: &[u8]) -> Result<(), PortFault>
+        requires { failure_count self.old < 2 ^ 64 - 1 }
+        ensures fault { IfErr result (λ fault. fault ≡ PortFault.Send) }
+        ensures failures { failure_count self.new ≡ failure_count self.old + (if is_err result then 1 else 0) }
+        ensures turns { SendTells (told self.old) (told self.new) address port reply.now result };
+
+    /// How many calls of `receive` and `send` failed.
+    fn failures(&self) -> u64
+        ensures { result ≡ failure_count self.now };
+}

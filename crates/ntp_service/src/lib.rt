@@ -4,7 +4,10 @@
 #![tactic(auto)]
 
 pub use ntp_service_replay::{ReplayFault, ReplayFaultKind, Watched, replay};
-pub use ntp_service_run::{Service, a_number_has_one_holder, no_neighbour_is_felt};
+pub use ntp_service_run::{
+    Service, a_number_has_one_holder, no_neighbour_is_felt, stamps_are_told_apart,
+    what_is_kept_of_a_life_tells_all,
+};
 pub use ntp_service_serve::{
     Arrival, Incoming, MemoryPort, Port, PortFault, Sent, Served, Turn, serve,
 };

@@ -4,8 +4,6 @@
 mod memory_port;
 mod port;
 mod serving;
-#[cfg(test)]
-mod tests;
 mod turn;
 
 pub use memory_port::{MemoryPort, Sent};

@@ -8,4 +8,6 @@ mod floods;
 #[cfg(test)]
 mod rows;
 #[cfg(test)]
+mod serving;
+#[cfg(test)]
 mod tests;

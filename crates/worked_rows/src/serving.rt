@@ -1,15 +1,14 @@
-//! What no contract says: the replies of three turns to the octet, that serving takes no memory, and a server at a port
+//! What no contract says of a server: the replies of three turns to the octet, that serving takes no memory, and a port
 //! that tells nothing. The digests are those of Python's `hashlib.md5` over the key `key` and the octets before the key
 //! number.
 ghost use Rattle.std.specs.Prelude.{◌≡◌, IfOk};
-ghost use Rattle.ntp_service_serve.specs.Memory.{failures_of};
+ghost use Rattle.ntp_service.specs.Memory.{failures_of};
 
-use crate::{Arrival, Incoming, MemoryPort, Port, PortFault, Served, Turn, serve};
 use ntp_admin::{Command, Octets};
 use ntp_mac::{Algorithm, Key};
 use ntp_register::Address;
 use ntp_reply::Reference;
-use ntp_service_run::Service;
+use ntp_service::{Arrival, Incoming, MemoryPort, Port, PortFault, Served, Service, Turn, serve};
 use ntp_time::{Moment, Short, Stamp};
 use refusing::Refusing;
 use std::alloc::Allocator;

@@ -19,5 +19,5 @@ pub use line_fault::LineFault;
 pub use ntp_slots::NoMemory;
 pub use octets::Octets;
 pub use outcome::Outcome;
-pub use printing::print_answer;
+pub use printing::{print_answer, refusal_word};
 pub use reading::{parse_command, parse_event};

@@ -111,8 +111,8 @@ fn malformed_text<A: Allocator + Copy>(alloc: A, fault: Malformed) -> Result<Str
     }
 }
 
-// Why a command was refused.
-fn refusal_word(refusal: Refusal) -> &'static str
+/// The word for why a command was refused. It takes no memory.
+pub fn refusal_word(refusal: Refusal) -> &'static str
     ensures { result.now ≡ refusal_text refusal }
 {
     match refusal {

@@ -33,8 +33,8 @@ fn are_digits(octets: &[u8]) -> bool
     octets.iter().all(|octet| octet.is_ascii_digit())
 }
 
-// The number of a decimal word, where it is from `least` to `most`.
-fn decimal(word: &str, least: u32, most: u32) -> Option<u32>
+/// The number of a decimal word with no sign and no leading zero, where it is from `least` to `most`.
+pub fn decimal(word: &str, least: u32, most: u32) -> Option<u32>
     ensures number { result ≡ decimal_in least most word.now }
     ensures range { IfSome result (λ number. (least ≤ number) × (number ≤ most)) }
 {
@@ -73,7 +73,7 @@ pub fn address(word: &str) -> Option<Address>
 }
 
 /// A key number or a budget: from 1 to 65,535.
-pub(crate) fn number(word: &str) -> Option<NonZero<u16>>
+pub fn number(word: &str) -> Option<NonZero<u16>>
     ensures { result ≡ number_in word.now }
 {
     let number = decimal(word, 1, 65_535)?;

@@ -27,9 +27,9 @@ pub struct Served {
 /// datagram came from. Where that succeeded and the reply was time, the clock is read again, and the service is told
 /// that the reply departed (profile). It takes no memory.
 ///
-/// At any port at most one call fails in each turn. Where the port tells its turns, the events are those of its
-/// turns, their outcomes are what the service tells, and what was sent is the replies of the turns that send, each to
-/// where its datagram came from, in order.
+/// At any port at most as many calls fail as turns are made, and no count is above the turns. Where the port tells its
+/// turns, the events are those of its turns, their outcomes are what the service tells, and what was sent is the replies
+/// of the turns that send, each to where its datagram came from, in order.
 pub fn serve<P: Port, A: Allocator + Copy>(
     port: &mut P,
     service: &mut Service<A>,
@@ -38,6 +38,7 @@ pub fn serve<P: Port, A: Allocator + Copy>(
 ) -> Served
     requires { P.failure_count port.old + turns < 2 ^ 64 }
     ensures failures { P.failure_count port.new ≤ P.failure_count port.old + turns }
+    ensures counts { (result.arrivals ≤ turns) × (result.sent ≤ turns) × (result.departed ≤ turns) }
     ensures turns { ServeTells A reference.now turns (P.told port.old) (P.told port.new)
         (P.failure_count port.old) (P.failure_count port.new) service.old service.new result }
 {

@@ -1,6 +1,6 @@
 //! The service: events in, outcomes out. Its layers are crates of their own, and this one passes on what they
 //! make public: `ntp_service_run` has the service and its promise, `ntp_service_replay` the replay of scripts,
-//! `ntp_service_serve` the server over a port.
+//! `ntp_service_serve` the server over a port, `ntp_service_udp` a port over a socket.
 #![tactic(auto)]
 
 pub use ntp_service_replay::{ReplayFault, ReplayFaultKind, Watched, replay};
@@ -11,3 +11,4 @@ pub use ntp_service_run::{
 pub use ntp_service_serve::{
     Arrival, Incoming, MemoryPort, Port, PortFault, Sent, Served, Turn, serve,
 };
+pub use ntp_service_udp::{UdpPort, Waited, moment_now};

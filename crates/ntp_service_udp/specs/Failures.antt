@@ -1,0 +1,7 @@
+-- What a port over a socket counts.
+use Rattle.std.specs.Prelude.{ℕ}
+use Rattle.ntp_service_udp.specs.declared.udp_port.UdpPort.{UdpPort}
+
+-- how many calls failed (profile)
+abbrev pub failures_of : {C : Type 0} → UdpPort C → ℕ
+failures_of p = p.failures

@@ -1,0 +1,85 @@
+ghost use Rattle.std.specs.Prelude.{◌≡◌, IfOk};
+ghost use Rattle.ntp_service_udp.specs.Failures.{failures_of};
+
+use super::*;
+use ntp_time::difference;
+use std::net::UdpSocket;
+use std::test::Fail;
+use std::time::Duration;
+
+// A port on a socket of its own with a short time limit, and a client's socket that is joined to it.
+fn port_and_client(rt: &HostRuntime) -> Result<(UdpPort<&HostRuntime>, UdpSocket), Fail>
+    ensures { IfOk result (λ pair. failures_of pair.0 ≡ 0) }
+{
+    let socket = UdpSocket::bind(rt, "127.0.0.1:0")?;
+    socket.set_read_timeout(Some(Duration::from_millis(50)))?;
+    let client = UdpSocket::bind(rt, "127.0.0.1:0")?;
+    client.set_read_timeout(Some(Duration::from_secs(5)))?;
+    client.connect(socket.local_addr()?)?;
+    Ok((UdpPort::new(socket, rt), client))
+}
+
+// Whether less than a minute lies between two moments of one era. A clock may be set meanwhile.
+fn is_near(first: Moment, second: Moment) -> bool {
+    let units = difference(second.stamp, first.stamp).unsigned_abs();
+    first.era == second.era && units >> 32 < 60
+}
+
+#[test]
+fn a_datagram_comes_and_a_reply_goes_back(rt: HostRuntime) -> Result<(), Fail> {
+    let (mut port, client) = port_and_client(&rt)?;
+    let before = moment_now(&&rt);
+    client.send(b"a query")?;
+    let Waited::Ready(receipt) = port.wait() else {
+        return Err("nothing came".into());
+    };
+    let mut datagram = [7; 1025];
+    let arrival = port.receive(&mut datagram)?;
+    assert!(rt; arrival.address == Address([127, 0, 0, 1]));
+    assert_eq!(rt; arrival.port, client.local_addr()?.port());
+    assert_eq!(rt; &datagram[..arrival.length], b"a query".as_slice());
+    assert_eq!(rt; datagram[arrival.length], 7);
+    assert!(rt; arrival.receipt == receipt);
+    assert!(rt; is_near(before, receipt) && is_near(receipt, port.now()));
+    port.send(arrival.address, arrival.port, b"a reply")?;
+    let mut reply = [0; 1025];
+    let length = client.recv(&mut reply)?;
+    assert_eq!(rt; &reply[..length], b"a reply".as_slice());
+    assert_eq!(rt; port.failures(), 0);
+    Ok(())
+}
+
+#[test]
+fn a_time_limit_that_passes_is_no_failure(rt: HostRuntime) -> Result<(), Fail> {
+    let (mut port, client) = port_and_client(&rt)?;
+    assert!(rt; port.wait() == Waited::Nothing);
+    assert_eq!(rt; port.failures(), 0);
+    client.send(b"late")?;
+    let mut datagram = [0; 1025];
+    assert_eq!(rt; port.receive(&mut datagram)?.length, 4);
+    Ok(())
+}
+
+#[test]
+fn a_long_datagram_is_cut_and_leaves_nothing_behind(rt: HostRuntime) -> Result<(), Fail> {
+    let (mut port, client) = port_and_client(&rt)?;
+    client.send(&[9; 1100])?;
+    client.send(&[])?;
+    client.send(&[8])?;
+    let mut datagram = [0; 1025];
+    assert_eq!(rt; port.receive(&mut datagram)?.length, 1025);
+    assert_eq!(rt; datagram[1024], 9);
+    assert_eq!(rt; port.receive(&mut datagram)?.length, 0);
+    assert_eq!(rt; port.receive(&mut datagram)?.length, 1);
+    assert_eq!(rt; datagram[0], 8);
+    Ok(())
+}
+
+#[test]
+fn a_reply_that_cannot_be_sent_is_counted(rt: HostRuntime) -> Result<(), Fail> {
+    let (mut port, _client) = port_and_client(&rt)?;
+    let sent = port.send(Address([127, 0, 0, 1]), 0, b"to no port");
+    assert!(rt; sent == Err(PortFault::Send));
+    assert_eq!(rt; port.failures(), 1);
+    Ok(())
+}

@@ -1,0 +1,27 @@
+//! What tells one state of a file from another.
+
+use std::fs::Metadata;
+use std::os::unix::fs::MetadataExt;
+
+/// Which file it is, how long, and when something about it last changed. A file that is replaced, written anew or
+/// appended to has another one.
+#[derive(Clone, Copy, PartialEq, Eq)]
+pub(crate) struct Version {
+    device: u64,
+    node: u64,
+    length: u64,
+    changed_seconds: i64,
+    changed_nanos: i64,
+}
+
+impl Version {
+    pub(crate) fn of(metadata: &Metadata) -> Version {
+        Version {
+            device: metadata.dev(),
+            node: metadata.ino(),
+            length: metadata.len(),
+            changed_seconds: metadata.ctime(),
+            changed_nanos: metadata.ctime_nsec(),
+        }
+    }
+}

@@ -1,0 +1,3 @@
+mod LinesCut
+mod LinesApplied
+mod Enrolments

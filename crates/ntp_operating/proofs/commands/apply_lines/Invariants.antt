@@ -1,0 +1,15 @@
+use Rattle.std.proofs.Common.{length, ◌+◌, ◌≤◌}
+use denote.Text.{Utf8}
+use denote.Shadow.{shadow}
+use Rattle.ntp_operating.proofs.LinesApplied.{Applied}
+use Rattle.ntp_operating.proofs.commands.apply_lines.Given as goal
+
+abbrev pub invariant-loop-line : goal.invariant-loop-line
+invariant-loop-line g l = record {
+  utf8 : shadow (Utf8 l.rest);
+  room : l.number + length l.rest ≤ length l.text;
+  applied : Applied g.row.A.Denot l.fn.service l.text l.applied l.rest l.number l.service;
+}
+
+abbrev pub decreases-loop-line : goal.decreases-loop-line
+decreases-loop-line g l = length l.rest

@@ -1,0 +1,4 @@
+pub mod FileText
+pub mod CommandsFile
+pub mod Applying
+pub mod Loading

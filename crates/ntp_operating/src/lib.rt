@@ -1,0 +1,14 @@
+//! What a program that serves needs: a register file loaded, and the commands file applied.
+#![tactic(auto)]
+
+mod commands;
+mod fault_words;
+mod file_text;
+mod loading;
+#[cfg(test)]
+mod tests;
+
+pub use commands::commands_step;
+pub use fault_words::fault_word;
+pub use file_text::MOST_FILE_OCTETS;
+pub use loading::{LoadFault, Loaded, load_register};

@@ -1,0 +1,242 @@
+//! What is told of faulty lines, and each call once with its answer. What is applied is told by the answers to further
+//! commands.
+
+use crate::{LoadFault, Loaded, MOST_FILE_OCTETS, commands_step, fault_word, load_register};
+use ntp_admin::{LineFault, parse_command};
+use ntp_register::Refusal;
+use ntp_register_file::RegisterFault;
+use ntp_service_run::Service;
+use refusing::Refusing;
+use std::alloc::{AllocError, Allocator, Global};
+use std::io::{self, ErrorKind, Write};
+use std::test::Fail;
+
+const A: &str = "enrol 192.0.2.10 7 md5 6b6579 10";
+
+const B: &str = "enrol 192.0.2.20 8 sha1 6f74686572 10";
+
+// A, a comment, an empty line, a faulty line, and B without its line feed.
+const UNFINISHED: &[u8] = b"enrol 192.0.2.10 7 md5 6b6579 10
+# x
+
+revoke 192.0.2.300
+enrol 192.0.2.20 8 sha1 6f74686572 10";
+
+// The same with it.
+const FINISHED: &[u8] = b"enrol 192.0.2.10 7 md5 6b6579 10
+# x
+
+revoke 192.0.2.300
+enrol 192.0.2.20 8 sha1 6f74686572 10
+";
+
+// A register file.
+const REGISTER: &str = r#"reference = "0001ec00000000000000104e495354ec00000000000000"
+
+[[customer]]
+address = "192.0.2.10"
+number = 7
+algorithm = "md5"
+key = "6b6579"
+budget = 10
+
+[[customer]]
+address = "192.0.2.20"
+number = 8
+algorithm = "sha1"
+key = "6f74686572"
+budget = 10
+"#;
+
+// What a service answers to a command.
+fn ordered<M: Allocator + Copy>(
+    service: &mut Service<M>,
+    line: &str,
+) -> Result<Result<(), Refusal>, Fail> {
+    Ok(service.command(&parse_command(line)?))
+}
+
+#[test]
+fn due_lines_are_applied_once(rt: HostRuntime) -> Result<(), Fail> {
+    let mut service = Service::new(rt.alloc());
+    let mut faults = Vec::new(rt.alloc());
+    let applied = commands_step(&mut service, UNFINISHED, 0, &mut faults);
+    assert_eq!(rt; applied, 4);
+    assert_eq!(rt;
+        faults.as_slice(),
+        b"commands: line 4: address\n".as_slice()
+    );
+
+    faults.clear();
+    let applied = commands_step(&mut service, FINISHED, applied, &mut faults);
+    assert_eq!(rt; applied, 5);
+    assert!(rt; faults.is_empty());
+
+    assert_eq!(rt; ordered(&mut service, A)?, Err(Refusal::AlreadyEnrolled));
+    assert_eq!(rt; ordered(&mut service, B)?, Err(Refusal::AlreadyEnrolled));
+    Ok(())
+}
+
+#[test]
+fn a_file_that_gives_nothing_leaves_all_as_it_was(rt: HostRuntime) -> Result<(), Fail> {
+    let mut long = Vec::with_capacity(rt.alloc(), MOST_FILE_OCTETS + 1)?;
+    long.extend_from_slice(FINISHED)?;
+    long.resize(MOST_FILE_OCTETS + 1, b'\n')?;
+    for octets in [
+        b"enrol 192.0.2.10 7 md5 6b6579 10\nrevoke 192.0.2.300\n".as_slice(),
+        b"1\n2\n3\n4\n5\nenrol 192.0.2.10 7 md5 6b6579 10\n\xff",
+        long.as_slice(),
+    ] {
+        let mut service = Service::new(rt.alloc());
+        let mut faults = Vec::new(rt.alloc());
+        assert_eq!(rt; commands_step(&mut service, octets, 5, &mut faults), 5);
+        assert!(rt; faults.is_empty());
+        assert_eq!(rt; ordered(&mut service, A)?, Ok(()));
+    }
+    Ok(())
+}
+
+#[test]
+fn refusals_are_told(rt: HostRuntime) {
+    for (octets, told) in [
+        (
+            b"revoke 192.0.2.10\n".as_slice(),
+            b"commands: line 1: not-enrolled\n".as_slice(),
+        ),
+        (
+            b"enrol 192.0.2.10 7 md5 6b6579 10\nenrol 192.0.2.10 8 md5 6b6579 10\n",
+            b"commands: line 2: already-enrolled\n",
+        ),
+        (
+            b"\nenrol 192.0.2.10 7 md5 6b6579 10\n#\nenrol 192.0.2.20 7 md5 6b6579 10\nbudget\n",
+            b"commands: line 4: key-taken\ncommands: line 5: count\n",
+        ),
+    ] {
+        let mut faults = Vec::new(rt.alloc());
+        commands_step(&mut Service::new(rt.alloc()), octets, 0, &mut faults);
+        assert_eq!(rt; faults.as_slice(), told);
+    }
+}
+
+#[test]
+fn an_enrolment_without_memory_is_told_and_not_tried_again(rt: HostRuntime) -> Result<(), Fail> {
+    let memory = Refusing::new(rt.alloc());
+    let mut service = Service::new(&memory);
+    let mut faults = Vec::new(rt.alloc());
+    let octets = b"enrol 192.0.2.10 7 md5 6b6579 10\n";
+    memory.refuse_all();
+    assert_eq!(rt; commands_step(&mut service, octets, 0, &mut faults), 1);
+    assert_eq!(rt;
+        faults.as_slice(),
+        b"commands: line 1: no-memory\n".as_slice()
+    );
+    memory.refuse_none();
+    assert_eq!(rt; commands_step(&mut service, octets, 1, &mut faults), 1);
+    assert_eq!(rt;
+        faults.as_slice(),
+        b"commands: line 1: no-memory\n".as_slice()
+    );
+    assert_eq!(rt; ordered(&mut service, A)?, Ok(()));
+    Ok(())
+}
+
+// A writer that takes nothing.
+#[derive(Drop)]
+struct Closed;
+
+impl Write for Closed {
+    fn write(&mut self, _buf: &[u8]) -> io::Result<usize> {
+        Err(io::Error::from(ErrorKind::BrokenPipe))
+    }
+
+    fn flush(&mut self) -> io::Result<()> {
+        Ok(())
+    }
+}
+
+#[test]
+fn lines_are_applied_though_nobody_is_told(rt: HostRuntime) -> Result<(), Fail> {
+    let mut service = Service::new(rt.alloc());
+    let applied = commands_step(&mut service, FINISHED, 0, &mut Closed);
+    assert_eq!(rt; applied, 5);
+    assert_eq!(rt; ordered(&mut service, B)?, Err(Refusal::AlreadyEnrolled));
+    Ok(())
+}
+
+#[test]
+fn each_fault_has_its_word(rt: HostRuntime) {
+    for (fault, word) in [
+        (LineFault::Word, "word"),
+        (LineFault::Count, "count"),
+        (LineFault::Address, "address"),
+        (LineFault::Number, "number"),
+        (LineFault::Algorithm, "algorithm"),
+        (LineFault::KeyText, "key"),
+        (LineFault::Budget, "budget"),
+        (LineFault::NoMemory, "memory"),
+        (LineFault::Moment, "moment"),
+        (LineFault::Stamp, "stamp"),
+        (LineFault::Reference, "reference"),
+        (LineFault::Hex, "hex"),
+    ] {
+        assert_eq!(rt; fault_word(fault), word);
+    }
+}
+
+#[test]
+fn a_register_file_is_loaded(rt: HostRuntime) -> Result<(), Fail> {
+    let Ok(loaded) = load_register(rt.alloc(), REGISTER.as_bytes()) else {
+        assert!(rt; false, "it is refused");
+        return Ok(());
+    };
+    let Loaded {
+        reference,
+        mut service,
+    } = loaded;
+    let expected = ntp_admin::words::reference("0001ec00000000000000104e495354ec00000000000000");
+    assert_eq!(rt; Some(reference), expected);
+    assert_eq!(rt; ordered(&mut service, A)?, Err(Refusal::AlreadyEnrolled));
+    assert_eq!(rt; ordered(&mut service, B)?, Err(Refusal::AlreadyEnrolled));
+    Ok(())
+}
+
+// Why a register file is refused.
+fn fault(alloc: Global, octets: &[u8]) -> Option<LoadFault> {
+    load_register(alloc, octets).err()
+}
+
+#[test]
+fn register_files_are_refused(rt: HostRuntime) -> Result<(), Fail> {
+    let taken = LoadFault::Refused {
+        place: 1,
+        refusal: Refusal::KeyTaken,
+    };
+    let entry = RegisterFault::Entry {
+        place: 1,
+        fault: LineFault::Number,
+    };
+    for (old, new, expected) in [
+        ("number = 8", "number = 7", taken),
+        ("number = 8", "number = 0", LoadFault::Register(entry)),
+    ] {
+        let text = REGISTER.replace(rt.alloc(), old, new)?;
+        assert_eq!(rt; fault(rt.alloc(), text.as_bytes()), Some(expected));
+    }
+    let text = b"reference = \"00\"\n[[customer]]\nnumber = 0\n";
+    let reference = LoadFault::Register(RegisterFault::Reference);
+    assert_eq!(rt; fault(rt.alloc(), text), Some(reference));
+    Ok(())
+}
+
+#[test]
+fn octets_that_are_no_text_are_not_read(rt: HostRuntime) -> Result<(), Fail> {
+    let mut long = Vec::with_capacity(rt.alloc(), MOST_FILE_OCTETS + 1)?;
+    long.extend_from_slice(REGISTER.as_bytes())?;
+    long.resize(MOST_FILE_OCTETS, b'\n')?;
+    assert_eq!(rt; fault(rt.alloc(), long.as_slice()), None);
+    long.push(b'\n')?;
+    for octets in [long.as_slice(), b"\xff"] {
+        assert_eq!(rt; fault(rt.alloc(), octets), Some(LoadFault::Read));
+    }
+    Ok(())
+}

@@ -1,12 +1,20 @@
-//! The program: `labntp replay` runs a script from standard input to standard output.
+//! The program: `labntp replay` runs a script from standard input to standard output, `labntp serve` serves customers over
+//! a socket, and `labntp loopback` lets a server and a client meet.
 #![tactic(auto)]
 
 mod jobs;
+mod loopback;
+mod serving;
+mod starting;
 mod status;
+#[cfg(test)]
+mod tests;
 mod words;
 
 use jobs::Job;
+use loopback::loopback_status;
 use ntp_service::Watched;
+use serving::serve_status;
 use status::{replay_status, unread_status, usage_status};
 use std::process::ExitCode;
 use std::{env, io};
@@ -21,6 +29,12 @@ fn main(rt: HostRuntime) -> ExitCode {
                 let mut reader = Watched::new(rt.stdin());
                 let mut writer = Watched::new(rt.stdout());
                 replay_status(rt.alloc(), &mut reader, &mut writer, &mut faults)
+            }
+            Some(Job::Serve(serving)) => {
+                serve_status(&rt, rt.alloc(), &serving, &mut rt.stdout(), &mut faults)
+            }
+            Some(Job::Loopback { turns }) => {
+                loopback_status(&rt, rt.alloc(), turns, &mut rt.stdout(), &mut faults)
             }
             None => usage_status(&mut faults),
         },

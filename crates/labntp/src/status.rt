@@ -6,6 +6,7 @@ ghost use Rattle.ntp_service.specs.Watched.{inner_of, has_failed, read_count, Wr
 ghost use Rattle.labntp.specs.Ends.{Ends, status_of};
 
 use ntp_admin::LineFault;
+use ntp_operating::fault_word;
 use ntp_service::{ReplayFault, ReplayFaultKind, Watched, replay};
 use std::alloc::Allocator;
 use std::io::{self, ErrorKind, Read, Write};
@@ -45,12 +46,28 @@ pub fn unread_status<F: Write>(error: &io::Error, faults: &mut F) -> u8
     }
 }
 
-// Tells of want of memory, and gives the exit status.
-fn memory_status<F: Write>(faults: &mut F) -> u8
+/// Tells of want of memory, and gives the exit status. A failed write is passed over.
+pub fn memory_status<F: Write>(faults: &mut F) -> u8
     ensures { result ≡ 4 }
 {
     let _ = writeln!(faults, "memory");
     MEMORY_OUT
+}
+
+/// Tells that a socket failed, and gives the exit status. A failed write is passed over.
+pub fn socket_status<F: Write>(faults: &mut F) -> u8
+    ensures { result ≡ 3 }
+{
+    let _ = writeln!(faults, "socket");
+    IO_FAILED
+}
+
+/// Tells that standard output failed, and gives the exit status. A failed write is passed over.
+pub fn write_status<F: Write>(faults: &mut F) -> u8
+    ensures { result ≡ 3 }
+{
+    let _ = writeln!(faults, "write");
+    IO_FAILED
 }
 
 /// Replays a script from a reader to a writer. A fault is told in one line to `faults`, where a failed write
@@ -92,7 +109,7 @@ fn tell<F: Write>(fault: ReplayFault, faults: &mut F) -> u8
             memory_status(faults)
         }
         ReplayFaultKind::Line(line_fault) => {
-            let word = word_of(line_fault);
+            let word = fault_word(line_fault);
             let _ = writeln!(faults, "line {line}: {word}");
             TEXT_FAULTY
         }
@@ -112,24 +129,6 @@ fn tell<F: Write>(fault: ReplayFault, faults: &mut F) -> u8
             let _ = writeln!(faults, "write");
             IO_FAILED
         }
-    }
-}
-
-// The word for what is wrong with a line.
-fn word_of(fault: LineFault) -> &'static str {
-    match fault {
-        LineFault::Word => "word",
-        LineFault::Count => "count",
-        LineFault::Address => "address",
-        LineFault::Number => "number",
-        LineFault::Algorithm => "algorithm",
-        LineFault::KeyText => "key",
-        LineFault::Budget => "budget",
-        LineFault::NoMemory => "memory",
-        LineFault::Moment => "moment",
-        LineFault::Stamp => "stamp",
-        LineFault::Reference => "reference",
-        LineFault::Hex => "hex",
     }
 }
 

@@ -1,4 +1,5 @@
 use super::*;
+use crate::tests::Broken;
 use std::alloc::Global;
 use std::io;
 
@@ -82,26 +83,6 @@ fn a_long_line_is_told(rt: HostRuntime) {
     let (end, _written, faults) = ended(rt.alloc(), &script);
     assert_eq!(rt; end, TEXT_FAULTY);
     assert_eq!(rt; faults.as_slice(), b"line 1: long\n".as_slice());
-}
-
-// Fails at once.
-#[derive(Drop)]
-struct Broken;
-
-impl Read for Broken {
-    fn read(&mut self, _buf: &mut [u8]) -> io::Result<usize> {
-        Err(io::Error::from(io::ErrorKind::Other))
-    }
-}
-
-impl Write for Broken {
-    fn write(&mut self, _octets: &[u8]) -> io::Result<usize> {
-        Err(io::Error::from(io::ErrorKind::Other))
-    }
-
-    fn flush(&mut self) -> io::Result<()> {
-        Ok(())
-    }
 }
 
 #[test]

@@ -1,0 +1,33 @@
+use super::*;
+use crate::status::{IO_FAILED, MEMORY_OUT};
+use crate::tests::Broken;
+use refusing::Refusing;
+
+#[test]
+fn server_and_client_meet(rt: HostRuntime) {
+    let mut out = Vec::new(rt.alloc());
+    let mut faults = Vec::new(rt.alloc());
+    let status = loopback_status(&rt, rt.alloc(), 3, &mut out, &mut faults);
+    assert_eq!(rt; status, DONE);
+    assert_eq!(rt;
+        out.as_slice(),
+        b"basic\ninterleaved\ninterleaved\n".as_slice()
+    );
+    assert!(rt; faults.is_empty());
+}
+
+#[test]
+fn a_failed_write_or_want_of_memory_ends_it(rt: HostRuntime) {
+    let mut out = Vec::new(rt.alloc());
+    let mut faults = Vec::new(rt.alloc());
+    let status = loopback_status(&rt, rt.alloc(), 3, &mut Broken, &mut faults);
+    assert_eq!(rt; status, IO_FAILED);
+    let refusing = Refusing::new(rt.alloc());
+    refusing.refuse_all();
+    let status = loopback_status(&rt, &refusing, 3, &mut out, &mut faults);
+    assert_eq!(rt; status, MEMORY_OUT);
+    assert_eq!(rt; faults.as_slice(), b"write\nmemory\n".as_slice());
+    assert!(rt; out.is_empty());
+    let status = loopback_status(&rt, &refusing, 3, &mut out, &mut Broken);
+    assert_eq!(rt; status, MEMORY_OUT);
+}

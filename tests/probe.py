@@ -1,0 +1,253 @@
+"""What tests/clients asks and hears: queries of its own, a relay that notes what passes, ntpdig at any port.
+
+A customer is written ADDRESS/NUMBER/ALGORITHM/KEY, the key in hexadecimal; an address alone has no key.
+
+    probe.py port                             a free UDP port of 127.0.0.1
+    probe.py ask PORT FORM CUSTOMER           sends one query and prints what came: time, rate, deny, nak,
+                                              nothing (in 5 seconds), or what was wrong with it
+    probe.py silence PORT MARKER FORM CUSTOMER
+                                              the same, where no answer is to come: then asks as the customer
+                                              MARKER, and prints `silence` once that one alone has its answer
+    probe.py interleave PORT CUSTOMER         four queries; prints `interleaved`, or what was wrong
+    probe.py roll PORT COMMANDS ADDRESS NUMBER
+                                              a hundred new keys, each by two lines in one write, and a query
+                                              with each; prints `time 100`, or at which query it ended
+    probe.py relay PORT LOG                   prints its own port, passes datagrams on and notes them in LOG
+    probe.py wire LOG CUSTOMER                prints what the relay saw: `asked 4 time 2 interleaved 2`
+    probe.py dig PORT NTPDIG WORDS..          runs the program ntpdig, which knows no port but 123
+"""
+
+import hashlib
+import select
+import socket
+import struct
+import sys
+import time
+
+HOST = "127.0.0.1"
+WAIT = 5.0
+SINCE_1900 = 2_208_988_800
+
+
+def now():
+    """The stamp of the clock."""
+    seconds, nanos = divmod(time.time_ns(), 1_000_000_000)
+    return (seconds + SINCE_1900 << 32 | (nanos << 32) // 1_000_000_000) & 0xFFFF_FFFF_FFFF_FFFF
+
+
+class Customer:
+    def __init__(self, text):
+        words = text.split("/")
+        self.address, self.number = words[0], None
+        if len(words) > 1:
+            self.number, self.algorithm, self.key = int(words[1]), words[2], bytes.fromhex(words[3])
+
+    def mac(self, octets):
+        if self.number is None:
+            return b""
+        return struct.pack(">I", self.number) + hashlib.new(self.algorithm, self.key + octets).digest()
+
+    def socket(self, port):
+        s = socket.socket(socket.AF_INET, socket.SOCK_DGRAM)
+        s.bind((self.address, 0))
+        s.connect((HOST, port))
+        return s
+
+
+def query(customer, form="plain", origin=0, receive=0):
+    """The octets of a query, and its transmit stamp."""
+    first = {"version-2": 0x13, "version-3": 0x1B, "mode-4": 0x24}.get(form, 0x23)
+    transmit = now()
+    header = struct.pack(">B3x20xQQQ", first, origin, receive, transmit)
+    if form == "empty":
+        return b""
+    if form == "short":
+        return header[:47]
+    if form == "bare":
+        return header + struct.pack(">I", customer.number)
+    if form == "rest":
+        return header + bytes(16)
+    if form.startswith("field-"):       # a field of zeros, to this many octets in all
+        length = int(form[6:]) - 48 - len(customer.mac(b""))
+        header += struct.pack(">HH", 0x0104, length) + bytes(length - 4)
+    packet = header + customer.mac(header)
+    if form == "wrong":
+        packet = packet[:-1] + bytes([packet[-1] ^ 1])
+    return packet
+
+
+def stamps(packet):
+    return struct.unpack(">QQQ", packet[24:48])
+
+
+def kind(customer, request, reply, clock=None):
+    """What a reply is.  `clock` has the stamps before the query was sent and after the reply came."""
+    def odd(what):
+        return f"{what} in {reply.hex()}"
+
+    if len(reply) < 48:
+        return odd("too few octets")
+    if len(reply) > len(request):
+        return odd("longer than the request")
+    if reply[0] & 7 != 4 or reply[0] >> 3 & 7 != request[0] >> 3 & 7:
+        return odd("mode or version")
+    _, asked_receive, asked_transmit = stamps(request)
+    origin, receive, transmit = stamps(reply)
+    code = reply[12:16]
+    is_kiss = reply[0] >> 6 == 3 and reply[1] == 0
+    if len(reply) == 48:
+        fits = is_kiss and code == b"DENY" and origin == asked_transmit
+        return "deny" if fits else odd("no MAC")
+    if len(reply) == 52:
+        return "nak" if reply[48:] == bytes(4) and origin == asked_transmit else odd("52 octets")
+    if customer.number is None or reply[48:] != customer.mac(reply[:48]):
+        return odd("a wrong MAC")
+    if is_kiss:
+        return "rate" if code == b"RATE" and origin == asked_transmit else odd("kiss")
+    if not 1 <= reply[1] <= 15 or 0 in (receive, transmit) or receive == transmit:
+        return odd("stratum or stamps")
+    if origin == asked_transmit:
+        if clock and not clock[0] <= receive < transmit <= clock[1]:
+            return odd("stamps that are not the clock's")
+        return "time"
+    if origin == asked_receive:
+        return "interleaved"
+    return odd("origin")
+
+
+def answer(s, wait=WAIT):
+    """The next datagram, or None."""
+    if not select.select([s], [], [], wait)[0]:
+        return None
+    try:
+        return s.recv(2048)
+    except ConnectionRefusedError:
+        return None
+
+
+def ask(port, form, text):
+    customer = Customer(text)
+    with customer.socket(port) as s:
+        before, packet = now(), query(customer, form)
+        s.send(packet)
+        reply = answer(s)
+        return "nothing" if reply is None else kind(customer, packet, reply, (before, now()))
+
+
+def silence(port, marker, form, text):
+    customer, marker = Customer(text), Customer(marker)
+    with customer.socket(port) as s, marker.socket(port) as m:
+        packet = query(customer, form)
+        s.send(packet)
+        marked = query(marker)
+        m.send(marked)
+        reply = answer(m)
+        if reply is None:
+            return "nothing, and the marker got none either"
+        if kind(marker, marked, reply) != "time":
+            return f"the marker got {kind(marker, marked, reply)}"
+        reply = answer(s, 0)
+        return "silence" if reply is None else kind(customer, packet, reply)
+
+
+def interleave(port, text):
+    """A basic exchange, one that asks when its reply left, the same question again, and one about the second."""
+    customer = Customer(text)
+    with customer.socket(port) as s:
+        def exchange(origin, receive, wanted):
+            packet = query(customer, "plain", origin, receive)
+            s.send(packet)
+            reply = answer(s)
+            arrival = now()
+            found = "nothing" if reply is None else kind(customer, packet, reply)
+            if found != wanted:
+                raise ValueError(f"{wanted} was due, {found} came")
+            return (*stamps(reply), arrival)
+
+        try:
+            _, received, sent, arrival = exchange(0, 0, "time")
+            origin, second_received, departed, second_arrival = exchange(received, arrival, "interleaved")
+            if origin != arrival:
+                raise ValueError("the origin is not the receive stamp of the query")
+            if not sent < departed < second_received:
+                raise ValueError(f"left at {departed:016x}, made at {sent:016x}, next query {second_received:016x}")
+            exchange(received, arrival, "time")
+            exchange(second_received, second_arrival, "interleaved")
+        except ValueError as e:
+            return str(e)
+    return "interleaved"
+
+
+def roll(port, commands, address, number):
+    """Enrols with a budget of one, so each enrolment has to begin with nothing counted."""
+    seen = {}
+    for i in range(100):
+        key = f"{i:040x}"
+        with open(commands, "a") as f:
+            f.write(f"revoke {address}\nenrol {address} {number} sha1 {key} 1\n")
+        word = ask(port, "plain", f"{address}/{number}/sha1/{key}")
+        seen[word] = seen.get(word, 0) + 1
+        if word != "time":
+            break
+    return " ".join(f"{word} {count}" for word, count in seen.items())
+
+
+def relay(port, log):
+    """Each client's datagrams go on from that client's address, so that the server sees whose they are."""
+    near = socket.socket(socket.AF_INET, socket.SOCK_DGRAM)
+    near.bind((HOST, 0))
+    print(near.getsockname()[1], flush=True)
+    far, clients = {}, {}
+    with open(log, "w") as notes:
+        end = time.monotonic() + 60
+        while time.monotonic() < end:
+            for s in select.select([near, *clients], [], [], 1)[0]:
+                if s is near:
+                    packet, client = near.recvfrom(2048)
+                    if client not in far:
+                        far[client] = Customer(client[0]).socket(port)
+                        clients[far[client]] = client
+                    print(">", packet.hex(), file=notes, flush=True)
+                    far[client].send(packet)
+                elif (packet := answer(s, 0)) is not None:
+                    print("<", packet.hex(), file=notes, flush=True)
+                    near.sendto(packet, clients[s])
+
+
+def wire(log, text):
+    customer, request, seen = Customer(text), None, {"asked": 0}
+    with open(log) as notes:
+        for line in notes:
+            way, packet = line[0], bytes.fromhex(line[2:])
+            if way == ">":
+                request, word = packet, "asked"
+            else:
+                word = kind(customer, request, packet)
+            seen[word] = seen.get(word, 0) + 1
+    return " ".join(f"{word} {count}" for word, count in seen.items())
+
+
+def dig(port, *words):
+    import runpy
+    look_up = socket.getaddrinfo
+    socket.getaddrinfo = lambda host, _, *rest: look_up(host, port, *rest)
+    sys.argv = list(words)
+    runpy.run_path(words[0], run_name="__main__")
+
+
+def free_port():
+    with socket.socket(socket.AF_INET, socket.SOCK_DGRAM) as s:
+        s.bind((HOST, 0))
+        return s.getsockname()[1]
+
+
+def main(word, *words):
+    numbered = [int(w) if i == 0 and w.isdecimal() else w for i, w in enumerate(words)]
+    calls = {"port": free_port, "ask": ask, "silence": silence, "interleave": interleave, "roll": roll,
+             "relay": relay, "wire": wire, "dig": dig}
+    found = calls[word](*numbered)
+    if found is not None:
+        print(found)
+
+
+main(*sys.argv[1:])

@@ -1,5 +1,5 @@
 -- What is not there.
-use Rattle.std.proofs.Common.{◌≡◌, ℕ, List, [], false, Option, Some, None, IsSome, is_some, option_map, ap, ◌∙◌, sym, refl, true≢false}
+use Rattle.std.proofs.Common.{◌≡◌, ℕ, [], false, Option, Some, None, IsSome, is_some, option_map, ap, ◌∙◌, sym, refl, true≢false}
 use Rattle.std.specs.Option.{option_map_or}
 use Rattle.std.proofs.lemmas.Option.{none-some}
 use Rattle.ntp_register.specs.Customer.{Account, CustomerState, with_budget, with_enrolment, numbers_in, revoked, rebudgeted, is_enrolled, numbers_of}

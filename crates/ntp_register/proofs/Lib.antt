@@ -3,7 +3,7 @@ mod Entries
 mod Loans
 pub mod AddressLaws
 pub mod Members
-mod Lists
+mod Tables
 pub mod Lookups
 pub mod Agreement
 mod Absences

@@ -1,6 +1,12 @@
 -- Loans that come back.
-use Rattle.std.proofs.Common.{◌≡◌, ◌⊎◌, inl}
+use Rattle.std.proofs.Common.{◌≡◌, Option, Some, None, IsSome, refl, subst, inl, inr}
+use Rattle.std.specs.Borrow.{MutBor}
+use Rattle.std.specs.Option.{ghost_name_of, option_copied_mut}
+use borrow.Follows.Closed.{read_of}
 
--- a loan that comes back by one function comes back by another that is equal everywhere
-pub same_return : {N D E : Type 0} {n : N} {f g : D → E} → ((w : D) → f w ≡ g w) → ◌≡◌ {A = (N × (D → E)) ⊎ E} (inl (n, f)) (inl (n, g))
-same_return {n = n} h = λ i. inl (n, λ w. h w i)
+-- a loan that may be none comes back by one function, and by another that is equal wherever there is a value
+pub same_return_if : {D E : Type 0} (r : Option (MutBor E)) (o : Option E) → option_copied_mut r ≡ o
+    → (f g : E → D) (v w : D) → (IsSome o → (x : E) → f x ≡ g x) → v ≡ w
+    → read_of (ghost_name_of r) f v ≡ read_of (ghost_name_of r) g w
+same_return_if None o is f g v w there none = λ i. inr (none i)
+same_return_if (Some x) o is f g v w there none = λ i. inl (x.ghost_name, λ y. there (subst IsSome is refl) y i)

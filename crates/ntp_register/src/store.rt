@@ -1,19 +1,22 @@
-//! The two lists of a register: its customers, and the holders of key numbers. Nothing else opens them.
-ghost use Rattle.std.specs.Prelude.{◌≡◌, None, IsSome, IsOk, OnOk, OnErr, position, option_copied, filter, not, nat_eq};
+//! The two tables of a register: its customers, and the holders of key numbers. Nothing else opens them.
+ghost use Rattle.std.specs.Prelude.{◌≡◌, None, IsSome, IsOk, OnOk, OnErr, option_copied};
 ghost use Rattle.std.specs.Option.{option_copied_mut};
 ghost use Rattle.std.specs.Borrow.{sem};
-ghost use Rattle.std.specs.Map.{lookup};
-ghost use Rattle.ntp_register.specs.Address.{address_eq};
 
 use crate::{Address, Customer};
+use indexmap::IndexMap;
 use std::alloc::{AllocError, Allocator, Global};
+use std::hash::{BuildHasherDefault, FoldHasher};
 use std::marker::Model;
+
+// How keys are hashed. A look-up probes only what the clerk enrolled, so no sender of datagrams lengthens it.
+type Hashing = BuildHasherDefault<FoldHasher>;
 
 /// The customers of a service by address, and who holds each key number. It is kept in `A`.
 #[derive(Drop)]
 pub struct Register<A: Allocator = Global> {
-    customers: Vec<(Address, Customer<A>), A>,
-    holders: Vec<(u16, Address), A>,
+    customers: IndexMap<Address, Customer<A>, Hashing, A>,
+    holders: IndexMap<u16, Address, Hashing, A>,
 }
 
 impl<A: Allocator> Model for Register<A> {
@@ -26,8 +29,8 @@ impl<A: Allocator> Model for Register<A> {
     ghost coded = { coded_registry };
 
     ghost view = { λ r. record {
-      customers = map.from_entries r.customers.items;
-      holders = map.from_entries r.holders.items;
+      customers = map.from_entries r.customers.entries;
+      holders = map.from_entries r.holders.entries;
     } };
 }
 
@@ -41,8 +44,8 @@ impl<A: Allocator + Copy> Register<A> {
         ensures agrees { Agrees result }
     {
         Register {
-            customers: Vec::new(alloc),
-            holders: Vec::new(alloc),
+            customers: IndexMap::new(alloc),
+            holders: IndexMap::new(alloc),
         }
     }
 
@@ -50,17 +53,14 @@ impl<A: Allocator + Copy> Register<A> {
     pub fn holder(&self, number: u16) -> Option<Address>
         ensures { result ≡ holder_of self.now number }
     {
-        holder_in(&self.holders, number)
+        self.holders.get(&number).copied()
     }
 
     /// The customer at an address: none exactly where the address was never enrolled.
     pub fn customer(&self, address: Address) -> Option<&Customer<A>>
         ensures { option_copied result ≡ customer_at self.now address }
     {
-        match place_of(&self.customers, address) {
-            Some(place) => Some(&self.customers[place].1),
-            None => None,
-        }
+        self.customers.get(&address)
     }
 
     /// The customer at an address, to be written to: none exactly where the address was never enrolled.
@@ -69,10 +69,7 @@ impl<A: Allocator + Copy> Register<A> {
         ensures* writes_back { sem 𝓛 (lends_customer A.row A.Allocator self.entry address result) }
         ensures value { option_copied_mut result ≡ customer_at self.old address }
     {
-        match place_of(&self.customers, address) {
-            Some(place) => Some(&mut self.customers[place].1),
-            None => None,
-        }
+        self.customers.get_mut(&address)
     }
 
     // The allocator from which the register takes its memory.
@@ -90,16 +87,8 @@ impl<A: Allocator + Copy> Register<A> {
         ensures ok { OnOk result (self.new ≡ with_customer self.old address customer) }
         ensures err { OnErr result (self.new ≡ self.old) }
     {
-        match place_of(&self.customers, address) {
-            Some(place) => {
-                self.customers[place].1 = customer;
-                Ok(())
-            }
-            None => {
-                self.customers.push((address, customer))?;
-                Ok(())
-            }
-        }
+        self.customers.insert(address, customer)?;
+        Ok(())
     }
 
     // Makes the address the holder of a number that is free.
@@ -108,7 +97,7 @@ impl<A: Allocator + Copy> Register<A> {
         ensures ok { OnOk result (self.new ≡ with_holder self.old number address) }
         ensures err { OnErr result (self.new ≡ self.old) }
     {
-        self.holders.push((number, address))?;
+        self.holders.insert(number, address)?;
         Ok(())
     }
 
@@ -116,35 +105,6 @@ impl<A: Allocator + Copy> Register<A> {
     pub(crate) fn take_holder(&mut self, number: u16)
         ensures { self.new ≡ without_holder self.old number }
     {
-        take_number(&mut self.holders, number);
+        self.holders.swap_remove(&number);
     }
-}
-
-// Where the address stands in the list.
-fn place_of<A: Allocator>(
-    customers: &Vec<(Address, Customer<A>), A>,
-    address: Address,
-) -> Option<usize>
-    ensures { result ≡ position (λ e. address_eq address e.0) customers.now.items }
-{
-    customers.iter().position(|entry| address == entry.0)
-}
-
-// The first address with the number in the list.
-fn holder_in<A: Allocator>(holders: &Vec<(u16, Address), A>, number: u16) -> Option<Address>
-    ensures { result ≡ lookup (nat_eq number) holders.now.items }
-{
-    for entry in holders {
-        if number == entry.0 {
-            return Some(entry.1);
-        }
-    }
-    None
-}
-
-// Takes each entry with the number out of the list.
-fn take_number<A: Allocator>(holders: &mut Vec<(u16, Address), A>, number: u16)
-    ensures { holders.new.items ≡ filter (λ e. not (nat_eq number e.0)) holders.old.items }
-{
-    holders.retain(|entry| number != entry.0);
 }

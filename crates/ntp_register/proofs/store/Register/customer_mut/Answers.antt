@@ -1,32 +1,24 @@
-use Rattle.std.proofs.Common.{sym, refl}
+use Rattle.std.proofs.Common.{sym, ◌∙◌}
 use Rattle.std.specs.FinMap.{from_entries}
-use Rattle.ntp_register.proofs.Loans.{same_return}
-use Rattle.ntp_register.proofs.Lists.{read-place, write-place, read-no_place}
+use Rattle.ntp_register.proofs.Loans.{same_return_if}
+use Rattle.ntp_register.proofs.Tables.{get-customers, insert-customers}
 use Rattle.ntp_register.proofs.store.Register.customer_mut.Goals as goal
 
-pub returns-in-Some : goal.returns-in-Some
-returns-in-Some g c =
+pub returns : goal.returns
+returns g c =
     rw (← c.self.view_is) (
-      same_return (λ w i. record {
-        customers = write-place c.self.inside.customers.items c.in-Some.place c.index_mut.result.now
-            c.args.address (sym c.in-Some.ensures) c.index_mut.ensures.value w i;
-        holders = from_entries c.self.inside.holders.items;
-      }),
+      same_return_if c.get_mut.result _ c.get_mut.ensures.value _ _ _ _
+          (λ there w i. record {
+            customers = insert-customers c.self.inside.customers.entries (c.get_mut.follows.lender w).entries c.args.address w
+                ((c.get_mut.follows.holds w).3 there).0 i;
+            holders = from_entries c.self.inside.holders.entries;
+          })
+          (λ i. record {
+            customers = from_entries (c.get_mut.follows.holds-at-none i).entries;
+            holders = from_entries c.self.inside.holders.entries;
+          }),
       record {
         writes_back = tt;
-        value = sym
-            (read-place c.self.inside.customers.items c.in-Some.place c.index_mut.result.now c.args.address
-            (sym c.in-Some.ensures) c.index_mut.ensures.value);
-      },
-    )
-
-pub returns-in-None : goal.returns-in-None
-returns-in-None g c =
-    rw (← c.self.view_is) (
-      refl,
-      record {
-        writes_back = tt;
-        value = sym
-            (read-no_place c.self.inside.customers.items c.args.address (sym c.in-None.ensures));
+        value = c.get_mut.ensures.value ∙ sym (get-customers c.self.inside.customers.entries c.args.address);
       },
     )

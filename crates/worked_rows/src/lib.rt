@@ -6,6 +6,8 @@ mod example;
 #[cfg(test)]
 mod floods;
 #[cfg(test)]
+mod registers;
+#[cfg(test)]
 mod rows;
 #[cfg(test)]
 mod serving;

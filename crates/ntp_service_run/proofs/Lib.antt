@@ -5,3 +5,4 @@ pub mod Runs
 mod Holders
 mod KeptLives
 mod ApartLives
+mod Forgeries

@@ -1,3 +1,4 @@
 pub mod Events
 pub mod Model
 pub mod Headline
+pub mod Forgery

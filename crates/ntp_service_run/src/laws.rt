@@ -12,8 +12,9 @@ ghost use Rattle.ntp_reply.specs.Exchanged.{matched, stamps_of};
 ghost use Rattle.ntp_admin.specs.declared.event.Event.{Event};
 ghost use Rattle.ntp_admin.specs.declared.outcome.Outcome.{Outcome};
 ghost use Rattle.ntp_service_run.specs.Events.{own};
-ghost use Rattle.ntp_service_run.specs.Model.{life_of, answer_to, after};
+ghost use Rattle.ntp_service_run.specs.Model.{life_of, answer_to, after, says};
 ghost use Rattle.ntp_service_run.specs.Headline.{StandsFor, Tells, IsEnrolledWith, kept, told};
+ghost use Rattle.ntp_service_run.specs.Forgery.{genuine, genuine_answers, without_refusals};
 
 use std::alloc::Allocator;
 
@@ -52,4 +53,12 @@ pub fn stamps_are_told_apart<A: Allocator>()
         → HasDistinctStamps (time_fields o request (matched (recent_in (life_of events)) request) (stamps_of (life_of events) o)) }
     ensures nak { (events : List (Event A)) (o : Occasion) (request : HeaderFields)
         → HasDistinctStamps (basic_fields o request (stamps_of (life_of events) o)) }
+{}
+
+/// Forged datagrams change nothing: without each datagram that was no signed query when it came, the other events of an
+/// address are answered as they are with it, and leave the same life, but for the refusals that are counted. A replay of a
+/// signed datagram counts as signed. This is a law, and does nothing when it is called.
+pub fn forged_datagrams_change_nothing<A: Allocator>()
+    ensures answers { (events : List (Event A)) → says (genuine events) ≡ genuine_answers events }
+    ensures life { (events : List (Event A)) → without_refusals (life_of (genuine events)) ≡ without_refusals (life_of events) }
 {}

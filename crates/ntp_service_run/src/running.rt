@@ -6,6 +6,7 @@ ghost use Rattle.ntp_admin.specs.declared.event.Event.{Event};
 ghost use Rattle.ntp_admin.specs.declared.outcome.Outcome.{Outcome};
 ghost use Rattle.ntp_service_run.specs.Events.{own};
 ghost use Rattle.ntp_service_run.specs.Headline.{StandsFor, Tells, kept, told};
+ghost use Rattle.ntp_service_run.specs.Forgery.{TellsWithoutForgeries};
 
 use crate::Service;
 use ntp_admin::{Event, NoMemory, Outcome};
@@ -18,9 +19,16 @@ impl<A: Allocator + Copy> Service<A> {
     /// To each address the outcomes are those that the model of one customer gives to that address's own
     /// events alone, once the commands that were refused for want of memory, or for a key number that
     /// another address holds, are left out of the list.
+    ///
+    /// Whatever others send in an address's name, the outcomes at its signed queries, its departures and its
+    /// commands are those that the model gives to these alone, without any other datagram. Of the other datagrams
+    /// this says nothing. A replay of a signed datagram is not told from the first: it counts as signed, and
+    /// spends the budget.
     pub fn run(&mut self, events: &[Event<A>]) -> Result<Vec<Outcome, A>, NoMemory>
         ensures tells { IfOk result (λ outcomes. (history : List (Event A)) → StandsFor self.old history
             → Tells history events.now outcomes.items self.new) }
+        ensures forgeries { IfOk result (λ outcomes. (history : List (Event A)) → StandsFor self.old history
+            → TellsWithoutForgeries history events.now outcomes.items) }
         ensures refused { OnErr result (self.new ≡ self.old) }
     {
         let Ok(mut outcomes) = Vec::with_capacity(self.allocator(), events.len()) else {

@@ -1,11 +1,13 @@
 //! A service, one event at a time.
-ghost use Rattle.std.specs.Prelude.{◌≡◌, ◌↔◌, ◌≤◌, List, [], length, IsNone, OnErr};
+ghost use Rattle.std.specs.Prelude.{◌≡◌, ◌↔◌, ◌≤◌, List, [], length, IsNone, IsTrue, OnErr};
 ghost use Rattle.std.specs.Bool.{OnFalse};
 ghost use Rattle.ntp_register.specs.Registry.{customer_at};
 ghost use Rattle.ntp_reply.specs.Verdict.{reply_length};
 ghost use Rattle.ntp_admin.specs.declared.event.Event.{Event};
-ghost use Rattle.ntp_service_run.specs.Model.{departure_outcome};
+ghost use Rattle.ntp_service_run.specs.Events.{own};
+ghost use Rattle.ntp_service_run.specs.Model.{departure_outcome, life_of, answer_to};
 ghost use Rattle.ntp_service_run.specs.Headline.{StandsFor, TellsOne, IsTaken, command_outcome};
+ghost use Rattle.ntp_service_run.specs.Forgery.{is_genuine, genuine};
 
 use ntp_admin::{Command, Event, Outcome};
 use ntp_register::{Address, Refusal, Register};
@@ -52,6 +54,9 @@ impl<A: Allocator + Copy> Service<A> {
 
     /// The answer to a datagram that came from an address at `receipt`, to which a reply departs at
     /// `transmit`. It takes no memory. An address that was never enrolled gets no reply and no entry.
+    ///
+    /// A signed query is answered as if no datagram that was not a signed query had come from its address before.
+    /// A replay of a signed datagram is not told from the first: it counts as signed, and spends the budget.
     pub fn datagram(
         &mut self,
         address: Address,
@@ -63,6 +68,10 @@ impl<A: Allocator + Copy> Service<A> {
         // The answer is that of the customer's own events, and the service goes on to stand for one more.
         ensures tells { (history : List (Event A)) → StandsFor self.old history
             → TellsOne history (Event.Datagram address receipt transmit reference.now octets.now) (Outcome.Datagram result) self.new }
+        ensures forgeries { (history : List (Event A)) → StandsFor self.old history
+            → let query = Event.Datagram address receipt transmit reference.now octets.now in
+            IsTrue (is_genuine {A = A} (life_of (own address history)) query)
+            → Outcome.Datagram result ≡ answer_to {A = A} (life_of (genuine (own address history))) query }
         ensures no_entry { IsNone (customer_at self.old address) → self.new ≡ self.old }
         ensures no_longer { reply_length result ≤ length octets.now }
     {

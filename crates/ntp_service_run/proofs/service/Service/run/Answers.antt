@@ -1,6 +1,7 @@
 use Rattle.std.proofs.Common.{◌+◌, ◌++◌, ◌∷◌, [], arith, sym, ap, ◌∙◌, subst, take}
 use Rattle.std.proofs.lemmas.List.{take_more, take_all}
 use Rattle.ntp_service_run.proofs.Runs.{Goes, Goes-nil, Goes-push, Goes-tells}
+use Rattle.ntp_service_run.proofs.Forgeries.{without-forgeries}
 use Rattle.ntp_service_run.proofs.service.Service.run.Goals as goal
 
 pub loop-event-init : goal.loop-event-init
@@ -31,3 +32,6 @@ returns-clause-tells g c = λ history stands.
     let all = take_all c.loop-event.event-index c.args.events.now (omega arith) in
     Goes-tells history _ _ _ (subst (λ events. Goes history events c.loop-event.outcomes.items c.loop-event.self) all
     (c.loop-event.invariant.goes history stands))
+
+pub returns-clause-forgeries : goal.returns-clause-forgeries
+returns-clause-forgeries g c = λ history stands. without-forgeries history _ _ _ (returns-clause-tells g c history stands)

@@ -6,3 +6,4 @@ mod Holders
 mod KeptLives
 mod ApartLives
 mod Forgeries
+mod Bounds

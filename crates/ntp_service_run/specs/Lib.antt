@@ -2,3 +2,4 @@ pub mod Events
 pub mod Model
 pub mod Headline
 pub mod Forgery
+pub mod Bound

@@ -1,12 +1,13 @@
--- How many replies an address gets in one window.
-use Rattle.std.proofs.Common.{◌≡◌, ◌≢◌, ℕ, suc, ◌+◌, ◌-◌, ◌≤◌, ◌==◌, ◌||◌, nat_lt, cond, Bool, true, false, is_some, List, [], ◌∷◌, ◌++◌, Some, None, Result, Ok, Err, refl, sym, ap, ◌∙◌, subst, true≢false, arith}
-use Rattle.std.specs.Prelude.{if◌then◌else◌, count_by}
+-- What one event takes of the replies that an address has left in a window.
+use Rattle.std.proofs.Common.{◌≡◌, ◌≢◌, ℕ, suc, ◌+◌, ◌-◌, ◌≤◌, ◌==◌, ◌||◌, nat_lt, cond, Bool, true, false, is_some, List, [], ◌∷◌, ◌++◌, Some, None, Result, Ok, Err, refl, sym, ap, ◌∙◌, true≢false, arith}
+use Rattle.std.specs.Prelude.{if◌then◌else◌, Option}
 use Rattle.std.specs.Option.{option_map_or}
 use Rattle.std.proofs.lemmas.Bool.{eq-eqb}
 use Rattle.std.proofs.lemmas.Bool.Decides.{nat_tests}
-use Rattle.std.proofs.lemmas.List.Sums.{sum_by-cons}
 use Rattle.ntp_budget.specs.Tally.{count_in}
 use Rattle.ntp_budget.proofs.Tallies.{count_in-append}
+use Rattle.ntp_time.specs.declared.moment.Moment.{Moment}
+use Rattle.ntp_time.specs.declared.stamp.Stamp.{Stamp}
 use Rattle.ntp_packet.specs.Header.{HeaderFields}
 use Rattle.ntp_mac.specs.Key.{SymmetricKey}
 use Rattle.ntp_mac.specs.Reading.{reading_of}
@@ -16,34 +17,35 @@ use Rattle.ntp_slots.specs.declared.slot.Slot.{Slot}
 use Rattle.ntp_register.specs.Customer.{Enrolment}
 use Rattle.ntp_reply.specs.Life.{Life, Unregistered, Revoked, Enrolled, enrolment_in, queries_in, refusals_in, recent_in, with_query, with_refusal}
 use Rattle.ntp_reply.specs.Replies.{occasion_of, deny_octets, rate_octets, basic_fields, crypto_nak_octets, new_stamps}
-use Rattle.ntp_reply.specs.Kind.{Kind, PassedOver, RefusedByDeny, RefusedByNak, Signed, octets_kind}
-use Rattle.ntp_reply.specs.Exchanged.{after_time, is_noted}
+use Rattle.ntp_reply.specs.Kind.{Kind, PassedOver, RefusedByDeny, RefusedByNak, Signed, octets_kind, kind_of}
+use Rattle.ntp_reply.specs.Exchanged.{after_time, after_departure, is_noted}
 use Rattle.ntp_reply.specs.Verdict.{window_at, refused, refusals_sent, timed, kind_answer, after_kind, verdict, after_datagram}
 use Rattle.ntp_reply.specs.declared.answers.Answer.{Answer}
 use Rattle.ntp_reply.specs.declared.answers.Answer.TheVariants as answer
 use Rattle.ntp_reply.specs.declared.answers.Reason.TheVariants as reason
 use Rattle.ntp_reply_packets.specs.declared.occasion.Occasion.{Occasion}
+use Rattle.ntp_admin.specs.declared.command.Command.{Command}
 use Rattle.ntp_admin.specs.declared.command.Command.TheVariants.{Enrol, Revoke, Budget}
 use Rattle.ntp_admin.specs.declared.event.Event.{Event}
 use Rattle.ntp_admin.specs.declared.event.Event.TheVariants as event
 use Rattle.ntp_admin.specs.declared.outcome.Outcome.{Outcome}
 use Rattle.ntp_admin.specs.declared.outcome.Outcome.TheVariants as outcome
-use Rattle.ntp_service_run.specs.Model.{departure_outcome, answer_to, after, says_after}
+use Rattle.ntp_service_run.specs.Model.{command_answer, after_command, departure_outcome, answer_to, after}
 use Rattle.ntp_service_run.specs.Forgery.{is_signed_query}
-use Rattle.ntp_service_run.specs.Bound.{is_query_reply, is_refusal_reply, StaysIn, AllStayIn, most_query_replies}
+use Rattle.ntp_service_run.specs.Bound.{is_query_reply, is_refusal_reply, most_query_replies}
 
 -- how many replies of each sort a life has left in a window
-abbrev queries_left : Life → ℕ → ℕ
+abbrev pub queries_left : Life → ℕ → ℕ
 queries_left life w = option_map_or (λ e. suc e.budget - count_in (queries_in life) w) (enrolment_in life) 0
 
-abbrev refusals_left : Life → ℕ → ℕ
+abbrev pub refusals_left : Life → ℕ → ℕ
 refusals_left life w = refusals_sent - count_in (refusals_in life) w
 
-abbrev one_if : Bool → ℕ
+abbrev pub one_if : Bool → ℕ
 one_if b = cond b 1 0
 
 -- an answer takes one of those that are left, if it is of that sort
-record Spends (life next : Life) (w : ℕ) (o : Outcome) : Type 0 where
+pub record Spends (life next : Life) (w : ℕ) (o : Outcome) : Type 0 where
   pub queries : one_if (is_query_reply o) + queries_left next w ≤ queries_left life w
   pub refusals : one_if (is_refusal_reply o) + refusals_left next w ≤ refusals_left life w
 
@@ -137,7 +139,7 @@ spends-kind (Enrolled e q r x) known o (Signed key number h) signed =
     spends-signed e q r x (recent_in (Enrolled e q r x)) o key number h (answer.Rate (rate_octets key number h)) refl refl
     (nat_lt (count_in q (window_at o)) e.budget) (count_in q (window_at o) == e.budget) refl refl
 
-spends-datagram : (life : Life) (o : Occasion) (octets : List ℕ)
+pub spends-datagram : (life : Life) (o : Occasion) (octets : List ℕ)
     → Spends life (after_datagram life o octets) (window_at o) (outcome.Datagram (verdict life o octets))
 spends-datagram Unregistered o octets = spends-nothing Unregistered (window_at o) _ refl refl
 spends-datagram (Revoked r) o octets = spends-kind (Revoked r) (λ e. cc) o (octets_kind None (reading_of octets))
@@ -154,63 +156,78 @@ no-refusal : (noted : Bool) → is_refusal_reply (departure_outcome noted) ≡ f
 no-refusal true = refl
 no-refusal false = refl
 
-left-at-most : (life : Life) (w : ℕ) → queries_left life w ≤ most_query_replies life
+pub spends-departed : (life : Life) (receive : Stamp) (m : Moment) (w : ℕ)
+    → Spends life (after_departure life receive m) w (departure_outcome (is_noted life receive))
+spends-departed Unregistered receive m w =
+    let n = is_noted Unregistered receive in
+    spends-nothing Unregistered w (departure_outcome n) (no-query n) (no-refusal n)
+spends-departed (Revoked r) receive m w =
+    let n = is_noted (Revoked r) receive in
+    spends-nothing (Revoked r) w (departure_outcome n) (no-query n) (no-refusal n)
+spends-departed (Enrolled d q r x) receive m w =
+    let n = is_noted (Enrolled d q r x) receive in
+    let s = spends-nothing (Enrolled d q r x) w (departure_outcome n) (no-query n) (no-refusal n) in
+    record { queries = s.queries; refusals = s.refusals }
+
+-- ---- a command
+pub spends-command : (life : Life) (c : Command) (w : ℕ) → command_answer life c ≢ outcome.Done
+    → Spends life (after_command life c) w (command_answer life c)
+spends-command Unregistered (Enrol address number key budget) w plain = absurd (plain refl)
+spends-command (Revoked r) (Enrol address number key budget) w plain = absurd (plain refl)
+spends-command (Enrolled d q r x) (Enrol address number key budget) w plain = spends-nothing (Enrolled d q r x) w _ refl refl
+spends-command Unregistered (Revoke address) w plain = spends-nothing Unregistered w _ refl refl
+spends-command (Revoked r) (Revoke address) w plain = spends-nothing (Revoked r) w _ refl refl
+spends-command (Enrolled d q r x) (Revoke address) w plain = absurd (plain refl)
+spends-command Unregistered (Budget address budget) w plain = spends-nothing Unregistered w _ refl refl
+spends-command (Revoked r) (Budget address budget) w plain = spends-nothing (Revoked r) w _ refl refl
+spends-command (Enrolled d q r x) (Budget address budget) w plain = absurd (plain refl)
+
+-- ---- what is left is no more than what a window can have
+pub left-at-most : (life : Life) (w : ℕ) → queries_left life w ≤ most_query_replies life
 left-at-most Unregistered w = omega arith
 left-at-most (Revoked r) w = omega arith
 left-at-most (Enrolled e q r x) w = omega arith
 
+-- ---- the enrolment stays
+either-enrolment : (b : Bool) (x y : Life) (e : Option Enrolment) → enrolment_in x ≡ e → enrolment_in y ≡ e
+    → enrolment_in (if b then x else y) ≡ e
+either-enrolment true x y e first second = first
+either-enrolment false x y e first second = second
+
+refusal-enrolment : (life : Life) (w : ℕ) → enrolment_in (with_refusal life w) ≡ enrolment_in life
+refusal-enrolment Unregistered w = refl
+refusal-enrolment (Revoked r) w = refl
+refusal-enrolment (Enrolled e q r x) w = refl
+
+kind-enrolment : (life : Life) (o : Occasion) (k : Kind) → enrolment_in (after_kind life o k) ≡ enrolment_in life
+kind-enrolment life o (PassedOver why) = refl
+kind-enrolment life o (RefusedByDeny h) = refusal-enrolment life (window_at o)
+kind-enrolment life o (RefusedByNak h) = refusal-enrolment life (window_at o)
+kind-enrolment Unregistered o (Signed key number h) = either-enrolment _ Unregistered Unregistered None refl refl
+kind-enrolment (Revoked r) o (Signed key number h) = either-enrolment _ (Revoked r) (Revoked r) None refl refl
+kind-enrolment (Enrolled e q r x) o (Signed key number h) =
+    let counted = with_query (Enrolled e q r x) (window_at o) in
+    either-enrolment _ (after_time counted o h) counted (Some e) refl refl
+
 module _ {A : Type 0} where
   -- ---- one event
-  spends-event : (life : Life) (e : Event A) (w : ℕ) → StaysIn w e (answer_to life e) → Spends life (after life e) w (answer_to life e)
-  spends-event life (event.Datagram address receipt transmit reference octets) w is =
-      let e : Event A = event.Datagram address receipt transmit reference octets in
-      subst (λ v. Spends life (after life e) v (answer_to life e)) is (spends-datagram life (occasion_of receipt transmit reference) octets)
-  spends-event Unregistered (event.Departed address receive m) w is =
-      let n = is_noted Unregistered receive in
-      spends-nothing Unregistered w (departure_outcome n) (no-query n) (no-refusal n)
-  spends-event (Revoked r) (event.Departed address receive m) w is =
-      let n = is_noted (Revoked r) receive in
-      spends-nothing (Revoked r) w (departure_outcome n) (no-query n) (no-refusal n)
-  spends-event (Enrolled d q r x) (event.Departed address receive m) w is =
-      let n = is_noted (Enrolled d q r x) receive in
-      let s = spends-nothing (Enrolled d q r x) w (departure_outcome n) (no-query n) (no-refusal n) in
-      record { queries = s.queries; refusals = s.refusals }
-  spends-event Unregistered (event.Command (Enrol address number key budget)) w is = absurd (is refl)
-  spends-event (Revoked r) (event.Command (Enrol address number key budget)) w is = absurd (is refl)
-  spends-event (Enrolled d q r x) (event.Command (Enrol address number key budget)) w is = spends-nothing (Enrolled d q r x) w _ refl refl
-  spends-event Unregistered (event.Command (Revoke address)) w is = spends-nothing Unregistered w _ refl refl
-  spends-event (Revoked r) (event.Command (Revoke address)) w is = spends-nothing (Revoked r) w _ refl refl
-  spends-event (Enrolled d q r x) (event.Command (Revoke address)) w is = absurd (is refl)
-  spends-event Unregistered (event.Command (Budget address budget)) w is = spends-nothing Unregistered w _ refl refl
-  spends-event (Revoked r) (event.Command (Budget address budget)) w is = spends-nothing (Revoked r) w _ refl refl
-  spends-event (Enrolled d q r x) (event.Command (Budget address budget)) w is = absurd (is refl)
+  -- the enrolment stays, unless a command is done
+  same-enrolment : (life : Life) (e : Event A) → answer_to life e ≢ outcome.Done → enrolment_in (after life e) ≡ enrolment_in life
+  same-enrolment life (event.Datagram address receipt transmit reference octets) plain =
+      kind-enrolment life (occasion_of receipt transmit reference) (kind_of life octets)
+  same-enrolment Unregistered (event.Departed address receive m) plain = refl
+  same-enrolment (Revoked r) (event.Departed address receive m) plain = refl
+  same-enrolment (Enrolled d q r x) (event.Departed address receive m) plain = refl
+  same-enrolment Unregistered (event.Command (Enrol address number key budget)) plain = absurd (plain refl)
+  same-enrolment (Revoked r) (event.Command (Enrol address number key budget)) plain = absurd (plain refl)
+  same-enrolment (Enrolled d q r x) (event.Command (Enrol address number key budget)) plain = refl
+  same-enrolment Unregistered (event.Command (Revoke address)) plain = refl
+  same-enrolment (Revoked r) (event.Command (Revoke address)) plain = refl
+  same-enrolment (Enrolled d q r x) (event.Command (Revoke address)) plain = absurd (plain refl)
+  same-enrolment Unregistered (event.Command (Budget address budget)) plain = refl
+  same-enrolment (Revoked r) (event.Command (Budget address budget)) plain = refl
+  same-enrolment (Enrolled d q r x) (event.Command (Budget address budget)) plain = absurd (plain refl)
 
-  -- ---- events, one after another
-  bounded : (life : Life) (w : ℕ) (events : List (Event A)) → AllStayIn w life events
-      → (count_by is_query_reply (says_after life events) ≤ queries_left life w)
-      × (count_by is_refusal_reply (says_after life events) ≤ refusals_left life w)
-  bounded life w [] all = (omega arith, omega arith)
-  bounded life w (e ∷ events) all =
-      let s = spends-event life e w all.0 in
-      let rest = bounded (after life e) w events all.1 in
-      let later = says_after (after life e) events in
-      let queries : count_by is_query_reply (says_after life (e ∷ events))
-      ≡ one_if (is_query_reply (answer_to life e)) + count_by is_query_reply later =
-      sum_by-cons (λ o. cond (is_query_reply o) 1 0) (answer_to life e) later in
-      let refusals : count_by is_refusal_reply (says_after life (e ∷ events))
-      ≡ one_if (is_refusal_reply (answer_to life e)) + count_by is_refusal_reply later =
-      sum_by-cons (λ o. cond (is_refusal_reply o) 1 0) (answer_to life e) later in
-      (omega arith, omega arith)
-
-  pub few-query_replies : (life : Life) (w : ℕ) (events : List (Event A)) → AllStayIn w life events
-      → count_by is_query_reply (says_after life events) ≤ most_query_replies life
-  few-query_replies life w events all =
-      let few = (bounded life w events all).0 in
-      let most = left-at-most life w in
-      omega arith
-
-  pub few-refusals : (life : Life) (w : ℕ) (events : List (Event A)) → AllStayIn w life events
-      → count_by is_refusal_reply (says_after life events) ≤ refusals_sent
-  few-refusals life w events all =
-      let few = (bounded life w events all).1 in
-      omega arith
+  pub same-most : (life : Life) (e : Event A) → answer_to life e ≢ outcome.Done
+      → most_query_replies (after life e) ≡ most_query_replies life
+  same-most life e plain = ap (λ found. option_map_or (λ d. d.budget + 1) found 0) (same-enrolment life e plain)

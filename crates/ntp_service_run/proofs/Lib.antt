@@ -7,3 +7,4 @@ mod KeptLives
 mod ApartLives
 mod Forgeries
 mod Bounds
+mod Stretches

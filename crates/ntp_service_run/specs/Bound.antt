@@ -1,14 +1,18 @@
 -- How many replies an address gets in one window.
-use Rattle.std.specs.Prelude.{◌≡◌, ◌≢◌, ℕ, ◌+◌, Bool, true, false, List, [], ◌∷◌}
+use Rattle.std.specs.Prelude.{◌≡◌, ◌≢◌, ℕ, ◌+◌, ◌≤◌, ◌==◌, ◌&&◌, Bool, true, false, Option, Some, None, List, ◌++◌, map, zip, All, AllPairs, filter_map, count_by}
 use Rattle.std.specs.Option.{option_map_or}
 use Rattle.ntp_time.specs.Moment.{window_of}
+use Rattle.ntp_register.specs.declared.address.Address.{Address}
 use Rattle.ntp_reply.specs.Life.{Life, enrolment_in}
+use Rattle.ntp_reply.specs.Verdict.{refusals_sent}
 use Rattle.ntp_reply.specs.declared.answers.Answer.TheVariants as answer
 use Rattle.ntp_admin.specs.declared.event.Event.{Event}
 use Rattle.ntp_admin.specs.declared.event.Event.TheVariants as event
 use Rattle.ntp_admin.specs.declared.outcome.Outcome.{Outcome}
 use Rattle.ntp_admin.specs.declared.outcome.Outcome.TheVariants as outcome
-use Rattle.ntp_service_run.specs.Model.{answer_to, after}
+use Rattle.ntp_service_run.specs.Events.{own}
+use Rattle.ntp_service_run.specs.Model.{life_after, life_of}
+use Rattle.ntp_service_run.specs.Headline.{kept, told}
 
 -- whether an outcome is a reply to a signed query: the time, or RATE (profile)
 abbrev pub is_query_reply : Outcome → Bool
@@ -22,17 +26,41 @@ is_refusal_reply (outcome.Datagram (answer.Deny reply)) = true
 is_refusal_reply (outcome.Datagram (answer.Nak reply)) = true
 is_refusal_reply other = false
 
--- an event with its outcome stays in a window: a datagram whose receipt is in it, a departure, or a command that was not done (profile)
-abbrev pub StaysIn : {A : Type 0} → ℕ → Event A → Outcome → Type 0
-StaysIn w (event.Datagram address receipt transmit reference octets) o = window_of receipt ≡ w
-StaysIn w (event.Departed address receive m) o = Unit {0}
-StaysIn w (event.Command command) o = o ≢ outcome.Done
+-- the window of a datagram's receipt (profile)
+abbrev pub receipt_window : {A : Type 0} → Event A → Option ℕ
+receipt_window (event.Datagram address receipt transmit reference octets) = Some (window_of receipt)
+receipt_window other = None
 
--- events stay in a window, from a life on: each does (profile)
-abbrev pub AllStayIn : {A : Type 0} → ℕ → Life → List (Event A) → Type 0
-AllStayIn w life [] = Unit {0}
-AllStayIn w life (e ∷ events) = StaysIn w e (answer_to life e) × AllStayIn w (after life e) events
+-- whether an event is a datagram with its receipt in a window (profile)
+abbrev pub is_received_in : {A : Type 0} → ℕ → Event A → Bool
+is_received_in w e = option_map_or (λ v. v == w) (receipt_window e) false
+
+-- a stretch of events with their outcomes is unbroken: no command of it is done, and the windows of its receipts never fall (profile)
+pub record IsUnbroken {A : Type 0} (stretch : List (Event A × Outcome)) : Type 0 where
+  pub none_done : All (λ p. p.1 ≢ outcome.Done) stretch
+  pub never_fall : AllPairs (λ v w. v ≤ w) (filter_map (λ p. receipt_window p.0) stretch)
+
+-- how many of the datagrams with their receipt in a window have an outcome of a sort (profile)
+abbrev pub replies_in : {A : Type 0} → ℕ → (Outcome → Bool) → List (Event A × Outcome) → ℕ
+replies_in w is_of_sort stretch = count_by (λ p. is_received_in w p.0 && is_of_sort p.1) stretch
 
 -- how many replies to signed queries a window can have: one more than the budget; none of an address that is not enrolled (profile)
 abbrev pub most_query_replies : Life → ℕ
 most_query_replies life = option_map_or (λ e. e.budget + 1) (enrolment_in life) 0
+
+-- the replies of a stretch in a window are few, where the stretch begins in this life (profile)
+pub record HasFewReplies {A : Type 0} (life : Life) (w : ℕ) (stretch : List (Event A × Outcome)) : Type 0 where
+  pub queries : replies_in w is_query_reply stretch ≤ most_query_replies life
+  pub refusals : replies_in w is_refusal_reply stretch ≤ refusals_sent
+
+-- at events with these outcomes, from a life on, replies are few: in each unbroken stretch of them and in each window, by the life
+-- in which the stretch begins, that is, the one that the events before it leave (profile)
+abbrev pub RepliesAreFew : {A : Type 0} → Life → List (Event A) → List Outcome → Type 0
+RepliesAreFew {A} life events outcomes =
+    (w : ℕ) (before stretch behind : List (Event A × Outcome)) → zip events outcomes ≡ before ++ stretch ++ behind
+    → IsUnbroken stretch → HasFewReplies (life_after life (map (λ p. p.0) before)) w stretch
+
+-- to each address replies are few: at its own events, of those with these outcomes that are not struck out, after a history (profile)
+abbrev pub TellsFew : {A : Type 0} → List (Event A) → List (Event A) → List Outcome → Type 0
+TellsFew history events outcomes = (address : Address)
+    → RepliesAreFew (life_of (own address history)) (own address (kept events outcomes)) (told address events outcomes)

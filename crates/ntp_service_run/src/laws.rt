@@ -1,5 +1,5 @@
 //! What holds of the definitions, whatever code meets them.
-ghost use Rattle.std.specs.Prelude.{◌≡◌, ℕ, ◌<◌, ◌≤◌, List, ◌++◌, count_by};
+ghost use Rattle.std.specs.Prelude.{◌≡◌, ℕ, ◌<◌, List, ◌++◌};
 ghost use Rattle.ntp_budget.specs.Tally.{most_counted};
 ghost use Rattle.ntp_packet.specs.Header.{HeaderFields};
 ghost use Rattle.ntp_slots.specs.Exchanges.{AreSaved};
@@ -9,14 +9,13 @@ ghost use Rattle.ntp_reply_packets.specs.declared.occasion.Occasion.{Occasion};
 ghost use Rattle.ntp_reply_packets.specs.Replies.{HasDistinctStamps, basic_fields, time_fields};
 ghost use Rattle.ntp_reply.specs.Life.{Life, budget_in, recent_in, short};
 ghost use Rattle.ntp_reply.specs.Exchanged.{matched, stamps_of};
-ghost use Rattle.ntp_reply.specs.Verdict.{refusals_sent};
 ghost use Rattle.ntp_admin.specs.declared.event.Event.{Event};
 ghost use Rattle.ntp_admin.specs.declared.outcome.Outcome.{Outcome};
 ghost use Rattle.ntp_service_run.specs.Events.{own};
 ghost use Rattle.ntp_service_run.specs.Model.{life_of, answer_to, after, says_after, says};
 ghost use Rattle.ntp_service_run.specs.Headline.{StandsFor, Tells, IsEnrolledWith, kept, told};
 ghost use Rattle.ntp_service_run.specs.Forgery.{genuine, genuine_answers, without_refusals};
-ghost use Rattle.ntp_service_run.specs.Bound.{AllStayIn, is_query_reply, is_refusal_reply, most_query_replies};
+ghost use Rattle.ntp_service_run.specs.Bound.{RepliesAreFew};
 
 use std::alloc::Allocator;
 
@@ -65,13 +64,11 @@ pub fn forged_datagrams_change_nothing<A: Allocator>()
     ensures life { (events : List (Event A)) → without_refusals (life_of (genuine events)) ≡ without_refusals (life_of events) }
 {}
 
-/// Replies are few: among events of an address in a row, without a command that is done, whose datagrams have their receipt in
-/// one window, at most one more than the budget are answered with the time or `RATE`, and none where the address is not
-/// enrolled; and at most four with `DENY` or a crypto-NAK. Where receipts fall back into a window after another, or a command is
-/// done, a new count may begin. This is a law, and does nothing when it is called.
+/// Replies are few: in a stretch of the events of an address, in which no command is done and the windows of the receipts
+/// never fall, of the datagrams with their receipt in one window at most one more than the budget are answered with the time or
+/// `RATE`, and none where the address is not enrolled; and at most four with `DENY` or a crypto-NAK. So it is where all datagrams
+/// have their receipt in that window. Where receipts fall back into a window after another, or a command is done, a new count
+/// may begin. This is a law, and does nothing when it is called.
 pub fn replies_in_a_window_are_few<A: Allocator>()
-    ensures queries { (life : Life) (w : ℕ) (events : List (Event A)) → AllStayIn w life events
-        → count_by is_query_reply (says_after life events) ≤ most_query_replies life }
-    ensures refusals { (life : Life) (w : ℕ) (events : List (Event A)) → AllStayIn w life events
-        → count_by is_refusal_reply (says_after life events) ≤ refusals_sent }
+    ensures { (life : Life) (events : List (Event A)) → RepliesAreFew life events (says_after life events) }
 {}

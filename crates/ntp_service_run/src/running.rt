@@ -7,6 +7,7 @@ ghost use Rattle.ntp_admin.specs.declared.outcome.Outcome.{Outcome};
 ghost use Rattle.ntp_service_run.specs.Events.{own};
 ghost use Rattle.ntp_service_run.specs.Headline.{StandsFor, Tells, kept, told};
 ghost use Rattle.ntp_service_run.specs.Forgery.{TellsWithoutForgeries};
+ghost use Rattle.ntp_service_run.specs.Bound.{TellsFew};
 
 use crate::Service;
 use ntp_admin::{Event, NoMemory, Outcome};
@@ -24,11 +25,19 @@ impl<A: Allocator + Copy> Service<A> {
     /// commands are those that the model gives to these alone, without any other datagram. Of the other datagrams
     /// this says nothing. A replay of a signed datagram is not told from the first: it counts as signed, and
     /// spends the budget.
+    ///
+    /// Replies are few. Take a stretch of an address's own events, of those that are left in the list, in which no command
+    /// is done and the windows of the receipts never fall. Of its datagrams with their receipt in one window, at most one
+    /// more than the budget are answered with the time or `RATE`, none where the address is not enrolled, and at most four
+    /// with `DENY` or a crypto-NAK. A receipt that falls back into an earlier window, or a command that is done, may begin a
+    /// new count. The receipts are the moments that were handed in, and of all addresses together this says nothing.
     pub fn run(&mut self, events: &[Event<A>]) -> Result<Vec<Outcome, A>, NoMemory>
         ensures tells { IfOk result (λ outcomes. (history : List (Event A)) → StandsFor self.old history
             → Tells history events.now outcomes.items self.new) }
         ensures forgeries { IfOk result (λ outcomes. (history : List (Event A)) → StandsFor self.old history
             → TellsWithoutForgeries history events.now outcomes.items) }
+        ensures bound { IfOk result (λ outcomes. (history : List (Event A)) → StandsFor self.old history
+            → TellsFew history events.now outcomes.items) }
         ensures refused { OnErr result (self.new ≡ self.old) }
     {
         let Ok(mut outcomes) = Vec::with_capacity(self.allocator(), events.len()) else {

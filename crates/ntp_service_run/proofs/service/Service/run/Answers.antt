@@ -2,6 +2,7 @@ use Rattle.std.proofs.Common.{◌+◌, ◌++◌, ◌∷◌, [], arith, sym, ap, 
 use Rattle.std.proofs.lemmas.List.{take_more, take_all}
 use Rattle.ntp_service_run.proofs.Runs.{Goes, Goes-nil, Goes-push, Goes-tells}
 use Rattle.ntp_service_run.proofs.Forgeries.{without-forgeries}
+use Rattle.ntp_service_run.proofs.Stretches.{tells-few}
 use Rattle.ntp_service_run.proofs.service.Service.run.Goals as goal
 
 pub loop-event-init : goal.loop-event-init
@@ -35,3 +36,6 @@ returns-clause-tells g c = λ history stands.
 
 pub returns-clause-forgeries : goal.returns-clause-forgeries
 returns-clause-forgeries g c = λ history stands. without-forgeries history _ _ _ (returns-clause-tells g c history stands)
+
+pub returns-clause-bound : goal.returns-clause-bound
+returns-clause-bound g c = λ history stands. tells-few history _ _ _ (returns-clause-tells g c history stands)

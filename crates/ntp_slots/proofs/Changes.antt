@@ -1,12 +1,12 @@
 -- A change to the unused exchange with a receive stamp: it is made at one place, and keeps the receive stamps.
-use Rattle.std.proofs.Common.{◌≡◌, ◌≢◌, ℕ, suc, ◌<◌, inl, inr, Bool, true, false, not, cond, List, [], ◌∷◌, length, drop, map, set, get_or, Some, None, refl, sym, ap, subst, ◌∙◌, arith, ltb}
-use Rattle.std.specs.Prelude.{find, is_some, position, Contains}
-use Rattle.std.specs.List.{refill, AllPairs, position_or_len}
+use Rattle.std.proofs.Common.{◌≡◌, ◌≢◌, ℕ, suc, ◌<◌, inl, inr, Bool, true, false, not, cond, List, [], ◌∷◌, length, map, set, get_or, Some, None, refl, sym, ap, subst, ◌∙◌, arith, ltb}
+use Rattle.std.specs.Prelude.{find, is_some, position, slice_get, Contains}
+use Rattle.std.specs.List.{AllPairs, position_or_len}
 use Rattle.std.proofs.lemmas.Bool.{cases_Bool, cases_eq, cases_order, and_parts, eqb-true, false_from_ne_true, ltb-true, ltb-false}
-use Rattle.std.proofs.lemmas.List.{length-set, length-map, get_or-set_same, get_or-set_other, get_or-map, get_or_default, same_lists, append-nil, drop_all, take_all}
+use Rattle.std.proofs.lemmas.List.{length-set, length-map, get_or-set_same, get_or-set_other, get_or-map, get_or_default, same_lists}
 use Rattle.std.proofs.lemmas.List.Folds.{find_at}
 use Rattle.std.proofs.lemmas.List.Quantifiers.{position-Some}
-use Rattle.std.proofs.lemmas.Option.{slice_get_cases}
+use Rattle.std.proofs.lemmas.Option.{slice_get_cases, get_or_from_slice_get}
 use Rattle.ntp_time.specs.declared.stamp.Stamp.{Stamp}
 use Rattle.ntp_slots.specs.declared.slot.Slot.{Slot}
 use Rattle.ntp_slots.specs.Exchanges.{receives, transmits, all_stamps, with_unused, is_unused_at, unused_at, spent}
@@ -76,7 +76,7 @@ stamp-from_test receive x passes =
     ap (λ n. record { 0 = n }) numbers
 
 -- a change at the first place is all
-pub change-at_place : (receive : Stamp) (change : Slot → Slot) (xs : List Slot) (i : ℕ) (d : Slot) → AllPairs ◌≢◌ (receives xs)
+change-at_place : (receive : Stamp) (change : Slot → Slot) (xs : List Slot) (i : ℕ) (d : Slot) → AllPairs ◌≢◌ (receives xs)
     → position (is_unused_at receive) xs ≡ Some i → set xs i (change (get_or xs i d)) ≡ with_unused xs receive change
 change-at_place receive change xs i e distinct at =
     let there : i < length xs = (position-Some (is_unused_at receive) xs i e at).0 in
@@ -101,19 +101,11 @@ change-at_place receive change xs i e distinct at =
           get_or-set_other xs i k (change (get_or xs i e)) d other ∙ sym left ∙ sym mapped
     ])
 
--- the elements as they are written back are those that were written
-pub refill-written : {X : Type 0} (xs ys : List X) → length ys ≡ length xs → refill (length xs) xs ys ≡ ys
-refill-written xs ys as_long =
-    let none : drop (length ys) xs ≡ [] = drop_all (length ys) xs (omega arith) in
-    rw (none, append-nil ys) (take_all (length xs) ys (omega arith))
-
--- what is written at the first place of a slice of the exchanges is the change
-pub written-at_place : (receive : Stamp) (change : Slot → Slot) (xs ys : List Slot) (i : ℕ) (d : Slot) → AllPairs ◌≢◌ (receives xs)
-    → position (is_unused_at receive) xs ≡ Some i → ys ≡ xs
-    → refill (length xs) xs (set ys i (change (get_or ys i d))) ≡ with_unused xs receive change
-written-at_place receive change xs ys i d distinct at same =
-    rw same (refill-written xs (set xs i (change (get_or xs i d))) (length-set xs i (change (get_or xs i d)))
-    ∙ change-at_place receive change xs i d distinct at)
+-- so where the exchange at the first place is changed
+pub written-at_place : (receive : Stamp) (change : Slot → Slot) (xs : List Slot) (i : ℕ) (x : Slot) → AllPairs ◌≢◌ (receives xs)
+    → position (is_unused_at receive) xs ≡ Some i → slice_get xs i ≡ Some x → set xs i (change x) ≡ with_unused xs receive change
+written-at_place receive change xs i x distinct at there =
+    ap (λ y. set xs i (change y)) (sym (get_or_from_slice_get xs i x x there)) ∙ change-at_place receive change xs i x distinct at
 
 -- where there is no such exchange, nothing changes
 pub unchanged-from_none : (receive : Stamp) (change : Slot → Slot) (xs : List Slot) → unused_at xs receive ≡ None

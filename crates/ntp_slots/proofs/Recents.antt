@@ -1,8 +1,7 @@
 -- The recent exchanges are the last ones of a list, and what is put behind a list goes by them alone.
-use Rattle.std.proofs.Common.{◌≡◌, true, ℕ, ◌+◌, ◌-◌, ◌<◌, ◌≤◌, min, inl, inr, List, [], ◌∷◌, ◌++◌, length, take, drop, refl, sym, ap, ◌∙◌, arith, append_assoc}
+use Rattle.std.proofs.Common.{◌≡◌, true, ℕ, ◌+◌, ◌-◌, ◌≤◌, min, inl, inr, List, ◌++◌, length, take, drop, refl, sym, ap, ◌∙◌, arith, append_assoc}
 use Rattle.std.proofs.lemmas.Bool.{cases_lt}
-use Rattle.std.proofs.lemmas.List.{length-append, length-drop, length-take-le, take-append-drop, drop-drop, drop_at, drop-append-le}
-use Rattle.std.specs.Prelude.{remove}
+use Rattle.std.proofs.lemmas.List.{length-append, length-drop, length-take-le, take-append-drop, drop-drop, drop_at}
 use Rattle.ntp_slots.specs.declared.slot.Slot.{Slot}
 use Rattle.ntp_time.specs.declared.stamp.Stamp.{Stamp}
 use Rattle.ntp_time.specs.declared.moment.Moment.{Moment}
@@ -88,14 +87,3 @@ recent-spent xs receive = recent-with_recent xs (spent (recent xs) receive) (len
 pub recent-departed : (xs : List Slot) (receive : Stamp) (m : Moment)
     → recent (with_recent xs (departed (recent xs) receive m)) ≡ departed (recent xs) receive m
 recent-departed xs receive m = recent-with_recent xs (departed (recent xs) receive m) (length-departed (recent xs) receive m)
-
--- where there is room, all are recent with one more
-pub recent-push : (xs : List Slot) (x : Slot) → length xs < most_slots → recent (xs ++ x ∷ []) ≡ xs ++ x ∷ []
-recent-push xs x room = recent-all (xs ++ x ∷ []) (omega (arith, length-append xs (x ∷ [])))
-
--- where there is none, the first goes
-pub recent-push_full : (xs : List Slot) (x : Slot) → length xs ≡ most_slots → recent (xs ++ x ∷ []) ≡ remove xs 0 ++ x ∷ []
-unfolding recent
-recent-push_full xs x full =
-    let past : length (xs ++ x ∷ []) - most_slots ≡ 1 = omega (arith, length-append xs (x ∷ [])) in
-    rw past (drop-append-le 1 xs (x ∷ []) (omega arith))

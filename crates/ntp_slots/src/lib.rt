@@ -2,7 +2,7 @@
 //!
 //! An exchange is a time reply with the stamps of its receipt and of its departure. The last few of a
 //! customer are saved, so that a later reply can carry the stamp at which an earlier one really left.
-//! Contracts see them as a list, oldest first.
+//! Contracts see them as a list, oldest first. They lie in a ring, whose room is taken once, when it is made.
 #![tactic(auto)]
 
 mod laws;

@@ -16,10 +16,10 @@ impl<A: Allocator> Slots<A> {
         ensures value { result ≡ fresh stamp (all_stamps self.now) }
         ensures free { IsTrue (is_free (all_stamps self.now) result) }
     {
-        if is_new(self.saved(), stamp) {
+        if self.is_new(stamp) {
             stamp
         } else {
-            fresh(stamp, self.all_stamps().as_slice())
+            self.next_receive(stamp)
         }
     }
 
@@ -29,51 +29,84 @@ impl<A: Allocator> Slots<A> {
         ensures value { result ≡ fresh stamp (receives self.now ++ receive ∷ []) }
         ensures free { IsTrue (is_free (receives self.now ++ receive ∷ []) result) }
     {
-        if is_apart(self.saved(), receive, stamp) {
+        if self.is_apart(receive, stamp) {
             stamp
         } else {
-            let mut stamps = self.receive_stamps();
-            stamps.push(receive);
-            fresh(stamp, stamps.as_slice())
+            self.next_transmit(stamp, receive)
         }
     }
+
+    // The receive stamp of a new exchange, looked for beside a list of those to avoid. Such a list is made in a function of
+    // its own, since a function clears the room for its locals at each call.
+    fn next_receive(&self, stamp: Stamp) -> Stamp
+        ensures value { result ≡ fresh stamp (all_stamps self.now) }
+        ensures free { IsTrue (is_free (all_stamps self.now) result) }
+    {
+        fresh(stamp, self.all_stamps().as_slice())
+    }
+
+    // The transmit stamp of a new exchange, looked for beside a list of those to avoid.
+    fn next_transmit(&self, stamp: Stamp, receive: Stamp) -> Stamp
+        ensures value { result ≡ fresh stamp (receives self.now ++ receive ∷ []) }
+        ensures free { IsTrue (is_free (receives self.now ++ receive ∷ []) result) }
+    {
+        let mut stamps = self.receive_stamps();
+        stamps.push(receive);
+        fresh(stamp, stamps.as_slice())
+    }
+
+    // Whether a stamp is neither 0 nor saved.
+    fn is_new(&self, stamp: Stamp) -> bool
+        ensures { result ≡ is_free (all_stamps self.now) stamp }
+    {
+        if self.is_saved(stamp) {
+            return false;
+        }
+        stamp.0 != 0
+    }
+
+    // Whether a stamp is neither 0, nor a saved receive stamp, nor the new one.
+    fn is_apart(&self, receive: Stamp, stamp: Stamp) -> bool
+        ensures { result ≡ is_free (receives self.now ++ receive ∷ []) stamp }
+    {
+        if receive.0 == stamp.0 {
+            return false;
+        }
+        if self.is_received(stamp) {
+            return false;
+        }
+        stamp.0 != 0
+    }
+
+    // Whether a stamp is saved.
+    fn is_saved(&self, stamp: Stamp) -> bool
+        ensures { result ≡ list_any (λ x. (x.receive.0 == stamp.0) || (x.transmit.0 == stamp.0)) self.now }
+    {
+        let (older, newer) = self.saved();
+        is_saved_in(older, stamp) || is_saved_in(newer, stamp)
+    }
+
+    // Whether a stamp is a saved receive stamp.
+    fn is_received(&self, stamp: Stamp) -> bool
+        ensures { result ≡ list_any (is_received_at stamp) self.now }
+    {
+        let (older, newer) = self.saved();
+        is_received_in(older, stamp) || is_received_in(newer, stamp)
+    }
 }
 
-// Whether a stamp is neither 0 nor saved.
-fn is_new(saved: &[Slot], stamp: Stamp) -> bool
-    ensures { result ≡ is_free (all_stamps saved.now) stamp }
+// Whether one of these exchanges has the stamp.
+fn is_saved_in(slots: &[Slot], stamp: Stamp) -> bool
+    ensures { result ≡ list_any (λ x. (x.receive.0 == stamp.0) || (x.transmit.0 == stamp.0)) slots.now }
 {
-    if is_saved(saved, stamp) {
-        return false;
-    }
-    stamp.0 != 0
-}
-
-// Whether a stamp is neither 0, nor a saved receive stamp, nor the new one.
-fn is_apart(saved: &[Slot], receive: Stamp, stamp: Stamp) -> bool
-    ensures { result ≡ is_free (receives saved.now ++ receive ∷ []) stamp }
-{
-    if receive.0 == stamp.0 {
-        return false;
-    }
-    if is_received(saved, stamp) {
-        return false;
-    }
-    stamp.0 != 0
-}
-
-// Whether a stamp is saved.
-fn is_saved(saved: &[Slot], stamp: Stamp) -> bool
-    ensures { result ≡ list_any (λ x. (x.receive.0 == stamp.0) || (x.transmit.0 == stamp.0)) saved.now }
-{
-    saved
+    slots
         .iter()
         .any(|slot| slot.receive == stamp || slot.transmit == stamp)
 }
 
-// Whether a stamp is a saved receive stamp.
-fn is_received(saved: &[Slot], stamp: Stamp) -> bool
-    ensures { result ≡ list_any (is_received_at stamp) saved.now }
+// Whether one of these exchanges has the receive stamp.
+fn is_received_in(slots: &[Slot], stamp: Stamp) -> bool
+    ensures { result ≡ list_any (is_received_at stamp) slots.now }
 {
-    saved.iter().any(|slot| slot.receive == stamp)
+    slots.iter().any(|slot| slot.receive == stamp)
 }

@@ -6,9 +6,10 @@ ghost use Rattle.ntp_slots.specs.Exchanges.{AreSaved, recent, new_exchange, rece
 
 use crate::{NoMemory, Slot};
 use arrayvec::ArrayVec;
+use circular_buffer::HeapCircularBuffer;
 use ntp_time::{Moment, Stamp, fresh};
 use std::alloc::{Allocator, Global};
-use std::marker::{Model, PhantomData};
+use std::marker::Model;
 
 /// How many exchanges are saved (profile).
 const MOST_SLOTS: usize = 4;
@@ -17,15 +18,14 @@ const MOST_SLOTS: usize = 4;
 /// them as a list, oldest first.
 #[derive(Drop)]
 pub struct Slots<A: Allocator = Global> {
-    exchanges: ArrayVec<Slot, MOST_SLOTS>,
-    // The allocator's type is part of the slots'.
-    memory: PhantomData<A>,
+    // A ring with room for as many as are saved, so that a new one takes no memory and overwrites the oldest.
+    exchanges: HeapCircularBuffer<Slot, A>,
 }
 
 impl<A: Allocator> Model for Slots<A> {
-    ghost use Rattle.std.specs.Prelude.{List};
+    ghost use Rattle.std.specs.Prelude.{◌≡◌, List};
     ghost use Rattle.ntp_slots.specs.declared.slot.Slot.{Slot};
-    ghost use Rattle.ntp_slots.specs.Exchanges.{AreSaved};
+    ghost use Rattle.ntp_slots.specs.Exchanges.{most_slots, AreSaved};
     ghost use Rattle.ntp_slots.specs.Codes.{coded_exchanges};
 
     ghost Value = { List Slot };
@@ -34,7 +34,7 @@ impl<A: Allocator> Model for Slots<A> {
 
     ghost view = { λ s. s.exchanges.items };
 
-    ghost invariant = { λ s. AreSaved s.exchanges.items };
+    ghost invariant = { λ s. (s.exchanges.capacity ≡ most_slots) × AreSaved s.exchanges.items };
 }
 
 impl<A: Allocator> Slots<A> {
@@ -43,11 +43,8 @@ impl<A: Allocator> Slots<A> {
     pub fn new(alloc: A) -> Result<Self, NoMemory>
         ensures { IfOk result (λ slots. slots ≡ []) }
     {
-        let _ = alloc;
-        Ok(Slots {
-            exchanges: ArrayVec::new(),
-            memory: PhantomData,
-        })
+        let exchanges = HeapCircularBuffer::with_capacity(alloc, MOST_SLOTS)?;
+        Ok(Slots { exchanges })
     }
 
     /// What holds of every value, for proofs that need it; it does nothing when it is called.
@@ -57,11 +54,11 @@ impl<A: Allocator> Slots<A> {
         let _ = &self.exchanges;
     }
 
-    // The exchanges, oldest first.
-    pub(crate) fn saved(&self) -> &[Slot]
-        ensures { result.now ≡ self.now }
+    // The exchanges, oldest first, in the two pieces in which the ring holds them.
+    pub(crate) fn saved(&self) -> (&[Slot], &[Slot])
+        ensures { result.0.now ++ result.1.now ≡ self.now }
     {
-        self.exchanges.as_slice()
+        self.exchanges.as_slices()
     }
 
     /// The exchange with this receive stamp, used or not.
@@ -70,7 +67,8 @@ impl<A: Allocator> Slots<A> {
         ensures unused { unused_at self.now receive ≡ option_and_then unless_used result }
         ensures saved { AreSaved self.now }
     {
-        exchange_in(self.exchanges.as_slice(), receive)
+        let (older, newer) = self.exchanges.as_slices();
+        exchange_in(older, receive).or(exchange_in(newer, receive))
     }
 
     /// The receive stamps, oldest first, in units of 2^-32 seconds.
@@ -79,7 +77,7 @@ impl<A: Allocator> Slots<A> {
         ensures saved { AreSaved self.now }
     {
         let mut stamps = ArrayVec::new();
-        for slot in self.exchanges.as_slice() {
+        for slot in &self.exchanges {
             stamps.push(slot.receive);
         }
         stamps
@@ -91,7 +89,7 @@ impl<A: Allocator> Slots<A> {
         ensures saved { AreSaved self.now }
     {
         let mut stamps = self.receive_stamps();
-        for slot in self.exchanges.as_slice() {
+        for slot in &self.exchanges {
             stamps.push(slot.transmit);
         }
         stamps
@@ -105,10 +103,10 @@ impl<A: Allocator> Slots<A> {
         ensures unchanged { OnFalse result (self.new ≡ self.old) }
         ensures saved { AreSaved self.new }
     {
-        let Some(spent) = unused_place(self.exchanges.as_slice(), receive) else {
+        let Some(spent) = self.unused_place(receive) else {
             return false;
         };
-        self.exchanges.as_mut_slice()[spent].used = true;
+        self.exchanges.get_mut(spent).unwrap().used = true;
         true
     }
 
@@ -121,10 +119,7 @@ impl<A: Allocator> Slots<A> {
         ensures pushed { self.new ≡ recent (self.old ++ new_exchange receive transmit ∷ []) }
         ensures saved { AreSaved self.new }
     {
-        if self.exchanges.is_full() {
-            self.exchanges.remove(0);
-        }
-        self.exchanges.push(Slot {
+        self.exchanges.push_back(Slot {
             receive,
             transmit,
             used: false,
@@ -140,13 +135,22 @@ impl<A: Allocator> Slots<A> {
         ensures unchanged { OnFalse result (self.new ≡ self.old) }
         ensures saved { AreSaved self.new }
     {
-        let Some(departed) = unused_place(self.exchanges.as_slice(), receive) else {
+        let Some(departed) = self.unused_place(receive) else {
             return false;
         };
         let stamps = self.receive_stamps();
         let transmit = fresh(moment.stamp(), stamps.as_slice());
-        self.exchanges.as_mut_slice()[departed].transmit = transmit;
+        self.exchanges.get_mut(departed).unwrap().transmit = transmit;
         true
+    }
+
+    // Where the unused exchange with this receive stamp stands, counted from the oldest.
+    fn unused_place(&self, receive: Stamp) -> Option<usize>
+        ensures { result ≡ position (is_unused_at receive) self.now }
+    {
+        self.exchanges
+            .iter()
+            .position(|slot| !slot.used && slot.receive == receive)
     }
 }
 
@@ -155,13 +159,4 @@ fn exchange_in(slots: &[Slot], receive: Stamp) -> Option<Slot>
     ensures { result ≡ exchange_at slots.now receive }
 {
     slots.iter().copied().find(|slot| slot.receive == receive)
-}
-
-// Where the unused exchange with this receive stamp stands.
-fn unused_place(slots: &[Slot], receive: Stamp) -> Option<usize>
-    ensures { result ≡ position (is_unused_at receive) slots.now }
-{
-    slots
-        .iter()
-        .position(|slot| !slot.used && slot.receive == receive)
 }

@@ -9,7 +9,7 @@ use std::test::Fail;
 const RECEIPT: u64 = 0xec00_0010_9000_0000;
 
 #[test]
-fn no_memory_is_wanted(rt: HostRuntime) {
+fn ample_memory_is_enough(rt: HostRuntime) {
     assert!(rt; Slots::new(rt.alloc()).is_ok());
 }
 

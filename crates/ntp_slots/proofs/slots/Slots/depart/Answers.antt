@@ -1,7 +1,9 @@
-use Rattle.std.proofs.Common.{◌≡◌, Some, None, sym, ap, ◌∙◌}
-use Rattle.std.specs.Prelude.{is_some, position}
+use Rattle.std.proofs.Common.{◌≡◌, Some, None, List, sym, ap, ◌∙◌}
+use Rattle.std.specs.Prelude.{is_some, position, slice_get}
+use Rattle.std.specs.Option.{option_copied_mut}
 use Rattle.ntp_time.specs.Fresh.{fresh}
-use Rattle.ntp_slots.specs.Exchanges.{is_unused_at, receives, with_unused, departed}
+use Rattle.ntp_slots.specs.declared.slot.Slot.{Slot}
+use Rattle.ntp_slots.specs.Exchanges.{AreSaved, is_unused_at, receives, with_unused, departed}
 use Rattle.ntp_slots.proofs.Changes.{find-from_position, find-from_no_position, written-at_place, unchanged-from_none}
 use Rattle.ntp_slots.proofs.Saved.{AreSaved-departed}
 use Rattle.ntp_slots.proofs.slots.Slots.depart.Goals as goal
@@ -9,26 +11,27 @@ use Rattle.ntp_slots.proofs.slots.Slots.depart.Goals as goal
 pub returns-clause-departed : goal.returns-clause-departed
 unfolding departed
 returns-clause-departed g c =
-    let at : position (is_unused_at c.args.receive) c.self.inside.exchanges.items ≡ Some c.in-Some.departed = cc in
-    let left : c.fresh-transmit.result ≡ fresh c.args.moment.stamp (receives c.self.inside.exchanges.items) = cc in
-    written-at_place c.args.receive
-    (λ x. record x { transmit = c.fresh-transmit.result }) c.self.inside.exchanges.items _ c.in-Some.departed _
-    c.self.invariant.distinct at c.as_mut_slice.ensures.value
-    ∙ ap (λ t. with_unused c.self.inside.exchanges.items c.args.receive (λ x. record x { transmit = t })) left
-    ∙ ap (λ xs. departed xs c.args.receive c.args.moment) c.self.view_is
+    let xs : List Slot = c.self.inside.exchanges.items in
+    let at : position (is_unused_at c.args.receive) xs ≡ Some c.in-Some.departed = cc in
+    let left : c.fresh-transmit.result ≡ fresh c.args.moment.stamp (receives xs) = cc in
+    let there : slice_get xs c.in-Some.departed ≡ Some c.unwrap.result.now = sym c.get_mut.follows ∙ ap option_copied_mut c.unwrap.ensures in
+    written-at_place c.args.receive (λ x. record x { transmit = c.fresh-transmit.result }) xs c.in-Some.departed c.unwrap.result.now
+    c.self.invariant.1.distinct at there
+    ∙ ap (λ t. with_unused xs c.args.receive (λ x. record x { transmit = t })) left
+    ∙ ap (λ ys. departed ys c.args.receive c.args.moment) c.self.view_is
 
 pub invariant_of-self : goal.invariant_of-self
 invariant_of-self g c =
-    rw (returns-clause-departed g c, ← c.self.view_is)
-    (AreSaved-departed c.self.inside.exchanges.items c.args.receive c.args.moment c.self.invariant)
+    let were : AreSaved c.args.self.now = rw (← c.self.view_is) c.self.invariant.1 in
+    (c.self.invariant.0, rw (returns-clause-departed g c) (AreSaved-departed c.args.self.now c.args.receive c.args.moment were))
+
+pub returns-clause-saved : goal.returns-clause-saved
+returns-clause-saved g c = (invariant_of-self g c).1
 
 pub returns-clause-found : goal.returns-clause-found
 returns-clause-found g c =
     let at : position (is_unused_at c.args.receive) c.args.self.now ≡ Some c.in-Some.departed = cc in
     sym (find-from_position (is_unused_at c.args.receive) c.args.self.now c.in-Some.departed at)
-
-pub returns-clause-saved : goal.returns-clause-saved
-returns-clause-saved g c = invariant_of-self g c
 
 pub returns-in_default-clause-found : goal.returns-in_default-clause-found
 returns-in_default-clause-found g c =

@@ -6,4 +6,4 @@ use Rattle.ntp_slots.proofs.slots.Slots.new_transmit.Goals as goal
 pub returns-then-is_apart-clause-value : goal.returns-then-is_apart-clause-value
 returns-then-is_apart-clause-value g c =
     sym (fresh-itself c.args.stamp (receives c.args.self.now ++ c.args.receive ∷ []) (omega arith)
-    (rw c.saved.ensures at (sym c.if-is_apart.ensures)))
+    (sym c.if-is_apart.ensures))

@@ -10,7 +10,7 @@ use ntp_slots::Slots;
 use std::alloc::{Allocator, Global};
 use std::marker::Model;
 
-/// What a customer has while it is enrolled. It is kept in `A`.
+/// What a customer has while it is enrolled. It is kept in `A`, and the memory of its slots is given back where it ends.
 #[derive(Drop)]
 pub(crate) struct Account<A: Allocator = Global> {
     key: Key,

@@ -92,8 +92,9 @@ impl<A: Allocator + Copy> Register<A> {
         Ok(())
     }
 
-    // Enrols an address that is not enrolled, with a number that is free. Where the customer finds no
-    // memory, the number is freed again.
+    // Enrols an address that is not enrolled, with a number that is free. The slots are made anew, and
+    // before anything changes, so that where they find no memory all is as it was; where the customer
+    // finds none, the number is freed again.
     fn admit(
         &mut self,
         address: Address,

@@ -1,7 +1,10 @@
 //! An allocator for tests: it passes each call on to another one, counts the allocations that it is asked for, and
-//! refuses those that it is told to refuse.
+//! refuses those that it is told to refuse. Beside it stands a stream whose every call fails.
 #![tactic(auto)]
 
+mod broken;
+
+pub use broken::Broken;
 use std::alloc::{AllocError, Allocator};
 use std::cell::Cell;
 

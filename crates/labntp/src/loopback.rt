@@ -2,7 +2,7 @@
 ghost use Rattle.std.specs.Prelude.{◌≡◌, ◌+◌, ◌-◌, ◌≤◌, ◌<◌, ◌^◌, IfOk};
 ghost use Rattle.ntp_service.specs.Failures.{failures_of};
 
-use crate::status::{DONE, memory_status, socket_status, write_status};
+use labntp_status::{DONE, memory_status, socket_status, write_status};
 use ntp_admin::Command;
 use ntp_client::{Client, Taken};
 use ntp_mac::{Algorithm, Key};

@@ -2,23 +2,16 @@
 //! a socket, and `labntp loopback` lets a server and a client meet.
 #![tactic(auto)]
 
-mod jobs;
 mod loopback;
 mod serving;
-mod starting;
-mod status;
-#[cfg(test)]
-mod tests;
-mod words;
 
-use jobs::Job;
+use labntp_status::{replay_status, unread_status, usage_status};
+use labntp_words::{Job, job};
 use loopback::loopback_status;
 use ntp_service::Watched;
 use serving::serve_status;
-use status::{replay_status, unread_status, usage_status};
 use std::process::ExitCode;
 use std::{env, io};
-use words::job;
 
 fn main(rt: HostRuntime) -> ExitCode {
     let mut faults = rt.stderr();

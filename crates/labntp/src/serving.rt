@@ -2,9 +2,8 @@
 ghost use Rattle.std.specs.Prelude.{◌≡◌, ◌+◌, ◌<◌, ◌≤◌, ◌^◌};
 ghost use Rattle.ntp_service.specs.Failures.{failures_of};
 
-use crate::jobs::Serving;
-use crate::starting::load_status;
-use crate::status::{DONE, socket_status, write_status};
+use labntp_status::{DONE, load_status, socket_status, write_status};
+use labntp_words::Serving;
 use ntp_files::{CommandsFile, read_file};
 use ntp_operating::{LoadFault, Loaded, MOST_FILE_OCTETS, commands_step, load_register};
 use ntp_register_file::RegisterFault;

@@ -1,7 +1,6 @@
 use super::*;
-use crate::status::{IO_FAILED, MEMORY_OUT};
-use crate::tests::Broken;
-use refusing::Refusing;
+use labntp_status::{IO_FAILED, MEMORY_OUT};
+use refusing::{Broken, Refusing};
 
 #[test]
 fn server_and_client_meet(rt: HostRuntime) {

@@ -2,11 +2,11 @@ ghost use Rattle.std.specs.Prelude.{◌≡◌, IfOk};
 ghost use Rattle.ntp_service.specs.Failures.{failures_of};
 
 use super::*;
-use crate::status::{IO_FAILED, TEXT_FAULTY};
-use crate::tests::Broken;
+use labntp_status::{IO_FAILED, TEXT_FAULTY};
 use ntp_client::{Client, Taken};
 use ntp_mac::{Algorithm, Key};
 use ntp_service::moment_now;
+use refusing::Broken;
 use std::fs::{self, File};
 use std::num::NonZero;
 use std::test::Fail;

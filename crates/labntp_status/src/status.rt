@@ -3,7 +3,7 @@ ghost use Rattle.std.specs.Prelude.{◌≡◌, ◌⊎◌, ◌≢◌, ℕ, List, 
 ghost use Rattle.std.specs.IoError.{error_kind};
 ghost use Rattle.ntp_service.specs.Replay.{most_reads};
 ghost use Rattle.ntp_service.specs.Watched.{inner_of, has_failed, read_count, Wrote};
-ghost use Rattle.labntp.specs.Ends.{Ends, status_of};
+ghost use Rattle.labntp_status.specs.Ends.{Ends, status_of};
 
 use ntp_admin::LineFault;
 use ntp_operating::fault_word;

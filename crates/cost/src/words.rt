@@ -9,12 +9,20 @@ pub(crate) enum Query {
     Interleaved,
 }
 
+/// Who asks, among many customers.
+#[derive(Clone, Copy, PartialEq, Eq)]
+pub(crate) enum Who {
+    Customers,
+    Strangers,
+}
+
 /// A word: what is counted, by which algorithm, how many fields, or how often.
 #[derive(Clone, Copy)]
 pub(crate) enum Word {
     Asked(Query),
     Digests,
     Fields,
+    From(Who),
     By(Algorithm),
     Number(u64),
     Other,
@@ -28,6 +36,8 @@ impl Word {
             "interleaved" => Word::Asked(Query::Interleaved),
             "digests" => Word::Digests,
             "fields" => Word::Fields,
+            "customers" => Word::From(Who::Customers),
+            "strangers" => Word::From(Who::Strangers),
             "md5" => Word::By(Algorithm::Md5),
             "sha1" => Word::By(Algorithm::Sha1),
             digits => match digits.parse::<u64>() {

@@ -2,6 +2,7 @@
 
 ghost use Rattle.std.specs.Prelude.{◌≤◌};
 
+use crate::many;
 use crate::words::{Query, Word};
 use ntp_admin::Command;
 use ntp_mac::{Algorithm, Key, digest};
@@ -32,13 +33,25 @@ const RECEIPTS: [u64; 6] = [
 ];
 
 // Does the work that the words ask for, and counts it; none where they ask for nothing.
-pub(crate) fn done(alloc: Global, words: [Word; 3]) -> u64 {
+pub(crate) fn done(alloc: Global, words: [Word; 4]) -> u64 {
     match words {
-        [Word::Asked(kind), Word::By(algorithm), Word::Number(count)] => queries(
-            alloc, kind, algorithm, count,
-        ),
-        [Word::Digests, Word::By(algorithm), Word::Number(count)] => digests(algorithm, count),
-        [Word::Fields, Word::Number(many), Word::Number(count)] => fields(many, count),
+        [
+            Word::Asked(kind),
+            Word::By(algorithm),
+            Word::Number(count),
+            _,
+        ] => queries(alloc, kind, algorithm, count),
+        [Word::Digests, Word::By(algorithm), Word::Number(count), _] => digests(algorithm, count),
+        [Word::Fields, Word::Number(many), Word::Number(count), _] => fields(many, count),
+        [
+            Word::From(who),
+            Word::Number(customers),
+            Word::Number(revoked),
+            Word::Number(count),
+        ] => {
+            let customers = customers.min(65_535) as u16;
+            many::asked(alloc, who, customers, revoked.min(1_000_000) as u32, count)
+        }
         _ => 0,
     }
 }
@@ -48,19 +61,11 @@ fn queries(alloc: Global, kind: Query, algorithm: Algorithm, count: u64) -> u64 
     let Ok(key) = Key::new(algorithm, b"key") else {
         return 0;
     };
-    let Ok(reference) = Reference::new(
-        0,
-        1,
-        -20,
-        Short(0),
-        Short(16),
-        *b"NIST",
-        Stamp(0xec00_0000_0000_0000),
-    ) else {
+    let Some(reference) = reference() else {
         return 0;
     };
     let mut service = Service::new(alloc);
-    if !enrolled(&mut service, key) {
+    if !enrolled(&mut service, CUSTOMER, 7, key) {
         return 0;
     }
     let mut round = [[0; 72]; 6];
@@ -83,13 +88,20 @@ fn queries(alloc: Global, kind: Query, algorithm: Algorithm, count: u64) -> u64 
     answered
 }
 
-// Whether the customer could be enrolled.
-fn enrolled(service: &mut Service, key: Key) -> bool {
-    let (Some(number), Some(budget)) = (NonZero::<u16>::new(7), NonZero::<u16>::new(65_535)) else {
+/// The clock's state.
+pub(crate) fn reference() -> Option<Reference> {
+    let set = Stamp(0xec00_0000_0000_0000);
+    Reference::new(0, 1, -20, Short(0), Short(16), *b"NIST", set).ok()
+}
+
+/// Whether a customer could be enrolled.
+pub(crate) fn enrolled(service: &mut Service, address: Address, number: u16, key: Key) -> bool {
+    let (Some(number), Some(budget)) = (NonZero::<u16>::new(number), NonZero::<u16>::new(65_535))
+    else {
         return false;
     };
     let enrolment = Command::Enrol {
-        address: CUSTOMER,
+        address,
         number,
         key,
         budget,
@@ -97,9 +109,9 @@ fn enrolled(service: &mut Service, key: Key) -> bool {
     service.command(&enrolment).is_ok()
 }
 
-// Writes a query and the key number behind it. One that asks for an interleaved reply has the receive stamp of the reply
-// before it as its origin.
-fn fill(kind: Query, last: u64, query: &mut [u8; 72]) {
+/// Writes a query and the key number behind it. One that asks for an interleaved reply has the receive stamp of the reply
+/// before it as its origin.
+pub(crate) fn fill(kind: Query, last: u64, query: &mut [u8; 72]) {
     query[..48].copy_from_slice(&HEADER);
     if kind == Query::Interleaved {
         query[24..32].copy_from_slice(&last.to_be_bytes());
@@ -118,15 +130,16 @@ fn query_length(algorithm: Algorithm) -> usize
     }
 }
 
-// Puts the digest behind the header and the number.
-fn sign(key: Key, query: &mut [u8; 72]) {
+/// Puts the digest behind the header and the number.
+pub(crate) fn sign(key: Key, query: &mut [u8; 72]) {
     match digest(&key, &query[..48]) {
         ntp_mac::Digest::Md5(octets) => query[52..68].copy_from_slice(&octets),
         ntp_mac::Digest::Sha1(octets) => query[52..72].copy_from_slice(&octets),
     }
 }
 
-fn moment(units: u64) -> Moment {
+/// The moment of era 0 with this stamp.
+pub(crate) fn moment(units: u64) -> Moment {
     Moment {
         era: 0,
         stamp: Stamp(units),

@@ -6,8 +6,6 @@ mod example;
 #[cfg(test)]
 mod floods;
 #[cfg(test)]
-mod registers;
-#[cfg(test)]
 mod rows;
 #[cfg(test)]
 mod serving;

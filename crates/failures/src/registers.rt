@@ -1,6 +1,8 @@
 //! Registers beside plain maps: ten thousand customers, and enrolments whose memory is refused.
 ghost use Rattle.std.specs.Prelude.{◌<◌};
 
+use crate::refused::Refused;
+use crate::refused_enrolments::enrolment_refused;
 use ntp_mac::{Algorithm, Key};
 use ntp_register::{Address, Refusal, Register};
 use refusing::Refusing;
@@ -136,85 +138,56 @@ fn ten_thousand_customers_are_told_as_by_plain_maps(rt: HostRuntime) -> Result<(
 }
 
 // Enrols an address while the nth allocation is refused. Where one was, nothing changed, and the same enrolment then
-// succeeds. Whether one was refused.
-fn is_refused(
+// succeeds.
+fn place_refused(
     rt: &impl Abort,
     memory: &Refusing<Global>,
     twin: &mut Twin<&Refusing<Global>>,
-    place: u16,
+    place: u8,
     n: u64,
-) -> Result<bool, AllocError>
-    requires { place < 100 }
-{
+) -> Result<Refused, Fail> {
+    let place = u16::from(place);
     memory.refuse_nth(n);
-    let end = twin.enrol(address_at(place), place + 100)?;
+    let end = twin.enrol(address_at(place), place + 300)?;
     memory.refuse_none();
-    let refused = memory.refused() > 0;
     twin.are_told(rt, 100);
-    if refused {
-        assert_eq!(rt; end, Err(Refusal::NoMemory), "at {n}");
-        assert_eq!(rt; twin.enrol(address_at(place), place + 100)?, Ok(()));
+    let refused = enrolment_refused(rt, memory, end);
+    if refused == Refused::Enrolment {
+        assert!(rt; twin.enrol(address_at(place), place + 300)?.is_ok());
         twin.are_told(rt, 100);
-    } else {
-        assert_eq!(rt; end, Ok(()), "at {n}");
     }
     Ok(refused)
 }
 
 // The first customers, at the places from 0 on, each with its place and one as its number.
-fn enrol_first(
-    rt: &impl Abort,
-    twin: &mut Twin<&Refusing<Global>>,
-    count: u16,
-) -> Result<(), AllocError>
-    requires { count < 100 }
-{
+fn enrol_first(rt: &impl Abort, twin: &mut Twin<&Refusing<Global>>, count: u8) -> Result<(), Fail> {
     for place in 0..count {
-        assert_eq!(rt; twin.enrol(address_at(place), place + 1)?, Ok(()));
+        let place = u16::from(place);
+        assert!(rt; twin.enrol(address_at(place), place + 1)?.is_ok());
     }
     Ok(())
 }
 
-// How many allocations a customer's enrolment makes after that of so many others; each is refused in turn.
-fn refusals_after(rt: &impl Abort, alloc: Global, count: u16) -> Result<u64, Fail>
-    requires { count < 100 }
-{
-    for n in 1..100u64 {
-        let memory = Refusing::new(alloc);
-        let mut twin = Twin::new(&memory, alloc, key()?);
-        enrol_first(rt, &mut twin, count)?;
-        if !is_refused(rt, &memory, &mut twin, count, n)? {
-            return Ok(n - 1);
-        }
-    }
-    Ok(100)
+/// Enrols a customer behind so many others.
+pub(crate) fn next_refused(
+    rt: &impl Abort,
+    alloc: Global,
+    count: u8,
+    n: u64,
+) -> Result<Refused, Fail> {
+    let memory = Refusing::new(alloc);
+    let mut twin = Twin::new(&memory, alloc, key()?);
+    enrol_first(rt, &mut twin, count)?;
+    place_refused(rt, &memory, &mut twin, count, n)
 }
 
-#[test]
-fn a_refused_enrolment_changes_nothing(rt: HostRuntime) -> Result<(), Fail> {
-    let first = refusals_after(&rt, rt.alloc(), 0)?;
-    let second = refusals_after(&rt, rt.alloc(), 1)?;
-    let tenth = refusals_after(&rt, rt.alloc(), 9)?;
-    assert!(rt; first > 1 && first < 100, "{first}");
-    assert!(rt; second < 100, "{second}");
-    assert!(rt; tenth > 1 && tenth < 100, "{tenth}");
-    Ok(())
-}
-
-// The first of nine is revoked, and another one takes its place among the holders: to enrol the first again takes memory.
-#[test]
-fn a_refused_enrolment_of_a_revoked_address_changes_nothing(rt: HostRuntime) -> Result<(), Fail> {
-    for n in 1..100u64 {
-        let memory = Refusing::new(rt.alloc());
-        let mut twin = Twin::new(&memory, rt.alloc(), key()?);
-        enrol_first(&rt, &mut twin, 9)?;
-        assert_eq!(rt; twin.revoke(address_at(0), 1)?, Ok(()));
-        assert_eq!(rt; twin.enrol(address_at(9), 10)?, Ok(()));
-        if !is_refused(&rt, &memory, &mut twin, 0, n)? {
-            assert!(rt; n > 1, "no memory was wanted");
-            return Ok(());
-        }
-    }
-    assert!(rt; false, "it never came to its end");
-    Ok(())
+/// Revokes the first of nine, has another one take its place among the holders, and enrols the first again: that takes
+/// memory.
+pub(crate) fn revoked_refused(rt: &impl Abort, alloc: Global, n: u64) -> Result<Refused, Fail> {
+    let memory = Refusing::new(alloc);
+    let mut twin = Twin::new(&memory, alloc, key()?);
+    enrol_first(rt, &mut twin, 9)?;
+    assert!(rt; twin.revoke(address_at(0), 1)?.is_ok());
+    assert!(rt; twin.enrol(address_at(9), 10)?.is_ok());
+    place_refused(rt, &memory, &mut twin, 0, n)
 }

@@ -1,0 +1,19 @@
+//! Tests of refused memory, and of reads, writes, receives and sends that fail.
+#![tactic(auto)]
+
+#[cfg(test)]
+mod exchange;
+#[cfg(test)]
+mod fail_after;
+#[cfg(test)]
+mod failing_ports;
+#[cfg(test)]
+mod failing_streams;
+#[cfg(test)]
+mod refused;
+#[cfg(test)]
+mod refused_calls;
+#[cfg(test)]
+mod refused_enrolments;
+#[cfg(test)]
+mod registers;

@@ -1,0 +1,124 @@
+//! Calls while one allocation is refused: those that change nothing, a run, and a replay.
+
+use crate::exchange::{
+    ANSWERS, CUSTOMER, SCRIPT, UNENROLLED_ANSWERS, are_first_answers, events, moment, printed,
+};
+use crate::refused::Refused;
+use ntp_admin::{Event, LineFault, NoMemory, parse_event, print_answer};
+use ntp_service::{MemoryPort, ReplayFaultKind, Service, Turn, Watched, replay};
+use ntp_slots::Slots;
+use refusing::Refusing;
+use std::alloc::Global;
+use std::process::Abort;
+use std::test::Fail;
+
+// What was refused a call that tells it by `NoMemory`, and else is right.
+fn call_refused(
+    rt: &impl Abort,
+    memory: &Refusing<Global>,
+    end: Result<bool, NoMemory>,
+) -> Refused {
+    if memory.refused() == 0 {
+        assert!(rt; end == Ok(true));
+        return Refused::Nothing;
+    }
+    assert!(rt; end == Err(NoMemory));
+    Refused::Call
+}
+
+/// New slots are empty.
+pub(crate) fn slots_refused(rt: &impl Abort, alloc: Global, n: u64) -> Refused {
+    let memory = Refusing::new(alloc);
+    memory.refuse_nth(n);
+    let end = Slots::new(&memory).map(|slots| slots.receive_stamps().is_empty());
+    call_refused(rt, &memory, end)
+}
+
+/// The line of the exchange's first query is that event.
+pub(crate) fn event_refused(rt: &impl Abort, alloc: Global, n: u64) -> Result<Refused, Fail> {
+    let line = SCRIPT.lines().nth(1).ok_or("no query")?;
+    let memory = Refusing::new(alloc);
+    memory.refuse_nth(n);
+    let end = match parse_event(&memory, line) {
+        Ok(
+            Event::Datagram {
+                address,
+                octets,
+                ..
+            },
+        ) => { Ok(address == CUSTOMER && octets.as_slice().ends_with(b"\x0a\x52\x36")) }
+        Err(LineFault::NoMemory) => Err(NoMemory),
+        _ => Ok(false),
+    };
+    Ok(call_refused(rt, &memory, end))
+}
+
+/// The answer to that query is printed as it is worked.
+pub(crate) fn answer_refused(rt: &impl Abort, alloc: Global, n: u64) -> Result<Refused, Fail> {
+    let outcomes = Service::new(alloc).run(&events(alloc)?)?;
+    let outcome = outcomes.get(1).ok_or("no answer")?;
+    let memory = Refusing::new(alloc);
+    memory.refuse_nth(n);
+    let end = print_answer(&memory, outcome).map(|line| line.as_str().strip_suffix('\n')
+        == ANSWERS.lines().nth(1));
+    Ok(call_refused(rt, &memory, end))
+}
+
+/// A port of one turn has sent nothing yet.
+pub(crate) fn port_refused(rt: &impl Abort, alloc: Global, n: u64) -> Result<Refused, Fail> {
+    let memory = Refusing::new(alloc);
+    let mut turns = Vec::new(&memory);
+    turns.push(Turn {
+        arrival: None,
+        transmit: moment(0),
+        departure: moment(0),
+        sends: true,
+    })?;
+    memory.refuse_nth(n);
+    let end = MemoryPort::new(&memory, turns).map(|port| port.sent().is_empty());
+    Ok(call_refused(rt, &memory, end))
+}
+
+/// A run that is refused as a whole leaves the service as before: the same events are then answered as the first ones.
+pub(crate) fn run_refused(rt: &impl Abort, alloc: Global, n: u64) -> Result<Refused, Fail> {
+    let memory = Refusing::new(alloc);
+    let events = events(&memory)?;
+    let mut service = Service::new(&memory);
+    memory.refuse_nth(n);
+    let end = service.run(&events);
+    memory.refuse_none();
+    let (outcomes, answers, refused) = match end {
+        Err(_) => (service.run(&events)?, ANSWERS, Refused::Call),
+        Ok(outcomes) if memory.refused() > 0 => {
+            (outcomes, UNENROLLED_ANSWERS, Refused::Enrolment)
+        }
+        Ok(outcomes) => (outcomes, ANSWERS, Refused::Nothing),
+    };
+    assert!(rt; printed(alloc, &outcomes)?.as_str() == answers);
+    Ok(refused)
+}
+
+/// A replay that stops has answered the lines before, and one that goes on has been refused the enrolment alone.
+pub(crate) fn replay_refused(rt: &impl Abort, alloc: Global, n: u64) -> Refused {
+    let memory = Refusing::new(alloc);
+    memory.refuse_nth(n);
+    let mut reader = Watched::new(SCRIPT.as_bytes());
+    let mut writer = Watched::new(Vec::new(alloc));
+    let end = replay(&memory, &mut reader, &mut writer);
+    let written = writer.into_inner();
+    let Err(fault) = end else {
+        let (answers, refused) = if memory.refused() > 0 {
+            (UNENROLLED_ANSWERS, Refused::Enrolment)
+        } else {
+            (ANSWERS, Refused::Nothing)
+        };
+        assert!(rt; written.as_slice() == answers.as_bytes());
+        return refused;
+    };
+    are_first_answers(rt, &written, fault.line.saturating_sub(1));
+    if fault.kind == ReplayFaultKind::NoMemory {
+        return Refused::Line;
+    }
+    assert!(rt; fault.kind == ReplayFaultKind::Line(LineFault::NoMemory));
+    Refused::Event
+}

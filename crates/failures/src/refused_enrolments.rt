@@ -1,0 +1,128 @@
+//! Enrolments while one allocation is refused: a refused one leaves the address, the number and all counts as they were.
+
+use crate::exchange::{CUSTOMER, moment, reference};
+use crate::refused::Refused;
+use ntp_admin::Command;
+use ntp_mac::{Algorithm, Key};
+use ntp_operating::commands_step;
+use ntp_register::{Address, Refusal, Register};
+use ntp_reply::{Answer, Reason};
+use ntp_service::Service;
+use refusing::Refusing;
+use std::alloc::{Allocator, Global};
+use std::num::NonZero;
+use std::process::Abort;
+use std::test::Fail;
+
+const NEIGHBOUR: Address = Address([192, 0, 2, 20]);
+
+/// What was refused, where an enrolment has this end.
+pub(crate) fn enrolment_refused(
+    rt: &impl Abort,
+    memory: &Refusing<Global>,
+    end: Result<(), Refusal>,
+) -> Refused {
+    if memory.refused() == 0 {
+        assert!(rt; end == Ok(()));
+        return Refused::Nothing;
+    }
+    assert!(rt; end == Err(Refusal::NoMemory));
+    Refused::Enrolment
+}
+
+/// Enrols the customer in an empty register. Where that was refused, the customer is unknown, and a neighbour can be
+/// enrolled with the number.
+pub(crate) fn first_refused(rt: &impl Abort, alloc: Global, n: u64) -> Result<Refused, Fail> {
+    let key = Key::new(Algorithm::Md5, b"key")?;
+    let other = Key::new(Algorithm::Sha1, b"other")?;
+    let memory = Refusing::new(alloc);
+    let mut register = Register::new(&memory);
+    memory.refuse_nth(n);
+    let end = register.enrol(CUSTOMER, 7, key, 10);
+    memory.refuse_none();
+    let is_enrolled = end.is_ok();
+    assert!(rt; register.holder(7).is_some() == is_enrolled);
+    assert!(rt; register.customer(CUSTOMER).is_some() == is_enrolled);
+    assert!(rt; register.enrol(NEIGHBOUR, 7, other, 10).is_err() == is_enrolled);
+    Ok(enrolment_refused(rt, &memory, end))
+}
+
+// What an enrolment is answered.
+fn enrol<A: Allocator + Copy>(
+    service: &mut Service<A>,
+    address: Address,
+    number: u16,
+) -> Result<Result<(), Refusal>, Fail> {
+    Ok(service.command(&Command::Enrol {
+        address,
+        number: NonZero::<u16>::new(number).ok_or("no number")?,
+        key: Key::new(Algorithm::Md5, b"key")?,
+        budget: NonZero::<u16>::new(10).ok_or("no budget")?,
+    }))
+}
+
+// Whether the customer is told DENY to a query without a MAC, always in one window. Else that was told too often.
+fn is_denied<A: Allocator + Copy>(rt: &impl Abort, service: &mut Service<A>) -> Result<bool, Fail> {
+    let receipt = moment(0xec00_0010_9000_0000);
+    let mut query = [0; 48];
+    query[0] = 0x23;
+    let answer = service.datagram(CUSTOMER, receipt, receipt, &reference()?, &query);
+    let is_denied = matches!(&answer, Answer::Deny(_));
+    assert!(rt; is_denied || answer == Answer::Silent(Reason::Muted));
+    Ok(is_denied)
+}
+
+// Revokes the customer, enrols nine others, whose numbers fill what room there is, and has the customer refused as often
+// as it is told so in one window.
+fn revoke<A: Allocator + Copy>(rt: &impl Abort, service: &mut Service<A>) -> Result<(), Fail> {
+    enrol(service, CUSTOMER, 7)??;
+    service.command(&Command::Revoke { address: CUSTOMER })?;
+    for other in 0..9 {
+        enrol(service, Address([10, 0, 0, other]), 100 + u16::from(other))??;
+    }
+    for _ in 0..4 {
+        assert!(rt; is_denied(rt, service)?);
+    }
+    Ok(())
+}
+
+/// Enrols the revoked customer again. Where that was refused, a further refusal is still one too many; else none is
+/// counted.
+pub(crate) fn again_refused(rt: &impl Abort, alloc: Global, n: u64) -> Result<Refused, Fail> {
+    let memory = Refusing::new(alloc);
+    let mut service = Service::new(&memory);
+    revoke(rt, &mut service)?;
+    memory.refuse_nth(n);
+    let end = enrol(&mut service, CUSTOMER, 7)?;
+    memory.refuse_none();
+    assert!(rt; is_denied(rt, &mut service)? == end.is_ok());
+    Ok(enrolment_refused(rt, &memory, end))
+}
+
+// Two enrolments.
+const COMMANDS: &[u8] =
+    b"enrol 192.0.2.10 7 md5 6b6579 10\nenrol 192.0.2.20 8 sha1 6f74686572 10\n";
+
+/// Applies two enrolments of a commands file, twice. A refused line is told and left its address free, the other is
+/// carried out, and neither is tried again.
+pub(crate) fn line_refused(rt: &impl Abort, alloc: Global, n: u64) -> Result<Refused, Fail> {
+    let memory = Refusing::new(alloc);
+    let mut service = Service::new(&memory);
+    let mut told = Vec::new(alloc);
+    memory.refuse_nth(n);
+    let applied = commands_step(&mut service, COMMANDS, 0, &mut told);
+    memory.refuse_none();
+    assert!(rt; applied == 2);
+    assert!(rt; commands_step(&mut service, COMMANDS, applied, &mut told) == 2);
+    let first = enrol(&mut service, CUSTOMER, 7)?.is_ok();
+    let second = enrol(&mut service, NEIGHBOUR, 8)?.is_ok();
+    let (fault, refused) = match (first, second) {
+        (true, false) => ("commands: line 1: no-memory\n", Refused::Enrolment),
+        (false, true) => ("commands: line 2: no-memory\n", Refused::Enrolment),
+        (false, false) => ("", Refused::Nothing),
+        (true, true) => ("no line was carried out", Refused::Call),
+    };
+    assert!(rt; told.as_slice() == fault.as_bytes());
+    assert!(rt; (refused == Refused::Nothing) == (memory.refused() == 0));
+    Ok(refused)
+}

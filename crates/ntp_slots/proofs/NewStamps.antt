@@ -16,6 +16,10 @@ or_true : (b : Bool) → (b || true) ≡ true
 or_true true = refl
 or_true false = refl
 
+or_false : (b : Bool) → (b || false) ≡ b
+or_false true = refl
+or_false false = refl
+
 -- four tests, of which two change places
 changed : (a b c d : Bool) → ((a || b) || (c || d)) ≡ (a || (c || (b || d)))
 changed true b c d = refl
@@ -50,10 +54,9 @@ pub any-last : (avoid : List Stamp) (r s : Stamp) → (r.0 == s.0) ≡ true → 
 any-last avoid r s same =
     list_any-append (λ a. a.0 == s.0) avoid (r ∷ []) ∙ rw same (or_true (list_any (λ a. a.0 == s.0) avoid))
 
-pub any-before : (avoid : List Stamp) (r s : Stamp) → list_any (λ a. a.0 == s.0) avoid ≡ true
-    → list_any (λ a. a.0 == s.0) (avoid ++ r ∷ []) ≡ true
-any-before avoid r s found = list_any-append (λ a. a.0 == s.0) avoid (r ∷ []) ∙ rw found refl
-
-pub any-neither : (avoid : List Stamp) (r s : Stamp) → (r.0 == s.0) ≡ false → list_any (λ a. a.0 == s.0) avoid ≡ false
-    → list_any (λ a. a.0 == s.0) (avoid ++ r ∷ []) ≡ false
-any-neither avoid r s other none = list_any-append (λ a. a.0 == s.0) avoid (r ∷ []) ∙ rw (none, other) refl
+pub free-of_another : (avoid : List Stamp) (r s : Stamp) → (r.0 == s.0) ≡ false → is_free avoid s ≡ is_free (avoid ++ r ∷ []) s
+unfolding is_free
+free-of_another avoid r s other =
+    let same : list_any (λ a. a.0 == s.0) (avoid ++ r ∷ []) ≡ list_any (λ a. a.0 == s.0) avoid =
+    list_any-append (λ a. a.0 == s.0) avoid (r ∷ []) ∙ rw other (or_false (list_any (λ a. a.0 == s.0) avoid)) in
+    rw same refl

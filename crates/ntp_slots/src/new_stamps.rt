@@ -36,6 +36,18 @@ impl<A: Allocator> Slots<A> {
         }
     }
 
+    // The transmit stamp of an exchange whose reply left: this stamp, or the first after it that is neither 0 nor a saved
+    // receive stamp (profile, after RFC 9769), in units of 2^-32 seconds.
+    pub(crate) fn new_departure(&self, stamp: Stamp) -> Stamp
+        ensures { result ≡ fresh stamp (receives self.now) }
+    {
+        if self.is_unreceived(stamp) {
+            stamp
+        } else {
+            self.next_departure(stamp)
+        }
+    }
+
     // The receive stamp of a new exchange, looked for beside a list of those to avoid. Such a list is made in a function of
     // its own, since a function clears the room for its locals at each call.
     fn next_receive(&self, stamp: Stamp) -> Stamp
@@ -55,6 +67,13 @@ impl<A: Allocator> Slots<A> {
         fresh(stamp, stamps.as_slice())
     }
 
+    // The transmit stamp of an exchange whose reply left, looked for beside a list of those to avoid.
+    fn next_departure(&self, stamp: Stamp) -> Stamp
+        ensures { result ≡ fresh stamp (receives self.now) }
+    {
+        fresh(stamp, self.receive_stamps().as_slice())
+    }
+
     // Whether a stamp is neither 0 nor saved.
     fn is_new(&self, stamp: Stamp) -> bool
         ensures { result ≡ is_free (all_stamps self.now) stamp }
@@ -72,6 +91,13 @@ impl<A: Allocator> Slots<A> {
         if receive.0 == stamp.0 {
             return false;
         }
+        self.is_unreceived(stamp)
+    }
+
+    // Whether a stamp is neither 0 nor a saved receive stamp.
+    fn is_unreceived(&self, stamp: Stamp) -> bool
+        ensures { result ≡ is_free (receives self.now) stamp }
+    {
         if self.is_received(stamp) {
             return false;
         }

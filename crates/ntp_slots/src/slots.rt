@@ -1,5 +1,5 @@
 //! The exchanges that are saved. Nothing else opens them.
-ghost use Rattle.std.specs.Prelude.{◌≡◌, [], ◌∷◌, ◌++◌, IfOk, IsTrue, is_some, option_and_then, position};
+ghost use Rattle.std.specs.Prelude.{◌≡◌, [], ◌∷◌, ◌++◌, IfOk, IsNone, IsTrue, is_some, option_and_then, position};
 ghost use Rattle.std.specs.Bool.{OnFalse};
 ghost use Rattle.ntp_time.specs.Fresh.{is_free};
 ghost use Rattle.ntp_slots.specs.Exchanges.{AreSaved, recent, new_exchange, receives, all_stamps, exchange_at, unused_at, unless_used, is_unused_at, spent, departed};
@@ -7,7 +7,7 @@ ghost use Rattle.ntp_slots.specs.Exchanges.{AreSaved, recent, new_exchange, rece
 use crate::{NoMemory, Slot};
 use arrayvec::ArrayVec;
 use circular_buffer::HeapCircularBuffer;
-use ntp_time::{Moment, Stamp, fresh};
+use ntp_time::{Moment, Stamp};
 use std::alloc::{Allocator, Global};
 use std::marker::Model;
 
@@ -103,11 +103,22 @@ impl<A: Allocator> Slots<A> {
         ensures unchanged { OnFalse result (self.new ≡ self.old) }
         ensures saved { AreSaved self.new }
     {
-        let Some(spent) = self.unused_place(receive) else {
-            return false;
-        };
-        self.exchanges.get_mut(spent).unwrap().used = true;
-        true
+        self.spend_unused(receive).is_some()
+    }
+
+    /// Marks the unused exchange with this receive stamp as used, and gives it as it was before (profile, after
+    /// RFC 9769). Where there is none, nothing changes.
+    pub fn spend_unused(&mut self, receive: Stamp) -> Option<Slot>
+        ensures found { result ≡ unused_at self.old receive }
+        ensures spent { self.new ≡ spent self.old receive }
+        ensures unchanged { IsNone result → self.new ≡ self.old }
+        ensures saved { AreSaved self.new }
+    {
+        let place = self.unused_place(receive)?;
+        let exchange = self.exchanges.get_mut(place).unwrap();
+        let unused = *exchange;
+        exchange.used = true;
+        Some(unused)
     }
 
     /// Saves a new exchange, unused; the oldest goes where there are more than are saved (profile). Its
@@ -138,19 +149,25 @@ impl<A: Allocator> Slots<A> {
         let Some(departed) = self.unused_place(receive) else {
             return false;
         };
-        let stamps = self.receive_stamps();
-        let transmit = fresh(moment.stamp(), stamps.as_slice());
+        let transmit = self.new_departure(moment.stamp());
         self.exchanges.get_mut(departed).unwrap().transmit = transmit;
         true
     }
 
-    // Where the unused exchange with this receive stamp stands, counted from the oldest.
+    // Where the unused exchange with this receive stamp stands, counted from the oldest. No saved stamp is 0, and a query
+    // that asks about no exchange has that origin, so the exchanges are not looked through for it.
     fn unused_place(&self, receive: Stamp) -> Option<usize>
         ensures { result ≡ position (is_unused_at receive) self.now }
     {
-        self.exchanges
-            .iter()
-            .position(|slot| !slot.used && slot.receive == receive)
+        let exchanges = &self.exchanges;
+        if receive.0 == 0 {
+            return None;
+        }
+        let (older, newer) = exchanges.as_slices();
+        match unused_in(older, receive) {
+            Some(place) => Some(place),
+            None => Some(older.len() + unused_in(newer, receive)?),
+        }
     }
 }
 
@@ -159,4 +176,13 @@ fn exchange_in(slots: &[Slot], receive: Stamp) -> Option<Slot>
     ensures { result ≡ exchange_at slots.now receive }
 {
     slots.iter().copied().find(|slot| slot.receive == receive)
+}
+
+// Where the unused exchange with this receive stamp stands.
+fn unused_in(slots: &[Slot], receive: Stamp) -> Option<usize>
+    ensures { result ≡ position (is_unused_at receive) slots.now }
+{
+    slots
+        .iter()
+        .position(|slot| !slot.used && slot.receive == receive)
 }

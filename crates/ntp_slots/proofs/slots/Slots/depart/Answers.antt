@@ -1,10 +1,10 @@
 use Rattle.std.proofs.Common.{◌≡◌, Some, None, List, sym, ap, ◌∙◌}
-use Rattle.std.specs.Prelude.{is_some, position, slice_get}
+use Rattle.std.specs.Prelude.{is_some, find, position, slice_get}
 use Rattle.std.specs.Option.{option_copied_mut}
 use Rattle.ntp_time.specs.Fresh.{fresh}
 use Rattle.ntp_slots.specs.declared.slot.Slot.{Slot}
 use Rattle.ntp_slots.specs.Exchanges.{AreSaved, is_unused_at, receives, with_unused, departed}
-use Rattle.ntp_slots.proofs.Changes.{find-from_position, find-from_no_position, written-at_place, unchanged-from_none}
+use Rattle.ntp_slots.proofs.Changes.{find-at_position, find-from_no_position, written-at_place, unchanged-from_none}
 use Rattle.ntp_slots.proofs.Saved.{AreSaved-departed}
 use Rattle.ntp_slots.proofs.slots.Slots.depart.Goals as goal
 
@@ -13,9 +13,9 @@ unfolding departed
 returns-clause-departed g c =
     let xs : List Slot = c.self.inside.exchanges.items in
     let at : position (is_unused_at c.args.receive) xs ≡ Some c.in-Some.departed = cc in
-    let left : c.fresh-transmit.result ≡ fresh c.args.moment.stamp (receives xs) = cc in
+    let left : c.new_departure-transmit.result ≡ fresh c.args.moment.stamp (receives xs) = cc in
     let there : slice_get xs c.in-Some.departed ≡ Some c.unwrap.result.now = sym c.get_mut.follows ∙ ap option_copied_mut c.unwrap.ensures in
-    written-at_place c.args.receive (λ x. record x { transmit = c.fresh-transmit.result }) xs c.in-Some.departed c.unwrap.result.now
+    written-at_place c.args.receive (λ x. record x { transmit = c.new_departure-transmit.result }) xs c.in-Some.departed c.unwrap.result.now
     c.self.invariant.1.distinct at there
     ∙ ap (λ t. with_unused xs c.args.receive (λ x. record x { transmit = t })) left
     ∙ ap (λ ys. departed ys c.args.receive c.args.moment) c.self.view_is
@@ -30,8 +30,11 @@ returns-clause-saved g c = (invariant_of-self g c).1
 
 pub returns-clause-found : goal.returns-clause-found
 returns-clause-found g c =
-    let at : position (is_unused_at c.args.receive) c.args.self.now ≡ Some c.in-Some.departed = cc in
-    sym (find-from_position (is_unused_at c.args.receive) c.args.self.now c.in-Some.departed at)
+    let xs : List Slot = c.self.inside.exchanges.items in
+    let at : position (is_unused_at c.args.receive) xs ≡ Some c.in-Some.departed = cc in
+    let there : slice_get xs c.in-Some.departed ≡ Some c.unwrap.result.now = sym c.get_mut.follows ∙ ap option_copied_mut c.unwrap.ensures in
+    sym (ap (λ ys. is_some (find (is_unused_at c.args.receive) ys)) (sym c.self.view_is)
+    ∙ ap is_some (find-at_position (is_unused_at c.args.receive) xs c.in-Some.departed c.unwrap.result.now at there))
 
 pub returns-in_default-clause-found : goal.returns-in_default-clause-found
 returns-in_default-clause-found g c =

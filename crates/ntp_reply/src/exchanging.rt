@@ -55,21 +55,8 @@ fn use_match<A: Allocator>(slots: &mut Slots<A>, request: &Header) -> Option<Slo
     ensures used { slots.new ≡ with_match_used slots.old request.now }
     ensures stamps { (all_stamps slots.new ≡ all_stamps slots.old) × (receives slots.new ≡ receives slots.old) }
 {
-    let matched = matched(slots, request);
-    if matched.is_some() {
-        slots.spend(request.origin());
-    }
-    matched
-}
-
-// The exchange that a request asks about.
-fn matched<A: Allocator>(slots: &Slots<A>, request: &Header) -> Option<Slot>
-    ensures { result ≡ matched slots.now request.now }
-{
     if request.receive().0 == request.transmit().0 {
         return None;
     }
-    slots
-        .find(request.origin())
-        .filter(|exchange| !exchange.used)
+    slots.spend_unused(request.origin())
 }

@@ -1,6 +1,6 @@
 use Rattle.ntp_slots.proofs.Changes.{all_stamps-spent, receives-spent}
 use Rattle.ntp_reply.proofs.exchanging.use_match.Goals as goal
 
-pub returns-then-is_some-clause-stamps : goal.returns-then-is_some-clause-stamps
-returns-then-is_some-clause-stamps g c =
-    rw c.spend.ensures.spent (all_stamps-spent c.args.slots.now c.origin.result, receives-spent c.args.slots.now c.origin.result)
+pub returns-clause-stamps : goal.returns-clause-stamps
+returns-clause-stamps g c =
+    rw c.spend_unused.ensures.spent (all_stamps-spent c.args.slots.now c.origin.result, receives-spent c.args.slots.now c.origin.result)

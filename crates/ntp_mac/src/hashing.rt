@@ -20,7 +20,7 @@ pub fn digest(key: &Key, octets: &[u8]) -> Digest
 }
 
 // The MD5 digest of two parts, one behind the other.
-fn md5_of_two(first: &[u8], second: &[u8]) -> [u8; 16]
+pub(crate) fn md5_of_two(first: &[u8], second: &[u8]) -> [u8; 16]
     ensures { result ≡ md5 (first.now ++ second.now) }
 {
     let mut hasher = Md5::new();
@@ -30,7 +30,7 @@ fn md5_of_two(first: &[u8], second: &[u8]) -> [u8; 16]
 }
 
 // The SHA-1 digest of two parts, one behind the other.
-fn sha1_of_two(first: &[u8], second: &[u8]) -> [u8; 20]
+pub(crate) fn sha1_of_two(first: &[u8], second: &[u8]) -> [u8; 20]
     ensures { result ≡ sha1 (first.now ++ second.now) }
 {
     let mut hasher = Sha1::new();

@@ -1,11 +1,12 @@
 //! Whether a request is signed.
 ghost use Rattle.std.specs.Prelude.{◌≡◌, ◌↔◌, IsTrue, nat_eq};
 ghost use Rattle.std.specs.Cmp.Lexicographic.{pointwise};
-ghost use Rattle.ntp_mac.specs.Digest.{digest_of, digest_octets};
+ghost use Rattle.ntp_mac.specs.Digest.{digest_of};
 ghost use Rattle.ntp_tail.specs.Tail.{tail_value};
 ghost use Rattle.ntp_mac.specs.Signed.{IsSigned, is_mac, is_signed};
 
-use crate::{Algorithm, Key, digest};
+use crate::hashing::{md5_of_two, sha1_of_two};
+use crate::{Algorithm, Key};
 use ntp_tail::{Request, Tail};
 
 /// Whether a request is signed under a key with this key number: its tail is of the key's algorithm and has
@@ -18,21 +19,18 @@ pub fn verifies(key: &Key, number: u16, request: &Request<'_>) -> bool
     is_mac(request.tail, key, number, request.signed)
 }
 
-// Whether a tail has the number and the digest of a MAC of octets under a key.
+// Whether a tail has the number and the whole digest of a MAC of octets under a key.
 fn is_mac(tail: Tail<'_>, key: &Key, number: u16, signed: &[u8]) -> bool
     ensures { result ≡ is_mac (tail_value tail.entry) number (digest_of key.now signed.now) }
 {
-    let (algorithm, found, digest) = match tail {
-        Tail::Absent | Tail::Bare(_) => return false,
-        Tail::Md5 { number, digest } => (Algorithm::Md5, number, digest),
-        Tail::Sha1 { number, digest } => (Algorithm::Sha1, number, digest),
-    };
-    algorithm == key.algorithm() && found == u32::from(number) && is_digest(digest, key, signed)
-}
-
-// Whether octets are the digest of others under a key.
-fn is_digest(octets: &[u8], key: &Key, signed: &[u8]) -> bool
-    ensures { result ≡ pointwise nat_eq octets.now (digest_octets (digest_of key.now signed.now)) }
-{
-    octets == digest(key, signed).octets()
+    let key_number = u32::from(number);
+    match (tail, key.algorithm()) {
+        (Tail::Md5 { number, digest }, Algorithm::Md5) => {
+            number == key_number && digest == md5_of_two(key.octets(), signed).as_slice()
+        }
+        (Tail::Sha1 { number, digest }, Algorithm::Sha1) => {
+            number == key_number && digest == sha1_of_two(key.octets(), signed).as_slice()
+        }
+        _ => false,
+    }
 }

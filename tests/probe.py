@@ -9,6 +9,9 @@ A customer is written ADDRESS/NUMBER/ALGORITHM/KEY, the key in hexadecimal; an a
                                               the same, where no answer is to come: then asks as the customer
                                               MARKER, and prints `silence` once that one alone has its answer
     probe.py interleave PORT CUSTOMER         four queries; prints `interleaved`, or what was wrong
+    probe.py queries PORT COUNT FORM CUSTOMER
+                                              so many queries, each once the one before was answered; FORM is `basic`,
+                                              or `interleaved`: each asks about the reply before. Prints what came
     probe.py roll PORT COMMANDS ADDRESS NUMBER
                                               a hundred new keys, each by two lines in one write, and a query
                                               with each; prints `time 100`, or at which query it ended
@@ -181,6 +184,20 @@ def interleave(port, text):
     return "interleaved"
 
 
+def queries(port, count, form, text):
+    customer, found, received, arrival = Customer(text), {}, 0, 0
+    with customer.socket(port) as s:
+        for _ in range(int(count)):
+            packet = query(customer, "plain", received, arrival)
+            s.send(packet)
+            reply = answer(s)
+            word = "nothing" if reply is None else kind(customer, packet, reply)
+            found[word] = found.get(word, 0) + 1
+            if form == "interleaved" and reply is not None:
+                received, arrival = stamps(reply)[1], now()
+    return " ".join(f"{word} {many}" for word, many in found.items())
+
+
 def roll(port, commands, address, number):
     """Enrols with a budget of one, so each enrolment has to begin with nothing counted."""
     seen = {}
@@ -295,8 +312,8 @@ def free_port():
 
 def main(word, *words):
     numbered = [int(w) if i == 0 and w.isdecimal() else w for i, w in enumerate(words)]
-    calls = {"port": free_port, "ask": ask, "silence": silence, "interleave": interleave, "roll": roll,
-             "flood": flood, "relay": relay, "wire": wire, "dig": dig}
+    calls = {"port": free_port, "ask": ask, "silence": silence, "interleave": interleave,
+             "queries": queries, "roll": roll, "flood": flood, "relay": relay, "wire": wire, "dig": dig}
     found = calls[word](*numbered)
     if found is not None:
         print(found)

@@ -20,3 +20,6 @@ pub fn moment_now<C: Clock>(clock: &C) -> Moment {
     let seconds = i128::from(since_1970.as_secs());
     Moment::from_unix(seconds, since_1970.subsec_nanos()).unwrap_or(UNREAD)
 }
+
+#[cfg(test)]
+mod tests;

@@ -83,3 +83,52 @@ fn a_reply_that_cannot_be_sent_is_counted(rt: HostRuntime) -> Result<(), Fail> {
     assert_eq!(rt; port.failures(), 1);
     Ok(())
 }
+
+// A port whose next call of its socket fails, and a client to which the call after that would go through. The socket is
+// joined to the client, so that it is told that nobody is there for a datagram, and fails once for that.
+fn port_that_fails_once(rt: &HostRuntime) -> Result<(UdpPort<&HostRuntime>, UdpSocket), Fail>
+    ensures { IfOk result (λ pair. failures_of pair.0 ≡ 0) }
+{
+    let socket = UdpSocket::bind(rt, "127.0.0.1:0")?;
+    socket.set_read_timeout(Some(Duration::from_millis(50)))?;
+    let nobody = UdpSocket::bind(rt, "127.0.0.1:0")?;
+    let target = nobody.local_addr()?;
+    socket.connect(target)?;
+    drop(nobody);
+    socket.send(b"for nobody")?;
+    let client = UdpSocket::bind(rt, target)?;
+    client.set_read_timeout(Some(Duration::from_millis(50)))?;
+    Ok((UdpPort::new(socket, rt), client))
+}
+
+#[test]
+fn a_failed_send_is_not_tried_again(rt: HostRuntime) -> Result<(), Fail> {
+    let (mut port, client) = port_that_fails_once(&rt)?;
+    let number = client.local_addr()?.port();
+    let address = Address([127, 0, 0, 1]);
+    assert!(rt; port.send(address, number, b"one") == Err(PortFault::Send));
+    assert_eq!(rt; port.failures(), 1);
+    let mut reply = [0; 1025];
+    assert!(rt; client.recv(&mut reply).is_err());
+    // Another call goes through, so a second try would have.
+    assert!(rt; port.send(address, number, b"two") == Ok(()));
+    let length = client.recv(&mut reply)?;
+    assert_eq!(rt; &reply[..length], b"two".as_slice());
+    assert_eq!(rt; port.failures(), 1);
+    Ok(())
+}
+
+#[test]
+fn a_failed_receive_is_not_tried_again(rt: HostRuntime) -> Result<(), Fail> {
+    let (mut port, client) = port_that_fails_once(&rt)?;
+    let Ok(SocketAddr::V4(served)) = port.socket.local_addr() else {
+        return Err("no address".into());
+    };
+    client.send_to(b"a query", served)?;
+    let mut datagram = [0; 1025];
+    assert!(rt; port.receive(&mut datagram) == Err(PortFault::Receive));
+    assert_eq!(rt; port.failures(), 1);
+    assert_eq!(rt; port.receive(&mut datagram)?.length, 7);
+    assert_eq!(rt; port.failures(), 1);
+    Ok(())
+}

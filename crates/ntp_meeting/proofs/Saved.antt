@@ -11,7 +11,7 @@ use Rattle.ntp_time.specs.declared.stamp.Stamp.{Stamp}
 use Rattle.ntp_time.proofs.Freshness.{fresh-apart}
 use Rattle.ntp_packet.specs.Header.{HeaderFields}
 use Rattle.ntp_slots.specs.declared.slot.Slot.{Slot}
-use Rattle.ntp_slots.specs.Exchanges.{recent, new_exchange, receives, transmits, all_stamps, is_unused_at, unused_at, spent}
+use Rattle.ntp_slots.specs.Exchanges.{most_slots, recent, new_exchange, receives, transmits, all_stamps, is_unused_at, unused_at, spent}
 use Rattle.ntp_slots.proofs.Changes.{receives-spent}
 use Rattle.ntp_slots.proofs.Saved.{Contains-map}
 use Rattle.ntp_register.specs.Customer.{Enrolment}
@@ -35,7 +35,7 @@ new-found : (xs : List Slot) (receive transmit : Stamp) → ((x : Slot) → Cont
 unfolding recent
 new-found xs receive transmit apart =
     let new : List Slot = new_exchange receive transmit ∷ [] in
-    let n : ℕ = length (xs ++ new) - 4 in
+    let n : ℕ = length (xs ++ new) - most_slots in
     let front : List Slot = drop n xs in
     let few : n ≤ length xs = omega (arith, length-append xs new) in
     let absent : unused_at front receive ≡ None = none-found front receive

@@ -8,7 +8,7 @@ use Rattle.ntp_slots.specs.declared.slot.Slot.{Slot}
 
 -- how many exchanges are saved (profile)
 abbrev pub most_slots : ℕ
-most_slots = 4
+most_slots = 8
 
 -- the last of them that are saved, or all where there are fewer (profile)
 unfoldable pub recent : List Slot → List Slot

@@ -12,7 +12,11 @@ use std::alloc::{Allocator, Global};
 use std::marker::Model;
 
 /// How many exchanges are saved (profile).
-const MOST_SLOTS: usize = 4;
+const MOST_SLOTS: usize = 8;
+
+/// The room of a list of stamps: for both stamps of each exchange that is saved, and for one more, since who saves a new
+/// exchange puts its receive stamp behind the saved ones.
+const MOST_STAMPS: usize = 2 * MOST_SLOTS + 1;
 
 /// The last exchanges of a customer, or all where there are fewer than are saved (profile). Contracts see
 /// them as a list, oldest first.
@@ -72,7 +76,7 @@ impl<A: Allocator> Slots<A> {
     }
 
     /// The receive stamps, oldest first, in units of 2^-32 seconds.
-    pub fn receive_stamps(&self) -> ArrayVec<Stamp, 17>
+    pub fn receive_stamps(&self) -> ArrayVec<Stamp, MOST_STAMPS>
         ensures stamps { result.items ≡ receives self.now }
         ensures saved { AreSaved self.now }
     {
@@ -84,7 +88,7 @@ impl<A: Allocator> Slots<A> {
     }
 
     /// The receive stamps, then the transmit stamps, each oldest first, in units of 2^-32 seconds.
-    pub fn all_stamps(&self) -> ArrayVec<Stamp, 17>
+    pub fn all_stamps(&self) -> ArrayVec<Stamp, MOST_STAMPS>
         ensures stamps { result.items ≡ all_stamps self.now }
         ensures saved { AreSaved self.now }
     {

@@ -1,4 +1,4 @@
-//! Values from the rules in words: four exchanges are saved with fresh stamps, and a departure replaces a
+//! Values from the rules in words: eight exchanges are saved with fresh stamps, and a departure replaces a
 //! transmit stamp.
 use super::*;
 use ntp_time::{Moment, Stamp, fresh};
@@ -14,9 +14,9 @@ fn ample_memory_is_enough(rt: HostRuntime) {
 }
 
 #[test]
-fn oldest_of_five_goes(rt: HostRuntime) -> Result<(), Fail> {
+fn oldest_of_nine_goes(rt: HostRuntime) -> Result<(), Fail> {
     let mut slots = Slots::new(rt.alloc()).or(Err("no memory"))?;
-    for second in 0..5u64 {
+    for second in 0..9u64 {
         let receipt = 0xec00_0010_0000_0000 + (second << 32);
         save(&mut slots, receipt, receipt + 0x100);
     }
@@ -26,9 +26,19 @@ fn oldest_of_five_goes(rt: HostRuntime) -> Result<(), Fail> {
         Some(unused(0xec00_0011_0000_0000, 0xec00_0011_0000_0100))
     );
     let stamps = slots.all_stamps();
-    assert_eq!(rt; stamps.len(), 8);
+    assert_eq!(rt; stamps.len(), 16);
     assert_eq!(rt; stamps.first(), Some(&Stamp(0xec00_0011_0000_0000)));
-    assert_eq!(rt; stamps.last(), Some(&Stamp(0xec00_0014_0000_0100)));
+    assert_eq!(rt; stamps.last(), Some(&Stamp(0xec00_0018_0000_0100)));
+
+    // The stamp of the oldest that is saved is taken; that of the one that went is free.
+    assert_eq!(rt;
+        slots.new_receive(Stamp(0xec00_0011_0000_0000)),
+        Stamp(0xec00_0011_0000_0001)
+    );
+    assert_eq!(rt;
+        slots.new_receive(Stamp(0xec00_0010_0000_0000)),
+        Stamp(0xec00_0010_0000_0000)
+    );
     Ok(())
 }
 

@@ -55,22 +55,30 @@ pub const PIECES: [(&str, &str); 22] = [
         "query in next",
         "datagram 192.0.2.10 0:{next} 0:ec00004000000100 {reference} 23{query}{mac}",
     ),
-    // The signed query, come in five seconds one after another, and what is answered.
+    // The signed query, come in nine seconds one after another, and what is answered.
     (
-        "queries in five seconds",
+        "queries in nine seconds",
         "datagram 192.0.2.10 0:ec00001000000000 0:ec00001000000100 {reference} 23{query}{mac}\n\
         datagram 192.0.2.10 0:ec00001100000000 0:ec00001100000100 {reference} 23{query}{mac}\n\
         datagram 192.0.2.10 0:ec00001200000000 0:ec00001200000100 {reference} 23{query}{mac}\n\
         datagram 192.0.2.10 0:ec00001300000000 0:ec00001300000100 {reference} 23{query}{mac}\n\
-        datagram 192.0.2.10 0:ec00001400000000 0:ec00001400000100 {reference} 23{query}{mac}",
+        datagram 192.0.2.10 0:ec00001400000000 0:ec00001400000100 {reference} 23{query}{mac}\n\
+        datagram 192.0.2.10 0:ec00001500000000 0:ec00001500000100 {reference} 23{query}{mac}\n\
+        datagram 192.0.2.10 0:ec00001600000000 0:ec00001600000100 {reference} 23{query}{mac}\n\
+        datagram 192.0.2.10 0:ec00001700000000 0:ec00001700000100 {reference} 23{query}{mac}\n\
+        datagram 192.0.2.10 0:ec00001800000000 0:ec00001800000100 {reference} 23{query}{mac}",
     ),
     (
-        "times in five seconds",
+        "times in nine seconds",
         "time ec00001000000000 240106ec{clock}{T}ec00001000000000ec000010000001000000000737ff63a8cbdc98adae6df5d38f5a2664\n\
         time ec00001100000000 240106ec{clock}{T}ec00001100000000ec00001100000100000000072acb078ff989c63c8984d15edd68f58b\n\
         time ec00001200000000 240106ec{clock}{T}ec00001200000000ec000012000001000000000705c744e659b4f3239261227f238be3cd\n\
         time ec00001300000000 240106ec{clock}{T}ec00001300000000ec0000130000010000000007f1141426d24afea83acf43d6b2200958\n\
-        time ec00001400000000 240106ec{clock}{T}ec00001400000000ec00001400000100000000075b01cd6edd8420cf911c73f0e684eaf5",
+        time ec00001400000000 240106ec{clock}{T}ec00001400000000ec00001400000100000000075b01cd6edd8420cf911c73f0e684eaf5\n\
+        time ec00001500000000 240106ec{clock}{T}ec00001500000000ec000015000001000000000787089e2c15a6f86e2cd7c29cb26429cc\n\
+        time ec00001600000000 240106ec{clock}{T}ec00001600000000ec0000160000010000000007cef4df44450a20d86017b9c7e6940f94\n\
+        time ec00001700000000 240106ec{clock}{T}ec00001700000000ec0000170000010000000007f47b59d91a0bfa10656aa0ab9dc45752\n\
+        time ec00001800000000 240106ec{clock}{T}ec00001800000000ec0000180000010000000007662b5b299efaaa5c2bebd7cd4c4ec20d",
     ),
     // A departure of the reply with receive stamp R, at another moment than its transmit stamp, D, says.
     ("departed", "departed 192.0.2.10 {R} 0:{D}"),
@@ -84,7 +92,7 @@ pub const PIECES: [(&str, &str); 22] = [
 ];
 
 /// The worked examples.
-pub const ROWS: [Row; 32] = [
+pub const ROWS: [Row; 33] = [
     Row {
         name: "a query without a MAC is told DENY",
         script: "{A}\n\
@@ -290,25 +298,35 @@ pub const ROWS: [Row; 32] = [
         fault: None,
     },
     Row {
-        name: "five exchanges ago is too long ago for an interleaved reply",
+        name: "nine exchanges ago is too long ago for an interleaved reply",
         script: "{A}\n\
-            {queries in five seconds}\n\
-            datagram 192.0.2.10 0:ec00001580000000 0:ec00001580000100 {reference} \
-            23000600{0^40}ec00001000000000ec00001480000000ec0000150000000000000007c1029bbd6585aceef7a289606544a90f\n",
+            {queries in nine seconds}\n\
+            datagram 192.0.2.10 0:ec00001980000000 0:ec00001980000100 {reference} \
+            23000600{0^40}ec00001000000000ec00001880000000ec00001900000000000000077ace1944a67d1e6d3a305e69b96757f8\n",
         written: "done\n\
-            {times in five seconds}\n\
-            time ec00001580000000 240106ec{clock}ec00001500000000ec00001580000000ec0000158000010000000007705376b33b9c3606914688fe2cc01b77\n",
+            {times in nine seconds}\n\
+            time ec00001980000000 240106ec{clock}ec00001900000000ec00001980000000ec0000198000010000000007493b8440c2f9cacee48e03177e5af404\n",
         fault: None,
     },
     Row {
-        name: "four exchanges ago is not too long ago",
+        name: "eight exchanges ago is not too long ago",
         script: "{A}\n\
-            {queries in five seconds}\n\
-            datagram 192.0.2.10 0:ec00001580000000 0:ec00001580000100 {reference} \
-            23000600{0^40}ec00001100000000ec00001480000000ec00001500000000000000076d449fd6d72cfc10d0525f2b9f9f138b\n",
+            {queries in nine seconds}\n\
+            datagram 192.0.2.10 0:ec00001980000000 0:ec00001980000100 {reference} \
+            23000600{0^40}ec00001100000000ec00001880000000ec0000190000000000000007cb86a41eb171f8991ebf5fda5190ae67\n",
         written: "done\n\
-            {times in five seconds}\n\
-            time ec00001580000000 240106ec{clock}ec00001480000000ec00001580000000ec0000110000010000000007bc8df605e2c3508ed00ac4d926090ceb\n",
+            {times in nine seconds}\n\
+            time ec00001980000000 240106ec{clock}ec00001880000000ec00001980000000ec000011000001000000000784bbfda677c97637109531d01399646e\n",
+        fault: None,
+    },
+    Row {
+        name: "a receipt at the receive stamp of eight exchanges ago gets the next one",
+        script: "{A}\n\
+            {queries in nine seconds}\n\
+            datagram 192.0.2.10 0:ec00001100000000 0:ec00001100000100 {reference} 23{query}{mac}\n",
+        written: "done\n\
+            {times in nine seconds}\n\
+            time ec00001100000001 240106ec{clock}{T}ec00001100000001ec0000110000010000000007d4cbc88a063786fe951739c84208dffd\n",
         fault: None,
     },
     Row {

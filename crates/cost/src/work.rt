@@ -22,14 +22,21 @@ const HEADER: [u8; 48] = [
     0, 0, 0, 0, 0, 0, 0, 0, 0, 0xec, 0, 0, 0x10, 0x80, 0, 0, 0,
 ];
 
-/// The stamps at which the queries of a round come: more than exchanges are saved, so that each is free when it comes again.
-const RECEIPTS: [u64; 6] = [
+/// How many queries come in a round: more than exchanges are saved, so that each stamp is free when it comes again.
+const ROUND: usize = 10;
+
+/// The stamps at which they come.
+const RECEIPTS: [u64; ROUND] = [
     0xec00_0010_0000_0000,
     0xec00_0011_0000_0000,
     0xec00_0012_0000_0000,
     0xec00_0013_0000_0000,
     0xec00_0014_0000_0000,
     0xec00_0015_0000_0000,
+    0xec00_0016_0000_0000,
+    0xec00_0017_0000_0000,
+    0xec00_0018_0000_0000,
+    0xec00_0019_0000_0000,
 ];
 
 // Does the work that the words ask for, and counts it; none where they ask for nothing.
@@ -56,7 +63,7 @@ pub(crate) fn done(alloc: Global, words: [Word; 4]) -> u64 {
     }
 }
 
-// Signed queries that were answered with the time. They come in rounds of six seconds.
+// Signed queries that were answered with the time. They come a second apart, in rounds.
 fn queries(alloc: Global, kind: Query, algorithm: Algorithm, count: u64) -> u64 {
     let Ok(key) = Key::new(algorithm, b"key") else {
         return 0;
@@ -68,15 +75,16 @@ fn queries(alloc: Global, kind: Query, algorithm: Algorithm, count: u64) -> u64 
     if !enrolled(&mut service, CUSTOMER, 7, key) {
         return 0;
     }
-    let mut round = [[0; 72]; 6];
-    for place in 0..6 {
-        fill(kind, RECEIPTS[(place + 5) % 6], &mut round[place]);
+    let mut round = [[0; 72]; ROUND];
+    for place in 0..ROUND {
+        let last = RECEIPTS[(place + ROUND - 1) % ROUND];
+        fill(kind, last, &mut round[place]);
         sign(key, &mut round[place]);
     }
     let length = query_length(algorithm);
     let mut answered = 0u64;
     for turn in 0..count {
-        let place = (turn % 6) as usize;
+        let place = (turn % ROUND as u64) as usize;
         let receipt = moment(RECEIPTS[place]);
         let transmit = moment(RECEIPTS[place].wrapping_add(0x100));
         let query = &round[place][..length];

@@ -1,0 +1,27 @@
+-- Customers by cases, and those that are not enrolled.
+use Rattle.std.proofs.Common.{◌≡◌, ℕ, false, Option, Some, None, ap, ◌∙◌, sym, refl, true≢false}
+use Rattle.ntp_customer.specs.Customer.{AccountOf, CustomerOf, revoked, rebudgeted, is_enrolled, numbers_of}
+
+module _ {C : Type 0} where
+  -- a customer is not enrolled, or it is
+  pub by_customer : (P : CustomerOf C → Type 0) → ((refusals : C) → P (record { account = None; refusals = refusals }))
+      → ((a : AccountOf C) (refusals : C) → P (record { account = Some a; refusals = refusals }))
+      → (c : CustomerOf C) → P c
+  by_customer P out enrolled c = by_account c.account
+    where
+      by_account : (o : Option (AccountOf C)) → P (record { account = o; refusals = c.refusals })
+      by_account None = out c.refusals
+      by_account (Some a) = enrolled a c.refusals
+
+  -- to revoke a customer that is not enrolled
+  pub revoked-absent : (c : CustomerOf C) → is_enrolled c ≡ false → revoked c ≡ c
+  revoked-absent = by_customer _ (λ refusals out. refl) (λ a refusals out. absurd (true≢false out))
+
+  -- another budget of a customer that is not enrolled
+  pub rebudgeted-absent : (c : CustomerOf C) (budget : ℕ) → is_enrolled c ≡ false → rebudgeted c budget ≡ c
+  rebudgeted-absent c budget out = ap (λ d. rebudgeted d budget) (sym (revoked-absent c out)) ∙ revoked-absent c out
+
+  -- another budget leaves the numbers
+  pub numbers-rebudgeted : (c : CustomerOf C) (budget : ℕ) → numbers_of (rebudgeted c budget) ≡ numbers_of c
+  numbers-rebudgeted c budget =
+      by_customer (λ c. numbers_of (rebudgeted c budget) ≡ numbers_of c) (λ refusals. refl) (λ a refusals. refl) c

@@ -1,0 +1,3 @@
+mod Charged
+pub mod Customers
+pub mod Pasts

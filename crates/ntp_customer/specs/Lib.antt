@@ -1,0 +1,4 @@
+pub mod Customer
+pub mod Past
+pub mod Lends
+pub mod Codes

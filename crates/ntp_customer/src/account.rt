@@ -1,0 +1,190 @@
+//! What a customer has while it is enrolled.
+ghost use Rattle.std.specs.Prelude.{◌≡◌, ◌↔◌, ◌<◌, ℕ, None, Some, IsSome, Contains, List, [], ◌∷◌, ◌++◌, length, nat_lt, option_copied, option_map};
+ghost use Rattle.std.specs.Borrow.{sem};
+ghost use Rattle.std.specs.Option.{option_to_list};
+ghost use Rattle.ntp_budget.specs.Tally.{capped_count, tally};
+ghost use Rattle.ntp_customer.specs.Customer.{most_keys, enrolment_of, numbers_in, older_in, held_in, with_budget, with_key, without_key, with_enrolment, new_account, with_queries, IsAccount};
+
+use crate::NumberedKey;
+use ntp_budget::Window;
+use ntp_mac::Key;
+use ntp_slots::Slots;
+use std::alloc::{Allocator, Global};
+use std::marker::Model;
+
+/// What a customer has while it is enrolled. It is kept in `A`, and the memory of its slots is given back where it ends.
+#[derive(Drop)]
+pub(crate) struct Account<A: Allocator = Global> {
+    // The keys, in the order in which they came.
+    older: NumberedKey,
+    newer: Option<NumberedKey>,
+    budget: u16,
+    // The signed queries, as they are counted.
+    queries: Window,
+    // The last exchanges.
+    slots: Slots<A>,
+}
+
+impl<A: Allocator> Model for Account<A> {
+    ghost use Rattle.std.specs.Prelude.{◌≢◌, ◌<◌, ◌∷◌, IfSome};
+    ghost use Rattle.std.specs.Option.{option_to_list};
+    ghost use Rattle.ntp_budget.specs.Tally.{IsTally};
+    ghost use Rattle.ntp_customer.specs.Customer.{Account};
+    ghost use Rattle.ntp_customer.specs.Codes.{coded_account};
+
+    ghost Value = { Account };
+
+    ghost coded = { coded_account };
+
+    ghost view = { λ a. record {
+      enrolment = record { keys = a.older ∷ option_to_list a.newer; budget = a.budget };
+      queries = a.queries;
+      exchanges = a.slots;
+    } };
+
+    ghost invariant = { λ a. (0 < a.older.number) × IfSome a.newer (λ newer. (0 < newer.number) × (a.older.number ≢ newer.number))
+        × (0 < a.budget) × IsTally a.queries };
+}
+
+impl<A: Allocator> Account<A> {
+    ghost use Rattle.ntp_customer.specs.Lends.{lends_exchanges};
+
+    // An account at the enrolment of its customer, with slots that are empty.
+    pub(crate) fn new(key: NumberedKey, budget: u16, slots: Slots<A>) -> Self
+        requires number_given { 0 < key.number }
+        requires budget_given { 0 < budget }
+        requires empty { slots ≡ [] }
+        ensures { result ≡ new_account (enrolment_of key budget) }
+    {
+        Account {
+            older: key,
+            newer: None,
+            budget,
+            queries: Window::new(),
+            slots,
+        }
+    }
+
+    // What holds of each account, for proofs that need it; it does nothing when it is called.
+    pub(crate) fn is_account(&self)
+        ensures { IsAccount self.now }
+    {
+        self.slots.are_saved();
+    }
+
+    // The older key with its number.
+    pub(crate) fn older(&self) -> &NumberedKey
+        ensures older { older_in self.now.enrolment ≡ Some result.now }
+        ensures positive { 0 < result.now.number }
+    {
+        &self.older
+    }
+
+    // The numbers of the keys, the older one's first.
+    pub(crate) fn numbers(&self) -> (u16, Option<u16>)
+        ensures { numbers_in self.now.enrolment ≡ result.0 ∷ option_to_list result.1 }
+    {
+        (self.older.number, self.newer.map(|newer| newer.number))
+    }
+
+    // The key with a number, if it is held. A packet has 32 bits for the number, and a key 16.
+    pub(crate) fn held(&self, number: u32) -> Option<&NumberedKey>
+        ensures { option_copied result ≡ held_in self.now.enrolment number }
+    {
+        if u32::from(self.older.number) == number {
+            return Some(&self.older);
+        }
+        match &self.newer {
+            Some(newer) if u32::from(newer.number) == number => Some(newer),
+            _ => None,
+        }
+    }
+
+    // The key with a number of 16 bits, if it is held, apart from its number.
+    pub(crate) fn key_for(&self, number: u16) -> Option<&Key>
+        ensures key { option_copied result ≡ option_map (λ held. held.key) (held_in self.now.enrolment number) }
+        ensures held { IsSome result ↔ Contains (numbers_in self.now.enrolment) number }
+    {
+        if self.older.number == number {
+            return Some(&self.older.key);
+        }
+        match &self.newer {
+            Some(newer) if newer.number == number => Some(&newer.key),
+            _ => None,
+        }
+    }
+
+    // Whether there is room for a key more.
+    pub(crate) fn has_room(&self) -> bool
+        ensures { result ≡ nat_lt (length self.now.enrolment.keys) most_keys }
+    {
+        self.newer.is_none()
+    }
+
+    // One key more.
+    pub(crate) fn rollover(&mut self, key: NumberedKey)
+        requires number_given { 0 < key.number }
+        requires new { held_in self.old.enrolment key.number ≡ None }
+        requires room { length self.old.enrolment.keys < most_keys }
+        ensures { self.new ≡ with_enrolment self.old (with_key self.old.enrolment key) }
+    {
+        self.newer = Some(key);
+    }
+
+    // Takes the key of a number away, where one is left without it.
+    pub(crate) fn retire(&mut self, number: u16)
+        requires { 1 < length self.old.enrolment.keys }
+        ensures { self.new ≡ with_enrolment self.old (without_key self.old.enrolment number) }
+    {
+        let Some(newer) = self.newer else {
+            return;
+        };
+        if self.older.number == number {
+            self.older = newer;
+            self.newer = None;
+        } else if newer.number == number {
+            self.newer = None;
+        }
+    }
+
+    // The budget.
+    pub(crate) fn budget(&self) -> u16
+        ensures budget { result ≡ self.now.enrolment.budget }
+        ensures positive { 0 < result }
+    {
+        self.budget
+    }
+
+    // Another budget; all else stays.
+    pub(crate) fn set_budget(&mut self, budget: u16)
+        requires { 0 < budget }
+        ensures { self.new ≡ with_enrolment self.old (with_budget self.old.enrolment budget) }
+    {
+        self.budget = budget;
+    }
+
+    // Counts a signed query in a window, and gives how many were counted in it before.
+    pub(crate) fn charge(&mut self, w: u64) -> u32
+        ensures counted { (windows : List ℕ) → tally windows ≡ self.old.queries → result ≡ capped_count windows w }
+        ensures after { (windows : List ℕ) → tally windows ≡ self.old.queries
+            → self.new ≡ with_queries self.old (tally (windows ++ w ∷ [])) }
+        ensures enrolment { self.new.enrolment ≡ self.old.enrolment }
+    {
+        self.queries.charge(w)
+    }
+
+    // The last exchanges.
+    pub(crate) fn slots(&self) -> &Slots<A>
+        ensures { result.now ≡ self.now.exchanges }
+    {
+        &self.slots
+    }
+
+    // The last exchanges, to be written to.
+    pub(crate) fn slots_mut(&mut self) -> &mut Slots<A>
+        ensures* writes_back { sem 𝓛 (lends_exchanges A.row A.Allocator self.entry result) }
+        ensures value { result.now ≡ self.old.exchanges }
+    {
+        &mut self.slots
+    }
+}

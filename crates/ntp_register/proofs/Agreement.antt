@@ -1,16 +1,21 @@
 -- What the changes of a register do to the agreement of its customers and its holders.
-use Rattle.std.proofs.Common.{◌≡◌, ◌≢◌, ℕ, false, List, [], ◌∷◌, Option, Some, None, Contains, is_some, refl, sym, ap, ◌∙◌, subst, ⊎_elim, unwrap_or, true≢false}
+use Rattle.std.proofs.Common.{◌≡◌, ◌≢◌, ℕ, true, false, List, [], ◌∷◌, ◌++◌, Option, Some, None, Contains, refl, sym, ap, ◌∙◌, subst, ⊎_elim, unwrap_or}
+use Rattle.std.specs.Prelude.{◌↔◌}
 use Rattle.std.proofs.lemmas.Option.{none-some}
+use Rattle.std.proofs.lemmas.List.Elements.{Contains-append_left, Contains-append_right, Contains-append_cases}
 use Rattle.std.specs.Ordering.{nat_cmp}
 use Rattle.std.specs.Option.{option_map_or}
 use Rattle.std.specs.FinMap.{get-empty}
 use Rattle.ntp_register.specs.declared.address.Address.{Address}
 use Rattle.ntp_register.specs.Address.{address_cmp}
-use Rattle.ntp_register.specs.Customer.{Enrolment, CustomerState, enrolment_at, is_enrolled, numbers_in, numbers_of}
-use Rattle.ntp_register.specs.Registry.{Registry, Agrees, empty_registry, customer_at, is_enrolled_at, numbers_at, holder_of, with_customer, after_enrol, after_revoke}
+use Rattle.ntp_customer.specs.declared.numbered_key.NumberedKey.{NumberedKey}
+use Rattle.ntp_customer.specs.Customer.{CustomerState, enrolment_of, new_customer, revoked, rolled_over, retired, is_enrolled, numbers_of}
+use Rattle.ntp_customer.proofs.Customers.{revoked-absent}
+use Rattle.ntp_register.specs.Registry.{Registry, Agrees, empty_registry, customer_at, is_enrolled_at, numbers_at, holder_of, with_customer, with_holder, without_holder, without_holders, after_enrol}
 use Rattle.ntp_register.proofs.AddressLaws.{same_or_other_address, same_or_other_number}
 use Rattle.ntp_register.proofs.Members.{Contains-here, Contains-none, Contains-one, is_member}
-use Rattle.ntp_register.proofs.Lookups.{numbers_held, numbers_at-with_customer, numbers_at-with_customer-other, numbers_at-after_enrol, numbers_at-after_enrol-other, holder_of-after_enrol, holder_of-after_enrol-other, numbers_at-after_revoke, numbers_at-after_revoke-other, holder_of-after_revoke, holder_of-after_revoke-other}
+use Rattle.ntp_register.proofs.Numbers.{numbers-rolled_over, numbers-retired}
+use Rattle.ntp_register.proofs.Lookups.{numbers_held, numbers_at-with_customer, numbers_at-with_customer-other, holder_of-with_holder, holder_of-with_holder-other, holder_of-without_holders, holder_of-without_holders-other}
 
 same_some : {X : Type 0} (x y : X) → Some x ≡ Some y → x ≡ y
 same_some x y e = ap (λ o. unwrap_or o x) e
@@ -22,11 +27,7 @@ in_none ms n e is = Contains-none n (subst (λ l. Contains l n) e is)
 -- a customer that is not enrolled has no number
 no_numbers : (o : Option CustomerState) → option_map_or is_enrolled o false ≡ false → numbers_held o ≡ []
 no_numbers None h = refl
-no_numbers (Some c) h = by_enrolment (enrolment_at c) h
-  where
-    by_enrolment : (e : Option Enrolment) → is_some e ≡ false → option_map_or numbers_in e [] ≡ []
-    by_enrolment None i = refl
-    by_enrolment (Some e) i = absurd (true≢false i)
+no_numbers (Some c) h = ap numbers_of (sym (revoked-absent c h))
 
 pub unenrolled-numbers : (r : Registry) (address : Address) → is_enrolled_at r address ≡ false → numbers_at r address ≡ []
 unenrolled-numbers r address h = no_numbers (customer_at r address) h
@@ -54,93 +55,132 @@ pub one-holder : (r : Registry) (a b : Address) (number : ℕ) → Agrees r → 
     → Contains (numbers_at r b) number → a ≡ b
 one-holder r a b number agrees first second = same_some a b (sym (agrees.held a number first) ∙ agrees.held b number second)
 
--- registers whose holders are the same, and whose addresses have the same numbers, agree alike
-agrees-along : (r s : Registry) → ((a : Address) → numbers_at s a ≡ numbers_at r a) → ((n : ℕ) → holder_of s n ≡ holder_of r n) → Agrees r
-    → Agrees s
-agrees-along r s numbers holders agrees = record {
-  held = λ a n h. holders n ∙ agrees.held a n (subst (λ l. Contains l n) (numbers a) h);
-  enrolled = λ a n h. subst (λ l. Contains l n) (sym (numbers a)) (agrees.enrolled a n (sym (holders n) ∙ h));
-}
-
--- a write that leaves the customer's numbers keeps the agreement
-pub agrees-with_customer : (r : Registry) (address : Address) (c w : CustomerState) → customer_at r address ≡ Some c
-    → numbers_of w ≡ numbers_of c → Agrees r
-    → Agrees (with_customer r address w)
-agrees-with_customer r address c w there same agrees = agrees-along r (with_customer r address w) stays (λ n. refl) agrees
+-- a register agrees as the one before did, where other addresses have the numbers that they had and hold what they held, and where
+-- it agrees at this address
+agrees-elsewhere : (r s : Registry) (address : Address) → ((a : Address) → a ≢ address → numbers_at s a ≡ numbers_at r a)
+    → ((a : Address) (n : ℕ) → a ≢ address → (holder_of s n ≡ Some a) ↔ (holder_of r n ≡ Some a))
+    → ((n : ℕ) → Contains (numbers_at s address) n ↔ (holder_of s n ≡ Some address)) → Agrees r → Agrees s
+agrees-elsewhere r s address numbers holders here agrees = record { held = λ a n. (both a n).0; enrolled = λ a n. (both a n).1 }
   where
-    stays : (a : Address) → numbers_at (with_customer r address w) a ≡ numbers_at r a
-    stays a = ⊎_elim
-        (λ e. subst (λ x. numbers_at (with_customer r address w) x ≡ numbers_at r x) (sym e) (numbers_at-with_customer r address w ∙ same
-        ∙ sym (ap numbers_held there)))
-        (λ ne. numbers_at-with_customer-other r address w a ne)
+    both : (a : Address) (n : ℕ) → Contains (numbers_at s a) n ↔ (holder_of s n ≡ Some a)
+    both a n = ⊎_elim
+        (λ e. subst (λ x. Contains (numbers_at s x) n ↔ (holder_of s n ≡ Some x)) (sym e) (here n))
+        (λ ne. subst (λ l. Contains l n ↔ (holder_of s n ≡ Some a)) (sym (numbers a ne))
+        ((λ is. (holders a n ne).1 (agrees.held a n is)), (λ is. agrees.enrolled a n ((holders a n ne).0 is))))
         (same_or_other_address a address)
 
--- an enrolment of an address that is not enrolled, with a number that is free, keeps it
-pub agrees-after_enrol : (r : Registry) (address : Address) (e : Enrolment) → is_enrolled_at r address ≡ false
-    → holder_of r e.number ≡ None → Agrees r → Agrees (after_enrol r address e)
-agrees-after_enrol r address e new free agrees = record { held = held; enrolled = enrolled }
-  where
-    held : (a : Address) (n : ℕ) → Contains (numbers_at (after_enrol r address e) a) n → holder_of (after_enrol r address e) n ≡ Some a
-    held a n h = ⊎_elim
-        (λ here.
-        let mine : Contains (e.number ∷ []) n = subst (λ l. Contains l n) (ap (numbers_at (after_enrol r address e)) here
-        ∙ numbers_at-after_enrol r address e) h in
-        subst (λ x. holder_of (after_enrol r address e) x ≡ Some a) (Contains-one e.number n mine) (holder_of-after_enrol r address e
-        ∙ ap Some (sym here)))
-        (λ other.
-        let before : holder_of r n ≡ Some a =
-        agrees.held a n (subst (λ l. Contains l n) (numbers_at-after_enrol-other r address e a other) h) in
-        ⊎_elim
-        (λ taken. absurd (none-some a (sym free ∙ subst (λ x. holder_of r x ≡ Some a) taken before)))
-        (λ ne. holder_of-after_enrol-other r address e n ne ∙ before)
-        (same_or_other_number n e.number))
-        (same_or_other_address a address)
+-- ---- the customer c of an address was written
+module _ (r : Registry) (address : Address) (w : CustomerState) (agrees : Agrees r) where
+  -- its numbers stay
+  pub agrees-with_customer : (c : CustomerState) → customer_at r address ≡ Some c → numbers_of w ≡ numbers_of c
+      → Agrees (with_customer r address w)
+  agrees-with_customer c there same = agrees-elsewhere r (with_customer r address w) address (numbers_at-with_customer-other r address w)
+      (λ a n ne. ((λ h. h), (λ h. h)))
+      (λ n. subst (λ l. Contains l n ↔ (holder_of r n ≡ Some address))
+      (sym (numbers_at-with_customer r address w ∙ same ∙ sym (ap numbers_held there)))
+      (agrees.held address n, agrees.enrolled address n))
+      agrees
 
-    enrolled : (a : Address) (n : ℕ) → holder_of (after_enrol r address e) n ≡ Some a → Contains (numbers_at (after_enrol r address e) a) n
-    enrolled a n h = ⊎_elim
-        (λ mine.
-        let here : address ≡ a = same_some address a (sym (holder_of-after_enrol r address e)
-        ∙ subst (λ x. holder_of (after_enrol r address e) x ≡ Some a) mine h) in
-        subst (λ x. Contains (numbers_at (after_enrol r address e) x) n) here
-        (subst (λ l. Contains l n) (sym (numbers_at-after_enrol r address e)) (Contains-here e.number [] n (sym mine))))
-        (λ ne.
-        let before : Contains (numbers_at r a) n = agrees.enrolled a n (sym (holder_of-after_enrol-other r address e n ne) ∙ h) in
-        ⊎_elim
-        (λ here. absurd (in_none (numbers_at r a) n (ap (numbers_at r) here ∙ unenrolled-numbers r address new) before))
-        (λ other. subst (λ l. Contains l n) (sym (numbers_at-after_enrol-other r address e a other)) before)
-        (same_or_other_address a address))
-        (same_or_other_number n e.number)
+  -- it has one number more, which was free, and holds it
+  module _ (number : ℕ) (free : holder_of r number ≡ None) (more : numbers_of w ≡ numbers_at r address ++ number ∷ []) where
+    abbrev taking : Registry
+    taking = with_customer (with_holder r number address) address w
 
--- the end of an enrolment keeps it
-pub agrees-after_revoke : (r : Registry) (address : Address) (c : CustomerState) → customer_at r address ≡ Some c → Agrees r
-    → Agrees (after_revoke r address)
-agrees-after_revoke r address c there agrees = record { held = held; enrolled = enrolled }
-  where
-    had : (n : ℕ) → Contains (numbers_of c) n → Contains (numbers_at r address) n
-    had n is = subst (λ l. Contains l n) (sym (ap numbers_held there)) is
+    abbrev before : List ℕ
+    before = numbers_at r address
 
-    has : (n : ℕ) → Contains (numbers_at r address) n → Contains (numbers_of c) n
-    has n is = subst (λ l. Contains l n) (ap numbers_held there) is
+    now : holder_of taking number ≡ Some address
+    now = holder_of-with_holder r number address
 
-    held : (a : Address) (n : ℕ) → Contains (numbers_at (after_revoke r address) a) n → holder_of (after_revoke r address) n ≡ Some a
-    held a n h = ⊎_elim
-        (λ here. absurd (in_none (numbers_at (after_revoke r address) a) n (ap (numbers_at (after_revoke r address)) here
-        ∙ numbers_at-after_revoke r address c there) h))
-        (λ other.
-        let before : Contains (numbers_at r a) n = subst (λ l. Contains l n) (numbers_at-after_revoke-other r address c there a other) h in
-        ⊎_elim
-        (λ freed. absurd (other (one-holder r a address n agrees before (had n freed))))
-        (λ never. holder_of-after_revoke-other r address c there n never ∙ agrees.held a n before)
-        (is_member (numbers_of c) n))
-        (same_or_other_address a address)
+    stays : (n : ℕ) → n ≢ number → holder_of taking n ≡ holder_of r n
+    stays = holder_of-with_holder-other r number address
 
-    enrolled : (a : Address) (n : ℕ) → holder_of (after_revoke r address) n ≡ Some a → Contains (numbers_at (after_revoke r address) a) n
-    enrolled a n h = ⊎_elim
-        (λ freed. absurd (none-some a (sym (holder_of-after_revoke r address c there n freed) ∙ h)))
-        (λ never.
-        let before : Contains (numbers_at r a) n = agrees.enrolled a n (sym (holder_of-after_revoke-other r address c there n never) ∙ h) in
-        ⊎_elim
-        (λ here. absurd (never (has n (subst (λ x. Contains (numbers_at r x) n) here before))))
-        (λ other. subst (λ l. Contains l n) (sym (numbers_at-after_revoke-other r address c there a other)) before)
-        (same_or_other_address a address))
-        (is_member (numbers_of c) n)
+    agrees-taking : Agrees taking
+    agrees-taking = agrees-elsewhere r taking address (numbers_at-with_customer-other r address w) holders here agrees
+      where
+        holders : (a : Address) (n : ℕ) → a ≢ address → (holder_of taking n ≡ Some a) ↔ (holder_of r n ≡ Some a)
+        holders a n ne = ⊎_elim
+            (λ e. subst (λ m. (holder_of taking m ≡ Some a) ↔ (holder_of r m ≡ Some a)) (sym e)
+            ((λ h. absurd (ne (same_some a address (sym h ∙ now)))), (λ h. absurd (none-some a (sym free ∙ h)))))
+            (λ other. ((λ h. sym (stays n other) ∙ h), (λ h. stays n other ∙ h)))
+            (same_or_other_number n number)
+
+        here : (n : ℕ) → Contains (numbers_at taking address) n ↔ (holder_of taking n ≡ Some address)
+        here n = subst (λ l. Contains l n ↔ (holder_of taking n ≡ Some address)) (sym (numbers_at-with_customer r address w ∙ more)) (⊎_elim
+            (λ e. (
+              (λ is. ap (holder_of taking) e ∙ now),
+              (λ h. Contains-append_right before (number ∷ []) n (Contains-here number [] n (sym e))),
+            ))
+            (λ other. (
+              (λ is. stays n other ∙ agrees.held address n (⊎_elim (λ old. old) (λ new. absurd (other (sym (Contains-one number n new))))
+                  (Contains-append_cases before (number ∷ []) n is))),
+              (λ h. Contains-append_left before (number ∷ []) n (agrees.enrolled address n (sym (stays n other) ∙ h))),
+            ))
+            (same_or_other_number n number))
+
+  -- it has these of its numbers no more, and they are free
+  module _ (freed : List ℕ) (own : (n : ℕ) → Contains freed n → Contains (numbers_at r address) n)
+      (rest : (n : ℕ) → Contains (numbers_of w) n ↔ (Contains (numbers_at r address) n × (Contains freed n → ⊥))) where
+    abbrev freeing : Registry
+    freeing = without_holders (with_customer r address w) freed
+
+    gone : (n : ℕ) → Contains freed n → holder_of freeing n ≡ None
+    gone = holder_of-without_holders r freed
+
+    kept : (n : ℕ) → (Contains freed n → ⊥) → holder_of freeing n ≡ holder_of r n
+    kept = holder_of-without_holders-other r freed
+
+    agrees-freeing : Agrees freeing
+    agrees-freeing = agrees-elsewhere r freeing address (numbers_at-with_customer-other r address w) holders here agrees
+      where
+        holders : (a : Address) (n : ℕ) → a ≢ address → (holder_of freeing n ≡ Some a) ↔ (holder_of r n ≡ Some a)
+        holders a n ne = ⊎_elim
+            (λ is. (
+              (λ h. absurd (none-some a (sym (gone n is) ∙ h))),
+              (λ h. absurd (ne (same_some a address (sym h ∙ agrees.held address n (own n is))))),
+            ))
+            (λ never. ((λ h. sym (kept n never) ∙ h), (λ h. kept n never ∙ h)))
+            (is_member freed n)
+
+        here : (n : ℕ) → Contains (numbers_at freeing address) n ↔ (holder_of freeing n ≡ Some address)
+        here n = subst (λ l. Contains l n ↔ (holder_of freeing n ≡ Some address)) (sym (numbers_at-with_customer r address w)) (⊎_elim
+            (λ is. ((λ left. absurd (((rest n).0 left).1 is)), (λ h. absurd (none-some address (sym (gone n is) ∙ h)))))
+            (λ never. (
+              (λ left. kept n never ∙ agrees.held address n ((rest n).0 left).0),
+              (λ h. (rest n).1 (agrees.enrolled address n (sym (kept n never) ∙ h), never)),
+            ))
+            (is_member freed n))
+
+-- an enrolment of an address that is not enrolled, with a number that is free, keeps the agreement
+pub agrees-after_enrol : (r : Registry) (address : Address) (key : NumberedKey) (budget : ℕ) → is_enrolled_at r address ≡ false
+    → holder_of r key.number ≡ None → Agrees r → Agrees (after_enrol r address key budget)
+agrees-after_enrol r address key budget new free agrees =
+    agrees-taking r address (new_customer (enrolment_of key budget)) agrees key.number free
+    (ap (λ l. l ++ key.number ∷ []) (sym (unenrolled-numbers r address new)))
+
+module _ (r : Registry) (address : Address) (c : CustomerState) (there : customer_at r address ≡ Some c) (agrees : Agrees r) where
+  -- so does one key more of an address that is enrolled, with a number that is free
+  pub agrees-rollover : (key : NumberedKey) → is_enrolled c ≡ true → holder_of r key.number ≡ None
+      → Agrees (with_customer (with_holder r key.number address) address (rolled_over c key))
+  agrees-rollover key enrolled free = agrees-taking r address (rolled_over c key) agrees key.number free
+      (numbers-rolled_over c key enrolled ∙ ap (λ l. l ++ key.number ∷ []) (sym (ap numbers_held there)))
+
+  -- the end of a key
+  pub agrees-retire : (number : ℕ) → Contains (numbers_at r address) number
+      → Agrees (without_holder (with_customer r address (retired c number)) number)
+  agrees-retire number held = agrees-freeing r address (retired c number) agrees (number ∷ [])
+      (λ n is. subst (Contains (numbers_at r address)) (Contains-one number n is) held)
+      (λ n. subst (λ l. Contains (numbers_of (retired c number)) n ↔ (Contains l n × (Contains (number ∷ []) n → ⊥)))
+      (sym (ap numbers_held there)) (
+        (λ left. (((numbers-retired number n c).0 left).0, λ is. ((numbers-retired number n c).0 left).1 (sym (Contains-one number n is)))),
+        (λ both. (numbers-retired number n c).1 (both.0, λ e. both.1 (Contains-here number [] n (sym e)))),
+      ))
+
+  -- and the end of an enrolment
+  pub agrees-revoke : Agrees (without_holders (with_customer r address (revoked c)) (numbers_of c))
+  agrees-revoke = agrees-freeing r address (revoked c) agrees (numbers_of c)
+      (λ n is. subst (λ l. Contains l n) (sym (ap numbers_held there)) is)
+      (λ n. (
+        (λ is. absurd (Contains-none n is)),
+        (λ both. absurd (both.1 (subst (λ l. Contains l n) (ap numbers_held there) both.0))),
+      ))

@@ -4,7 +4,6 @@ mod Loans
 pub mod AddressLaws
 pub mod Members
 mod Tables
+mod Numbers
 pub mod Lookups
 pub mod Agreement
-mod Absences
-mod Charged

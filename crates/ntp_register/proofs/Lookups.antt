@@ -1,11 +1,14 @@
 -- What a register answers after each change: at the address or the number that was changed, and at all others.
-use Rattle.std.proofs.Common.{◌≡◌, ◌≢◌, ℕ, List, [], ◌∷◌, Option, Some, None, Contains, refl, sym, ap, ◌∙◌, ⊎_elim, arith}
+use Rattle.std.proofs.Common.{◌≡◌, ◌≢◌, ℕ, List, [], ◌∷◌, Option, Some, None, Contains, fold, refl, sym, ap, ◌∙◌, ⊎_elim, arith}
 use Rattle.std.specs.Option.{option_map_or}
+use Rattle.std.specs.Ordering.{nat_cmp}
 use Rattle.std.proofs.lemmas.Cmp.{nat_cmp_total}
+use Rattle.std.specs.FinMap as map
 use Rattle.std.specs.FinMap.{nat_cmp-IsAntisymmetric}
 use Rattle.ntp_register.specs.declared.address.Address.{Address}
-use Rattle.ntp_register.specs.Customer.{Enrolment, CustomerState, new_customer, revoked, rebudgeted, numbers_of}
-use Rattle.ntp_register.specs.Registry.{Registry, customer_at, numbers_at, holder_of, with_customer, with_holder, without_holder, without_holders, after_enrol, after_revoke, after_budget}
+use Rattle.ntp_customer.specs.declared.numbered_key.NumberedKey.{NumberedKey}
+use Rattle.ntp_customer.specs.Customer.{CustomerState, enrolment_of, new_customer, revoked, rebudgeted, rolled_over, retired, numbers_of}
+use Rattle.ntp_register.specs.Registry.{Registry, customer_at, numbers_at, holder_of, with_customer, with_holder, without_holder, without_holders, after_enrol, after_revoke, after_budget, after_rollover, after_retire}
 use Rattle.ntp_register.proofs.Keys.{get-insert-here, get-insert-there, get-remove-here, get-remove-there, insert-present, remove-insert}
 use Rattle.ntp_register.proofs.AddressLaws.{address_cmp_total, address_cmp-IsAntisymmetric, same_or_other_number}
 use Rattle.ntp_register.proofs.Members.{Contains-here, Contains-there, Contains-cases}
@@ -58,11 +61,6 @@ module _ (r : Registry) (number : ℕ) where
       λ i. record { customers = r.customers; holders = remove-insert nat_cmp_total nat_cmp-IsAntisymmetric r.holders number address free i }
 
 -- ---- numbers were freed
-pub customers-without_holders : (r : Registry) (numbers : List ℕ) (a : Address)
-    → customer_at (without_holders r numbers) a ≡ customer_at r a
-customers-without_holders r [] a = refl
-customers-without_holders r (n ∷ ns) a = customers-without_holders (without_holder r n) ns a
-
 -- a number that is free stays so
 stays-free : (r : Registry) (numbers : List ℕ) (n : ℕ) → holder_of r n ≡ None → holder_of (without_holders r numbers) n ≡ None
 stays-free r [] n free = free
@@ -87,72 +85,66 @@ holder_of-without_holders-other r (m ∷ ms) n never =
     ∙ holder_of-without_holder-other r m n (λ e. never (Contains-here m ms n (sym e)))
 
 -- ---- an address was enrolled
-module _ (r : Registry) (address : Address) (e : Enrolment) where
-  pub customer_at-after_enrol : customer_at (after_enrol r address e) address ≡ Some (new_customer e)
-  customer_at-after_enrol = customer_at-with_customer (with_holder r e.number address) address (new_customer e)
+module _ (r : Registry) (address : Address) (key : NumberedKey) (budget : ℕ) where
+  pub customer_at-after_enrol : customer_at (after_enrol r address key budget) address ≡ Some (new_customer (enrolment_of key budget))
+  customer_at-after_enrol = customer_at-with_customer r address (new_customer (enrolment_of key budget))
 
   pub customer_at-after_enrol-other : (other : Address) → other ≢ address
-      → customer_at (after_enrol r address e) other ≡ customer_at r other
+      → customer_at (after_enrol r address key budget) other ≡ customer_at r other
   customer_at-after_enrol-other other ne =
-      customer_at-with_customer-other (with_holder r e.number address) address (new_customer e) other ne
+      customer_at-with_customer-other r address (new_customer (enrolment_of key budget)) other ne
 
-  pub numbers_at-after_enrol : numbers_at (after_enrol r address e) address ≡ e.number ∷ []
-  numbers_at-after_enrol = ap numbers_held customer_at-after_enrol
+-- ---- the customer of an address, c, was changed, and holders with it
+module _ (r : Registry) (address : Address) (change : CustomerState → CustomerState) (holders : CustomerState → map.FinMap nat_cmp Address)
+    (c : CustomerState) (there : customer_at r address ≡ Some c) where
+  abbrev changed : CustomerState → Registry
+  changed d = record { customers = map.insert r.customers address (change d); holders = holders d }
 
-  pub numbers_at-after_enrol-other : (other : Address) → other ≢ address → numbers_at (after_enrol r address e) other ≡ numbers_at r other
-  numbers_at-after_enrol-other other ne = ap numbers_held (customer_at-after_enrol-other other ne)
+  is-changed : option_map_or changed (customer_at r address) r ≡ changed c
+  is-changed = ap (λ o. option_map_or changed o r) there
 
-  pub holder_of-after_enrol : holder_of (after_enrol r address e) e.number ≡ Some address
-  holder_of-after_enrol = holder_of-with_holder r e.number address
+  customer_at-changed : customer_at (option_map_or changed (customer_at r address) r) address ≡ Some (change c)
+  customer_at-changed = ap (λ s. customer_at s address) is-changed ∙ customer_at-with_customer r address (change c)
 
-  pub holder_of-after_enrol-other : (other : ℕ) → other ≢ e.number → holder_of (after_enrol r address e) other ≡ holder_of r other
-  holder_of-after_enrol-other other ne = holder_of-with_holder-other r e.number address other ne
+  customer_at-changed-other : (other : Address) → other ≢ address
+      → customer_at (option_map_or changed (customer_at r address) r) other ≡ customer_at r other
+  customer_at-changed-other other ne =
+      ap (λ s. customer_at s other) is-changed ∙ customer_at-with_customer-other r address (change c) other ne
 
--- ---- an address was revoked, whose customer is c
-module _ (r : Registry) (address : Address) (c : CustomerState) (there : customer_at r address ≡ Some c) where
-  pub after_revoke-customer : after_revoke r address ≡ without_holders (with_customer r address (revoked c)) (numbers_of c)
-  after_revoke-customer = ap (λ o. option_map_or (λ d. without_holders (with_customer r address (revoked d)) (numbers_of d)) o r) there
+module _ (r : Registry) (address : Address) where
+  -- the address was revoked
+  pub customer_at-after_revoke : (c : CustomerState) → customer_at r address ≡ Some c
+      → customer_at (after_revoke r address) address ≡ Some (revoked c)
+  customer_at-after_revoke = customer_at-changed r address revoked (λ c. fold map.remove r.holders (numbers_of c))
 
-  pub customer_at-after_revoke : customer_at (after_revoke r address) address ≡ Some (revoked c)
-  customer_at-after_revoke =
-      ap (λ s. customer_at s address) after_revoke-customer
-      ∙ customers-without_holders (with_customer r address (revoked c)) (numbers_of c) address
-      ∙ customer_at-with_customer r address (revoked c)
-
-  pub customer_at-after_revoke-other : (other : Address) → other ≢ address
+  pub customer_at-after_revoke-other : (c : CustomerState) → customer_at r address ≡ Some c → (other : Address) → other ≢ address
       → customer_at (after_revoke r address) other ≡ customer_at r other
-  customer_at-after_revoke-other other ne =
-      ap (λ s. customer_at s other) after_revoke-customer
-      ∙ customers-without_holders (with_customer r address (revoked c)) (numbers_of c) other
-      ∙ customer_at-with_customer-other r address (revoked c) other ne
+  customer_at-after_revoke-other = customer_at-changed-other r address revoked (λ c. fold map.remove r.holders (numbers_of c))
 
-  pub numbers_at-after_revoke : numbers_at (after_revoke r address) address ≡ []
-  numbers_at-after_revoke = ap numbers_held customer_at-after_revoke
+  -- it has another budget
+  pub customer_at-after_budget : (budget : ℕ) (c : CustomerState) → customer_at r address ≡ Some c
+      → customer_at (after_budget r address budget) address ≡ Some (rebudgeted c budget)
+  customer_at-after_budget budget = customer_at-changed r address (λ c. rebudgeted c budget) (λ c. r.holders)
 
-  pub numbers_at-after_revoke-other : (other : Address) → other ≢ address → numbers_at (after_revoke r address) other ≡ numbers_at r other
-  numbers_at-after_revoke-other other ne = ap numbers_held (customer_at-after_revoke-other other ne)
+  pub customer_at-after_budget-other : (budget : ℕ) (c : CustomerState) → customer_at r address ≡ Some c
+      → (other : Address) → other ≢ address → customer_at (after_budget r address budget) other ≡ customer_at r other
+  customer_at-after_budget-other budget = customer_at-changed-other r address (λ c. rebudgeted c budget) (λ c. r.holders)
 
-  pub holder_of-after_revoke : (number : ℕ) → Contains (numbers_of c) number → holder_of (after_revoke r address) number ≡ None
-  holder_of-after_revoke number has =
-      ap (λ s. holder_of s number) after_revoke-customer
-      ∙ holder_of-without_holders (with_customer r address (revoked c)) (numbers_of c) number has
+  -- it has one key more
+  pub customer_at-after_rollover : (key : NumberedKey) (c : CustomerState) → customer_at r address ≡ Some c
+      → customer_at (after_rollover r address key) address ≡ Some (rolled_over c key)
+  customer_at-after_rollover key = customer_at-changed r address (λ c. rolled_over c key) (λ c. map.insert r.holders key.number address)
 
-  pub holder_of-after_revoke-other : (number : ℕ) → (Contains (numbers_of c) number → ⊥)
-      → holder_of (after_revoke r address) number ≡ holder_of r number
-  holder_of-after_revoke-other number never =
-      ap (λ s. holder_of s number) after_revoke-customer
-      ∙ holder_of-without_holders-other (with_customer r address (revoked c)) (numbers_of c) number never
+  pub customer_at-after_rollover-other : (key : NumberedKey) (c : CustomerState) → customer_at r address ≡ Some c
+      → (other : Address) → other ≢ address → customer_at (after_rollover r address key) other ≡ customer_at r other
+  customer_at-after_rollover-other key =
+      customer_at-changed-other r address (λ c. rolled_over c key) (λ c. map.insert r.holders key.number address)
 
--- ---- an address, whose customer is c, has another budget
-module _ (r : Registry) (address : Address) (budget : ℕ) (c : CustomerState) (there : customer_at r address ≡ Some c) where
-  after_budget-customer : after_budget r address budget ≡ with_customer r address (rebudgeted c budget)
-  after_budget-customer = ap (λ o. option_map_or (λ d. with_customer r address (rebudgeted d budget)) o r) there
+  -- a key was taken from it
+  pub customer_at-after_retire : (number : ℕ) (c : CustomerState) → customer_at r address ≡ Some c
+      → customer_at (after_retire r address number) address ≡ Some (retired c number)
+  customer_at-after_retire number = customer_at-changed r address (λ c. retired c number) (λ c. map.remove r.holders number)
 
-  pub customer_at-after_budget : customer_at (after_budget r address budget) address ≡ Some (rebudgeted c budget)
-  customer_at-after_budget =
-      ap (λ s. customer_at s address) after_budget-customer ∙ customer_at-with_customer r address (rebudgeted c budget)
-
-  pub customer_at-after_budget-other : (other : Address) → other ≢ address
-      → customer_at (after_budget r address budget) other ≡ customer_at r other
-  customer_at-after_budget-other other ne =
-      ap (λ s. customer_at s other) after_budget-customer ∙ customer_at-with_customer-other r address (rebudgeted c budget) other ne
+  pub customer_at-after_retire-other : (number : ℕ) (c : CustomerState) → customer_at r address ≡ Some c
+      → (other : Address) → other ≢ address → customer_at (after_retire r address number) other ≡ customer_at r other
+  customer_at-after_retire-other number = customer_at-changed-other r address (λ c. retired c number) (λ c. map.remove r.holders number)

@@ -1,5 +1,5 @@
 pub mod Address
-pub mod Customer
 pub mod Registry
+pub mod Refusals
 pub mod Lends
 pub mod Codes

@@ -1,11 +1,12 @@
 -- A register, as contracts see it: two finite maps.
-use Rattle.std.specs.Prelude.{◌≡◌, ℕ, Bool, false, Option, Some, List, [], ◌∷◌, Contains}
+use Rattle.std.specs.Prelude.{◌≡◌, ℕ, Bool, false, Option, Some, None, List, [], fold, Contains}
 use Rattle.std.specs.Option.{option_map_or}
 use Rattle.std.specs.Ordering.{nat_cmp}
 use Rattle.std.specs.FinMap as map
 use Rattle.ntp_register.specs.declared.address.Address.{Address}
 use Rattle.ntp_register.specs.Address.{address_cmp}
-use Rattle.ntp_register.specs.Customer.{Enrolment, CustomerState, new_customer, revoked, rebudgeted, is_enrolled, numbers_of}
+use Rattle.ntp_customer.specs.declared.numbered_key.NumberedKey.{NumberedKey}
+use Rattle.ntp_customer.specs.Customer.{Enrolment, CustomerState, enrolment_at, enrolment_of, new_customer, revoked, rebudgeted, rolled_over, retired, is_enrolled, numbers_of}
 
 -- the customers by address, and the holder of each key number that is held (profile)
 pub record Registry : Type 0 where
@@ -23,6 +24,10 @@ customer_at r address = map.get r.customers address
 -- the holder of a key number, if it is held (profile)
 abbrev pub holder_of : Registry → ℕ → Option Address
 holder_of r number = map.get r.holders number
+
+-- the terms with which an address is enrolled now, if it is (profile)
+abbrev pub terms_at : Registry → Address → Option Enrolment
+terms_at r address = option_map_or enrolment_at (customer_at r address) None
 
 -- whether an address is enrolled now (profile)
 abbrev pub is_enrolled_at : Registry → Address → Bool
@@ -51,12 +56,12 @@ without_holder r number = record r { holders = map.remove r.holders number }
 
 -- with these numbers free, and all else as it was (profile)
 abbrev pub without_holders : Registry → List ℕ → Registry
-without_holders r [] = r
-without_holders r (number ∷ numbers) = without_holders (without_holder r number) numbers
+without_holders r numbers = record r { holders = fold map.remove r.holders numbers }
 
--- after an address is enrolled: it is a new customer and holds its number (profile)
-abbrev pub after_enrol : Registry → Address → Enrolment → Registry
-after_enrol r address e = with_customer (with_holder r e.number address) address (new_customer e)
+-- after an address is enrolled with a key: it is a new customer and holds the key's number (profile)
+abbrev pub after_enrol : Registry → Address → NumberedKey → ℕ → Registry
+after_enrol r address key budget =
+    with_customer (with_holder r key.number address) address (new_customer (enrolment_of key budget))
 
 -- after an address is revoked: its enrolment goes, and its numbers are free again (profile)
 abbrev pub after_revoke : Registry → Address → Registry
@@ -65,3 +70,13 @@ after_revoke r address = option_map_or (λ c. without_holders (with_customer r a
 -- after an address has another budget, if it is enrolled (profile)
 abbrev pub after_budget : Registry → Address → ℕ → Registry
 after_budget r address budget = option_map_or (λ c. with_customer r address (rebudgeted c budget)) (customer_at r address) r
+
+-- after an enrolled address has one key more, with a number that nobody held: it is the number's holder (profile)
+abbrev pub after_rollover : Registry → Address → NumberedKey → Registry
+after_rollover r address key =
+    option_map_or (λ c. with_customer (with_holder r key.number address) address (rolled_over c key)) (customer_at r address) r
+
+-- after the key of a number that it holds is taken from an enrolled address: the number is free again (profile)
+abbrev pub after_retire : Registry → Address → ℕ → Registry
+after_retire r address number =
+    option_map_or (λ c. with_customer (without_holder r number) address (retired c number)) (customer_at r address) r

@@ -1,20 +1,18 @@
 //! The customers of a service, by address and by key number.
 //!
-//! One key is tied to one client address (profile). Who holds a key number is kept apart from the
+//! One or two keys are tied to one client address (profile). Who holds a key number is kept apart from the
 //! customers, so nothing that is written to a customer alters it. Contracts see a register as two finite
 //! maps, with no order of entries and no spare room.
 #![tactic(auto)]
 
-mod account;
 mod address;
 mod commands;
-mod customer;
 mod refusal;
 mod store;
 #[cfg(test)]
 mod tests;
 
 pub use address::Address;
-pub use customer::Customer;
+pub use ntp_customer::{Customer, NumberedKey};
 pub use refusal::Refusal;
 pub use store::Register;

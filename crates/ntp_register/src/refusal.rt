@@ -1,7 +1,7 @@
 //! Why a command is refused.
 use ntp_slots::NoMemory;
 
-/// Why a command was refused (profile), in the order in which the causes of one command are looked for.
+/// Why a command was refused (profile). Each command says in which order it looks for its causes.
 #[derive(Clone, Copy, Debug, PartialEq, Eq)]
 pub enum Refusal {
     /// The address is enrolled.
@@ -12,6 +12,14 @@ pub enum Refusal {
     NoMemory,
     /// The address is not enrolled.
     NotEnrolled,
+    /// The address holds this key number already.
+    SameNumber,
+    /// The address holds as many keys as it can.
+    RoomFull,
+    /// It is the only key of the address.
+    OnlyKey,
+    /// The address does not hold this key number.
+    NotHeld,
 }
 
 impl From<NoMemory> for Refusal {

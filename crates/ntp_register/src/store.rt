@@ -1,6 +1,6 @@
 //! The two tables of a register: its customers, and the holders of key numbers. Nothing else opens them.
-ghost use Rattle.std.specs.Prelude.{◌≡◌, None, IsSome, IsOk, OnOk, OnErr, option_copied};
-ghost use Rattle.std.specs.Option.{option_copied_mut};
+ghost use Rattle.std.specs.Prelude.{◌≡◌, ◌∷◌, None, IsSome, IsOk, OnOk, OnErr, option_copied};
+ghost use Rattle.std.specs.Option.{option_copied_mut, option_to_list};
 ghost use Rattle.std.specs.Borrow.{sem};
 
 use crate::{Address, Customer};
@@ -35,7 +35,7 @@ impl<A: Allocator> Model for Register<A> {
 }
 
 impl<A: Allocator + Copy> Register<A> {
-    ghost use Rattle.ntp_register.specs.Registry.{Agrees, empty_registry, customer_at, holder_of, with_customer, with_holder, without_holder};
+    ghost use Rattle.ntp_register.specs.Registry.{Agrees, empty_registry, customer_at, holder_of, with_customer, with_holder, without_holder, without_holders};
     ghost use Rattle.ntp_register.specs.Lends.{lends_customer};
 
     /// An empty register, which will take its memory from `alloc`.
@@ -106,5 +106,15 @@ impl<A: Allocator + Copy> Register<A> {
         ensures { self.new ≡ without_holder self.old number }
     {
         self.holders.swap_remove(&number);
+    }
+
+    // Frees the numbers of a customer that was revoked.
+    pub(crate) fn take_holders(&mut self, older: u16, newer: Option<u16>)
+        ensures { self.new ≡ without_holders self.old (older ∷ option_to_list newer) }
+    {
+        self.take_holder(older);
+        if let Some(newer) = newer {
+            self.take_holder(newer);
+        }
     }
 }

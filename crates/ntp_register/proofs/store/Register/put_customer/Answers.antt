@@ -1,8 +1,7 @@
-use Rattle.std.proofs.Common.{◌∙◌}
+use Rattle.std.proofs.Common.{◌≡◌, None, is_some, true≢false, ap, sym, ◌∙◌}
 use Rattle.std.specs.FinMap.{from_entries}
 use Rattle.ntp_register.specs.Registry.{customer_at}
 use Rattle.ntp_register.proofs.Tables.{get-customers, insert-customers}
-use Rattle.ntp_register.proofs.Absences.{not_there}
 use Rattle.ntp_register.proofs.store.Register.put_customer.Goals as goal
 
 pub returns-clause-ok : goal.returns-clause-ok
@@ -15,5 +14,6 @@ returns-clause-ok g c =
 
 pub returns-in_err-insert-clause-replaced : goal.returns-in_err-insert-clause-replaced
 returns-in_err-insert-clause-replaced g c = λ there.
-    absurd (not_there (customer_at c.args.self.now c.args.address)
-    (rw (← c.self.view_is) (get-customers c.self.inside.customers.entries c.args.address ∙ c.in_err-insert.ensures.absent)) there)
+    let absent : customer_at c.args.self.now c.args.address ≡ None =
+    rw (← c.self.view_is) (get-customers c.self.inside.customers.entries c.args.address ∙ c.in_err-insert.ensures.absent) in
+    absurd (true≢false (sym there ∙ ap is_some absent))

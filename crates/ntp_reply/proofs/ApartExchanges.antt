@@ -1,5 +1,5 @@
--- The recent exchanges of a life stay as they are saved: apart.
-use Rattle.std.proofs.Common.{◌≡◌, ℕ, Bool, true, false, List, [], ◌∷◌, ◌++◌, Option, Some, None, IfSome, Contains, sym, subst, refl}
+-- The recent exchanges of a past stay as they are saved: apart.
+use Rattle.std.proofs.Common.{◌≡◌, Bool, true, false, List, [], ◌∷◌, ◌++◌, Option, Some, None, IfSome, Contains, sym, subst, refl}
 use Rattle.std.specs.Prelude.{if◌then◌else◌, is_some, nat_lt, ◌==◌}
 use Rattle.ntp_time.specs.declared.stamp.Stamp.{Stamp}
 use Rattle.ntp_time.specs.declared.moment.Moment.{Moment}
@@ -12,11 +12,14 @@ use Rattle.ntp_slots.proofs.Saved.{AreSaved-nil, AreSaved-push, AreSaved-spent, 
 use Rattle.ntp_reply_packets.specs.declared.occasion.Occasion.{Occasion}
 use Rattle.ntp_reply_packets.specs.Replies.{new_stamps}
 use Rattle.ntp_reply_packets.proofs.DistinctStamps.{receive-free, transmit-free}
-use Rattle.ntp_reply.specs.Life.{Life, Unregistered, Revoked, Enrolled, recent_in, budget_in, with_refusal, with_query}
+use Rattle.ntp_customer.specs.Customer.{budget_of}
+use Rattle.ntp_customer.specs.Past.{Past, with_query}
+use Rattle.ntp_customer.proofs.Pasts.{by_past}
+use Rattle.ntp_reply.specs.Life.{recent_of}
 use Rattle.ntp_reply.specs.Exchanged.{matched, with_match_used, after_time, after_departure}
 use Rattle.ntp_reply.specs.Kind.{Kind, PassedOver, RefusedByDeny, RefusedByNak, Signed}
 use Rattle.ntp_reply.specs.Verdict.{after_kind, query_count, window_at}
-use Rattle.ntp_reply.proofs.KeptExchanges.{recent-nil, recent-time}
+use Rattle.ntp_reply.proofs.KeptExchanges.{recent-nil, recent-with_query, recent-time}
 
 -- none is apart
 pub AreSaved-none : AreSaved (recent [])
@@ -53,42 +56,33 @@ used-then-new saved request o are = by_match (is_some (matched saved request))
         (transmit-free o saved are)
 
 -- after a time reply, and after a departure
-AreSaved-after_time : (life : Life) (o : Occasion) (request : HeaderFields) → AreSaved (recent_in life)
-    → AreSaved (recent_in (after_time life o request))
-AreSaved-after_time Unregistered o request are = are
-AreSaved-after_time (Revoked refusals) o request are = are
-AreSaved-after_time (Enrolled e queries refusals exchanges) o request are =
-    subst AreSaved (recent-time exchanges request _) (used-then-new (recent exchanges) request o are)
+AreSaved-after_time : (past : Past) (o : Occasion) (request : HeaderFields) → AreSaved (recent_of past)
+    → AreSaved (recent_of (after_time past o request))
+AreSaved-after_time past o request =
+    by_past (λ past. AreSaved (recent_of past) → AreSaved (recent_of (after_time past o request)))
+    (λ refusals are. are)
+    (λ a refusals are. subst AreSaved (recent-time a.exchanges request _) (used-then-new (recent a.exchanges) request o are))
+    past
 
-pub AreSaved-after_departure : (life : Life) (receive : Stamp) (m : Moment) → AreSaved (recent_in life)
-    → AreSaved (recent_in (after_departure life receive m))
-AreSaved-after_departure Unregistered receive m are = are
-AreSaved-after_departure (Revoked refusals) receive m are = are
-AreSaved-after_departure (Enrolled e queries refusals exchanges) receive m are =
-    subst AreSaved (sym (recent-departed exchanges receive m)) (AreSaved-departed (recent exchanges) receive m are)
+pub AreSaved-after_departure : (past : Past) (receive : Stamp) (m : Moment) → AreSaved (recent_of past)
+    → AreSaved (recent_of (after_departure past receive m))
+AreSaved-after_departure past receive m =
+    by_past (λ past. AreSaved (recent_of past) → AreSaved (recent_of (after_departure past receive m)))
+    (λ refusals are. are)
+    (λ a refusals are. subst AreSaved (sym (recent-departed a.exchanges receive m)) (AreSaved-departed (recent a.exchanges) receive m are))
+    past
 
--- counts change no exchange
-AreSaved-with_refusal : (life : Life) (w : ℕ) → AreSaved (recent_in life) → AreSaved (recent_in (with_refusal life w))
-AreSaved-with_refusal Unregistered w are = are
-AreSaved-with_refusal (Revoked refusals) w are = are
-AreSaved-with_refusal (Enrolled e queries refusals exchanges) w are = are
-
-AreSaved-with_query : (life : Life) (w : ℕ) → AreSaved (recent_in life) → AreSaved (recent_in (with_query life w))
-AreSaved-with_query Unregistered w are = are
-AreSaved-with_query (Revoked refusals) w are = are
-AreSaved-with_query (Enrolled e queries refusals exchanges) w are = are
-
--- so after a datagram
-pub AreSaved-after_kind : (life : Life) (o : Occasion) (k : Kind) → AreSaved (recent_in life) → AreSaved (recent_in (after_kind life o k))
-AreSaved-after_kind life o (PassedOver why) are = are
-AreSaved-after_kind life o (RefusedByDeny h) are = AreSaved-with_refusal life (window_at o) are
-AreSaved-after_kind life o (RefusedByNak h) are = AreSaved-with_refusal life (window_at o) are
-AreSaved-after_kind life o (Signed key number h) are = by_budget (nat_lt (query_count life o) (budget_in life))
+-- after a datagram
+pub AreSaved-after_kind : (past : Past) (o : Occasion) (k : Kind) → AreSaved (recent_of past) → AreSaved (recent_of (after_kind past o k))
+AreSaved-after_kind past o (PassedOver why) are = are
+AreSaved-after_kind past o (RefusedByDeny h) are = are
+AreSaved-after_kind past o (RefusedByNak h) are = are
+AreSaved-after_kind past o (Signed key number h) are = by_budget (nat_lt (query_count past o) (budget_of past))
   where
-    counted : AreSaved (recent_in (with_query life (window_at o)))
-    counted = AreSaved-with_query life (window_at o) are
+    counted : AreSaved (recent_of (with_query past (window_at o)))
+    counted = subst AreSaved (recent-with_query past (window_at o)) are
 
     by_budget : (b : Bool)
-        → AreSaved (recent_in (if b then after_time (with_query life (window_at o)) o h else with_query life (window_at o)))
-    by_budget true = AreSaved-after_time (with_query life (window_at o)) o h counted
+        → AreSaved (recent_of (if b then after_time (with_query past (window_at o)) o h else with_query past (window_at o)))
+    by_budget true = AreSaved-after_time (with_query past (window_at o)) o h counted
     by_budget false = counted

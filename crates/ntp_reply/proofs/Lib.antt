@@ -1,5 +1,4 @@
 mod Lengths
 pub mod KeptExchanges
 pub mod ApartExchanges
-pub mod OctetsKinds
-pub mod ShortLives
+pub mod ShortPasts

@@ -8,7 +8,9 @@ use Rattle.ntp_slots.specs.Exchanges.{with_recent, new_exchange, unused_at, spen
 use Rattle.ntp_reply_packets.specs.declared.occasion.Occasion.{Occasion}
 use Rattle.ntp_reply_packets.specs.declared.occasion.NewStamps.{NewStamps}
 use Rattle.ntp_reply_packets.specs.Replies.{new_stamps}
-use Rattle.ntp_reply.specs.Life.{Life, exchanges_in, recent_in, with_exchanges}
+use Rattle.ntp_customer.specs.Customer.{exchanges_of, with_saved}
+use Rattle.ntp_customer.specs.Past.{Past}
+use Rattle.ntp_reply.specs.Life.{recent_of}
 
 -- the saved exchange that a request asks about: the unused one whose receive stamp is the request's origin, where the request's
 -- receive and transmit stamps differ. There is at most one (profile, after RFC 9769)
@@ -20,19 +22,19 @@ abbrev pub with_match_used : List Slot → HeaderFields → List Slot
 with_match_used saved request = if is_some (matched saved request) then spent saved request.origin else saved
 
 -- the new stamps of a reply on an occasion, beside the recent exchanges (profile)
-abbrev pub stamps_of : Life → Occasion → NewStamps
-stamps_of life o = new_stamps o (recent_in life)
+abbrev pub stamps_of : Past → Occasion → NewStamps
+stamps_of past o = new_stamps o (recent_of past)
 
--- the life after a time reply: the exchange that was asked about is used, and there is a new one (profile, after RFC 9769)
-abbrev pub after_time : Life → Occasion → HeaderFields → Life
-after_time life o request =
-    let new = new_exchange (stamps_of life o).receive (stamps_of life o).transmit in
-    with_exchanges life (with_recent (exchanges_in life) (with_match_used (recent_in life) request) ++ new ∷ [])
+-- the past after a time reply: the exchange that was asked about is used, and there is a new one (profile, after RFC 9769)
+abbrev pub after_time : Past → Occasion → HeaderFields → Past
+after_time past o request =
+    let new = new_exchange (stamps_of past o).receive (stamps_of past o).transmit in
+    with_saved past (with_recent (exchanges_of past) (with_match_used (recent_of past) request) ++ new ∷ [])
 
 -- whether a departure is noted: a recent exchange that is unused has this receive stamp (profile, after RFC 9769)
-abbrev pub is_noted : Life → Stamp → Bool
-is_noted life receive = is_some (unused_at (recent_in life) receive)
+abbrev pub is_noted : Past → Stamp → Bool
+is_noted past receive = is_some (unused_at (recent_of past) receive)
 
--- the life after a departure: that exchange has its transmit stamp (profile, after RFC 9769)
-abbrev pub after_departure : Life → Stamp → Moment → Life
-after_departure life receive m = with_exchanges life (with_recent (exchanges_in life) (departed (recent_in life) receive m))
+-- the past after a departure: that exchange has its transmit stamp (profile, after RFC 9769)
+abbrev pub after_departure : Past → Stamp → Moment → Past
+after_departure past receive m = with_saved past (with_recent (exchanges_of past) (departed (recent_of past) receive m))

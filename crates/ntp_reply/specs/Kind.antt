@@ -1,14 +1,15 @@
 -- What a datagram is to the address from which it came.
 use Rattle.std.specs.Prelude.{ℕ, List, ◌==◌, ◌||◌, if◌then◌else◌, Option, Some, None, Result, Ok, Err}
 use Rattle.ntp_packet.specs.Header.{HeaderFields}
-use Rattle.ntp_tail.specs.Tail.{TailValue, NoTail, BareTail}
+use Rattle.ntp_tail.specs.Tail.{TailValue, NoTail, BareTail, Md5Tail, Sha1Tail}
 use Rattle.ntp_tail.specs.Request.{RequestValue}
 use Rattle.ntp_tail.specs.declared.malformed.Malformed.{Malformed}
 use Rattle.ntp_mac.specs.Key.{SymmetricKey}
 use Rattle.ntp_mac.specs.Reading.{reading_of}
 use Rattle.ntp_mac.specs.Signed.{is_signed}
-use Rattle.ntp_register.specs.Customer.{Enrolment}
-use Rattle.ntp_reply.specs.Life.{Life, Unregistered, enrolment_in}
+use Rattle.ntp_customer.specs.declared.numbered_key.NumberedKey.{NumberedKey}
+use Rattle.ntp_customer.specs.Customer.{Enrolment, held_in, enrolment_at}
+use Rattle.ntp_customer.specs.Past.{Past}
 use Rattle.ntp_reply.specs.declared.answers.Reason.{Reason}
 use Rattle.ntp_reply.specs.declared.answers.Reason.TheVariants as reason
 
@@ -20,15 +21,18 @@ pub data Kind : Type 0 where
   RefusedByNak : HeaderFields → Kind
   Signed : SymmetricKey → ℕ → HeaderFields → Kind
 
--- a packet with a MAC: signed where the MAC is the customer's, else refused by a crypto-NAK (RFC 5905; profile)
-abbrev pub mac_kind : Enrolment → RequestValue → Kind
-mac_kind e r = if is_signed e.key e.number r then Signed e.key e.number r.header else RefusedByNak r.header
+-- a packet with a MAC, by the customer's key with the MAC's number, if it has one: signed where the MAC is of that key, else refused
+-- by a crypto-NAK (RFC 5905; profile)
+abbrev pub mac_kind : Option NumberedKey → RequestValue → Kind
+mac_kind (Some k) r = if is_signed k.key k.number r then Signed k.key k.number r.header else RefusedByNak r.header
+mac_kind None r = RefusedByNak r.header
 
 -- a packet of an enrolled address, by its tail (profile)
 abbrev pub tail_kind : Enrolment → RequestValue → TailValue → Kind
 tail_kind e r NoTail = RefusedByDeny r.header
 tail_kind e r (BareTail number) = PassedOver reason.Bare
-tail_kind e r other = mac_kind e r
+tail_kind e r (Md5Tail number digest) = mac_kind (held_in e number) r
+tail_kind e r (Sha1Tail number digest) = mac_kind (held_in e number) r
 
 -- a client's request of version 3 or 4, from an address that is enrolled, or revoked (profile)
 abbrev pub client_kind : Option Enrolment → RequestValue → Kind
@@ -47,7 +51,6 @@ abbrev pub octets_kind : Option Enrolment → Result RequestValue Malformed → 
 octets_kind enrolment (Ok r) = packet_kind enrolment r
 octets_kind enrolment (Err fault) = PassedOver (reason.Malformed fault)
 
--- a datagram: of an address that was never enrolled the octets are not looked at (profile)
-abbrev pub kind_of : Life → List ℕ → Kind
-kind_of Unregistered octets = PassedOver reason.Unregistered
-kind_of life octets = octets_kind (enrolment_in life) (reading_of octets)
+-- a datagram, from an address that was enrolled once (profile)
+abbrev pub kind_of : Past → List ℕ → Kind
+kind_of past octets = octets_kind (enrolment_at past) (reading_of octets)

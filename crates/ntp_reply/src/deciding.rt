@@ -1,17 +1,17 @@
 //! The decision, in its order.
-ghost use Rattle.std.specs.Prelude.{◌≡◌, ◌≤◌, ◌||◌, ◌==◌, Some, length, IsSome, IfSome};
+ghost use Rattle.std.specs.Prelude.{◌≡◌, ◌≤◌, ◌||◌, ◌==◌, length, IsSome, IfSome};
 ghost use Rattle.ntp_tail.specs.Tail.{tail_octets};
-ghost use Rattle.ntp_register.specs.Customer.{enrolment_at, numbers_of};
-ghost use Rattle.ntp_reply.specs.Life.{Life, short};
-ghost use Rattle.ntp_reply.specs.Kind.{mac_kind};
+ghost use Rattle.ntp_customer.specs.Customer.{enrolment_at, held_in, numbers_of};
+ghost use Rattle.ntp_customer.specs.Past.{Past, short};
+ghost use Rattle.ntp_reply.specs.Kind.{mac_kind, packet_kind, kind_of};
 ghost use Rattle.ntp_reply_packets.specs.Replies.{occasion_of};
-ghost use Rattle.ntp_reply.specs.Verdict.{packet_answer, after_packet, verdict, after_datagram, kind_answer, after_kind, reply_length, request_length};
+ghost use Rattle.ntp_reply.specs.Verdict.{kind_answer, after_kind, reply_length, request_length};
 
 use crate::refusing::{deny, nak};
 use crate::serving::serve_signed;
 use crate::{Answer, Reason, Reference};
+use ntp_customer::Customer;
 use ntp_mac::verifies;
-use ntp_register::Customer;
 use ntp_reply_packets::Occasion;
 use ntp_tail::{Request, Tail, read_request};
 use ntp_time::Moment;
@@ -29,10 +29,10 @@ pub fn answer_octets<A: Allocator + Copy>(
     reference: &Reference,
     octets: &[u8],
 ) -> Answer
-    ensures answer { (life : Life) → short life ≡ Some customer.old
-        → result ≡ verdict life (occasion_of receipt transmit reference.now) octets.now }
-    ensures after { (life : Life) → short life ≡ Some customer.old
-        → Some customer.new ≡ short (after_datagram life (occasion_of receipt transmit reference.now) octets.now) }
+    ensures answer { (past : Past) → short past ≡ customer.old
+        → result ≡ kind_answer past (occasion_of receipt transmit reference.now) (kind_of past octets.now) }
+    ensures after { (past : Past) → short past ≡ customer.old
+        → customer.new ≡ short (after_kind past (occasion_of receipt transmit reference.now) (kind_of past octets.now)) }
     ensures numbers { numbers_of customer.new ≡ numbers_of customer.old }
     ensures no_longer { reply_length result ≤ length octets.now }
 {
@@ -47,7 +47,7 @@ pub fn answer_octets<A: Allocator + Copy>(
 /// 1. the version is neither 3 nor 4, or the mode is not a client's: silence;
 /// 2. the customer is revoked, or the packet has no MAC: DENY;
 /// 3. the tail is a bare key number: silence;
-/// 4. the MAC is not the customer's: a crypto-NAK;
+/// 4. the MAC is of none of the customer's keys: a crypto-NAK;
 /// 5. otherwise, as many queries of a window as the budget get the time, the next one RATE, the others silence.
 ///
 /// A refusal, by DENY or crypto-NAK, is counted, and sent where fewer than four of its window were counted before it.
@@ -59,10 +59,11 @@ pub fn answer<A: Allocator + Copy>(
     transmit: Moment,
     reference: &Reference,
 ) -> Answer
-    ensures answer { (life : Life) → short life ≡ Some customer.old
-        → result ≡ packet_answer life (occasion_of receipt transmit reference.now) request.now }
-    ensures after { (life : Life) → short life ≡ Some customer.old
-        → Some customer.new ≡ short (after_packet life (occasion_of receipt transmit reference.now) request.now) }
+    ensures answer { (past : Past) → short past ≡ customer.old
+        → result ≡ kind_answer past (occasion_of receipt transmit reference.now) (packet_kind (enrolment_at past) request.now) }
+    ensures after { (past : Past) → short past ≡ customer.old
+        → customer.new
+        ≡ short (after_kind past (occasion_of receipt transmit reference.now) (packet_kind (enrolment_at past) request.now)) }
     ensures numbers { numbers_of customer.new ≡ numbers_of customer.old }
     ensures no_longer { reply_length result ≤ request_length request.now }
 {
@@ -80,11 +81,13 @@ pub fn answer<A: Allocator + Copy>(
     if !customer.is_enrolled() {
         return deny(customer, &request.header, &occasion);
     }
-    match request.tail {
-        Tail::Absent => deny(customer, &request.header, &occasion),
-        Tail::Bare(_) => Answer::Silent(Reason::Bare),
-        Tail::Md5 { .. } | Tail::Sha1 { .. } => answer_mac(customer, request, &occasion),
-    }
+    let number = match request.tail {
+        Tail::Absent => return deny(customer, &request.header, &occasion),
+        Tail::Bare(_) => return Answer::Silent(Reason::Bare),
+        Tail::Md5 { number, .. } => number,
+        Tail::Sha1 { number, .. } => number,
+    };
+    answer_mac(customer, request, number, &occasion)
 }
 
 // Whether requests of a version are served.
@@ -94,23 +97,29 @@ fn is_served(version: u8) -> bool
     version == 3 || version == 4
 }
 
-// The answer to a packet with a MAC, from a customer that is enrolled.
+// The answer to a packet with a MAC of this key number, from a customer that is enrolled. The number chooses the key,
+// so one digest at most is computed to verify it.
 fn answer_mac<A: Allocator + Copy>(
     customer: &mut Customer<A>,
     request: &Request<'_>,
+    number: u32,
     occasion: &Occasion,
 ) -> Answer
     requires enrolled { IsSome (enrolment_at customer.old) }
     requires mac { 20 ≤ length (tail_octets request.now.tail) }
-    ensures answer { (life : Life) → short life ≡ Some customer.old
-        → IfSome (enrolment_at customer.old) (λ e. result ≡ kind_answer life occasion.now (mac_kind e request.now)) }
-    ensures after { (life : Life) → short life ≡ Some customer.old
-        → IfSome (enrolment_at customer.old) (λ e. Some customer.new ≡ short (after_kind life occasion.now (mac_kind e request.now))) }
+    ensures answer { (past : Past) → short past ≡ customer.old → IfSome (enrolment_at customer.old)
+        (λ e. result ≡ kind_answer past occasion.now (mac_kind (held_in e number) request.now)) }
+    ensures after { (past : Past) → short past ≡ customer.old → IfSome (enrolment_at customer.old)
+        (λ e. customer.new ≡ short (after_kind past occasion.now (mac_kind (held_in e number) request.now))) }
     ensures numbers { numbers_of customer.new ≡ numbers_of customer.old }
     ensures no_longer { reply_length result ≤ request_length request.now }
 {
-    if verifies(customer.key(), customer.number(), request) {
-        serve_signed(customer, &request.header, occasion)
+    let Some(found) = customer.held(number) else {
+        return nak(customer, &request.header, occasion);
+    };
+    let held = *found;
+    if verifies(&held.key, held.number, request) {
+        serve_signed(customer, &held, &request.header, occasion)
     } else {
         nak(customer, &request.header, occasion)
     }

@@ -1,11 +1,11 @@
 //! Reports of departures.
-ghost use Rattle.std.specs.Prelude.{◌≡◌, Some};
+ghost use Rattle.std.specs.Prelude.{◌≡◌};
 ghost use Rattle.std.specs.Bool.{OnFalse};
-ghost use Rattle.ntp_register.specs.Customer.{numbers_of};
-ghost use Rattle.ntp_reply.specs.Life.{Life, short};
+ghost use Rattle.ntp_customer.specs.Customer.{numbers_of};
+ghost use Rattle.ntp_customer.specs.Past.{Past, short};
 ghost use Rattle.ntp_reply.specs.Exchanged.{is_noted, after_departure};
 
-use ntp_register::Customer;
+use ntp_customer::Customer;
 use ntp_time::{Moment, Stamp};
 use std::alloc::Allocator;
 
@@ -17,9 +17,8 @@ pub fn depart<A: Allocator + Copy>(
     receive: Stamp,
     moment: Moment,
 ) -> bool
-    ensures noted { (life : Life) → short life ≡ Some customer.old → result ≡ is_noted life receive }
-    ensures after { (life : Life) → short life ≡ Some customer.old
-        → Some customer.new ≡ short (after_departure life receive moment) }
+    ensures noted { (past : Past) → short past ≡ customer.old → result ≡ is_noted past receive }
+    ensures after { (past : Past) → short past ≡ customer.old → customer.new ≡ short (after_departure past receive moment) }
     ensures unchanged { OnFalse result (customer.new ≡ customer.old) }
     ensures numbers { numbers_of customer.new ≡ numbers_of customer.old }
 {

@@ -1,10 +1,10 @@
 //! What holds of the definitions, whatever code meets them.
-ghost use Rattle.std.specs.Prelude.{◌≡◌, Some};
-ghost use Rattle.ntp_register.specs.Customer.{CustomerState, IsCustomer};
-ghost use Rattle.ntp_reply.specs.Life.{Life, short};
+ghost use Rattle.std.specs.Prelude.{◌≡◌};
+ghost use Rattle.ntp_customer.specs.Customer.{CustomerState, IsCustomer};
+ghost use Rattle.ntp_customer.specs.Past.{Past, short};
 
-/// Each customer is what is kept of some life, so what is said for each such life is said of one at least. This is
+/// Each customer is what is kept of some past, so what is said for each such past is said of one at least. This is
 /// a law, and does nothing when it is called.
-pub fn a_customer_has_a_life()
-    ensures { (customer : CustomerState) → IsCustomer customer → (life : Life) × (short life ≡ Some customer) }
+pub fn a_customer_has_a_past()
+    ensures { (customer : CustomerState) → IsCustomer customer → (past : Past) × (short past ≡ customer) }
 {}

@@ -13,5 +13,5 @@ mod serving;
 pub use answers::{Answer, Reason};
 pub use deciding::{answer, answer_octets};
 pub use departing::depart;
-pub use laws::a_customer_has_a_life;
+pub use laws::a_customer_has_a_past;
 pub use ntp_reply_packets::{BadReference, Kiss, Reference};

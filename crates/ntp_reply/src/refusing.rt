@@ -1,16 +1,16 @@
 //! Refusals: each is counted, and few of a window are sent.
-ghost use Rattle.std.specs.Prelude.{◌≡◌, ◌≤◌, Some, IsSome, nat_lt};
+ghost use Rattle.std.specs.Prelude.{◌≡◌, ◌≤◌, IsSome, nat_lt};
 ghost use Rattle.ntp_budget.specs.Tally.{count_in};
-ghost use Rattle.ntp_register.specs.Customer.{enrolment_at, numbers_of};
-ghost use Rattle.ntp_reply.specs.Life.{Life, short, refusals_in, with_refusal};
+ghost use Rattle.ntp_customer.specs.Customer.{enrolment_at, numbers_of};
+ghost use Rattle.ntp_customer.specs.Past.{Past, with_refusal, short};
 ghost use Rattle.ntp_reply.specs.Kind.{RefusedByDeny, RefusedByNak};
 ghost use Rattle.ntp_reply.specs.Verdict.{kind_answer, after_kind, refusals_sent, reply_length};
 
 use crate::exchanging::new_stamps;
 use crate::{Answer, Reason};
+use ntp_customer::Customer;
 use ntp_mac::{Reply, add_nak};
 use ntp_packet::Header;
-use ntp_register::Customer;
 use ntp_reply_packets::{Kiss, Occasion, basic_fields, kiss_fields};
 use std::alloc::Allocator;
 
@@ -19,10 +19,9 @@ const REFUSALS_SENT: u32 = 4;
 
 // Counts a refusal in a window, and says whether it is sent.
 fn refuse<A: Allocator + Copy>(customer: &mut Customer<A>, window: u64) -> bool
-    ensures sent { (life : Life) → short life ≡ Some customer.old
-        → result ≡ nat_lt (count_in (refusals_in life) window) refusals_sent }
-    ensures after { (life : Life) → short life ≡ Some customer.old
-        → Some customer.new ≡ short (with_refusal life window) }
+    ensures sent { (past : Past) → short past ≡ customer.old
+        → result ≡ nat_lt (count_in past.refusals window) refusals_sent }
+    ensures after { (past : Past) → short past ≡ customer.old → customer.new ≡ short (with_refusal past window) }
     ensures enrolment { enrolment_at customer.new ≡ enrolment_at customer.old }
 {
     customer.charge_refusal(window) < REFUSALS_SENT
@@ -34,10 +33,10 @@ pub(crate) fn deny<A: Allocator + Copy>(
     request: &Header,
     occasion: &Occasion,
 ) -> Answer
-    ensures answer { (life : Life) → short life ≡ Some customer.old
-        → result ≡ kind_answer life occasion.now (RefusedByDeny request.now) }
-    ensures after { (life : Life) → short life ≡ Some customer.old
-        → Some customer.new ≡ short (after_kind life occasion.now (RefusedByDeny request.now)) }
+    ensures answer { (past : Past) → short past ≡ customer.old
+        → result ≡ kind_answer past occasion.now (RefusedByDeny request.now) }
+    ensures after { (past : Past) → short past ≡ customer.old
+        → customer.new ≡ short (after_kind past occasion.now (RefusedByDeny request.now)) }
     ensures numbers { numbers_of customer.new ≡ numbers_of customer.old }
     ensures octets { reply_length result ≤ 48 }
 {
@@ -54,10 +53,10 @@ pub(crate) fn nak<A: Allocator + Copy>(
     occasion: &Occasion,
 ) -> Answer
     requires { IsSome (enrolment_at customer.old) }
-    ensures answer { (life : Life) → short life ≡ Some customer.old
-        → result ≡ kind_answer life occasion.now (RefusedByNak request.now) }
-    ensures after { (life : Life) → short life ≡ Some customer.old
-        → Some customer.new ≡ short (after_kind life occasion.now (RefusedByNak request.now)) }
+    ensures answer { (past : Past) → short past ≡ customer.old
+        → result ≡ kind_answer past occasion.now (RefusedByNak request.now) }
+    ensures after { (past : Past) → short past ≡ customer.old
+        → customer.new ≡ short (after_kind past occasion.now (RefusedByNak request.now)) }
     ensures numbers { numbers_of customer.new ≡ numbers_of customer.old }
     ensures octets { reply_length result ≤ 52 }
 {

@@ -1,6 +1,6 @@
-use Rattle.std.proofs.Common.{◌≤◌, inl, inr, length, arith, ap}
-use Rattle.ntp_tail.specs.Tail.{tail_value, tail_octets}
-use Rattle.ntp_reply.proofs.Lengths.{signed-long, mac-long}
+use Rattle.std.proofs.Common.{arith}
+use Rattle.ntp_reply.proofs.Lengths.{signed-long, md5-long, sha1-long}
+use Rattle.ntp_reply.proofs.deciding.answer.Goals.{in-Md5, in-Sha1}
 use Rattle.ntp_reply.proofs.deciding.answer.Goals as goal
 
 pub returns-then-not-is_enrolled-clause-no_longer : goal.returns-then-not-is_enrolled-clause-no_longer
@@ -9,12 +9,14 @@ returns-then-not-is_enrolled-clause-no_longer g c =
 
 pub answer_mac-requires-clause-mac : goal.answer_mac-requires-clause-mac
 answer_mac-requires-clause-mac g c =
-    let reading = c.request.invariant in
-    let found : 20 ≤ length (tail_octets (tail_value c.request.inside.tail)) = elim c.in-Md5.is [
-      | inl h ↦ mac-long _ (inl (h.0, h.1.now, ap tail_value h.2)) reading.tail
-      | inr h ↦ mac-long _ (inr (h.0, h.1.now, ap tail_value h.2)) reading.tail
-    ] in
-    rw (← c.request.view_is) found
+    elim c.match-request.branch [
+      | in-Md5 w ↦
+          let long = md5-long _ _ (rw w.in-Md5.is at c.request.invariant.tail) in
+          rw (← c.request.view_is, w.in-Md5.is) (omega (arith, long))
+      | in-Sha1 w ↦
+          let long = sha1-long _ _ (rw w.in-Sha1.is at c.request.invariant.tail) in
+          rw (← c.request.view_is, w.in-Sha1.is) (omega (arith, long))
+    ]
 
 pub returns-in-Absent-clause-no_longer : goal.returns-in-Absent-clause-no_longer
 returns-in-Absent-clause-no_longer g c =

@@ -1,0 +1,119 @@
+-- Pasts of which the same is kept.
+use Rattle.std.proofs.Common.{◌≡◌, ℕ, ◌<◌, ◌==◌, min, nat_lt, Bool, true, false, List, refl, sym, ap, ◌∙◌, arith}
+use Rattle.std.specs.Prelude.{if◌then◌else◌}
+use Rattle.std.specs.Option.{option_map_or}
+use Rattle.std.proofs.lemmas.Bool.Decides.{nat_tests}
+use Rattle.ntp_budget.specs.Tally.{tally, count_in, most_counted}
+use Rattle.ntp_budget.proofs.Tallies.{tally-tells_all}
+use Rattle.ntp_packet.specs.Header.{HeaderFields}
+use Rattle.ntp_mac.specs.Reading.{reading_of}
+use Rattle.ntp_customer.specs.Customer.{enrolment_at, budget_of, with_queries, changing}
+use Rattle.ntp_customer.specs.Past.{Past, queries_in, with_refusal, with_query, short}
+use Rattle.ntp_customer.proofs.Pasts.{enrolment_at-short, queries_kept, queries-short, short-with_query}
+use Rattle.ntp_reply_packets.specs.Replies.{new_stamps, basic_fields, crypto_nak_octets, deny_octets, rate_octets}
+use Rattle.ntp_reply_packets.specs.declared.occasion.Occasion.{Occasion}
+use Rattle.ntp_reply.specs.Life.{recent_of}
+use Rattle.ntp_reply.specs.Kind.{Kind, PassedOver, RefusedByDeny, RefusedByNak, Signed, octets_kind, kind_of}
+use Rattle.ntp_reply.specs.Exchanged.{after_time}
+use Rattle.ntp_reply.specs.Verdict.{kind_answer, after_kind, window_at, query_count, refusals_sent, timed}
+use Rattle.ntp_reply.specs.declared.answers.Answer.{Answer}
+use Rattle.ntp_reply.specs.declared.answers.Answer.TheVariants as answer
+use Rattle.ntp_reply.specs.declared.answers.Reason.TheVariants as reason
+use Rattle.ntp_reply.proofs.KeptExchanges.{recent-alike, time-alike}
+
+-- counts that are the same where they are kept fall alike below what is counted
+below : (n m b : ℕ) → min n most_counted ≡ min m most_counted → b < most_counted → nat_lt n b ≡ nat_lt m b
+below n m b same lt = grind (arith, nat_tests)
+
+equal : (n m b : ℕ) → min n most_counted ≡ min m most_counted → b < most_counted → (n == b) ≡ (m == b)
+equal n m b same lt = grind (arith, nat_tests)
+
+-- the answer to a signed query, by whether the budget has room and by whether it was just spent
+abbrev by_budget : Answer → Answer → Bool → Bool → Answer
+by_budget time rate within last_one = if within then time else if last_one then rate else answer.Silent reason.OverBudget
+
+-- the same is kept of two pasts after a signed query, which gets the time in both or in neither
+signed-alike : (one other : Past) → short one ≡ short other → (o : Occasion) (h : HeaderFields) (b : Bool)
+    → short (if b then after_time one o h else one) ≡ short (if b then after_time other o h else other)
+signed-alike one other same o h true = time-alike one other same o h
+signed-alike one other same o h false = same
+
+module _ (one other : Past) (same : short one ≡ short other) where
+  pub enrolment-alike : enrolment_at one ≡ enrolment_at other
+  enrolment-alike = sym (enrolment_at-short one) ∙ ap enrolment_at same ∙ enrolment_at-short other
+
+  budgets : budget_of one ≡ budget_of other
+  budgets = ap (λ o. option_map_or (λ e. e.budget) o 0) enrolment-alike
+
+  queries : tally (queries_in one) ≡ tally (queries_in other)
+  queries = sym (queries-short one) ∙ ap queries_kept same ∙ queries-short other
+
+  refusals : tally one.refusals ≡ tally other.refusals
+  refusals = ap (λ c. c.refusals) same
+
+  -- a datagram is of one kind in both
+  kind-alike : (octets : List ℕ) → kind_of one octets ≡ kind_of other octets
+  kind-alike octets = ap (λ e. octets_kind e (reading_of octets)) enrolment-alike
+
+  -- the same is kept after one refusal more, and after one signed query more
+  refusal-alike : (w : ℕ) → short (with_refusal one w) ≡ short (with_refusal other w)
+  refusal-alike w =
+      λ i. record { account = (same i).account; refusals = (tally-tells_all one.refusals other.refusals w refusals).1 i }
+
+  query-alike : (w : ℕ) → short (with_query one w) ≡ short (with_query other w)
+  query-alike w =
+      let tallies = (tally-tells_all (queries_in one) (queries_in other) w queries).1 in
+      sym (short-with_query one w) ∙ (λ i. changing (λ a. with_queries a (tallies i)) (same i)) ∙ short-with_query other w
+
+  -- counts fall alike below the limit of refusals, and below a budget that is counted up to
+  sent : (w : ℕ) → nat_lt (count_in one.refusals w) refusals_sent ≡ nat_lt (count_in other.refusals w) refusals_sent
+  sent w = below (count_in one.refusals w) (count_in other.refusals w) refusals_sent
+      (tally-tells_all one.refusals other.refusals w refusals).0 (omega arith)
+
+  module _ (few : budget_of one < most_counted) where
+    within : (w : ℕ) → nat_lt (count_in (queries_in one) w) (budget_of one) ≡ nat_lt (count_in (queries_in other) w) (budget_of other)
+    within w =
+        below (count_in (queries_in one) w) (count_in (queries_in other) w) (budget_of one)
+        (tally-tells_all (queries_in one) (queries_in other) w queries).0 few
+        ∙ ap (nat_lt (count_in (queries_in other) w)) budgets
+
+    last_one : (w : ℕ) → (count_in (queries_in one) w == budget_of one) ≡ (count_in (queries_in other) w == budget_of other)
+    last_one w =
+        equal (count_in (queries_in one) w) (count_in (queries_in other) w) (budget_of one)
+        (tally-tells_all (queries_in one) (queries_in other) w queries).0 few
+        ∙ ap (λ b. count_in (queries_in other) w == b) budgets
+
+    recents : recent_of one ≡ recent_of other
+    recents = recent-alike one other same
+
+    -- a datagram of one kind is answered alike
+    answered-alike : (o : Occasion) (k : Kind) → kind_answer one o k ≡ kind_answer other o k
+    answered-alike o (PassedOver why) = refl
+    answered-alike o (RefusedByDeny h) =
+        λ i. if sent (window_at o) i then answer.Deny (deny_octets h) else answer.Silent reason.Muted
+    answered-alike o (RefusedByNak h) =
+        λ i. if sent (window_at o) i
+        then answer.Nak (crypto_nak_octets (basic_fields o h (new_stamps o (recents i)))) else answer.Silent reason.Muted
+    answered-alike o (Signed key number h) =
+        λ i. by_budget (timed key number o h (recents i)) (answer.Rate (rate_octets key number h)) (within (window_at o) i)
+        (last_one (window_at o) i)
+
+    -- and the same is kept of both pasts afterwards
+    kept-alike : (o : Occasion) (k : Kind) → short (after_kind one o k) ≡ short (after_kind other o k)
+    kept-alike o (PassedOver why) = same
+    kept-alike o (RefusedByDeny h) = refusal-alike (window_at o)
+    kept-alike o (RefusedByNak h) = refusal-alike (window_at o)
+    kept-alike o (Signed key number h) =
+        ap (λ (b : Bool). short (if b then after_time (with_query one (window_at o)) o h else with_query one (window_at o)))
+        (within (window_at o))
+        ∙ signed-alike (with_query one (window_at o)) (with_query other (window_at o)) (query-alike (window_at o)) o h
+        (nat_lt (query_count other o) (budget_of other))
+
+    -- so with a datagram
+    pub datagram-alike : (o : Occasion) (octets : List ℕ)
+        → (kind_answer one o (kind_of one octets) ≡ kind_answer other o (kind_of other octets))
+        × (short (after_kind one o (kind_of one octets)) ≡ short (after_kind other o (kind_of other octets)))
+    datagram-alike o octets = (
+      ap (kind_answer one o) (kind-alike octets) ∙ answered-alike o (kind_of other octets),
+      ap (λ k. short (after_kind one o k)) (kind-alike octets) ∙ kept-alike o (kind_of other octets),
+    )

@@ -1,6 +1,5 @@
 -- What a client's request is to the server.
-use Rattle.std.proofs.Common.{◌≡◌, ℕ, ◌^◌, ◌<◌, List, Some, IfSome, refl, ap, ◌∙◌}
-use Rattle.std.proofs.lemmas.Option.{none-some}
+use Rattle.std.proofs.Common.{◌≡◌, ℕ, ◌^◌, ◌<◌, Some, IfSome, refl, ap, ◌∙◌}
 use Rattle.ntp_time.specs.declared.moment.Moment.{Moment}
 use Rattle.ntp_packet.specs.Header.{HeaderFields, header_octets}
 use Rattle.ntp_tail.specs.Request.{RequestValue}
@@ -14,39 +13,40 @@ use Rattle.ntp_mac.proofs.Signing.{is-signed}
 use Rattle.ntp_client.specs.declared.exchange.Outstanding.{Outstanding}
 use Rattle.ntp_client.specs.State.{ClientState}
 use Rattle.ntp_client.specs.Query.{query_fields, next_query, after_query}
-use Rattle.ntp_register.specs.Customer.{Enrolment}
-use Rattle.ntp_reply.specs.Life.{Life, Unregistered, Revoked, Enrolled, enrolment_in}
+use Rattle.ntp_customer.specs.Customer.{Enrolment, held_in}
+use Rattle.ntp_customer.specs.Past.{Past}
+use Rattle.ntp_reply_packets.specs.declared.occasion.Occasion.{Occasion}
 use Rattle.ntp_reply.specs.Kind.{Signed, mac_kind, tail_kind, octets_kind, kind_of}
+use Rattle.ntp_reply.specs.Verdict.{kind_answer, verdict}
 use Rattle.ntp_meeting.specs.Meeting.{Waits, SharesKey, request_octets}
 use Rattle.ntp_meeting.proofs.Headers.{IsHeader-query}
 use Rattle.ntp_meeting.proofs.Readings.{sealed_packet, signed-sealed, read-sealed}
 
--- a packet with a MAC is what its MAC says
-tail-mac : (e : Enrolment) (r : RequestValue) (number : ℕ) (d : Digest) → tail_kind e r (mac_tail number d) ≡ mac_kind e r
+-- a packet with a MAC is what its MAC says, by the key with its number
+tail-mac : (e : Enrolment) (r : RequestValue) (number : ℕ) (d : Digest)
+    → tail_kind e r (mac_tail number d) ≡ mac_kind (held_in e number) r
 tail-mac e r number (Md5 octets) = refl
 tail-mac e r number (Sha1 octets) = refl
 
--- sealed under the key of an enrolment it is signed
-signed-kind : (e : Enrolment) (key : SymmetricKey) (number : ℕ) (h : HeaderFields) → e.key ≡ key → e.number ≡ number
-    → mac_kind e (sealed_packet key number h) ≡ Signed key number h
-signed-kind e key number h same_key same_number =
-    rw (same_key, same_number, (is-signed key number (sealed_packet key number h)).1 (signed-sealed key number h)) refl
-
--- octets from an enrolled address are what they are read as
-pub enrolled-kind : (life : Life) (e : Enrolment) (octets : List ℕ) → enrolment_in life ≡ Some e
-    → kind_of life octets ≡ octets_kind (Some e) (reading_of octets)
-enrolled-kind Unregistered e octets there = absurd (none-some e there)
-enrolled-kind (Revoked refusals) e octets there = absurd (none-some e there)
-enrolled-kind (Enrolled d queries refusals exchanges) e octets there = ap (λ x. octets_kind x (reading_of octets)) there
+-- sealed under that key it is signed
+signed-kind : (key : SymmetricKey) (number : ℕ) (h : HeaderFields)
+    → mac_kind (Some (record { number = number; key = key })) (sealed_packet key number h) ≡ Signed key number h
+signed-kind key number h = rw ((is-signed key number (sealed_packet key number h)).1 (signed-sealed key number h)) refl
 
 -- a request is a signed query, where the key is shared
-pub request-kind : (c : ClientState) (q : Outstanding) (life : Life) → Waits c q → SharesKey life c
-    → kind_of life (request_octets c q) ≡ Signed c.key c.number (query_fields q)
-request-kind c q life waits shares =
-    enrolled-kind life shares.enrolment (request_octets c q) shares.enrolled
+pub request-kind : (c : ClientState) (q : Outstanding) (past : Past) → Waits c q → SharesKey past c
+    → kind_of past (request_octets c q) ≡ Signed c.key c.number (query_fields q)
+request-kind c q past waits shares =
+    ap (λ enrolment. octets_kind enrolment (reading_of (request_octets c q))) shares.enrolled
     ∙ ap (octets_kind (Some shares.enrolment)) (read-sealed c.key c.number (query_fields q) waits.header waits.number)
     ∙ tail-mac shares.enrolment (sealed_packet c.key c.number (query_fields q)) c.number (digest_of c.key (header_octets (query_fields q)))
-    ∙ signed-kind shares.enrolment c.key c.number (query_fields q) shares.key shares.number
+    ∙ ap (λ held. mac_kind held (sealed_packet c.key c.number (query_fields q))) shares.key
+    ∙ signed-kind c.key c.number (query_fields q)
+
+-- and its answer is that to one
+pub request-answer : (c : ClientState) (q : Outstanding) (past : Past) (o : Occasion) → Waits c q → SharesKey past c
+    → verdict (Some past) o (request_octets c q) ≡ kind_answer past o (Signed c.key c.number (query_fields q))
+request-answer c q past o waits shares = ap (kind_answer past o) (request-kind c q past waits shares)
 
 -- the request that a client makes waits
 pub made-waits : (c : ClientState) (now : Moment) → c.number < 2 ^ 32

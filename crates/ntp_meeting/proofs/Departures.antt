@@ -1,5 +1,5 @@
 -- The exchange that a report of a departure leaves at the server.
-use Rattle.std.proofs.Common.{◌≡◌, List, [], ◌∷◌, Some, inl, inr, refl, sym, ap, ◌∙◌, arith}
+use Rattle.std.proofs.Common.{◌≡◌, List, [], ◌∷◌, Some, inl, inr, refl, ap, ◌∙◌}
 use Rattle.std.proofs.lemmas.Bool.{cases_Bool}
 use Rattle.std.proofs.lemmas.Option.{none-some}
 use Rattle.ntp_time.specs.declared.stamp.Stamp.{Stamp}
@@ -7,8 +7,10 @@ use Rattle.ntp_time.specs.declared.moment.Moment.{Moment}
 use Rattle.ntp_time.specs.Fresh.{fresh}
 use Rattle.ntp_slots.specs.declared.slot.Slot.{Slot}
 use Rattle.ntp_slots.specs.Exchanges.{recent, receives, is_unused_at, unused_at, with_unused, departed}
-use Rattle.ntp_slots.proofs.Recents.{recent-all, recent-departed}
-use Rattle.ntp_reply.specs.Life.{Life, Unregistered, Revoked, Enrolled, recent_in}
+use Rattle.ntp_slots.proofs.Recents.{recent-departed}
+use Rattle.ntp_reply.specs.Life.{recent_of}
+use Rattle.ntp_customer.specs.Past.{Past}
+use Rattle.ntp_customer.proofs.Pasts.{by_past}
 use Rattle.ntp_reply.specs.Exchanged.{after_departure}
 
 -- where an exchange is found, it is found with its change
@@ -32,13 +34,11 @@ unfolding departed
 departed-found xs receive m x found =
     change-found receive (λ y. record y { transmit = fresh m.stamp (receives xs) }) (λ y. refl) xs x found
 
-none-saved : (receive : Stamp) (x : Slot) → unused_at (recent []) receive ≡ Some x → ⊥
-none-saved receive x found = none-some x (sym (ap (λ xs. unused_at xs receive) (recent-all [] (omega arith))) ∙ found)
-
-pub departure-found : (life : Life) (receive : Stamp) (m : Moment) (x : Slot) → unused_at (recent_in life) receive ≡ Some x
-    → unused_at (recent_in (after_departure life receive m)) receive
-    ≡ Some (record x { transmit = fresh m.stamp (receives (recent_in life)) })
-departure-found Unregistered receive m x found = absurd (none-saved receive x found)
-departure-found (Revoked refusals) receive m x found = absurd (none-saved receive x found)
-departure-found (Enrolled e queries refusals exchanges) receive m x found =
-    ap (λ xs. unused_at xs receive) (recent-departed exchanges receive m) ∙ departed-found (recent exchanges) receive m x found
+pub departure-found : (receive : Stamp) (m : Moment) (x : Slot) (past : Past) → unused_at (recent_of past) receive ≡ Some x
+    → unused_at (recent_of (after_departure past receive m)) receive
+    ≡ Some (record x { transmit = fresh m.stamp (receives (recent_of past)) })
+unfolding recent
+departure-found receive m x =
+    by_past _ (λ refusals found. absurd (none-some x found))
+    (λ a refusals found.
+    ap (λ xs. unused_at xs receive) (recent-departed a.exchanges receive m) ∙ departed-found (recent a.exchanges) receive m x found)

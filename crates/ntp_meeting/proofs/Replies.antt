@@ -21,12 +21,12 @@ use Rattle.ntp_client.specs.Taking.{authentic_taken, packet_taken, paired_taken,
 use Rattle.ntp_client.proofs.Pairings.{basic-pairing}
 use Rattle.ntp_client.proofs.Authentic.{time-taken}
 use Rattle.ntp_client.proofs.Samples.{signed-taken}
+use Rattle.ntp_customer.specs.Past.{Past}
 use Rattle.ntp_reply_packets.specs.Reference.{ReferenceState, IsReference}
 use Rattle.ntp_reply_packets.specs.Replies.{reply_fields, basic_fields, kiss_fields, shown_stratum}
 use Rattle.ntp_reply_packets.specs.Replies.{time_octets, rate_octets, deny_octets, crypto_nak_octets}
 use Rattle.ntp_reply_packets.specs.declared.occasion.Occasion.{Occasion}
 use Rattle.ntp_reply_packets.specs.declared.kiss.Kiss.TheVariants.{Rate, Deny}
-use Rattle.ntp_reply.specs.Life.{Life}
 use Rattle.ntp_reply.specs.Exchanged.{stamps_of}
 use Rattle.ntp_meeting.specs.Meeting.{Waits, FitsPacket}
 use Rattle.ntp_meeting.proofs.Stamps.{receive-known, receive-fits, transmit-fits}
@@ -62,29 +62,29 @@ deny-taken c q at waits =
     read-taken c q _ r at waits.outstanding (read-header h (IsHeader-kiss Deny q waits.header)) ∙ basic-taken c.key c.number q r at refl
 
 -- a crypto-NAK is taken for one
-pub nak-taken : (c : ClientState) (q : Outstanding) (life : Life) (o : Occasion) (at : Moment) → Waits c q → FitsPacket o.reference
-    → taken_for c (crypto_nak_octets (basic_fields o (query_fields q) (stamps_of life o))) at ≡ taken.Nak
-nak-taken c q life o at waits fits =
-    let h : HeaderFields = basic_fields o (query_fields q) (stamps_of life o) in
+pub nak-taken : (c : ClientState) (q : Outstanding) (past : Past) (o : Occasion) (at : Moment) → Waits c q → FitsPacket o.reference
+    → taken_for c (crypto_nak_octets (basic_fields o (query_fields q) (stamps_of past o))) at ≡ taken.Nak
+nak-taken c q past o at waits fits =
+    let h : HeaderFields = basic_fields o (query_fields q) (stamps_of past o) in
     let is : IsHeader h =
-    IsHeader-reply o.reference q q.transmit _ _ fits waits.header waits.header.transmit (receive-fits life o) (transmit-fits life o) in
+    IsHeader-reply o.reference q q.transmit _ _ fits waits.header waits.header.transmit (receive-fits past o) (transmit-fits past o) in
     let r : RequestValue = packet h (BareTail 0) in
     read-taken c q _ r at waits.outstanding (read-nak h is) ∙ basic-taken c.key c.number q r at refl
 
 -- the header of a signed reply, with the new receive stamp
-abbrev stamped : Life → Occasion → Outstanding → Stamp → Stamp → HeaderFields
-stamped life o q origin transmit = reply_fields o.reference (query_fields q) origin (stamps_of life o).receive transmit
+abbrev stamped : Past → Occasion → Outstanding → Stamp → Stamp → HeaderFields
+stamped past o q origin transmit = reply_fields o.reference (query_fields q) origin (stamps_of past o).receive transmit
 
 -- a signed reply of a pairing is taken for what its header says
-signed-reply : (c : ClientState) (q : Outstanding) (life : Life) (o : Occasion) (at : Moment) (p : Pairing) (origin transmit : Stamp)
+signed-reply : (c : ClientState) (q : Outstanding) (past : Past) (o : Occasion) (at : Moment) (p : Pairing) (origin transmit : Stamp)
     → Waits c q → FitsPacket o.reference → origin.0 < 2 ^ 64 → transmit.0 < 2 ^ 64 → pairing_of q origin ≡ Some p
-    → taken_for c (time_octets c.key c.number (stamped life o q origin transmit)) at
-    ≡ authentic_taken p (stamped life o q origin transmit) (sample_of q p (stamped life o q origin transmit) at)
-signed-reply c q life o at p origin transmit waits fits origin_fits transmit_fits paired =
-    let h : HeaderFields = stamped life o q origin transmit in
+    → taken_for c (time_octets c.key c.number (stamped past o q origin transmit)) at
+    ≡ authentic_taken p (stamped past o q origin transmit) (sample_of q p (stamped past o q origin transmit) at)
+signed-reply c q past o at p origin transmit waits fits origin_fits transmit_fits paired =
+    let h : HeaderFields = stamped past o q origin transmit in
     let r : RequestValue = sealed_packet c.key c.number h in
     let is : IsHeader h =
-    IsHeader-reply o.reference q origin _ transmit fits waits.header origin_fits (receive-fits life o) transmit_fits in
+    IsHeader-reply o.reference q origin _ transmit fits waits.header origin_fits (receive-fits past o) transmit_fits in
     read-taken c q _ r at waits.outstanding (read-sealed c.key c.number h is waits.number)
     ∙ ap (paired_taken c.key c.number q r at) paired
     ∙ signed-taken c.key c.number p r (sample_of q p h at) (signed-sealed c.key c.number h)
@@ -96,13 +96,13 @@ stratum-synchronised r is clock =
     rw (ne_eqb r.stratum 16 known) (is.stratum_from, omega (arith, is.stratum_to, known))
 
 -- of such a clock, and with a transmit stamp of known time, for the sample of its pairing
-pub sample-taken : (c : ClientState) (q : Outstanding) (life : Life) (o : Occasion) (at : Moment) (p : Pairing) (origin transmit : Stamp)
+pub sample-taken : (c : ClientState) (q : Outstanding) (past : Past) (o : Occasion) (at : Moment) (p : Pairing) (origin transmit : Stamp)
     → Waits c q → FitsPacket o.reference → o.reference.leap ≢ 3 → transmit.0 ≢ 0 → origin.0 < 2 ^ 64 → transmit.0 < 2 ^ 64
     → pairing_of q origin ≡ Some p
-    → taken_for c (time_octets c.key c.number (stamped life o q origin transmit)) at
-    ≡ taken.Sample (sample_of q p (stamped life o q origin transmit) at)
-sample-taken c q life o at p origin transmit waits fits clock known origin_fits transmit_fits paired =
-    let h : HeaderFields = stamped life o q origin transmit in
+    → taken_for c (time_octets c.key c.number (stamped past o q origin transmit)) at
+    ≡ taken.Sample (sample_of q p (stamped past o q origin transmit) at)
+sample-taken c q past o at p origin transmit waits fits clock known origin_fits transmit_fits paired =
+    let h : HeaderFields = stamped past o q origin transmit in
     let stratum = stratum-synchronised o.reference fits.state clock in
     let time : IsTimeReply h = record {
       mode = refl;
@@ -110,16 +110,16 @@ sample-taken c q life o at p origin transmit waits fits clock known origin_fits 
       leap = clock;
       stratum_from = stratum.0;
       stratum_to = stratum.1;
-      receive = receive-known life o;
+      receive = receive-known past o;
       transmit = known;
     } in
-    signed-reply c q life o at p origin transmit waits fits origin_fits transmit_fits paired ∙ time-taken p h (sample_of q p h at) time
+    signed-reply c q past o at p origin transmit waits fits origin_fits transmit_fits paired ∙ time-taken p h (sample_of q p h at) time
 
 -- of a clock that is unsynchronised, for that
-pub unsynchronised-taken : (c : ClientState) (q : Outstanding) (life : Life) (o : Occasion) (at : Moment) (p : Pairing)
+pub unsynchronised-taken : (c : ClientState) (q : Outstanding) (past : Past) (o : Occasion) (at : Moment) (p : Pairing)
     (origin transmit : Stamp) → Waits c q → FitsPacket o.reference → o.reference.leap ≡ 3 → origin.0 < 2 ^ 64 → transmit.0 < 2 ^ 64
     → pairing_of q origin ≡ Some p
-    → taken_for c (time_octets c.key c.number (stamped life o q origin transmit)) at ≡ taken.Refused distrust.Unsynchronised
-unsynchronised-taken c q life o at p origin transmit waits fits clock origin_fits transmit_fits paired =
-    signed-reply c q life o at p origin transmit waits fits origin_fits transmit_fits paired
+    → taken_for c (time_octets c.key c.number (stamped past o q origin transmit)) at ≡ taken.Refused distrust.Unsynchronised
+unsynchronised-taken c q past o at p origin transmit waits fits clock origin_fits transmit_fits paired =
+    signed-reply c q past o at p origin transmit waits fits origin_fits transmit_fits paired
     ∙ rw (eq-eqb o.reference.stratum 16 (fits.state.together.0 clock), eq-eqb o.reference.leap 3 clock) refl

@@ -14,9 +14,11 @@ use Rattle.ntp_slots.specs.declared.slot.Slot.{Slot}
 use Rattle.ntp_slots.specs.Exchanges.{most_slots, recent, new_exchange, receives, transmits, all_stamps, is_unused_at, unused_at, spent}
 use Rattle.ntp_slots.proofs.Changes.{receives-spent}
 use Rattle.ntp_slots.proofs.Saved.{Contains-map}
-use Rattle.ntp_register.specs.Customer.{Enrolment}
+use Rattle.ntp_customer.specs.Customer.{Enrolment, enrolment_at}
+use Rattle.ntp_customer.specs.Past.{Past, with_query}
+use Rattle.ntp_customer.proofs.Pasts.{by_past}
 use Rattle.ntp_reply_packets.specs.declared.occasion.Occasion.{Occasion}
-use Rattle.ntp_reply.specs.Life.{Life, Unregistered, Revoked, Enrolled, enrolment_in, recent_in, with_query}
+use Rattle.ntp_reply.specs.Life.{recent_of}
 use Rattle.ntp_reply.specs.Exchanged.{matched, with_match_used, stamps_of, after_time}
 use Rattle.ntp_reply.proofs.KeptExchanges.{recent-time}
 use Rattle.ntp_meeting.proofs.Stamps.{receive-few}
@@ -52,24 +54,24 @@ receives-with_match_used xs h = by_match (is_some (matched xs h))
     by_match false = refl
 
 -- the new receive stamp is none of them
-new-apart : (life : Life) (o : Occasion) (h : HeaderFields) (x : Slot) → Contains (with_match_used (recent_in life) h) x
-    → x.receive ≢ (stamps_of life o).receive
-new-apart life o h x member =
-    let saved : List Slot = recent_in life in
+new-apart : (past : Past) (o : Occasion) (h : HeaderFields) (x : Slot) → Contains (with_match_used (recent_of past) h) x
+    → x.receive ≢ (stamps_of past o).receive
+new-apart past o h x member =
+    let saved : List Slot = recent_of past in
     let among : Contains (receives saved) x.receive =
     subst (λ stamps. Contains stamps x.receive) (receives-with_match_used saved h)
     (Contains-map (λ (y : Slot). y.receive) (with_match_used saved h) x member) in
-    fresh-apart o.receipt.stamp (all_stamps saved) (receive-few life o) x.receive
+    fresh-apart o.receipt.stamp (all_stamps saved) (receive-few past o) x.receive
     (Contains-append_left (receives saved) (transmits saved) _ among)
 
 -- after a time reply of an enrolled address its exchange is found
-pub time-found : (life : Life) (e : Enrolment) (o : Occasion) (h : HeaderFields) (w : ℕ) → enrolment_in life ≡ Some e
-    → unused_at (recent_in (after_time (with_query life w) o h)) (stamps_of life o).receive
-    ≡ Some (new_exchange (stamps_of life o).receive (stamps_of life o).transmit)
-time-found Unregistered e o h w there = absurd (none-some e there)
-time-found (Revoked refusals) e o h w there = absurd (none-some e there)
-time-found (Enrolled d queries refusals exchanges) e o h w there =
-    let life : Life = Enrolled d queries refusals exchanges in
-    let stamps = stamps_of life o in
-    ap (λ xs. unused_at xs stamps.receive) (sym (recent-time exchanges h (new_exchange stamps.receive stamps.transmit ∷ [])))
-    ∙ new-found (with_match_used (recent exchanges) h) stamps.receive stamps.transmit (new-apart life o h)
+pub time-found : (e : Enrolment) (o : Occasion) (h : HeaderFields) (w : ℕ) (past : Past) → enrolment_at past ≡ Some e
+    → unused_at (recent_of (after_time (with_query past w) o h)) (stamps_of past o).receive
+    ≡ Some (new_exchange (stamps_of past o).receive (stamps_of past o).transmit)
+time-found e o h w =
+    by_past _ (λ refusals there. absurd (none-some e there))
+    (λ a refusals there.
+    let past : Past = record { account = Some a; refusals = refusals } in
+    let stamps = stamps_of past o in
+    ap (λ xs. unused_at xs stamps.receive) (sym (recent-time a.exchanges h (new_exchange stamps.receive stamps.transmit ∷ [])))
+    ∙ new-found (with_match_used (recent a.exchanges) h) stamps.receive stamps.transmit (new-apart past o h))

@@ -4,9 +4,11 @@ use Rattle.std.specs.Prelude.{if◌then◌else◌}
 use Rattle.ntp_time.specs.declared.stamp.Stamp.{Stamp}
 use Rattle.ntp_packet.specs.Header.{HeaderFields}
 use Rattle.ntp_mac.specs.Key.{SymmetricKey}
+use Rattle.ntp_customer.specs.Customer.{budget_of}
+use Rattle.ntp_customer.specs.Past.{Past, with_query}
 use Rattle.ntp_reply_packets.specs.declared.occasion.Occasion.{Occasion}
 use Rattle.ntp_reply_packets.specs.Replies.{time_fields, time_octets, rate_octets}
-use Rattle.ntp_reply.specs.Life.{Life, recent_in, budget_in, with_query}
+use Rattle.ntp_reply.specs.Life.{recent_of}
 use Rattle.ntp_reply.specs.Exchanged.{matched, stamps_of, after_time}
 use Rattle.ntp_reply.specs.Kind.{Signed}
 use Rattle.ntp_reply.specs.Verdict.{kind_answer, after_kind, query_count, window_at, timed}
@@ -31,32 +33,32 @@ only-rate true last time rate reply receive is = absurd (cc)
 only-rate false true time rate reply receive is = cc
 only-rate false false time rate reply receive is = absurd (cc)
 
-module _ (life : Life) (o : Occasion) (key : SymmetricKey) (number : ℕ) (h : HeaderFields) where
+module _ (past : Past) (o : Occasion) (key : SymmetricKey) (number : ℕ) (h : HeaderFields) where
   abbrev within : Bool
-  within = nat_lt (query_count life o) (budget_in life)
+  within = nat_lt (query_count past o) (budget_of past)
 
   abbrev last : Bool
-  last = query_count life o == budget_in life
+  last = query_count past o == budget_of past
 
   abbrev time : List ℕ
-  time = time_octets key number (time_fields o h (matched (recent_in life) h) (stamps_of life o))
+  time = time_octets key number (time_fields o h (matched (recent_of past) h) (stamps_of past o))
 
   -- the time is in its octets, with the new receive stamp beside them
-  pub told-time : (reply : List ℕ) (saved : Stamp) → kind_answer life o (Signed key number h) ≡ answer.Time reply saved
-      → (reply ≡ time) × (saved ≡ (stamps_of life o).receive)
+  pub told-time : (reply : List ℕ) (saved : Stamp) → kind_answer past o (Signed key number h) ≡ answer.Time reply saved
+      → (reply ≡ time) × (saved ≡ (stamps_of past o).receive)
   told-time reply saved is =
-      let only = only-time within last time (rate_octets key number h) reply (stamps_of life o).receive saved is in (only.1, only.2)
+      let only = only-time within last time (rate_octets key number h) reply (stamps_of past o).receive saved is in (only.1, only.2)
 
-  -- and the life is that after a time reply
-  pub after-told_time : (reply : List ℕ) (saved : Stamp) → kind_answer life o (Signed key number h) ≡ answer.Time reply saved
-      → after_kind life o (Signed key number h) ≡ after_time (with_query life (window_at o)) o h
+  -- and leaves the past after one
+  pub after-told_time : (reply : List ℕ) (saved : Stamp) → kind_answer past o (Signed key number h) ≡ answer.Time reply saved
+      → after_kind past o (Signed key number h) ≡ after_time (with_query past (window_at o)) o h
   after-told_time reply saved is =
-      rw (only-time within last time (rate_octets key number h) reply (stamps_of life o).receive saved is).0 refl
+      rw (only-time within last time (rate_octets key number h) reply (stamps_of past o).receive saved is).0 refl
 
   -- a RATE is in its octets
-  pub told-rate : (reply : List ℕ) → kind_answer life o (Signed key number h) ≡ answer.Rate reply → reply ≡ rate_octets key number h
-  told-rate reply is = only-rate within last time (rate_octets key number h) reply (stamps_of life o).receive is
+  pub told-rate : (reply : List ℕ) → kind_answer past o (Signed key number h) ≡ answer.Rate reply → reply ≡ rate_octets key number h
+  told-rate reply is = only-rate within last time (rate_octets key number h) reply (stamps_of past o).receive is
 
   -- while the budget has room, the answer is the time
-  pub is-timed : query_count life o < budget_in life → kind_answer life o (Signed key number h) ≡ timed key number o h (recent_in life)
-  is-timed room = rw (lt-ltb (query_count life o) (budget_in life) room) refl
+  pub is-timed : query_count past o < budget_of past → kind_answer past o (Signed key number h) ≡ timed key number o h (recent_of past)
+  is-timed room = rw (lt-ltb (query_count past o) (budget_of past) room) refl

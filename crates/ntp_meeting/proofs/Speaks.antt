@@ -6,8 +6,9 @@ use Rattle.ntp_tail.specs.Tail.{TailValue, NoTail, BareTail, Md5Tail, Sha1Tail}
 use Rattle.ntp_tail.specs.Request.{RequestValue}
 use Rattle.ntp_mac.specs.Reading.{reading_of}
 use Rattle.ntp_mac.specs.Signed.{is_signed}
-use Rattle.ntp_register.specs.Customer.{Enrolment}
-use Rattle.ntp_reply.specs.Life.{Life, Unregistered, Revoked, Enrolled}
+use Rattle.ntp_customer.specs.declared.numbered_key.NumberedKey.{NumberedKey}
+use Rattle.ntp_customer.specs.Customer.{Enrolment, held_in, enrolment_at}
+use Rattle.ntp_customer.specs.Past.{Past}
 use Rattle.ntp_reply.specs.Kind.{Kind, PassedOver, RefusedByDeny, RefusedByNak, Signed}
 use Rattle.ntp_reply.specs.Kind.{mac_kind, tail_kind, client_kind, packet_kind, kind_of}
 use Rattle.ntp_reply.specs.declared.answers.Reason.TheVariants as reason
@@ -25,15 +26,16 @@ either-speaks : (h : HeaderFields) (test : Bool) (one other : Kind) → SpeaksOf
 either-speaks h true one other a b = a
 either-speaks h false one other a b = b
 
-mac-speaks : (e : Enrolment) (r : RequestValue) → SpeaksOf r.header (mac_kind e r)
-mac-speaks e r =
-    either-speaks r.header (is_signed e.key e.number r) (Signed e.key e.number r.header) (RefusedByNak r.header) refl refl
+mac-speaks : (held : Option NumberedKey) (r : RequestValue) → SpeaksOf r.header (mac_kind held r)
+mac-speaks None r = refl
+mac-speaks (Some k) r =
+    either-speaks r.header (is_signed k.key k.number r) (Signed k.key k.number r.header) (RefusedByNak r.header) refl refl
 
 tail-speaks : (e : Enrolment) (r : RequestValue) (tail : TailValue) → SpeaksOf r.header (tail_kind e r tail)
 tail-speaks e r NoTail = refl
 tail-speaks e r (BareTail number) = tt
-tail-speaks e r (Md5Tail number digest) = mac-speaks e r
-tail-speaks e r (Sha1Tail number digest) = mac-speaks e r
+tail-speaks e r (Md5Tail number digest) = mac-speaks (held_in e number) r
+tail-speaks e r (Sha1Tail number digest) = mac-speaks (held_in e number) r
 
 client-speaks : (x : Option Enrolment) (r : RequestValue) → SpeaksOf r.header (client_kind x r)
 client-speaks None r = refl
@@ -46,7 +48,5 @@ packet-speaks x r =
     (either-speaks r.header (r.header.mode == 3) (client_kind x r) (PassedOver reason.Mode) (client-speaks x r) tt) tt
 
 -- and so the kind of a datagram that is read as it
-pub kind-speaks : (life : Life) (octets : List ℕ) (r : RequestValue) → reading_of octets ≡ Ok r → SpeaksOf r.header (kind_of life octets)
-kind-speaks Unregistered octets r read = tt
-kind-speaks (Revoked refusals) octets r read = rw read (packet-speaks None r)
-kind-speaks (Enrolled e queries refusals exchanges) octets r read = rw read (packet-speaks (Some e) r)
+pub kind-speaks : (past : Past) (octets : List ℕ) (r : RequestValue) → reading_of octets ≡ Ok r → SpeaksOf r.header (kind_of past octets)
+kind-speaks past octets r read = rw read (packet-speaks (enrolment_at past) r)

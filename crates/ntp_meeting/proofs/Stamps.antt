@@ -5,41 +5,43 @@ use Rattle.ntp_time.proofs.Freshness.{fresh-nonzero, fresh-below}
 use Rattle.ntp_slots.specs.declared.slot.Slot.{Slot}
 use Rattle.ntp_slots.specs.Exchanges.{receives, transmits, all_stamps}
 use Rattle.ntp_slots.proofs.Recents.{length-recent}
+use Rattle.ntp_customer.specs.Customer.{exchanges_of}
+use Rattle.ntp_customer.specs.Past.{Past}
 use Rattle.ntp_reply_packets.specs.declared.occasion.Occasion.{Occasion}
-use Rattle.ntp_reply.specs.Life.{Life, recent_in, exchanges_in}
+use Rattle.ntp_reply.specs.Life.{recent_of}
 use Rattle.ntp_reply.specs.Exchanged.{stamps_of}
 
-module _ (life : Life) (o : Occasion) where
+module _ (past : Past) (o : Occasion) where
   -- few stamps are avoided
-  pub receive-few : length (all_stamps (recent_in life)) < 2 ^ 63
+  pub receive-few : length (all_stamps (recent_of past)) < 2 ^ 63
   receive-few =
-      let saved : List Slot = recent_in life in
+      let saved : List Slot = recent_of past in
       omega (
         arith,
         length-append (receives saved) (transmits saved),
         length-map saved (λ x. x.receive),
         length-map saved (λ x. x.transmit),
-        length-recent (exchanges_in life),
+        length-recent (exchanges_of past),
       )
 
-  transmit-few : length (receives (recent_in life) ++ (stamps_of life o).receive ∷ []) < 2 ^ 63
+  transmit-few : length (receives (recent_of past) ++ (stamps_of past o).receive ∷ []) < 2 ^ 63
   transmit-few =
-      let saved : List Slot = recent_in life in
+      let saved : List Slot = recent_of past in
       omega (
         arith,
-        length-append (receives saved) ((stamps_of life o).receive ∷ []),
+        length-append (receives saved) ((stamps_of past o).receive ∷ []),
         length-map saved (λ x. x.receive),
-        length-recent (exchanges_in life),
+        length-recent (exchanges_of past),
       )
 
-  pub receive-known : (stamps_of life o).receive.0 ≢ 0
-  receive-known = fresh-nonzero o.receipt.stamp (all_stamps (recent_in life)) receive-few
+  pub receive-known : (stamps_of past o).receive.0 ≢ 0
+  receive-known = fresh-nonzero o.receipt.stamp (all_stamps (recent_of past)) receive-few
 
-  pub receive-fits : (stamps_of life o).receive.0 < 2 ^ 64
-  receive-fits = fresh-below o.receipt.stamp (all_stamps (recent_in life)) receive-few
+  pub receive-fits : (stamps_of past o).receive.0 < 2 ^ 64
+  receive-fits = fresh-below o.receipt.stamp (all_stamps (recent_of past)) receive-few
 
-  pub transmit-known : (stamps_of life o).transmit.0 ≢ 0
-  transmit-known = fresh-nonzero o.transmit.stamp (receives (recent_in life) ++ (stamps_of life o).receive ∷ []) transmit-few
+  pub transmit-known : (stamps_of past o).transmit.0 ≢ 0
+  transmit-known = fresh-nonzero o.transmit.stamp (receives (recent_of past) ++ (stamps_of past o).receive ∷ []) transmit-few
 
-  pub transmit-fits : (stamps_of life o).transmit.0 < 2 ^ 64
-  transmit-fits = fresh-below o.transmit.stamp (receives (recent_in life) ++ (stamps_of life o).receive ∷ []) transmit-few
+  pub transmit-fits : (stamps_of past o).transmit.0 < 2 ^ 64
+  transmit-fits = fresh-below o.transmit.stamp (receives (recent_of past) ++ (stamps_of past o).receive ∷ []) transmit-few

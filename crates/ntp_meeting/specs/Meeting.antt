@@ -5,9 +5,9 @@ use Rattle.ntp_packet.specs.Header.{IsHeader}
 use Rattle.ntp_client.specs.declared.exchange.Outstanding.{Outstanding}
 use Rattle.ntp_client.specs.State.{ClientState}
 use Rattle.ntp_client.specs.Query.{query_fields, query_octets}
-use Rattle.ntp_register.specs.Customer.{Enrolment}
+use Rattle.ntp_customer.specs.Customer.{Enrolment, held_in, enrolment_at}
+use Rattle.ntp_customer.specs.Past.{Past}
 use Rattle.ntp_reply_packets.specs.Reference.{ReferenceState, IsReference}
-use Rattle.ntp_reply.specs.Life.{Life, enrolment_in}
 
 -- a request of a client waits for its reply; the fields of its header and the key number have the widths of the packet (RFC 5905, 7.3)
 pub record Waits (c : ClientState) (q : Outstanding) : Type 0 where
@@ -19,12 +19,11 @@ pub record Waits (c : ClientState) (q : Outstanding) : Type 0 where
 abbrev pub request_octets : ClientState → Outstanding → List ℕ
 request_octets c q = query_octets c.key c.number q
 
--- an address is enrolled with the key of a client, under its number (profile)
-pub record SharesKey (life : Life) (c : ClientState) : Type 0 where
+-- an address is enrolled, and its key with the number of a client is the client's (profile)
+pub record SharesKey (past : Past) (c : ClientState) : Type 0 where
   pub enrolment : Enrolment
-  pub enrolled : enrolment_in life ≡ Some enrolment
-  pub key : enrolment.key ≡ c.key
-  pub number : enrolment.number ≡ c.number
+  pub enrolled : enrolment_at past ≡ Some enrolment
+  pub key : held_in enrolment c.number ≡ Some (record { number = c.number; key = c.key })
 
 -- a state of a server's clock, whose fields have the widths of the packet (RFC 5905, 7.3)
 pub record FitsPacket (r : ReferenceState) : Type 0 where

@@ -12,8 +12,10 @@ ghost use Rattle.ntp_client.specs.declared.exchange.Outstanding.{Outstanding};
 ghost use Rattle.ntp_client.specs.State.{ClientState, IsOutstanding};
 ghost use Rattle.ntp_client.specs.Query.{query_fields, next_query, after_query};
 ghost use Rattle.ntp_client.specs.Taking.{taken_for, after_taken};
+ghost use Rattle.ntp_customer.specs.Customer.{budget_of};
+ghost use Rattle.ntp_customer.specs.Past.{Past};
 ghost use Rattle.ntp_reply_packets.specs.declared.occasion.Occasion.{Occasion};
-ghost use Rattle.ntp_reply.specs.Life.{Life, budget_in, recent_in};
+ghost use Rattle.ntp_reply.specs.Life.{Life, recent_of, recent_in};
 ghost use Rattle.ntp_reply.specs.Kind.{Signed, kind_of};
 ghost use Rattle.ntp_reply.specs.Exchanged.{matched, stamps_of, after_departure};
 ghost use Rattle.ntp_reply.specs.Verdict.{verdict, after_datagram, query_count, timed};
@@ -22,7 +24,7 @@ ghost use Rattle.ntp_meeting.specs.Meeting.{Waits, SharesKey, FitsPacket, reques
 use ntp_client::{Distrust, Sample, Taken};
 use ntp_reply::Answer;
 
-/// A client's request is a signed query to a server that has enrolled its address with the client's key, under the
+/// A client's request is a signed query to a server where its address is enrolled, and holds the client's key under the
 /// client's number.
 ///
 /// - `waits`: the request that a client makes waits for its reply, with all the widths of a packet. Asked is that the key
@@ -34,11 +36,11 @@ use ntp_reply::Answer;
 pub fn a_request_is_a_signed_query()
     ensures waits { (c : ClientState) (now : Moment) → c.number < 2 ^ 32
         → IfSome c.sampled (λ e. (e.receive.0 < 2 ^ 64) × (e.arrival.0 < 2 ^ 64)) → Waits (after_query c now) (next_query c now) }
-    ensures signed { (c : ClientState) (q : Outstanding) (life : Life) → Waits c q → SharesKey life c
-        → kind_of life (request_octets c q) ≡ Signed c.key c.number (query_fields q) }
-    ensures served { (c : ClientState) (q : Outstanding) (life : Life) (o : Occasion) → Waits c q → SharesKey life c
-        → query_count life o < budget_in life
-        → verdict life o (request_octets c q) ≡ timed c.key c.number o (query_fields q) (recent_in life) }
+    ensures signed { (c : ClientState) (q : Outstanding) (past : Past) → Waits c q → SharesKey past c
+        → kind_of past (request_octets c q) ≡ Signed c.key c.number (query_fields q) }
+    ensures served { (c : ClientState) (q : Outstanding) (past : Past) (o : Occasion) → Waits c q → SharesKey past c
+        → query_count past o < budget_of past
+        → verdict (Some past) o (request_octets c q) ≡ timed c.key c.number o (query_fields q) (recent_of past) }
 {}
 
 /// A time reply to a client's request is a sample for that client, while the request waits, whenever the reply comes.
@@ -58,23 +60,23 @@ pub fn a_request_is_a_signed_query()
 pub fn a_time_reply_is_a_sample()
     ensures asked { (q : Outstanding) (saved : List Slot) → IsOutstanding q → AreSaved saved
         → matched saved (query_fields q) ≡ option_and_then (λ e. unused_at saved e.receive) q.earlier }
-    ensures basic { (c : ClientState) (q : Outstanding) (life : Life) (o : Occasion) (reply : List ℕ) (saved : Stamp) (at : Moment)
-        → Waits c q → SharesKey life c → FitsPacket o.reference → o.reference.leap ≢ 3
-        → matched (recent_in life) (query_fields q) ≡ None
-        → verdict life o (request_octets c q) ≡ Answer.Time reply saved
+    ensures basic { (c : ClientState) (q : Outstanding) (past : Past) (o : Occasion) (reply : List ℕ) (saved : Stamp) (at : Moment)
+        → Waits c q → SharesKey past c → FitsPacket o.reference → o.reference.leap ≢ 3
+        → matched (recent_of past) (query_fields q) ≡ None
+        → verdict (Some past) o (request_octets c q) ≡ Answer.Time reply saved
         → taken_for c reply at ≡ Taken.Sample (record {
           t1 = q.transmit;
           t2 = saved;
-          t3 = (stamps_of life o).transmit;
+          t3 = (stamps_of past o).transmit;
           t4 = fresh at.stamp [];
           interleaved = false;
         }) }
-    ensures interleaved { (c : ClientState) (q : Outstanding) (life : Life) (o : Occasion) (reply : List ℕ) (saved : Stamp) (at : Moment)
+    ensures interleaved { (c : ClientState) (q : Outstanding) (past : Past) (o : Occasion) (reply : List ℕ) (saved : Stamp) (at : Moment)
         (carried : Exchange) (found : Slot)
-        → Waits c q → SharesKey life c → FitsPacket o.reference → o.reference.leap ≢ 3
-        → q.earlier ≡ Some carried → matched (recent_in life) (query_fields q) ≡ Some found
-        → AreSaved (recent_in life) → found.transmit.0 < 2 ^ 64
-        → verdict life o (request_octets c q) ≡ Answer.Time reply saved
+        → Waits c q → SharesKey past c → FitsPacket o.reference → o.reference.leap ≢ 3
+        → q.earlier ≡ Some carried → matched (recent_of past) (query_fields q) ≡ Some found
+        → AreSaved (recent_of past) → found.transmit.0 < 2 ^ 64
+        → verdict (Some past) o (request_octets c q) ≡ Answer.Time reply saved
         → taken_for c reply at ≡ Taken.Sample (record {
           t1 = carried.transmit;
           t2 = carried.receive;
@@ -94,30 +96,30 @@ pub fn a_time_reply_is_a_sample()
 ///
 /// This is a law, and does nothing when it is called.
 pub fn the_next_request_asks_about_the_exchange()
-    ensures carried { (c : ClientState) (q : Outstanding) (life : Life) (o : Occasion) (reply : List ℕ) (saved : Stamp) (at : Moment)
-        (s : Sample) → Waits c q → SharesKey life c → FitsPacket o.reference
-        → IfSome (matched (recent_in life) (query_fields q)) (λ found. found.transmit.0 < 2 ^ 64)
-        → verdict life o (request_octets c q) ≡ Answer.Time reply saved
+    ensures carried { (c : ClientState) (q : Outstanding) (past : Past) (o : Occasion) (reply : List ℕ) (saved : Stamp) (at : Moment)
+        (s : Sample) → Waits c q → SharesKey past c → FitsPacket o.reference
+        → IfSome (matched (recent_of past) (query_fields q)) (λ found. found.transmit.0 < 2 ^ 64)
+        → verdict (Some past) o (request_octets c q) ≡ Answer.Time reply saved
         → after_taken c reply at (Taken.Sample s) ≡ record {
           key = c.key;
           number = c.number;
           outstanding = None;
           sampled = Some (record { transmit = q.transmit; receive = saved; arrival = fresh at.stamp [] });
         } }
-    ensures saved { (c : ClientState) (q : Outstanding) (life : Life) (o : Occasion) (reply : List ℕ) (saved : Stamp)
-        → Waits c q → SharesKey life c → verdict life o (request_octets c q) ≡ Answer.Time reply saved
-        → unused_at (recent_in (after_datagram life o (request_octets c q))) saved
-        ≡ Some (new_exchange saved (stamps_of life o).transmit) }
-    ensures departed { (life : Life) (receive : Stamp) (m : Moment) (found : Slot) → unused_at (recent_in life) receive ≡ Some found
-        → unused_at (recent_in (after_departure life receive m)) receive
-        ≡ Some (record found { transmit = fresh m.stamp (receives (recent_in life)) }) }
+    ensures saved { (c : ClientState) (q : Outstanding) (past : Past) (o : Occasion) (reply : List ℕ) (saved : Stamp)
+        → Waits c q → SharesKey past c → verdict (Some past) o (request_octets c q) ≡ Answer.Time reply saved
+        → unused_at (recent_in (after_datagram (Some past) o (request_octets c q))) saved
+        ≡ Some (new_exchange saved (stamps_of past o).transmit) }
+    ensures departed { (past : Past) (receive : Stamp) (m : Moment) (found : Slot) → unused_at (recent_of past) receive ≡ Some found
+        → unused_at (recent_of (after_departure past receive m)) receive
+        ≡ Some (record found { transmit = fresh m.stamp (receives (recent_of past)) }) }
 {}
 
 /// Each other reply to a client's request is taken for what it is, while the request waits.
 ///
 /// - `rate`: a RATE, where the client's key is shared with the server.
-/// - `nak`: a crypto-NAK, which goes to a request under another key or number than those of its address. Asked is that
-///   the server's reference state has the widths of a packet.
+/// - `nak`: a crypto-NAK, which goes to a request that is signed under no key that its address holds with the request's
+///   number. Asked is that the server's reference state has the widths of a packet.
 /// - `deny`: a DENY to a request whose MAC was cut off.
 /// - `revoked`: a DENY to a whole request, which goes to an address that is revoked.
 /// - `unsynchronised`: a time reply of a server whose clock is not synchronised is refused for that. Asked is else what
@@ -125,8 +127,8 @@ pub fn the_next_request_asks_about_the_exchange()
 ///
 /// Nothing else is asked of the life of the address. This is a law, and does nothing when it is called.
 pub fn other_replies_are_taken_for_what_they_are()
-    ensures rate { (c : ClientState) (q : Outstanding) (life : Life) (o : Occasion) (reply : List ℕ) (at : Moment)
-        → Waits c q → SharesKey life c → verdict life o (request_octets c q) ≡ Answer.Rate reply
+    ensures rate { (c : ClientState) (q : Outstanding) (past : Past) (o : Occasion) (reply : List ℕ) (at : Moment)
+        → Waits c q → SharesKey past c → verdict (Some past) o (request_octets c q) ≡ Answer.Rate reply
         → taken_for c reply at ≡ Taken.Rate }
     ensures nak { (c : ClientState) (q : Outstanding) (life : Life) (o : Occasion) (reply : List ℕ) (at : Moment)
         → Waits c q → FitsPacket o.reference → verdict life o (request_octets c q) ≡ Answer.Nak reply
@@ -137,10 +139,10 @@ pub fn other_replies_are_taken_for_what_they_are()
     ensures revoked { (c : ClientState) (q : Outstanding) (life : Life) (o : Occasion) (reply : List ℕ) (at : Moment)
         → Waits c q → verdict life o (request_octets c q) ≡ Answer.Deny reply
         → taken_for c reply at ≡ Taken.Deny }
-    ensures unsynchronised { (c : ClientState) (q : Outstanding) (life : Life) (o : Occasion) (reply : List ℕ) (saved : Stamp)
-        (at : Moment) → Waits c q → SharesKey life c → FitsPacket o.reference → o.reference.leap ≡ 3
-        → IsOutstanding q → AreSaved (recent_in life)
-        → IfSome (matched (recent_in life) (query_fields q)) (λ found. found.transmit.0 < 2 ^ 64)
-        → verdict life o (request_octets c q) ≡ Answer.Time reply saved
+    ensures unsynchronised { (c : ClientState) (q : Outstanding) (past : Past) (o : Occasion) (reply : List ℕ) (saved : Stamp)
+        (at : Moment) → Waits c q → SharesKey past c → FitsPacket o.reference → o.reference.leap ≡ 3
+        → IsOutstanding q → AreSaved (recent_of past)
+        → IfSome (matched (recent_of past) (query_fields q)) (λ found. found.transmit.0 < 2 ^ 64)
+        → verdict (Some past) o (request_octets c q) ≡ Answer.Time reply saved
         → taken_for c reply at ≡ Taken.Refused Distrust.Unsynchronised }
 {}

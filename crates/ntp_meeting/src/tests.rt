@@ -1,5 +1,6 @@
 //! Worked exchanges of a client with a server that has one customer.
-ghost use Rattle.std.specs.Prelude.{◌<◌};
+ghost use Rattle.std.specs.Prelude.{◌<◌, IfOk};
+ghost use Rattle.ntp_register.specs.Registry.{Agrees};
 
 use ntp_client::{Client, Sample, Taken};
 use ntp_mac::{Algorithm, Key};
@@ -37,6 +38,7 @@ fn client() -> Result<Client, Fail> {
 // A register with the customer, who has the same key under the same number.
 fn register(alloc: Global, budget: u16) -> Result<Register, Fail>
     requires { 0 < budget }
+    ensures { IfOk result (λ r. Agrees r) }
 {
     let mut register = Register::new(alloc);
     let enrolled = register.enrol(A, 7, Key::new(Algorithm::Md5, b"key")?, budget);
@@ -74,20 +76,24 @@ fn taken(
     }
 }
 
+// A basic sample of a request that left at `T`, by its receipt.
+fn basic_sample(receipt: u64) -> Taken {
+    Taken::Sample(Sample {
+        t1: Stamp(T),
+        t2: Stamp(receipt),
+        t3: Stamp(receipt.wrapping_add(0x100)),
+        t4: Stamp(ARRIVAL),
+        interleaved: false,
+    })
+}
+
 #[test]
 fn a_basic_and_an_interleaved_sample(rt: HostRuntime) -> Result<(), Fail> {
     let mut client = client()?;
     let mut register = register(rt.alloc(), 10)?;
     let request = client.request(moment(T));
     let basic = taken(&mut client, &mut register, request.octets(), R, ARRIVAL)?;
-    let expected = Sample {
-        t1: Stamp(T),
-        t2: Stamp(R),
-        t3: Stamp(0xec00_0010_9000_0100),
-        t4: Stamp(ARRIVAL),
-        interleaved: false,
-    };
-    assert_eq!(rt; basic, Taken::Sample(expected));
+    assert_eq!(rt; basic, basic_sample(R));
 
     let customer = register.customer_mut(A).ok_or("no customer")?;
     assert!(rt; depart(customer, Stamp(R), moment(0xec00_0010_9000_0180)));
@@ -107,6 +113,33 @@ fn a_basic_and_an_interleaved_sample(rt: HostRuntime) -> Result<(), Fail> {
         interleaved: true,
     };
     assert_eq!(rt; interleaved, Taken::Sample(expected));
+    Ok(())
+}
+
+#[test]
+fn samples_under_both_keys_of_a_customer(rt: HostRuntime) -> Result<(), Fail> {
+    let mut register = register(rt.alloc(), 10)?;
+    let newer = Key::new(Algorithm::Sha1, b"newer")?;
+    register
+        .rollover(A, 9, newer)
+        .map_err(|_| "not rolled over")?;
+
+    let mut with_older = client()?;
+    let request = with_older.request(moment(T));
+    let basic = taken(&mut with_older, &mut register, request.octets(), R, ARRIVAL)?;
+    assert_eq!(rt; basic, basic_sample(R));
+
+    let mut with_newer = Client::new(newer, 9);
+    let request = with_newer.request(moment(T));
+    let later = R + 0x800_0000;
+    let basic = taken(
+        &mut with_newer,
+        &mut register,
+        request.octets(),
+        later,
+        ARRIVAL,
+    )?;
+    assert_eq!(rt; basic, basic_sample(later));
     Ok(())
 }
 

@@ -6,8 +6,8 @@ pub returns-clause-asked : goal.returns-clause-asked
 returns-clause-asked c = asked-match
 
 pub returns-clause-basic : goal.returns-clause-basic
-returns-clause-basic c = λ client q life o reply saved at waits. basic-met client q life o at waits reply saved
+returns-clause-basic c = λ client q past o reply saved at waits. basic-met client q past o at waits reply saved
 
 pub returns-clause-interleaved : goal.returns-clause-interleaved
 returns-clause-interleaved c =
-    λ client q life o reply saved at carried found waits. interleaved-met client q life o at waits reply saved carried found
+    λ client q past o reply saved at carried found waits. interleaved-met client q past o at waits reply saved carried found

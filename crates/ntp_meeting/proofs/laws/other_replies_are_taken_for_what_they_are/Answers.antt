@@ -2,16 +2,16 @@ use Rattle.ntp_meeting.proofs.Meetings.{rate-met, nak-met, deny-met, revoked-met
 use Rattle.ntp_meeting.proofs.laws.other_replies_are_taken_for_what_they_are.Goals as goal
 
 pub returns-clause-rate : goal.returns-clause-rate
-returns-clause-rate c = λ client q life o reply at waits. rate-met client q life o at waits reply
+returns-clause-rate c = λ client q past o reply at waits. rate-met client q past o at waits reply
 
 pub returns-clause-nak : goal.returns-clause-nak
-returns-clause-nak c = λ client q life o reply at waits. nak-met client q life o at waits reply
+returns-clause-nak c = nak-met
 
 pub returns-clause-deny : goal.returns-clause-deny
-returns-clause-deny c = λ client q life o reply at waits. deny-met client q life o at waits reply
+returns-clause-deny c = deny-met
 
 pub returns-clause-revoked : goal.returns-clause-revoked
-returns-clause-revoked c = λ client q life o reply at waits. revoked-met client q life o at waits reply
+returns-clause-revoked c = revoked-met
 
 pub returns-clause-unsynchronised : goal.returns-clause-unsynchronised
-returns-clause-unsynchronised c = λ client q life o reply saved at waits. unsynchronised-met client q life o at waits reply saved
+returns-clause-unsynchronised c = λ client q past o reply saved at waits. unsynchronised-met client q past o at waits reply saved

@@ -4,11 +4,11 @@ use Rattle.ntp_meeting.proofs.laws.the_next_request_asks_about_the_exchange.Goal
 
 pub returns-clause-carried : goal.returns-clause-carried
 returns-clause-carried c =
-    λ client q life o reply saved at s waits shares shown fits answered.
-    carried-after client q life o reply saved waits shares answered at s shown fits
+    λ client q past o reply saved at s waits shares shown fits answered.
+    carried-after client q past o reply saved waits shares answered at s shown fits
 
 pub returns-clause-saved : goal.returns-clause-saved
 returns-clause-saved c = saved-after
 
 pub returns-clause-departed : goal.returns-clause-departed
-returns-clause-departed c = departure-found
+returns-clause-departed c = λ past receive m found. departure-found receive m found past

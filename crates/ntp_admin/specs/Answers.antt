@@ -52,6 +52,10 @@ refusal_text refusal.AlreadyEnrolled = codes "already-enrolled"
 refusal_text refusal.KeyTaken = codes "key-taken"
 refusal_text refusal.NoMemory = codes "no-memory"
 refusal_text refusal.NotEnrolled = codes "not-enrolled"
+refusal_text refusal.SameNumber = codes "same-number"
+refusal_text refusal.RoomFull = codes "room-full"
+refusal_text refusal.OnlyKey = codes "only-key"
+refusal_text refusal.NotHeld = codes "not-held"
 
 -- the end of a line
 abbrev pub line_feed : List ℕ

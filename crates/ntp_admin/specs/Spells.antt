@@ -42,6 +42,24 @@ budget_in (address ∷ budget ∷ []) = do
   Ok (command.Budget a b)
 budget_in other = Err fault.Count
 
+-- the words behind `rollover` (profile)
+abbrev pub rollover_in : List (List ℕ) → Result Command LineFault
+rollover_in (address ∷ number ∷ algorithm ∷ key ∷ []) = do
+  a ← ok_or (address_in address) fault.Address
+  n ← ok_or (number_in number) fault.Number
+  h ← ok_or (algorithm_in algorithm) fault.Algorithm
+  k ← ok_or (key_in key) fault.KeyText
+  Ok (command.Rollover a n (record { algorithm = h; octets = k }))
+rollover_in other = Err fault.Count
+
+-- the words behind `retire` (profile)
+abbrev pub retire_in : List (List ℕ) → Result Command LineFault
+retire_in (address ∷ number ∷ []) = do
+  a ← ok_or (address_in address) fault.Address
+  n ← ok_or (number_in number) fault.Number
+  Ok (command.Retire a n)
+retire_in other = Err fault.Count
+
 -- a command, by its first word (profile)
 unfoldable pub command_in : List (List ℕ) → Result Command LineFault
 command_in [] = Err fault.Word
@@ -49,6 +67,8 @@ command_in (first ∷ others) =
     if bytes_eq first (codes "enrol") then enrol_in others
     else if bytes_eq first (codes "revoke") then revoke_in others
     else if bytes_eq first (codes "budget") then budget_in others
+    else if bytes_eq first (codes "rollover") then rollover_in others
+    else if bytes_eq first (codes "retire") then retire_in others
     else Err fault.Word
 
 -- the words behind `datagram` (profile)

@@ -23,4 +23,15 @@ pub enum Command {
         address: Address,
         budget: NonZero<u16>,
     },
+    /// Gives an enrolled address one key more, with the key's number; all else stays.
+    Rollover {
+        address: Address,
+        number: NonZero<u16>,
+        key: Key,
+    },
+    /// Takes the key of a number from an enrolled address that has another; all else stays.
+    Retire {
+        address: Address,
+        number: NonZero<u16>,
+    },
 }

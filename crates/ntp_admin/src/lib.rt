@@ -9,8 +9,6 @@ mod outcome;
 mod parts;
 mod printing;
 mod reading;
-#[cfg(test)]
-mod tests;
 pub mod words;
 
 pub use command::Command;

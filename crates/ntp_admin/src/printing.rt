@@ -120,5 +120,9 @@ pub fn refusal_word(refusal: Refusal) -> &'static str
         Refusal::KeyTaken => "key-taken",
         Refusal::NoMemory => "no-memory",
         Refusal::NotEnrolled => "not-enrolled",
+        Refusal::SameNumber => "same-number",
+        Refusal::RoomFull => "room-full",
+        Refusal::OnlyKey => "only-key",
+        Refusal::NotHeld => "not-held",
     }
 }

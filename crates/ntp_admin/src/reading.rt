@@ -1,7 +1,7 @@
 //! Lines to commands and events.
 ghost use Rattle.std.specs.Prelude.{◌≡◌, ◌≢◌, ◌⊎◌, IfOk, IfErr, ◌∷◌, Err, true};
 ghost use Rattle.ntp_admin.specs.Words.{words};
-ghost use Rattle.ntp_admin.specs.Spells.{enrol_in, revoke_in, budget_in, command_in, datagram_in, departed_in, event_in, is_datagram, SpellsCommand, HasCommandFault, Spells, HasFault};
+ghost use Rattle.ntp_admin.specs.Spells.{enrol_in, revoke_in, budget_in, rollover_in, retire_in, command_in, datagram_in, departed_in, event_in, is_datagram, SpellsCommand, HasCommandFault, Spells, HasFault};
 
 use crate::parts::Parts;
 use crate::{Command, Event, LineFault, words};
@@ -13,6 +13,8 @@ use std::alloc::Allocator;
 /// enrol ADDRESS NUMBER ALGORITHM KEY BUDGET
 /// revoke ADDRESS
 /// budget ADDRESS BUDGET
+/// rollover ADDRESS NUMBER ALGORITHM KEY
+/// retire ADDRESS NUMBER
 /// ```
 ///
 /// The fault is the first in this order: the first word, the number of words, then the words from left to
@@ -62,6 +64,8 @@ fn command(first: &str, others: Parts<'_>) -> Result<Command, LineFault>
         "enrol" => enrolment(others),
         "revoke" => revocation(others),
         "budget" => new_budget(others),
+        "rollover" => rollover(others),
+        "retire" => retirement(others),
         _ => Err(LineFault::Word),
     }
 }
@@ -112,6 +116,40 @@ fn new_budget(mut words: Parts<'_>) -> Result<Command, LineFault>
     let address = words::address(address).ok_or(LineFault::Address)?;
     let budget = words::number(budget).ok_or(LineFault::Budget)?;
     Ok(Command::Budget { address, budget })
+}
+
+// What stands behind `rollover`.
+fn rollover(mut words: Parts<'_>) -> Result<Command, LineFault>
+    ensures command { result ≡ rollover_in words.entry }
+    ensures memory { result ≢ Err LineFault.NoMemory }
+{
+    let address = words.word()?;
+    let number = words.word()?;
+    let algorithm = words.word()?;
+    let key = words.word()?;
+    words.end()?;
+    let address = words::address(address).ok_or(LineFault::Address)?;
+    let number = words::number(number).ok_or(LineFault::Number)?;
+    let algorithm = words::algorithm(algorithm).ok_or(LineFault::Algorithm)?;
+    let key = words::key(algorithm, key).ok_or(LineFault::KeyText)?;
+    Ok(Command::Rollover {
+        address,
+        number,
+        key,
+    })
+}
+
+// What stands behind `retire`.
+fn retirement(mut words: Parts<'_>) -> Result<Command, LineFault>
+    ensures command { result ≡ retire_in words.entry }
+    ensures memory { result ≢ Err LineFault.NoMemory }
+{
+    let address = words.word()?;
+    let number = words.word()?;
+    words.end()?;
+    let address = words::address(address).ok_or(LineFault::Address)?;
+    let number = words::number(number).ok_or(LineFault::Number)?;
+    Ok(Command::Retire { address, number })
 }
 
 // What stands behind `datagram`.

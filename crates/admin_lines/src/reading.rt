@@ -1,52 +1,75 @@
-//! Lines as they are written, and what no clause says: that they are read where memory suffices.
+//! What lines of a script say, and what is wrong with faulty ones.
 
-use crate::{
-    Command, Event, LineFault, NoMemory, Outcome, parse_command, parse_event, print_answer,
-};
-use ntp_mac::{Algorithm, Key, Reply};
-use ntp_register::{Address, Refusal};
-use ntp_reply::{Answer, Reason, Reference};
-use ntp_tail::Malformed;
+use ntp_admin::{Command, Event, LineFault, parse_command, parse_event};
+use ntp_mac::{Algorithm, Key};
+use ntp_register::Address;
+use ntp_reply::Reference;
 use ntp_time::{Moment, Short, Stamp};
 use std::num::NonZero;
 use std::test::Fail;
-
-// The enrolments of two customers.
-const FIRST: &str = "enrol 192.0.2.10 7 md5 6b6579 10";
-
-const SECOND: &str = "enrol 192.0.2.20 8 sha1 6f74686572 10";
 
 // An unsigned request.
 const DATAGRAM: &str =
     "datagram 192.0.2.10 0:ec00001090000000 1:EC00001090000100 0001ec00000000000000104e495354ec00000000000000 23000600000000000000000000000000000000000000000000000000000000000000000000000000ec00001080000000";
 
+// A key number, or a budget.
+fn number(number: u16) -> Result<NonZero<u16>, Fail> {
+    Ok(NonZero::<u16>::new(number).ok_or("no number")?)
+}
+
 #[test]
 fn commands(rt: HostRuntime) -> Result<(), Fail> {
-    let ten = NonZero::<u16>::new(10).ok_or("no budget")?;
-    let first = Command::Enrol {
-        address: Address([192, 0, 2, 10]),
-        number: NonZero::<u16>::new(7).ok_or("no number")?,
-        key: Key::new(Algorithm::Md5, b"key")?,
-        budget: ten,
-    };
-    let second = Command::Enrol {
-        address: Address([192, 0, 2, 20]),
-        number: NonZero::<u16>::new(8).ok_or("no number")?,
-        key: Key::new(Algorithm::Sha1, b"other")?,
-        budget: ten,
-    };
-    let end = Command::Revoke {
-        address: Address([255, 0, 0, 1]),
-    };
-    let change = Command::Budget {
-        address: Address([192, 0, 2, 10]),
-        budget: NonZero::<u16>::new(4).ok_or("no budget")?,
-    };
-    assert!(rt; parse_command(FIRST) == Ok(first));
-    assert!(rt; parse_command(SECOND) == Ok(second));
-    assert!(rt; parse_command("revoke 255.0.0.1") == Ok(end));
-    assert!(rt; parse_command("budget 192.0.2.10 4") == Ok(change));
-    for (line, expected) in [(FIRST, first), ("budget 192.0.2.10 4", change)] {
+    let address = Address([192, 0, 2, 10]);
+    let commands = [
+        (
+            "enrol 192.0.2.10 7 md5 6b6579 10",
+            Command::Enrol {
+                address,
+                number: number(7)?,
+                key: Key::new(Algorithm::Md5, b"key")?,
+                budget: number(10)?,
+            },
+        ),
+        (
+            "enrol 192.0.2.20 8 sha1 6f74686572 10",
+            Command::Enrol {
+                address: Address([192, 0, 2, 20]),
+                number: number(8)?,
+                key: Key::new(Algorithm::Sha1, b"other")?,
+                budget: number(10)?,
+            },
+        ),
+        (
+            "revoke 255.0.0.1",
+            Command::Revoke {
+                address: Address([255, 0, 0, 1]),
+            },
+        ),
+        (
+            "budget 192.0.2.10 4",
+            Command::Budget {
+                address,
+                budget: number(4)?,
+            },
+        ),
+        (
+            "rollover 192.0.2.10 9 sha1 6e6577",
+            Command::Rollover {
+                address,
+                number: number(9)?,
+                key: Key::new(Algorithm::Sha1, b"new")?,
+            },
+        ),
+        (
+            "retire 192.0.2.10 7",
+            Command::Retire {
+                address,
+                number: number(7)?,
+            },
+        ),
+    ];
+    for (line, expected) in commands {
+        assert!(rt; parse_command(line) == Ok(expected), "of {line}");
         match parse_event(rt.alloc(), line)? {
             Event::Command(command) => assert!(rt; command == expected, "of {line}"),
             _ => panic!(rt; "no command"),
@@ -161,6 +184,16 @@ fn faults_of_a_line(rt: HostRuntime) -> Result<(), Fail> {
         ("budget 192.0.2.256 0", LineFault::Address),
         ("budget 192.0.2.10 0", LineFault::Budget),
         ("budget 192.0.2.10 65536", LineFault::Budget),
+        ("Rollover 192.0.2.10 9 sha1 6e6577", LineFault::Word),
+        ("rollover 192.0.2.10 9 sha1 6e6577 10", LineFault::Count),
+        ("rollover 192.0.2.256 0 sha2 6e657", LineFault::Address),
+        ("rollover 192.0.2.10 0 sha2 6e657", LineFault::Number),
+        ("rollover 192.0.2.10 9 sha2 6e657", LineFault::Algorithm),
+        ("rollover 192.0.2.10 9 sha1 6e657", LineFault::KeyText),
+        ("retire 192.0.2.10", LineFault::Count),
+        ("retire 192.0.2.10 9 sha1 6e6577", LineFault::Count),
+        ("retire 192.0.2.256 0", LineFault::Address),
+        ("retire 192.0.2.10 07", LineFault::Number),
     ];
     for (line, fault) in lines {
         assert!(rt; parse_command(line) == Err(fault), "of {line}");
@@ -216,89 +249,4 @@ fn faults_of_a_line(rt: HostRuntime) -> Result<(), Fail> {
         }
     }
     Ok(())
-}
-
-// The line of an outcome, or that memory ran out.
-fn is_printed(rt: &impl Alloc, outcome: &Outcome, expected: &str) -> bool {
-    match print_answer(&rt.alloc(), outcome) {
-        Ok(line) => line.as_str() == expected,
-        Err(NoMemory) => false,
-    }
-}
-
-#[test]
-fn lines_of_replies(rt: HostRuntime) -> Result<(), Fail> {
-    let reply = Reply::from_octets(b"\x1c\x01\x06\xec").ok_or("no reply")?;
-    let saved = Stamp(0x0000_0010_9000_0001);
-    let time = Answer::Time {
-        reply: reply.clone()?,
-        saved,
-    };
-    let answers = [
-        (time, "time 0000001090000001 1c0106ec\n"),
-        (Answer::Rate(reply.clone()?), "rate 1c0106ec\n"),
-        (Answer::Deny(reply.clone()?), "deny 1c0106ec\n"),
-        (Answer::Nak(reply), "nak 1c0106ec\n"),
-    ];
-    for (answer, expected) in answers {
-        let printed = is_printed(&rt, &Outcome::Datagram(answer), expected);
-        assert!(rt; printed, "not {expected}");
-    }
-    Ok(())
-}
-
-#[test]
-fn lines_of_silence(rt: HostRuntime) {
-    let reasons = [
-        (Reason::Unregistered, "silent unregistered\n"),
-        (Reason::Malformed(Malformed::Short), "silent short\n"),
-        (Reason::Malformed(Malformed::Long), "silent long\n"),
-        (
-            Reason::Malformed(Malformed::FieldShort { at: 48 }),
-            "silent field-short 48\n",
-        ),
-        (
-            Reason::Malformed(Malformed::FieldUnaligned { at: 100 }),
-            "silent field-unaligned 100\n",
-        ),
-        (
-            Reason::Malformed(Malformed::FieldPastEnd { at: 1000 }),
-            "silent field-past-end 1000\n",
-        ),
-        (
-            Reason::Malformed(Malformed::Rest { at: 64 }),
-            "silent rest 64\n",
-        ),
-        (Reason::Version, "silent version\n"),
-        (Reason::Mode, "silent mode\n"),
-        (Reason::Bare, "silent bare\n"),
-        (Reason::Muted, "silent muted\n"),
-        (Reason::OverBudget, "silent over-budget\n"),
-    ];
-    for (reason, expected) in reasons {
-        let outcome = Outcome::Datagram(Answer::Silent(reason));
-        assert!(rt; is_printed(&rt, &outcome, expected), "not {expected}");
-    }
-}
-
-#[test]
-fn lines_of_departures_and_commands(rt: HostRuntime) {
-    let outcomes = [
-        (Outcome::Noted, "noted\n"),
-        (Outcome::NotNoted, "not-noted\n"),
-        (Outcome::Done, "done\n"),
-        (
-            Outcome::Refused(Refusal::AlreadyEnrolled),
-            "refused already-enrolled\n",
-        ),
-        (Outcome::Refused(Refusal::KeyTaken), "refused key-taken\n"),
-        (Outcome::Refused(Refusal::NoMemory), "refused no-memory\n"),
-        (
-            Outcome::Refused(Refusal::NotEnrolled),
-            "refused not-enrolled\n",
-        ),
-    ];
-    for (outcome, expected) in outcomes {
-        assert!(rt; is_printed(&rt, &outcome, expected), "not {expected}");
-    }
 }

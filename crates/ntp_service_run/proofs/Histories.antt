@@ -1,5 +1,5 @@
 -- What one more event does to a history.
-use Rattle.std.proofs.Common.{◌≡◌, ◌≢◌, Bool, true, false, List, [], ◌∷◌, ◌++◌, refl, sym, ap, ◌∙◌, subst, append-nil, ⊎_elim, true≢false}
+use Rattle.std.proofs.Common.{◌≡◌, ◌≢◌, Bool, true, false, None, option_map, List, [], ◌∷◌, ◌++◌, refl, sym, ap, ◌∙◌, subst, append-nil, ⊎_elim, true≢false}
 use Rattle.std.specs.Prelude.{if◌then◌else◌}
 use Rattle.std.specs.Ordering.{is_eq}
 use Rattle.std.specs.declared.cmp.Ordering.{Ordering}
@@ -11,11 +11,13 @@ use Rattle.ntp_register.specs.Address.{address_eq, address_cmp}
 use Rattle.ntp_register.specs.Registry.{Registry, Agrees, customer_at, empty_registry}
 use Rattle.ntp_register.proofs.AddressLaws.{address_eq_equiv, address_eq-ties, address_cmp-IsAntisymmetric, same_or_other_address}
 use Rattle.ntp_register.proofs.Agreement.{agrees-empty}
-use Rattle.ntp_reply.specs.Life.{Life, short, Unregistered}
+use Rattle.ntp_customer.specs.Past.{short}
+use Rattle.ntp_reply.specs.Life.{Life}
 use Rattle.ntp_admin.specs.declared.event.Event.{Event}
+use Rattle.ntp_admin.specs.declared.outcome.Outcome.{Outcome}
 use Rattle.ntp_service_run.specs.Events.{address_of, names, own}
-use Rattle.ntp_service_run.specs.Model.{after, life_after, life_of}
-use Rattle.ntp_service_run.specs.Headline.{StandsFor}
+use Rattle.ntp_service_run.specs.Model.{answer_to, after, life_after, life_of}
+use Rattle.ntp_service_run.specs.Headline.{StandsFor, TellsOne, IsTaken, is_struck}
 
 tie : (o : Ordering) → is_eq o ≡ true → o ≡ Equal
 tie Less e = absurd (true≢false (sym e))
@@ -44,7 +46,7 @@ module _ {A : Type 0} where
   life-here history e =
       ap life_of (own-append (address_of e) history (e ∷ [])
       ∙ ap (λ (t : Bool). own (address_of e) history ++ (if t then e ∷ [] else [])) (address_eq_equiv.refl (address_of e)))
-      ∙ life_after-append Unregistered (own (address_of e) history) (e ∷ [])
+      ∙ life_after-append None (own (address_of e) history) (e ∷ [])
 
   -- the life of any other
   pub life-there : (a : Address) (history : List (Event A)) (e : Event A) → a ≢ address_of e → own a (history ++ e ∷ []) ≡ own a history
@@ -54,13 +56,13 @@ module _ {A : Type 0} where
 
   -- a service that did with the event's address what the event does, and with no other address anything
   pub stands-step : (r s : Registry) (history : List (Event A)) (e : Event A) → StandsFor r history
-      → customer_at s (address_of e) ≡ short (after (life_of (own (address_of e) history)) e)
+      → customer_at s (address_of e) ≡ option_map short (after (life_of (own (address_of e) history)) e)
       → ((a : Address) → a ≢ address_of e → customer_at s a ≡ customer_at r a) → Agrees s → StandsFor s (history ++ e ∷ [])
   stands-step r s history e stands here there agrees = record {
     entries = λ a. ⊎_elim
-        (λ same. subst (λ b. customer_at s b ≡ short (life_of (own b (history ++ e ∷ [])))) (sym same) (here
-        ∙ ap short (sym (life-here history e))))
-        (λ other. there a other ∙ stands.entries a ∙ ap (λ h. short (life_of h)) (sym (life-there a history e other)))
+        (λ same. subst (λ b. customer_at s b ≡ option_map short (life_of (own b (history ++ e ∷ [])))) (sym same) (here
+        ∙ ap (option_map short) (sym (life-here history e))))
+        (λ other. there a other ∙ stands.entries a ∙ ap (λ h. option_map short (life_of h)) (sym (life-there a history e other)))
         (same_or_other_address a (address_of e));
     agrees = agrees;
   }
@@ -69,7 +71,20 @@ module _ {A : Type 0} where
   pub stands-same : (r : Registry) (history : List (Event A)) (e : Event A) → StandsFor r history
       → after (life_of (own (address_of e) history)) e ≡ life_of (own (address_of e) history) → StandsFor r (history ++ e ∷ [])
   stands-same r history e stands same =
-      stands-step r r history e stands (stands.entries (address_of e) ∙ ap short (sym same)) (λ a ne. refl) stands.agrees
+      stands-step r r history e stands (stands.entries (address_of e) ∙ ap (option_map short) (sym same)) (λ a ne. refl) stands.agrees
+
+  -- an outcome that is not struck out is that of the model, and then the service stands for one event more
+  pub tells-one : (history : List (Event A)) (e : Event A) (o : Outcome) (s : Registry) → is_struck o ≡ false
+      → o ≡ answer_to (life_of (own (address_of e) history)) e → (IsTaken history e → ⊥) → StandsFor s (history ++ e ∷ [])
+      → TellsOne history e o s
+  tells-one history e o s plain is free stands = record {
+    answered = record {
+      as_model = λ h. is;
+      taken = (λ h. absurd (true≢false (ap is_struck (sym h) ∙ plain)), λ h. absurd (free h));
+      memory = λ h. absurd (true≢false (ap is_struck (sym h) ∙ plain));
+    };
+    stands = subst (λ (b : Bool). StandsFor s (if b then history else history ++ e ∷ [])) (sym plain) stands;
+  }
 
 -- a service with no customers
 pub stands-empty : {A : Type 0} → StandsFor {A = A} empty_registry []

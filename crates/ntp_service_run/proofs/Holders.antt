@@ -1,48 +1,55 @@
 -- Who holds a number.
-use Rattle.std.proofs.Common.{◌≡◌, ℕ, false, Option, Some, None, Result, Err, IsSome, Contains, is_some, List, [], refl, sym, ap, ◌∙◌, subst, true≢false}
-use Rattle.std.specs.Prelude.{◌↔◌, IfErr}
+use Rattle.std.proofs.Common.{◌≡◌, ◌≢◌, ℕ, zero, suc, ◌==◌, Option, Some, None, IsSome, Contains, is_some, option_map, List, [], ◌∷◌, map, find, refl, sym, ap, ◌∙◌, subst, true, true≢false, arith}
+use Rattle.std.specs.Prelude.{◌↔◌}
 use Rattle.std.specs.Option.{option_map_or}
-use Rattle.std.specs.Int.NonZero.{non_zero_u16_get}
-use Rattle.std.specs.declared.num.NonZeroU16.{NonZeroU16}
-use Rattle.ntp_mac.specs.Key.{SymmetricKey}
+use Rattle.std.proofs.lemmas.Bool.Decides.{nat_tests}
+use Rattle.ntp_customer.specs.declared.numbered_key.NumberedKey.{NumberedKey}
+use Rattle.ntp_customer.specs.Customer.{Enrolment, enrolment_at, numbers_in}
+use Rattle.ntp_customer.specs.Past.{short}
 use Rattle.ntp_register.specs.declared.address.Address.{Address}
-use Rattle.ntp_register.specs.declared.refusal.Refusal.{Refusal}
-use Rattle.ntp_register.specs.declared.refusal.Refusal.TheVariants.{KeyTaken, NotEnrolled}
-use Rattle.ntp_register.specs.Customer.{CustomerState, is_enrolled, numbers_in}
-use Rattle.ntp_register.specs.Registry.{Registry, is_enrolled_at, numbers_at, holder_of}
-use Rattle.ntp_register.proofs.Agreement.{one-holder, other-holder}
+use Rattle.ntp_register.specs.Registry.{Registry, terms_at, numbers_at, holder_of}
+use Rattle.ntp_register.proofs.Agreement.{one-holder}
 use Rattle.ntp_register.proofs.Lookups.{numbers_held}
-use Rattle.ntp_reply.specs.Life.{Life, Unregistered, Revoked, Enrolled, enrolment_in, short}
-use Rattle.ntp_admin.specs.declared.command.Command.TheVariants.{Enrol}
+use Rattle.ntp_reply.specs.Life.{Life, enrolment_in}
+use Rattle.ntp_admin.specs.declared.command.Command.{Command}
+use Rattle.ntp_admin.specs.declared.command.Command.TheVariants.{Enrol, Rollover}
 use Rattle.ntp_admin.specs.declared.event.Event.{Event}
 use Rattle.ntp_admin.specs.declared.event.Event.TheVariants as event
-use Rattle.ntp_service_run.specs.Events.{own}
-use Rattle.ntp_service_run.specs.Model.{life_of}
-use Rattle.ntp_service_run.specs.Headline.{StandsFor, IsEnrolledWith, IsTaken}
+use Rattle.ntp_service_run.specs.Events.{address_of_command, own}
+use Rattle.ntp_service_run.specs.Model.{refusal_of, life_of}
+use Rattle.ntp_service_run.specs.Headline.{StandsFor, IsEnrolledWith, IsTaken, number_asked}
+use Rattle.ntp_service_run.proofs.Lives.{by_life, enrolment-kept}
 
--- what is kept of a life has its numbers, and is enrolled where it is
-numbers-short : (life : Life) → numbers_held (short life) ≡ option_map_or numbers_in (enrolment_in life) []
-numbers-short Unregistered = refl
-numbers-short (Revoked refusals) = refl
-numbers-short (Enrolled e queries refusals exchanges) = refl
-
-enrolled-short : (life : Life) → option_map_or is_enrolled (short life) false ≡ is_some (enrolment_in life)
-enrolled-short Unregistered = refl
-enrolled-short (Revoked refusals) = refl
-enrolled-short (Enrolled e queries refusals exchanges) = refl
+-- the numbers are kept
+numbers-kept : (life : Life) → numbers_held (option_map short life) ≡ option_map_or numbers_in (enrolment_in life) []
+numbers-kept = by_life _ refl (λ refusals. refl) (λ a refusals. refl)
 
 the-some : {X : Type 0} (o : Option X) → IsSome o → (x : X) × (o ≡ Some x)
 the-some None h = absurd (true≢false (sym h))
 the-some (Some x) h = (x, refl)
 
-module _ {A : Type 0} (r : Registry) (history : List (Event A)) (stands : StandsFor r history) where
-  numbers-are : (a : Address) → numbers_at r a ≡ option_map_or numbers_in (enrolment_in (life_of (own a history))) []
-  numbers-are a = ap numbers_held (stands.entries a) ∙ numbers-short (life_of (own a history))
+-- a number that is held is found
+pub held-number : (keys : List NumberedKey) (n : ℕ) → Contains (map (λ k. k.number) keys) n → is_some (find (λ k. k.number == n) keys) ≡ true
+held-number [] n is = absurd (omega (arith, is.1))
+held-number (k ∷ keys) n (zero, within, is) = grind (arith, nat_tests)
+held-number (k ∷ keys) n (suc i, within, is) = let later = held-number keys n (i, omega arith, is) in grind (arith, nat_tests)
 
-  -- the register finds an address enrolled where its life is
-  pub enrolled-is : (a : Address) → is_enrolled_at r a ≡ is_some (enrolment_in (life_of (own a history)))
-  enrolled-is a = ap (λ (o : Option CustomerState). option_map_or is_enrolled o false) (stands.entries a)
-      ∙ enrolled-short (life_of (own a history))
+-- who asks for a number, and is not refused, does not hold it
+asked-free : (c : Command) (terms : Option Enrolment) (n : ℕ) → number_asked c ≡ Some n → refusal_of terms c ≡ None
+    → Contains (option_map_or numbers_in terms []) n → ⊥
+asked-free (Enrol address number key budget) None n asked plain is = omega (arith, is.1)
+asked-free (Enrol address number key budget) (Some e) n asked plain is = cc
+asked-free (Rollover address number key) None n asked plain is = cc
+asked-free (Rollover address number key) (Some e) n asked plain is = let held = held-number e.keys n is in grind arith
+asked-free other terms n asked plain is = cc
+
+module _ {A : Type 0} (r : Registry) (history : List (Event A)) (stands : StandsFor r history) where
+  -- the register has the terms and the numbers of each life
+  pub terms-are : (a : Address) → terms_at r a ≡ enrolment_in (life_of (own a history))
+  terms-are a = ap (λ o. option_map_or enrolment_at o None) (stands.entries a) ∙ enrolment-kept (life_of (own a history))
+
+  numbers-are : (a : Address) → numbers_at r a ≡ option_map_or numbers_in (enrolment_in (life_of (own a history))) []
+  numbers-are a = ap numbers_held (stands.entries a) ∙ numbers-kept (life_of (own a history))
 
   holds : (a : Address) (number : ℕ) → IsEnrolledWith (life_of (own a history)) number → Contains (numbers_at r a) number
   holds a number is = subst (λ l. Contains l number) (sym (numbers-are a)) is
@@ -52,25 +59,25 @@ module _ {A : Type 0} (r : Registry) (history : List (Event A)) (stands : Stands
       → IsEnrolledWith (life_of (own two history)) number → one ≡ two
   one-enrolled one two number first second = one-holder r one two number stands.agrees (holds one number first) (holds two number second)
 
-  -- the register finds a number taken exactly where another address is enrolled with it
-  pub taken-so : (address : Address) (number : NonZeroU16) (key : SymmetricKey) (budget : NonZeroU16) (n : ℕ) → n ≡ non_zero_u16_get number
-      → ((is_enrolled_at r address ≡ false) × IsSome (holder_of r n)) ↔ IsTaken history (event.Command (Enrol address number key budget))
-  taken-so address number key budget n is = (there, back)
+  -- the register has a holder of the number that a command asks for exactly where another address is enrolled with it
+  pub taken-so : (c : Command) (n : ℕ) → number_asked c ≡ Some n → refusal_of (terms_at r (address_of_command c)) c ≡ None
+      → IsSome (holder_of r n) ↔ IsTaken history (event.Command c)
+  taken-so c n asked free = (there, back)
     where
-      there : (is_enrolled_at r address ≡ false) × IsSome (holder_of r n)
-          → IsTaken history (event.Command (Enrol address number key budget))
+      plain : refusal_of (enrolment_in (life_of (own (address_of_command c) history))) c ≡ None
+      plain = ap (λ t. refusal_of t c) (sym (terms-are (address_of_command c))) ∙ free
+
+      there : IsSome (holder_of r n) → IsTaken history (event.Command c)
       there h =
-          let holder = the-some (holder_of r n) h.1 in
-          let other = other-holder r address holder.0 n stands.agrees h.0 holder.1 in
-          let held : IsEnrolledWith (life_of (own holder.0 history)) n = subst (λ l. Contains l n) (numbers-are holder.0) other.1 in
-          (sym (enrolled-is address) ∙ h.0, (holder.0, other.0, subst (λ m. IsEnrolledWith (life_of (own holder.0 history)) m) is held))
+          let holder = the-some (holder_of r n) h in
+          let held : IsEnrolledWith (life_of (own holder.0 history)) n =
+          subst (λ l. Contains l n) (numbers-are holder.0) (stands.agrees.enrolled holder.0 n holder.1) in
+          let other : holder.0 ≢ address_of_command c = λ same.
+          asked-free c (enrolment_in (life_of (own (address_of_command c) history))) n asked plain
+          (subst (λ a. IsEnrolledWith (life_of (own a history)) n) same held) in
+          (n, (asked, plain), (holder.0, other, held))
 
-      back : IsTaken history (event.Command (Enrol address number key budget)) → (is_enrolled_at r address ≡ false) × IsSome (holder_of r n)
+      back : IsTaken history (event.Command c) → IsSome (holder_of r n)
       back h =
-          let other = h.1.0 in
-          let held = stands.agrees.held other (non_zero_u16_get number) (holds other (non_zero_u16_get number) h.1.2) in
-          (enrolled-is address ∙ h.0, subst (λ m. IsSome (holder_of r m)) (sym is) (subst IsSome (sym held) refl))
-
--- what may only be refused as not enrolled is not refused as taken
-pub not-taken : (result : Result (Unit {0}) Refusal) → IfErr result (λ refusal. refusal ≡ NotEnrolled) → result ≡ Err KeyTaken → ⊥
-not-taken result only e = let impossible = subst (λ r. IfErr r (λ refusal. refusal ≡ NotEnrolled)) e only in cc
+          let same : h.0 ≡ n = cc in
+          subst (λ m. IsSome (holder_of r m)) same (subst IsSome (sym (stands.agrees.held h.2.0 h.0 (holds h.2.0 h.0 h.2.2))) refl)

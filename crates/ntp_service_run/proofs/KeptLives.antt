@@ -1,62 +1,63 @@
 -- An event in lives of which the same is kept.
-use Rattle.std.proofs.Common.{◌≡◌, ℕ, ◌<◌, Bool, true, false, [], is_some, option_map, refl, sym, ap, ◌∙◌}
+use Rattle.std.proofs.Common.{◌≡◌, ◌<◌, Option, Some, None, is_some, option_map, refl, sym, ap, ◌∙◌, arith}
 use Rattle.std.specs.Prelude.{if◌then◌else◌}
+use Rattle.std.specs.Option.{option_map_or}
 use Rattle.std.specs.Int.NonZero.{non_zero_u16_get}
-use Rattle.ntp_budget.specs.Tally.{tally, most_counted}
-use Rattle.ntp_register.specs.Customer.{enrolment_of, rebudgeted}
-use Rattle.ntp_register.specs.declared.refusal.Refusal.TheVariants.{AlreadyEnrolled, NotEnrolled}
-use Rattle.ntp_reply.specs.Life.{Life, Unregistered, Revoked, Enrolled, enrolment_in, budget_in, refusals_in, with_new_budget, short}
-use Rattle.ntp_reply.proofs.KeptExchanges.{departure-alike}
-use Rattle.ntp_reply.proofs.ShortLives.{alike, ended_with, datagram-alike}
-use Rattle.ntp_admin.specs.declared.command.Command.TheVariants.{Enrol, Revoke, Budget}
+use Rattle.std.proofs.lemmas.Option.{none-some, same_Some}
+use Rattle.ntp_budget.specs.Tally.{most_counted}
+use Rattle.ntp_customer.specs.Customer.{CustomerState, enrolment_of, enrolment_at, new_customer, budget_of, revoked, rebudgeted, rolled_over, retired}
+use Rattle.ntp_customer.specs.Past.{Past, short}
+use Rattle.ntp_reply.specs.Life.{Life, budget_in}
+use Rattle.ntp_reply.specs.Replies.{occasion_of}
+use Rattle.ntp_reply.proofs.KeptExchanges.{short-new, departure-alike}
+use Rattle.ntp_reply.proofs.ShortPasts.{datagram-alike}
+use Rattle.ntp_admin.specs.declared.command.Command.{Command}
+use Rattle.ntp_admin.specs.declared.command.Command.TheVariants.{Enrol, Revoke, Budget, Rollover, Retire}
 use Rattle.ntp_admin.specs.declared.event.Event.{Event}
 use Rattle.ntp_admin.specs.declared.event.Event.TheVariants as event
+use Rattle.ntp_admin.specs.declared.outcome.Outcome.{Outcome}
 use Rattle.ntp_admin.specs.declared.outcome.Outcome.TheVariants as outcome
-use Rattle.ntp_service_run.specs.Model.{answer_to, after, departure_outcome}
+use Rattle.ntp_service_run.specs.Model.{numbered, refusal_of, command_answer, after_done, after_command, departure_outcome, answer_to, after}
+use Rattle.ntp_service_run.proofs.Lives.{by_life, enrolment-kept}
 
--- the same is kept of two lives, or of one life in place of both
-either : (b : Bool) (one other new : Life) → short one ≡ short other → short (if b then one else new) ≡ short (if b then other else new)
-either true one other new same = same
-either false one other new same = refl
+-- what is kept after a command that is done, by what was kept
+abbrev pub kept_after : Option CustomerState → Command → Option CustomerState
+kept_after o (Enrol address number key budget) = Some (new_customer (enrolment_of (numbered number key) (non_zero_u16_get budget)))
+kept_after o (Revoke address) = option_map revoked o
+kept_after o (Budget address budget) = option_map (λ c. rebudgeted c (non_zero_u16_get budget)) o
+kept_after o (Rollover address number key) = option_map (λ c. rolled_over c (numbered number key)) o
+kept_after o (Retire address number) = option_map (λ c. retired c (non_zero_u16_get number)) o
 
--- the same is kept of two lives that ended, or of the two lives
-ended : (b : Bool) (one other : Life) → tally (refusals_in one) ≡ tally (refusals_in other) → short one ≡ short other
-    → short (if b then Revoked (refusals_in one) else one) ≡ short (if b then Revoked (refusals_in other) else other)
-ended true one other refusals same = ap ended_with refusals
-ended false one other refusals same = same
+pub kept-done : (c : Command) (life : Life) → kept_after (option_map short life) c ≡ option_map short (after_done life c)
+kept-done (Enrol address number key budget) = λ life. ap Some (short-new (enrolment_of (numbered number key) (non_zero_u16_get budget)))
+kept-done other = by_life _ refl (λ refusals. refl) (λ a refusals. refl)
 
--- what is kept of a life with another budget
-pub short-new_budget : (life : Life) (budget : ℕ) → option_map (λ c. rebudgeted c budget) (short life) ≡ short (with_new_budget life budget)
-short-new_budget Unregistered budget = refl
-short-new_budget (Revoked refusals) budget = refl
-short-new_budget (Enrolled e queries refusals exchanges) budget = refl
+-- the answer to a command, and what is kept after it, by what was kept
+abbrev by_customer : Command → Option CustomerState → Outcome × Option CustomerState
+by_customer c o =
+    let refusal = refusal_of (option_map_or enrolment_at o None) c in
+    (option_map_or outcome.Refused refusal outcome.Done, if is_some refusal then o else kept_after o c)
 
--- an event is answered alike, and the same is kept of both lives afterwards
+kept-command : (c : Command) (life : Life)
+    → by_customer c (option_map short life) ≡ (command_answer life c, option_map short (after_command life c))
+kept-command c life = grind (arith, enrolment-kept life, kept-done c life)
+
 module _ {A : Type 0} where
-  pub tells-all : (one other : Life) (e : Event A) → short one ≡ short other → budget_in one < most_counted
-      → (answer_to one e ≡ answer_to other e) × (short (after one e) ≡ short (after other e))
-  tells-all one other (event.Datagram address receipt transmit reference octets) same few =
-      let alike_so = datagram-alike one other same few receipt transmit reference octets in
-      (ap outcome.Datagram alike_so.0, alike_so.1)
-  tells-all one other (event.Departed address receive m) same few =
-      let alike_so = departure-alike one other same receive m in
-      (ap departure_outcome alike_so.0, alike_so.1)
-  tells-all one other (event.Command (Enrol address number key budget)) same few =
-      let enrolled = ap is_some (alike one other same).enrolment in (
-        ap (λ (b : Bool). if b then outcome.Refused AlreadyEnrolled else outcome.Done) enrolled,
-        ap (λ (b : Bool). short (if b then one else Enrolled
-            (enrolment_of (non_zero_u16_get number) key (non_zero_u16_get budget)) [] [] [])) enrolled
-            ∙ either (is_some (enrolment_in other)) one other _ same,
-      )
-  tells-all one other (event.Command (Revoke address)) same few =
-      let enrolled = ap is_some (alike one other same).enrolment in (
-        ap (λ (b : Bool). if b then outcome.Done else outcome.Refused NotEnrolled) enrolled,
-        ap (λ (b : Bool). short (if b then Revoked (refusals_in one) else one)) enrolled
-            ∙ ended (is_some (enrolment_in other)) one other (alike one other same).refusals same,
-      )
-  tells-all one other (event.Command (Budget address budget)) same few = (
-    ap (λ (b : Bool). if b then outcome.Done else outcome.Refused NotEnrolled) (ap is_some (alike one other same).enrolment),
-    sym (short-new_budget one (non_zero_u16_get budget))
-        ∙ ap (option_map (λ c. rebudgeted c (non_zero_u16_get budget))) same
-        ∙ short-new_budget other (non_zero_u16_get budget),
-  )
+  -- with two pasts of which the same is kept an event is answered alike, and the same is kept afterwards
+  alike : (one other : Past) (e : Event A) → short one ≡ short other → budget_of one < most_counted
+      → (answer_to (Some one) e ≡ answer_to (Some other) e)
+      × (option_map short (after (Some one) e) ≡ option_map short (after (Some other) e))
+  alike one other (event.Datagram address receipt transmit reference octets) same few =
+      let both = datagram-alike one other same few (occasion_of receipt transmit reference) octets in (ap outcome.Datagram both.0, ap Some both.1)
+  alike one other (event.Departed address receive m) same few =
+      let both = departure-alike one other same receive m in (ap departure_outcome both.0, ap Some both.1)
+  alike one other (event.Command c) same few =
+      let both = sym (kept-command c (Some one)) ∙ ap (λ x. by_customer c (Some x)) same ∙ kept-command c (Some other) in (ap (λ p. p.0) both, ap (λ p. p.1) both)
+
+  -- and so in two lives
+  pub tells-all : (one other : Life) (e : Event A) → option_map short one ≡ option_map short other → budget_in one < most_counted
+      → (answer_to one e ≡ answer_to other e) × (option_map short (after one e) ≡ option_map short (after other e))
+  tells-all None None e same few = (refl, refl)
+  tells-all None (Some other) e same few = absurd (none-some (short other) same)
+  tells-all (Some one) None e same few = absurd (none-some (short one) (sym same))
+  tells-all (Some one) (Some other) e same few = alike one other e (same_Some (short one) (short other) same) few

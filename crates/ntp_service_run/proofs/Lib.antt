@@ -3,8 +3,10 @@ mod Datagrams
 mod Commands
 pub mod Runs
 mod Holders
+mod Lives
 mod KeptLives
 mod ApartLives
 mod Forgeries
 mod Bounds
+mod KeysOfLives
 mod Stretches

@@ -1,12 +1,12 @@
 -- A list of events, one after another.
-use Rattle.std.proofs.Common.{◌≡◌, suc, ◌-◌, Bool, true, false, not, ◌&&◌, List, [], ◌∷◌, ◌++◌, length, refl, sym, ap, ◌∙◌, subst, append_assoc, append-nil, arith, ⊎_elim}
+use Rattle.std.proofs.Common.{◌≡◌, suc, ◌-◌, None, Bool, true, false, List, [], ◌∷◌, ◌++◌, length, refl, sym, ap, ◌∙◌, subst, append_assoc, append-nil, arith, ⊎_elim}
 use Rattle.std.specs.Prelude.{if◌then◌else◌}
 use Rattle.std.proofs.lemmas.List.{drop_at, length-append}
 use Rattle.ntp_register.specs.declared.address.Address.{Address}
 use Rattle.ntp_register.specs.Address.{address_eq}
 use Rattle.ntp_register.specs.Registry.{Registry}
 use Rattle.ntp_register.proofs.AddressLaws.{address_eq_equiv, same_or_other_address}
-use Rattle.ntp_reply.specs.Life.{Life, Unregistered}
+use Rattle.ntp_reply.specs.Life.{Life}
 use Rattle.ntp_admin.specs.declared.event.Event.{Event}
 use Rattle.ntp_admin.specs.declared.outcome.Outcome.{Outcome}
 use Rattle.ntp_service_run.specs.Events.{address_of, names, own}
@@ -32,7 +32,7 @@ module _ {A : Type 0} where
       let before = says (own a history) in
       let behind = says_after (life_of (own a history)) (own a events) in
       let whole : says (own a (history ++ events)) ≡ before ++ behind = ap says (own-append a history events)
-      ∙ says_after-append Unregistered (own a history) (own a events) in
+      ∙ says_after-append None (own a history) (own a events) in
       let count : length (before ++ behind) - length (own a events) ≡ length before =
       omega (arith, length-append before behind, length-says_after (life_of (own a history)) (own a events)) in
       ap (last (length (own a events))) whole ∙ drop_at before behind (length (before ++ behind) - length (own a events)) (sym count)
@@ -43,26 +43,14 @@ module _ {A : Type 0} where
   kept-append [] ys [] ps e = refl
   kept-append [] ys (o ∷ os) ps e = absurd (omega arith)
   kept-append (x ∷ xs) ys [] ps e = absurd (omega arith)
-  kept-append (x ∷ xs) ys (o ∷ os) ps e = chosen (kept-append xs ys os ps (omega arith)) (is_struck o)
-    where
-      chosen : kept (xs ++ ys) (os ++ ps) ≡ kept xs os ++ kept ys ps → (b : Bool)
-          → (if b then kept (xs ++ ys) (os ++ ps) else x ∷ kept (xs ++ ys) (os ++ ps)) ≡
-          (if b then kept xs os else x ∷ kept xs os) ++ kept ys ps
-      chosen more true = more
-      chosen more false = ap (λ l. x ∷ l) more
+  kept-append (x ∷ xs) ys (o ∷ os) ps e = grind (arith, kept-append xs ys os ps (omega arith))
 
   told-append : (a : Address) (xs ys : List (Event A)) (os ps : List Outcome) → length os ≡ length xs
       → told a (xs ++ ys) (os ++ ps) ≡ told a xs os ++ told a ys ps
   told-append a [] ys [] ps e = refl
   told-append a [] ys (o ∷ os) ps e = absurd (omega arith)
   told-append a (x ∷ xs) ys [] ps e = absurd (omega arith)
-  told-append a (x ∷ xs) ys (o ∷ os) ps e = chosen (told-append a xs ys os ps (omega arith)) (not (is_struck o) && names a x)
-    where
-      chosen : told a (xs ++ ys) (os ++ ps) ≡ told a xs os ++ told a ys ps → (b : Bool)
-          → (if b then o ∷ told a (xs ++ ys) (os ++ ps) else told a (xs ++ ys) (os ++ ps)) ≡
-          (if b then o ∷ told a xs os else told a xs os) ++ told a ys ps
-      chosen more true = ap (λ l. o ∷ l) more
-      chosen more false = more
+  told-append a (x ∷ xs) ys (o ∷ os) ps e = grind (arith, told-append a xs ys os ps (omega arith))
 
   -- ---- one event more
   module _ (history : List (Event A)) (e : Event A) (o : Outcome) (s : Registry) (t : TellsOne history e o s) where
@@ -74,25 +62,14 @@ module _ {A : Type 0} where
         chosen false h = h
 
     one-told : (a : Address) → told a (e ∷ []) (o ∷ []) ≡ says_after (life_of (own a history)) (own a (kept (e ∷ []) (o ∷ [])))
-    one-told a = chosen (is_struck o) refl
-      where
-        here : is_struck o ≡ false → a ≡ address_of e → o ∷ [] ≡ says_after (life_of (own a history)) (own a (e ∷ []))
-        here plain same =
-            let mine : own a (e ∷ []) ≡ e ∷ [] = ap (λ (b : Bool). if b then e ∷ [] else []) (ap (λ x. address_eq a x) (sym same)
-            ∙ address_eq_equiv.refl a) in
-            ap (λ x. x ∷ []) (t.answered.as_model plain ∙ ap (λ x. answer_to (life_of (own x history)) e) (sym same))
-            ∙ ap (says_after (life_of (own a history))) (sym mine)
-
-        chosen : (b : Bool) → is_struck o ≡ b
-            → (if not b && names a e then o ∷ [] else []) ≡ says_after (life_of (own a history)) (own a (if b then [] else e ∷ []))
-        chosen true is = refl
-        chosen false is = ⊎_elim
-            (λ same. ap (λ (b : Bool). if b then o ∷ [] else []) (ap (λ x. address_eq a x) (sym same) ∙ address_eq_equiv.refl a)
-            ∙ here is same)
-            (λ other. ap (λ (b : Bool). if b then o ∷ [] else []) (other-address a (address_of e) other)
-            ∙ ap (λ (b : Bool). says_after (life_of (own a history)) (if b then e ∷ [] else []))
-            (sym (other-address a (address_of e) other)))
-            (same_or_other_address a (address_of e))
+    one-told a = ⊎_elim
+        (λ same.
+        let named : names a e ≡ true = ap (λ x. address_eq a x) (sym same) ∙ address_eq_equiv.refl a in
+        let model : is_struck o ≡ false → o ≡ answer_to (life_of (own a history)) e =
+        λ plain. t.answered.as_model plain ∙ ap (λ x. answer_to (life_of (own x history)) e) (sym same) in
+        grind (arith, named, model))
+        (λ other. let unnamed : names a e ≡ false = other-address a (address_of e) other in grind (arith, unnamed))
+        (same_or_other_address a (address_of e))
 
 -- each is answered, and then one more
 AreAnswered-push : {A : Type 0} (history events : List (Event A)) (outcomes : List Outcome) (e : Event A) (o : Outcome)
@@ -110,8 +87,7 @@ AreAnswered-push history (x ∷ xs) (p ∷ ps) e o same all one = (
   where
     regrouped : (b : Bool)
         → (if b then history else history ++ x ∷ []) ++ kept xs ps ≡ history ++ (if b then kept xs ps else x ∷ kept xs ps)
-    regrouped true = refl
-    regrouped false = append_assoc history (x ∷ []) (kept xs ps)
+    regrouped b = grind (arith, append_assoc history (x ∷ []) (kept xs ps))
 
 -- what was told so far, in the words in which it grows
 pub record Goes {A : Type 0} (history events : List (Event A)) (outcomes : List Outcome) (s : Registry) : Type 0 where
@@ -139,7 +115,7 @@ Goes-push history events outcomes r s e o g step =
           ∙ ap (λ l. l ++ told a (e ∷ []) (o ∷ [])) (g.told a)
           ∙ ap (λ l. says_after (life_of (own a history)) (own a done) ++ l) (one-told (history ++ done) e o s t a)
           ∙ ap (λ life. says_after (life_of (own a history)) (own a done) ++ says_after life (own a new))
-          (ap life_of (own-append a history done) ∙ life_after-append Unregistered (own a history) (own a done))
+          (ap life_of (own-append a history done) ∙ life_after-append None (own a history) (own a done))
           ∙ sym (says_after-append (life_of (own a history)) (own a done) (own a new))
           ∙ ap (says_after (life_of (own a history))) (sym (own-append a done new) ∙ ap (own a) (sym all));
       answered = AreAnswered-push history events outcomes e o g.each g.answered t.answered;

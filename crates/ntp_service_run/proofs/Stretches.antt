@@ -1,12 +1,14 @@
 -- Stretches of events with their outcomes, and how many replies they hold.
-use Rattle.std.proofs.Common.{◌≡◌, ◌≢◌, ℕ, suc, ◌+◌, ◌<◌, ◌≤◌, ◌==◌, ◌&&◌, nat_lt, cond, Bool, true, false, List, [], ◌∷◌, ◌++◌, map, zip, filter_map, All, AllPairs, refl, sym, ap, ap₂, ◌∙◌, subst, append_assoc, ⊎_elim, le_trans, eq-or-lt_of_le, lt_of_lt_of_le, arith}
+use Rattle.std.proofs.Common.{◌≡◌, ◌≢◌, ℕ, suc, ◌+◌, ◌≤◌, ◌==◌, ◌&&◌, nat_lt, cond, Bool, false, List, [], ◌∷◌, ◌++◌, map, zip, filter_map, All, AllPairs, refl, sym, ap, ap₂, ◌∙◌, subst, append_assoc, arith}
 use Rattle.std.proofs.lemmas.Bool.Decides.{nat_tests}
-use Rattle.std.proofs.lemmas.List.Elements.{All-cons, All-head, All-tail, All-weaker}
+use Rattle.std.proofs.lemmas.List.Elements.{All-head, All-tail}
 use Rattle.std.proofs.lemmas.List.Sums.{sum_by-cons}
+use Rattle.std.specs.Prelude.{if◌then◌else◌}
 use Rattle.ntp_time.specs.Moment.{window_of}
 use Rattle.ntp_register.specs.Registry.{Registry}
 use Rattle.ntp_reply.specs.Life.{Life}
 use Rattle.ntp_reply.specs.Replies.{occasion_of}
+use Rattle.ntp_reply.specs.Verdict.{refusals_sent}
 use Rattle.ntp_admin.specs.declared.event.Event.{Event}
 use Rattle.ntp_admin.specs.declared.event.Event.TheVariants as event
 use Rattle.ntp_admin.specs.declared.outcome.Outcome.{Outcome}
@@ -14,9 +16,9 @@ use Rattle.ntp_admin.specs.declared.outcome.Outcome.TheVariants as outcome
 use Rattle.ntp_service_run.specs.Events.{own}
 use Rattle.ntp_service_run.specs.Model.{answer_to, after, life_after, life_of, says_after}
 use Rattle.ntp_service_run.specs.Headline.{Tells, kept}
-use Rattle.ntp_service_run.specs.Bound.{is_query_reply, is_refusal_reply, receipt_window, is_received_in, IsUnbroken, replies_in, HasFewReplies, RepliesAreFew, TellsFew}
+use Rattle.ntp_service_run.specs.Bound.{is_query_reply, is_refusal_reply, receipt_window, is_received_in, IsUnbroken, replies_in, most_query_replies, HasFewReplies, RepliesAreFew, TellsFew}
 use Rattle.ntp_service_run.proofs.Runs.{says-last}
-use Rattle.ntp_service_run.proofs.Bounds.{queries_left, refusals_left, one_if, Spends, left-at-most, same-most, spends-datagram, spends-departed, spends-command}
+use Rattle.ntp_service_run.proofs.Bounds.{queries_left, refusals_left, one_if, Spends, spends-datagram, same-counts, same-most, left-at-most}
 
 -- ---- lists
 module _ {X : Type 0} (R : X → X → Type 0) (x : X) (xs : List X) (all : AllPairs R (x ∷ xs)) where
@@ -26,9 +28,15 @@ module _ {X : Type 0} (R : X → X → Type 0) (x : X) (xs : List X) (all : AllP
   pairs-tail : AllPairs R xs
   pairs-tail = λ i j d below within. all (suc i) (suc j) d (omega arith) (omega arith)
 
-one-if-both : (b c : Bool) → one_if (b && c) ≤ one_if c
-one-if-both true c = omega arith
-one-if-both false c = omega arith
+-- ---- how many replies a window w has room for, where no receipt is before the window v from here on: none if that is behind w, what is
+-- left if it is w, and else as many as a window can have
+abbrev room : ℕ → ℕ → ℕ → ℕ → ℕ
+room v w left most = if nat_lt w v then 0 else if v == w then left else most
+
+-- so with a datagram in the window u
+room-more : (v w u : ℕ) (replied : Bool) (rest left next most : ℕ) → v ≤ u → (u ≡ w → one_if replied + next ≤ left) → left ≤ most
+    → rest ≤ room u w next most → one_if ((u == w) && replied) + rest ≤ room v w left most
+room-more v w u replied rest left next most from spends at_most few = grind (arith, nat_tests)
 
 module _ {A : Type 0} where
   -- events with their answers, from a life on
@@ -59,146 +67,46 @@ module _ {A : Type 0} where
         none_done = All-tail (λ p. p.1 ≢ outcome.Done) (e, o) rest s.none_done;
         never_fall = pairs-tail (λ v w. v ≤ w) (window_of receipt) (windows rest) s.never_fall;
       }
-  stretch-tail (event.Departed address receive m) o rest s =
-      let e : Event A = event.Departed address receive m in
-      record { none_done = All-tail (λ p. p.1 ≢ outcome.Done) (e, o) rest s.none_done; never_fall = s.never_fall }
-  stretch-tail (event.Command command) o rest s =
-      let e : Event A = event.Command command in
-      record { none_done = All-tail (λ p. p.1 ≢ outcome.Done) (e, o) rest s.none_done; never_fall = s.never_fall }
+  stretch-tail e o rest s = record { none_done = All-tail (λ p. p.1 ≢ outcome.Done) (e, o) rest s.none_done; never_fall = s.never_fall }
 
-  -- ---- behind the window
-  none-behind : (life : Life) (w : ℕ) (events : List (Event A)) (is_of_sort : Outcome → Bool)
-      → All (λ v. w < v) (windows (answered life events)) → replies_in w is_of_sort (answered life events) ≡ 0
-  none-behind life w [] is_of_sort above = refl
-  none-behind life w (event.Datagram address receipt transmit reference octets ∷ events) is_of_sort above =
+  -- ---- a stretch
+  record HasRoom (life : Life) (v w : ℕ) (stretch : List (Event A × Outcome)) : Type 0 where
+    pub queries : replies_in w is_query_reply stretch ≤ room v w (queries_left life w) (most_query_replies life)
+    pub refusals : replies_in w is_refusal_reply stretch ≤ room v w (refusals_left life w) refusals_sent
+
+  in-room : (life : Life) (v w : ℕ) (events : List (Event A)) → IsUnbroken (answered life events)
+      → All (λ u. v ≤ u) (windows (answered life events)) → HasRoom life v w (answered life events)
+  in-room life v w [] s from = record { queries = omega arith; refusals = omega arith }
+  in-room life v w (event.Datagram address receipt transmit reference octets ∷ events) s from =
       let e : Event A = event.Datagram address receipt transmit reference octets in
+      let o = answer_to life e in
+      let u = window_of receipt in
       let rest = answered (after life e) events in
-      let later : w < window_of receipt = All-head (λ v. w < v) (window_of receipt) (windows rest) above in
-      let other : (window_of receipt == w) ≡ false = grind (arith, nat_tests) in
-      replies-other w is_of_sort e (answer_to life e) rest other
-      ∙ none-behind (after life e) w events is_of_sort (All-tail (λ v. w < v) (window_of receipt) (windows rest) above)
-  none-behind life w (event.Departed address receive m ∷ events) is_of_sort above =
-      let e : Event A = event.Departed address receive m in
-      replies-other w is_of_sort e (answer_to life e) (answered (after life e) events) refl
-      ∙ none-behind (after life e) w events is_of_sort above
-  none-behind life w (event.Command command ∷ events) is_of_sort above =
-      let e : Event A = event.Command command in
-      replies-other w is_of_sort e (answer_to life e) (answered (after life e) events) refl
-      ∙ none-behind (after life e) w events is_of_sort above
-
-  -- ---- from the window on
-  -- no more replies than a life has left
-  record IsLeft (life : Life) (w : ℕ) (stretch : List (Event A × Outcome)) : Type 0 where
-    pub queries : replies_in w is_query_reply stretch ≤ queries_left life w
-    pub refusals : replies_in w is_refusal_reply stretch ≤ refusals_left life w
-
-  left-more : (life next : Life) (w : ℕ) (e : Event A) (o : Outcome) (rest : List (Event A × Outcome)) → Spends life next w o
-      → IsLeft next w rest → IsLeft life w ((e, o) ∷ rest)
-  left-more life next w e o rest s more = record {
-    queries =
-        omega (arith, s.queries, more.queries, replies-cons w is_query_reply e o rest, one-if-both (is_received_in w e) (is_query_reply o));
-    refusals =
-        omega (
-          arith,
-          s.refusals,
-          more.refusals,
-          replies-cons w is_refusal_reply e o rest,
-          one-if-both (is_received_in w e) (is_refusal_reply o),
-        );
-  }
-
-  from-window : (life : Life) (w : ℕ) (events : List (Event A)) → IsUnbroken (answered life events)
-      → All (λ v. w ≤ v) (windows (answered life events)) → IsLeft life w (answered life events)
-  from-window life w [] s from = record { queries = omega arith; refusals = omega arith }
-  from-window life w (event.Datagram address receipt transmit reference octets ∷ events) s from =
-      let e : Event A = event.Datagram address receipt transmit reference octets in
-      let rest = answered (after life e) events in
-      let more = from-window (after life e) w events (stretch-tail e (answer_to life e) rest s)
-      (All-tail (λ v. w ≤ v) (window_of receipt) (windows rest) from) in
-      ⊎_elim (here more) past (eq-or-lt_of_le (All-head (λ v. w ≤ v) (window_of receipt) (windows rest) from))
-    where
-      e : Event A
-      e = event.Datagram address receipt transmit reference octets
-
-      rest : List (Event A × Outcome)
-      rest = answered (after life e) events
-
-      here : IsLeft (after life e) w rest → w ≡ window_of receipt → IsLeft life w (answered life (e ∷ events))
-      here more same = left-more life (after life e) w e (answer_to life e) rest
-          (subst (λ v. Spends life (after life e) v (answer_to life e)) (sym same)
-          (spends-datagram life (occasion_of receipt transmit reference) octets)) more
-
-      past : w < window_of receipt → IsLeft life w (answered life (e ∷ events))
-      past later =
-          let above : All (λ v. w < v) (windows (answered life (e ∷ events))) =
-          All-cons (λ v. w < v) (window_of receipt) (windows rest) later
-          (All-weaker (λ v. window_of receipt ≤ v) (λ v. w < v) (λ v le. lt_of_lt_of_le later le) (windows rest)
-          (pairs-head (λ u v. u ≤ v) (window_of receipt) (windows rest) s.never_fall)) in
-          record {
-            queries = omega (arith, none-behind life w (e ∷ events) is_query_reply above);
-            refusals = omega (arith, none-behind life w (e ∷ events) is_refusal_reply above);
-          }
-  from-window life w (event.Departed address receive m ∷ events) s from =
-      let e : Event A = event.Departed address receive m in
-      let rest = answered (after life e) events in
-      left-more life (after life e) w e (answer_to life e) rest (spends-departed life receive m w)
-      (from-window (after life e) w events (stretch-tail e (answer_to life e) rest s) from)
-  from-window life w (event.Command command ∷ events) s from =
-      let e : Event A = event.Command command in
-      let rest = answered (after life e) events in
-      left-more life (after life e) w e (answer_to life e) rest
-      (spends-command life command w (All-head (λ p. p.1 ≢ outcome.Done) (e, answer_to life e) rest s.none_done))
-      (from-window (after life e) w events (stretch-tail e (answer_to life e) rest s) from)
-
-  -- ---- a whole stretch
-  few-more : (life : Life) (w : ℕ) (e : Event A) (events : List (Event A)) → is_received_in w e ≡ false
-      → answer_to life e ≢ outcome.Done → HasFewReplies (after life e) w (answered (after life e) events)
-      → HasFewReplies life w (answered life (e ∷ events))
-  few-more life w e events other plain more =
-      let rest = answered (after life e) events in
+      let next = in-room (after life e) u w events (stretch-tail e o rest s) (pairs-head (λ x y. x ≤ y) u (windows rest) s.never_fall) in
+      let spends : u ≡ w → Spends life (after life e) w o =
+      λ same. subst (λ x. Spends life (after life e) x o) same (spends-datagram life (occasion_of receipt transmit reference) octets) in
+      let reached : v ≤ u = All-head (λ x. v ≤ x) u (windows rest) from in
       record {
-        queries =
-            omega (arith, more.queries, same-most life e plain, replies-other w is_query_reply e (answer_to life e) rest other);
-        refusals = omega (arith, more.refusals, replies-other w is_refusal_reply e (answer_to life e) rest other);
+        queries = rw (replies-cons w is_query_reply e o rest) (room-more v w u (is_query_reply o) _ _ (queries_left (after life e) w) _
+            reached (λ same. (spends same).queries) (left-at-most w life)
+            (rw (← same-most life (occasion_of receipt transmit reference) octets) next.queries));
+        refusals = rw (replies-cons w is_refusal_reply e o rest) (room-more v w u (is_refusal_reply o) _ _ (refusals_left (after life e) w) _
+            reached (λ same. (spends same).refusals) (omega arith) next.refusals);
+      }
+  in-room life v w (e ∷ events) s from =
+      let o = answer_to life e in
+      let rest = answered (after life e) events in
+      let next = in-room (after life e) v w events (stretch-tail e o rest s) from in
+      let same = same-counts w life e refl (All-head (λ p. p.1 ≢ outcome.Done) (e, o) rest s.none_done) in
+      record {
+        queries = omega (arith, next.queries, ap (λ n. room v w n.0 n.2) same, replies-cons w is_query_reply e o rest);
+        refusals = omega (arith, next.refusals, ap (λ n. room v w n.1 refusals_sent) same, replies-cons w is_refusal_reply e o rest);
       }
 
   few : (life : Life) (w : ℕ) (events : List (Event A)) → IsUnbroken (answered life events) → HasFewReplies life w (answered life events)
-  few life w [] s = record { queries = omega arith; refusals = omega arith }
-  few life w (event.Datagram address receipt transmit reference octets ∷ events) s =
-      let e : Event A = event.Datagram address receipt transmit reference octets in
-      let rest = answered (after life e) events in
-      chosen (few (after life e) w events (stretch-tail e (answer_to life e) rest s)) (nat_lt (window_of receipt) w) refl
-    where
-      e : Event A
-      e = event.Datagram address receipt transmit reference octets
-
-      rest : List (Event A × Outcome)
-      rest = answered (after life e) events
-
-      chosen : HasFewReplies (after life e) w rest → (b : Bool) → nat_lt (window_of receipt) w ≡ b
-          → HasFewReplies life w (answered life (e ∷ events))
-      chosen more true before =
-          let other : (window_of receipt == w) ≡ false = grind (arith, nat_tests) in
-          few-more life w e events other (All-head (λ p. p.1 ≢ outcome.Done) (e, answer_to life e) rest s.none_done) more
-      chosen more false from =
-          let reached : w ≤ window_of receipt = grind (arith, nat_tests) in
-          let left = from-window life w (e ∷ events) s (All-cons (λ v. w ≤ v) (window_of receipt) (windows rest) reached
-          (All-weaker (λ v. window_of receipt ≤ v) (λ v. w ≤ v) (λ v le. le_trans reached le) (windows rest)
-          (pairs-head (λ u v. u ≤ v) (window_of receipt) (windows rest) s.never_fall))) in
-          record {
-            queries = omega (arith, left.queries, left-at-most life w);
-            refusals = omega (arith, left.refusals);
-          }
-  few life w (event.Departed address receive m ∷ events) s =
-      let e : Event A = event.Departed address receive m in
-      let rest = answered (after life e) events in
-      few-more life w e events refl (All-head (λ p. p.1 ≢ outcome.Done) (e, answer_to life e) rest s.none_done)
-      (few (after life e) w events (stretch-tail e (answer_to life e) rest s))
-  few life w (event.Command command ∷ events) s =
-      let e : Event A = event.Command command in
-      let rest = answered (after life e) events in
-      few-more life w e events refl (All-head (λ p. p.1 ≢ outcome.Done) (e, answer_to life e) rest s.none_done)
-      (few (after life e) w events (stretch-tail e (answer_to life e) rest s))
+  few life w events s =
+      let r = in-room life 0 w events s (λ i u within. omega arith) in
+      record { queries = grind (arith, nat_tests, r.queries, left-at-most w life); refusals = grind (arith, nat_tests, r.refusals) }
 
   -- ---- a stretch among others
   events-answered : (life : Life) (events : List (Event A)) → events_in (answered life events) ≡ events

@@ -44,7 +44,8 @@ pub record IsUnbroken {A : Type 0} (stretch : List (Event A × Outcome)) : Type 
 abbrev pub replies_in : {A : Type 0} → ℕ → (Outcome → Bool) → List (Event A × Outcome) → ℕ
 replies_in w is_of_sort stretch = count_by (λ p. is_received_in w p.0 && is_of_sort p.1) stretch
 
--- how many replies to signed queries a window can have: one more than the budget; none of an address that is not enrolled (profile)
+-- how many replies to signed queries a window can have, under one or other of the customer's keys: one more than the budget; none of
+-- an address that is not enrolled (profile)
 abbrev pub most_query_replies : Life → ℕ
 most_query_replies life = option_map_or (λ e. e.budget + 1) (enrolment_in life) 0
 

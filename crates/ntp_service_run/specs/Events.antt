@@ -3,7 +3,7 @@ use Rattle.std.specs.Prelude.{Bool, List, filter}
 use Rattle.ntp_register.specs.declared.address.Address.{Address}
 use Rattle.ntp_register.specs.Address.{address_eq}
 use Rattle.ntp_admin.specs.declared.command.Command.{Command}
-use Rattle.ntp_admin.specs.declared.command.Command.TheVariants.{Enrol, Revoke, Budget}
+use Rattle.ntp_admin.specs.declared.command.Command.TheVariants.{Enrol, Revoke, Budget, Rollover, Retire}
 use Rattle.ntp_admin.specs.declared.event.Event.{Event}
 use Rattle.ntp_admin.specs.declared.event.Event.TheVariants as event
 
@@ -12,6 +12,8 @@ abbrev pub address_of_command : Command → Address
 address_of_command (Enrol address number key budget) = address
 address_of_command (Revoke address) = address
 address_of_command (Budget address budget) = address
+address_of_command (Rollover address number key) = address
+address_of_command (Retire address number) = address
 
 -- the address that an event names (profile)
 abbrev pub address_of : {A : Type 0} → Event A → Address

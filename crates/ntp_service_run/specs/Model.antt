@@ -1,31 +1,52 @@
 -- The model of one customer: what the events of one address are answered. There is no table and no neighbour in it.
-use Rattle.std.specs.Prelude.{Bool, List, [], ◌∷◌, if◌then◌else◌, is_some}
+use Rattle.std.specs.Prelude.{Bool, false, List, [], ◌∷◌, if◌then◌else◌, Option, Some, None, is_some, option_map}
+use Rattle.std.specs.Option.{option_map_or}
 use Rattle.std.specs.Int.NonZero.{non_zero_u16_get}
-use Rattle.ntp_register.specs.declared.refusal.Refusal.TheVariants.{AlreadyEnrolled, NotEnrolled}
-use Rattle.ntp_register.specs.Customer.{enrolment_of}
-use Rattle.ntp_reply.specs.Life.{Life, Unregistered, Revoked, Enrolled, enrolment_in, refusals_in, with_new_budget}
+use Rattle.std.specs.declared.num.NonZeroU16.{NonZeroU16}
+use Rattle.ntp_mac.specs.Key.{SymmetricKey}
+use Rattle.ntp_register.specs.declared.refusal.Refusal.{Refusal}
+use Rattle.ntp_register.specs.Refusals.{enrol_refusal, change_refusal, rollover_refusal, retire_refusal}
+use Rattle.ntp_customer.specs.declared.numbered_key.NumberedKey.{NumberedKey}
+use Rattle.ntp_customer.specs.Customer.{Enrolment, enrolment_of, customer_from, revoked, rebudgeted, rolled_over, retired}
+use Rattle.ntp_reply.specs.Life.{Life, enrolment_in}
 use Rattle.ntp_reply.specs.Replies.{occasion_of}
 use Rattle.ntp_reply.specs.Exchanged.{is_noted, after_departure}
 use Rattle.ntp_reply.specs.Verdict.{verdict, after_datagram}
 use Rattle.ntp_admin.specs.declared.command.Command.{Command}
-use Rattle.ntp_admin.specs.declared.command.Command.TheVariants.{Enrol, Revoke, Budget}
+use Rattle.ntp_admin.specs.declared.command.Command.TheVariants.{Enrol, Revoke, Budget, Rollover, Retire}
 use Rattle.ntp_admin.specs.declared.event.Event.{Event}
 use Rattle.ntp_admin.specs.declared.event.Event.TheVariants as event
 use Rattle.ntp_admin.specs.declared.outcome.Outcome.{Outcome}
 use Rattle.ntp_admin.specs.declared.outcome.Outcome.TheVariants as outcome
 
+-- a key with a number that is not 0
+abbrev pub numbered : NonZeroU16 → SymmetricKey → NumberedKey
+numbered number key = record { number = non_zero_u16_get number; key = key }
+
+-- why a command is refused, if it is, by the enrolment that its address has, if it has one (profile)
+abbrev pub refusal_of : Option Enrolment → Command → Option Refusal
+refusal_of terms (Enrol address number key budget) = enrol_refusal terms
+refusal_of terms (Revoke address) = change_refusal terms
+refusal_of terms (Budget address budget) = change_refusal terms
+refusal_of terms (Rollover address number key) = rollover_refusal terms (non_zero_u16_get number)
+refusal_of terms (Retire address number) = retire_refusal terms (non_zero_u16_get number)
+
 -- the answer to a command (profile)
 abbrev pub command_answer : Life → Command → Outcome
-command_answer life (Enrol address number key budget) =
-    if is_some (enrolment_in life) then outcome.Refused AlreadyEnrolled else outcome.Done
-command_answer life other = if is_some (enrolment_in life) then outcome.Done else outcome.Refused NotEnrolled
+command_answer life command = option_map_or outcome.Refused (refusal_of (enrolment_in life) command) outcome.Done
 
--- the life after a command (profile)
+-- the life after a command that is done (profile)
+abbrev pub after_done : Life → Command → Life
+after_done life (Enrol address number key budget) =
+    Some (customer_from [] (enrolment_of (numbered number key) (non_zero_u16_get budget)))
+after_done life (Revoke address) = option_map revoked life
+after_done life (Budget address budget) = option_map (λ past. rebudgeted past (non_zero_u16_get budget)) life
+after_done life (Rollover address number key) = option_map (λ past. rolled_over past (numbered number key)) life
+after_done life (Retire address number) = option_map (λ past. retired past (non_zero_u16_get number)) life
+
+-- the life after a command: one that is refused changes nothing (profile)
 abbrev pub after_command : Life → Command → Life
-after_command life (Enrol address number key budget) =
-    if is_some (enrolment_in life) then life else Enrolled (enrolment_of (non_zero_u16_get number) key (non_zero_u16_get budget)) [] [] []
-after_command life (Revoke address) = if is_some (enrolment_in life) then Revoked (refusals_in life) else life
-after_command life (Budget address budget) = with_new_budget life (non_zero_u16_get budget)
+after_command life command = if is_some (refusal_of (enrolment_in life) command) then life else after_done life command
 
 -- the outcome of a report of a departure, which was noted or not (profile)
 abbrev pub departure_outcome : Bool → Outcome
@@ -35,13 +56,13 @@ departure_outcome noted = if noted then outcome.Noted else outcome.NotNoted
 abbrev pub answer_to : {A : Type 0} → Life → Event A → Outcome
 answer_to life (event.Datagram address receipt transmit reference octets) =
     outcome.Datagram (verdict life (occasion_of receipt transmit reference) octets)
-answer_to life (event.Departed address receive m) = departure_outcome (is_noted life receive)
+answer_to life (event.Departed address receive m) = departure_outcome (option_map_or (λ past. is_noted past receive) life false)
 answer_to life (event.Command command) = command_answer life command
 
 -- the life after an event (profile)
 abbrev pub after : {A : Type 0} → Life → Event A → Life
 after life (event.Datagram address receipt transmit reference octets) = after_datagram life (occasion_of receipt transmit reference) octets
-after life (event.Departed address receive m) = after_departure life receive m
+after life (event.Departed address receive m) = option_map (λ past. after_departure past receive m) life
 after life (event.Command command) = after_command life command
 
 -- the life after events, from a life on (profile)
@@ -51,7 +72,7 @@ life_after life (e ∷ events) = life_after (after life e) events
 
 -- the life that events leave (profile)
 abbrev pub life_of : {A : Type 0} → List (Event A) → Life
-life_of events = life_after Unregistered events
+life_of events = life_after None events
 
 -- what events are answered, from a life on: each in the life that the events before it left (profile)
 abbrev pub says_after : {A : Type 0} → Life → List (Event A) → List Outcome
@@ -60,4 +81,4 @@ says_after life (e ∷ events) = answer_to life e ∷ says_after (after life e) 
 
 -- what events are answered (profile)
 abbrev pub says : {A : Type 0} → List (Event A) → List Outcome
-says events = says_after Unregistered events
+says events = says_after None events

@@ -1,14 +1,16 @@
 //! What holds of the definitions, whatever code meets them.
-ghost use Rattle.std.specs.Prelude.{◌≡◌, ℕ, ◌<◌, List, ◌++◌};
+ghost use Rattle.std.specs.Prelude.{◌≡◌, ℕ, ◌<◌, option_map, IfSome, List, ◌++◌};
 ghost use Rattle.ntp_budget.specs.Tally.{most_counted};
 ghost use Rattle.ntp_packet.specs.Header.{HeaderFields};
 ghost use Rattle.ntp_slots.specs.Exchanges.{AreSaved};
+ghost use Rattle.ntp_customer.specs.Customer.{HasKeys};
+ghost use Rattle.ntp_customer.specs.Past.{short};
 ghost use Rattle.ntp_register.specs.Registry.{Registry};
 ghost use Rattle.ntp_register.specs.declared.address.Address.{Address};
 ghost use Rattle.ntp_reply_packets.specs.declared.occasion.Occasion.{Occasion};
-ghost use Rattle.ntp_reply_packets.specs.Replies.{HasDistinctStamps, basic_fields, time_fields};
-ghost use Rattle.ntp_reply.specs.Life.{Life, budget_in, recent_in, short};
-ghost use Rattle.ntp_reply.specs.Exchanged.{matched, stamps_of};
+ghost use Rattle.ntp_reply_packets.specs.Replies.{HasDistinctStamps, new_stamps, basic_fields, time_fields};
+ghost use Rattle.ntp_reply.specs.Life.{Life, enrolment_in, budget_in, recent_in};
+ghost use Rattle.ntp_reply.specs.Exchanged.{matched};
 ghost use Rattle.ntp_admin.specs.declared.event.Event.{Event};
 ghost use Rattle.ntp_admin.specs.declared.outcome.Outcome.{Outcome};
 ghost use Rattle.ntp_service_run.specs.Events.{own};
@@ -23,8 +25,8 @@ use std::alloc::Allocator;
 /// is kept of them afterwards. Budgets are below where counting stops, as each command's is. This is a law, and
 /// does nothing when it is called.
 pub fn what_is_kept_of_a_life_tells_all<A: Allocator>()
-    ensures { (one other : Life) (e : Event A) → short one ≡ short other → budget_in one < most_counted
-        → (answer_to one e ≡ answer_to other e) × (short (after one e) ≡ short (after other e)) }
+    ensures { (one other : Life) (e : Event A) → option_map short one ≡ option_map short other → budget_in one < most_counted
+        → (answer_to one e ≡ answer_to other e) × (option_map short (after one e) ≡ option_map short (after other e)) }
 {}
 
 /// No neighbour is felt: where two services were told of an address the same before and the same now,
@@ -45,15 +47,21 @@ pub fn a_number_has_one_holder<A: Allocator>()
         → IsEnrolledWith (life_of (own one history)) number → IsEnrolledWith (life_of (own two history)) number → one ≡ two }
 {}
 
+/// Whatever events an address had: while it is enrolled it has one key or two, and two keys have two numbers. So a number names
+/// one key. This is a law, and does nothing when it is called.
+pub fn a_customer_has_one_or_two_keys<A: Allocator>()
+    ensures { (events : List (Event A)) → IfSome (enrolment_in (life_of events)) HasKeys }
+{}
+
 /// Whatever events an address had: of the exchanges that are saved of it no stamp is 0, no two have one receive stamp, and no
 /// transmit stamp is a receive stamp; and no time reply and no crypto-NAK to it has equal receive and transmit stamps, or a
 /// transmit stamp 0. (Of a kiss that is a law of `ntp_reply_packets`.) This is a law, and does nothing when it is called.
 pub fn stamps_are_told_apart<A: Allocator>()
     ensures saved { (events : List (Event A)) → AreSaved (recent_in (life_of events)) }
     ensures time { (events : List (Event A)) (o : Occasion) (request : HeaderFields)
-        → HasDistinctStamps (time_fields o request (matched (recent_in (life_of events)) request) (stamps_of (life_of events) o)) }
+        → HasDistinctStamps (time_fields o request (matched (recent_in (life_of events)) request) (new_stamps o (recent_in (life_of events)))) }
     ensures nak { (events : List (Event A)) (o : Occasion) (request : HeaderFields)
-        → HasDistinctStamps (basic_fields o request (stamps_of (life_of events) o)) }
+        → HasDistinctStamps (basic_fields o request (new_stamps o (recent_in (life_of events)))) }
 {}
 
 /// Forged datagrams change nothing: without each datagram that was no signed query when it came, the other events of an

@@ -55,8 +55,9 @@ impl<A: Allocator + Copy> Service<A> {
     /// The answer to a datagram that came from an address at `receipt`, to which a reply departs at
     /// `transmit`. It takes no memory. An address that was never enrolled gets no reply and no entry.
     ///
-    /// A signed query is answered as if no datagram that was not a signed query had come from its address before.
-    /// A replay of a signed datagram is not told from the first: it counts as signed, and spends the budget.
+    /// A query is signed where its MAC is under one of the customer's keys. A signed query is answered as if no datagram
+    /// that was not a signed query had come from its address before. A replay of a signed datagram is not told from the
+    /// first: it counts as signed, and spends the budget.
     pub fn datagram(
         &mut self,
         address: Address,
@@ -96,8 +97,8 @@ impl<A: Allocator + Copy> Service<A> {
         depart(receiver, receive, moment)
     }
 
-    /// Carries a command out, or refuses it and changes nothing. `NoMemory` comes last, and of an
-    /// enrolment alone.
+    /// Carries a command out, or refuses it and changes nothing. `NoMemory` comes last, of an enrolment or
+    /// a rollover alone.
     pub fn command(&mut self, command: &Command) -> Result<(), Refusal>
         ensures tells { (history : List (Event A)) → StandsFor self.old history
             → TellsOne history (Event.Command command.now) (command_outcome result) self.new }
@@ -116,6 +117,12 @@ impl<A: Allocator + Copy> Service<A> {
                 .enrol(*address, number.get(), *key, budget.get()),
             Command::Revoke { address } => self.register.revoke(*address),
             Command::Budget { address, budget } => self.register.set_budget(*address, budget.get()),
+            Command::Rollover {
+                address,
+                number,
+                key,
+            } => self.register.rollover(*address, number.get(), *key),
+            Command::Retire { address, number } => self.register.retire(*address, number.get()),
         }
     }
 

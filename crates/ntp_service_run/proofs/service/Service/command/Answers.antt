@@ -1,37 +1,54 @@
-use Rattle.ntp_service_run.proofs.Commands.{enrol-tells, revoke-tells, budget-tells}
-use Rattle.ntp_service_run.proofs.Holders.{taken-so, not-taken}
+use Rattle.ntp_admin.specs.declared.command.Command.TheVariants.{Revoke, Budget, Rollover, Retire}
+use Rattle.ntp_service_run.proofs.Commands.{Does, told-of, enrol-does, change-refused, change-done}
 use Rattle.ntp_service_run.proofs.service.Service.command.Goals as goal
 
-pub returns-in-Enrol-clause-tells : goal.returns-in-Enrol-clause-tells
-returns-in-Enrol-clause-tells g c = λ history stands.
-    let y = c.enrol.ensures in
-    rw c.in-Enrol.is (enrol-tells _ c.enrol.new.self history _
-    (rw c.self.view_is stands) _ _ _ c.enrol.result _ _ c.get.ensures.value
-    c.get-in-Enrol.ensures.value y.already y.taken y.never y.ok y.err y.agrees)
+pub returns-in-Enrol : goal.returns-in-Enrol
+returns-in-Enrol g c =
+    let y = rw (c.get.ensures.value, c.get-in-Enrol.ensures.value) at c.enrol.ensures in
+    let told = told-of _ _ _ _ (enrol-does _ c.in-Enrol.address c.enrol.new.self c.in-Enrol.number c.in-Enrol.budget c.in-Enrol.key
+    c.enrol.result y.already y.taken y.foreign y.ok y.err y.agrees) in
+    rw (c.in-Enrol.is, ← c.self.view_is) (record { tells = told.tells; taken = told.taken; refused = y.err })
 
-pub returns-in-Revoke-clause-tells : goal.returns-in-Revoke-clause-tells
-returns-in-Revoke-clause-tells g c = λ history stands.
+pub returns-in-Revoke : goal.returns-in-Revoke
+returns-in-Revoke g c =
     let y = c.revoke.ensures in
-    rw c.in-Revoke.is (revoke-tells _ c.revoke.new.self history _
-    (rw c.self.view_is stands) c.revoke.result y.refused y.only y.ok y.err y.agrees)
+    let d : Does _ c.revoke.new.self (Revoke c.in-Revoke.address) c.revoke.result = record {
+      refused = change-refused c.self.inside.register c.in-Revoke.address c.revoke.result y.refused;
+      plain = change-done c.self.inside.register c.in-Revoke.address c.revoke.result y.refused y.only;
+      taken = tt;
+      ok = y.ok;
+      err = y.err;
+      agrees = y.agrees;
+    } in
+    let told = told-of _ _ _ _ d in
+    rw (c.in-Revoke.is, ← c.self.view_is) (record { tells = told.tells; taken = told.taken; refused = y.err })
 
-pub returns-in-Enrol-clause-taken : goal.returns-in-Enrol-clause-taken
-returns-in-Enrol-clause-taken g c = λ history stands.
-    let t = taken-so _ history (rw c.self.view_is stands) c.in-Enrol.address c.in-Enrol.number c.in-Enrol.key c.in-Enrol.budget
-    c.get.result c.get.ensures.value in
-    let e = c.enrol.ensures.taken in
-    rw c.in-Enrol.is (λ h. t.0 (e.0 h), λ h. e.1 (t.1 h))
+pub returns-in-Budget : goal.returns-in-Budget
+returns-in-Budget g c =
+    let y = rw c.get-in-Budget.ensures.value at c.set_budget.ensures in
+    let d : Does _ c.set_budget.new.self (Budget c.in-Budget.address c.in-Budget.budget) c.set_budget.result = record {
+      refused = change-refused c.self.inside.register c.in-Budget.address c.set_budget.result y.refused;
+      plain = change-done c.self.inside.register c.in-Budget.address c.set_budget.result y.refused y.only;
+      taken = tt;
+      ok = y.ok;
+      err = y.err;
+      agrees = y.agrees;
+    } in
+    let told = told-of _ _ _ _ d in
+    rw (c.in-Budget.is, ← c.self.view_is) (record { tells = told.tells; taken = told.taken; refused = y.err })
 
-pub returns-in-Revoke-clause-taken : goal.returns-in-Revoke-clause-taken
-returns-in-Revoke-clause-taken g c =
-    λ history stands. rw c.in-Revoke.is (λ h. not-taken c.revoke.result c.revoke.ensures.only h, λ h. absurd h)
+pub returns-in-Rollover : goal.returns-in-Rollover
+returns-in-Rollover g c =
+    let y = rw c.get-in-Rollover.ensures.value at c.rollover.ensures in
+    let d : Does _ c.rollover.new.self (Rollover c.in-Rollover.address c.in-Rollover.number c.in-Rollover.key) c.rollover.result =
+    record { refused = y.refused; plain = y.foreign; taken = y.taken; ok = y.ok; err = y.err; agrees = y.agrees } in
+    let told = told-of _ _ _ _ d in
+    rw (c.in-Rollover.is, ← c.self.view_is) (record { tells = told.tells; taken = told.taken; refused = y.err })
 
-pub returns-in-Budget-clause-tells : goal.returns-in-Budget-clause-tells
-returns-in-Budget-clause-tells g c = λ history stands.
-    let y = c.set_budget.ensures in
-    rw c.in-Budget.is (budget-tells _ c.set_budget.new.self history _
-    (rw c.self.view_is stands) _ c.set_budget.result _ c.get-in-Budget.ensures.value y.refused y.only y.ok y.err y.agrees)
-
-pub returns-in-Budget-clause-taken : goal.returns-in-Budget-clause-taken
-returns-in-Budget-clause-taken g c =
-    λ history stands. rw c.in-Budget.is (λ h. not-taken c.set_budget.result c.set_budget.ensures.only h, λ h. absurd h)
+pub returns-in-Retire : goal.returns-in-Retire
+returns-in-Retire g c =
+    let y = rw c.get-in-Retire.ensures.value at c.retire.ensures in
+    let d : Does _ c.retire.new.self (Retire c.in-Retire.address c.in-Retire.number) c.retire.result =
+    record { refused = y.refused; plain = y.done; taken = tt; ok = y.ok; err = y.err; agrees = y.agrees } in
+    let told = told-of _ _ _ _ d in
+    rw (c.in-Retire.is, ← c.self.view_is) (record { tells = told.tells; taken = told.taken; refused = y.err })

@@ -1,24 +1,25 @@
-use Rattle.std.proofs.Common.{sym}
+use Rattle.std.proofs.Common.{Some, refl, sym, ap}
 use Rattle.ntp_register.proofs.Agreement.{agrees-with_customer}
-use Rattle.ntp_service_run.proofs.Datagrams.{datagram-unregistered, datagram-customer}
+use Rattle.ntp_admin.specs.declared.outcome.Outcome.TheVariants.{Datagram}
+use Rattle.ntp_service_run.proofs.Datagrams.{unregistered-tells, customer-tells}
 use Rattle.ntp_service_run.proofs.Forgeries.{answered-alone}
 use Rattle.ntp_service_run.proofs.service.Service.datagram.Goals as goal
 
 pub returns-in_default-clause-tells : goal.returns-in_default-clause-tells
 returns-in_default-clause-tells g c = λ history stands.
-    rw c.self.view_is (datagram-unregistered _ history _ _ _ _ _ stands (sym (rw c.self.view_is at c.in_default.ensures.value)))
+    rw c.self.view_is (unregistered-tells _ history _ stands (λ h. h.1) _ refl
+    (sym (rw c.self.view_is at c.in_default.ensures.value)) refl refl)
 
 pub invariant_of-self-2 : goal.invariant_of-self-2
 invariant_of-self-2 g c =
-    agrees-with_customer c.self.inside.register c.args.address c.in-Some.customer.now c.answer_octets.new.customer
-    (sym c.in-Some.ensures.value) c.answer_octets.ensures.numbers c.self.invariant
+    agrees-with_customer c.self.inside.register c.args.address c.answer_octets.new.customer c.self.invariant c.in-Some.customer.now
+    (sym c.in-Some.ensures.value) c.answer_octets.ensures.numbers
 
 pub returns-clause-tells : goal.returns-clause-tells
 returns-clause-tells g c = λ history stands.
     let y = c.answer_octets.ensures in
-    datagram-customer c.self.inside.register history c.args.address c.args.receipt c.args.transmit c.args.reference.now c.args.octets.now
-    (rw (← c.self.view_is) at stands)
-    c.in-Some.customer.now c.answer_octets.new.customer c.answer_octets.result (sym c.in-Some.ensures.value) y.answer y.after
+    customer-tells _ history _ (rw (← c.self.view_is) at stands) (λ h. h.1) _ refl c.in-Some.customer.now c.answer_octets.new.customer
+    (sym c.in-Some.ensures.value) (λ past is. ap Datagram (y.answer past is)) (λ past is. ap Some (y.after past is))
     (invariant_of-self-2 g c)
 
 pub returns-in_default-clause-forgeries : goal.returns-in_default-clause-forgeries

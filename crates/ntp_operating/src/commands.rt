@@ -24,7 +24,7 @@ use std::io::Write;
 /// `commands: line N: WORD`, where N counts the file's lines from 1. A write to `faults` that fails is passed over.
 ///
 /// Nothing is applied where the file has more than `MOST_FILE_OCTETS` octets or is not UTF-8; nor where it has no more
-/// lines than were applied. It takes no memory itself; an enrolment does.
+/// lines than were applied. It takes no memory itself; an enrolment and a rollover do.
 pub fn commands_step<A: Allocator + Copy, W: Write>(
     service: &mut Service<A>,
     octets: &[u8],

@@ -111,6 +111,13 @@ fn refusals_are_told(rt: HostRuntime) {
             b"\nenrol 192.0.2.10 7 md5 6b6579 10\n#\nenrol 192.0.2.20 7 md5 6b6579 10\nbudget\n",
             b"commands: line 4: key-taken\ncommands: line 5: count\n",
         ),
+        (
+            b"enrol 192.0.2.10 7 md5 6b6579 10\nretire 192.0.2.10 7\nretire 192.0.2.10 9\n\
+            rollover 192.0.2.10 7 md5 6e\nrollover 192.0.2.10 9 sha1 6e6577\nrollover 192.0.2.10 11 md5 6e\n\
+            retire 192.0.2.10 7\nretire 192.0.2.10 7\nrollover 192.0.2.20 7 md5 6e\n",
+            b"commands: line 2: only-key\ncommands: line 3: not-held\ncommands: line 4: same-number\n\
+            commands: line 6: room-full\ncommands: line 8: not-held\ncommands: line 9: not-enrolled\n",
+        ),
     ] {
         let mut faults = Vec::new(rt.alloc());
         commands_step(&mut Service::new(rt.alloc()), octets, 0, &mut faults);

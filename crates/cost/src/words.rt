@@ -2,11 +2,13 @@
 
 use ntp_mac::Algorithm;
 
-/// Which reply a query asks for.
+/// Which reply a query asks for, and under which key.
 #[derive(Clone, Copy, PartialEq, Eq)]
 pub(crate) enum Query {
     Basic,
     Interleaved,
+    /// A basic one under the newer of two keys.
+    Newer,
 }
 
 /// Who asks, among many customers.
@@ -34,6 +36,7 @@ impl Word {
         match word {
             "query" => Word::Asked(Query::Basic),
             "interleaved" => Word::Asked(Query::Interleaved),
+            "newer" => Word::Asked(Query::Newer),
             "digests" => Word::Digests,
             "fields" => Word::Fields,
             "customers" => Word::From(Who::Customers),

@@ -16,6 +16,9 @@ use std::num::NonZero;
 
 const CUSTOMER: Address = Address([192, 0, 2, 10]);
 
+/// The number of its newer key, where it has two.
+const NEWER: u16 = 9;
+
 /// The header of a client's query.
 const HEADER: [u8; 48] = [
     0x23, 0, 6, 0, 0, 0, 0, 0, 0, 0, 0, 0, 0, 0, 0, 0, 0, 0, 0, 0, 0, 0, 0, 0, 0, 0, 0, 0, 0, 0, 0,
@@ -75,6 +78,9 @@ fn queries(alloc: Global, kind: Query, algorithm: Algorithm, count: u64) -> u64 
     if !enrolled(&mut service, CUSTOMER, 7, key) {
         return 0;
     }
+    if kind == Query::Newer && !rolled_over(&mut service, NEWER, key) {
+        return 0;
+    }
     let mut round = [[0; 72]; ROUND];
     for place in 0..ROUND {
         let last = RECEIPTS[(place + ROUND - 1) % ROUND];
@@ -117,6 +123,19 @@ pub(crate) fn enrolled(service: &mut Service, address: Address, number: u16, key
     service.command(&enrolment).is_ok()
 }
 
+// Whether the customer could be given a second key.
+fn rolled_over(service: &mut Service, number: u16, key: Key) -> bool {
+    let Some(number) = NonZero::<u16>::new(number) else {
+        return false;
+    };
+    let rollover = Command::Rollover {
+        address: CUSTOMER,
+        number,
+        key,
+    };
+    service.command(&rollover).is_ok()
+}
+
 /// Writes a query and the key number behind it. One that asks for an interleaved reply has the receive stamp of the reply
 /// before it as its origin.
 pub(crate) fn fill(kind: Query, last: u64, query: &mut [u8; 72]) {
@@ -125,7 +144,10 @@ pub(crate) fn fill(kind: Query, last: u64, query: &mut [u8; 72]) {
         query[24..32].copy_from_slice(&last.to_be_bytes());
         query[32..40].copy_from_slice(&last.wrapping_add(0x1000_0000).to_be_bytes());
     }
-    query[51] = 7;
+    query[51] = match kind {
+        Query::Basic | Query::Interleaved => 7,
+        Query::Newer => NEWER as u8,
+    };
 }
 
 // How many octets a signed query has.

@@ -89,7 +89,7 @@ fn a_key_comes_and_the_older_one_goes(rt: HostRuntime) -> Result<(), Fail> {
     let customer = register.customer(A).ok_or("no customer")?;
     assert_eq!(rt; customer.number(), 7);
     assert!(rt; customer.key_for(9) == Some(&newer));
-    assert!(rt; customer.held(7) == Some(NumberedKey { number: 7, key }));
+    assert!(rt; customer.held(7) == Some(&NumberedKey { number: 7, key }));
     assert!(rt; customer.held(65536 + 7).is_none());
     assert!(rt; !customer.has_room());
     assert_eq!(rt; register.retire(A, 7), Ok(()));

@@ -143,3 +143,65 @@ alike a h h' xs ys os ps r s t u before now =
     ∙ ap (λ own_before. says_after (life_of own_before) (own a (kept xs os))) before
     ∙ ap (says_after (life_of (own a h'))) now
     ∙ sym (says-last a h' (kept ys ps)) ∙ sym (u.told a)
+
+-- ---- some events and then others, in the words of the headline
+-- each is answered, and then each of the others
+AreAnswered-append : {A : Type 0} (history xs ys : List (Event A)) (os ps : List Outcome) → length os ≡ length xs
+    → AreAnswered history xs os → AreAnswered (history ++ kept xs os) ys ps → AreAnswered history (xs ++ ys) (os ++ ps)
+AreAnswered-append history [] ys [] ps same all others = subst (λ h. AreAnswered h ys ps) (append-nil history) others
+AreAnswered-append history [] ys (o ∷ os) ps same all others = absurd (omega arith)
+AreAnswered-append history (x ∷ xs) ys [] ps same all others = absurd (omega arith)
+AreAnswered-append history (x ∷ xs) ys (o ∷ os) ps same all others = (
+  all.0,
+  AreAnswered-append (if is_struck o then history else history ++ x ∷ []) xs ys os ps (omega arith) all.1
+      (subst (λ h. AreAnswered h ys ps) (sym (regrouped (is_struck o))) others),
+)
+  where
+    regrouped : (b : Bool)
+        → (if b then history else history ++ x ∷ []) ++ kept xs os ≡ history ++ (if b then kept xs os else x ∷ kept xs os)
+    regrouped b = grind (arith, append_assoc history (x ∷ []) (kept xs os))
+
+Tells-goes : {A : Type 0} (history events : List (Event A)) (outcomes : List Outcome) (s : Registry) → Tells history events outcomes s
+    → Goes history events outcomes s
+Tells-goes history events outcomes s t = record {
+  each = t.each;
+  told = λ a. t.told a ∙ says-last a history (kept events outcomes);
+  answered = t.answered;
+  stands = t.stands;
+}
+
+Goes-append : {A : Type 0} (history xs ys : List (Event A)) (os ps : List Outcome) (r s : Registry) → Goes history xs os r
+    → Goes (history ++ kept xs os) ys ps s → Goes history (xs ++ ys) (os ++ ps) s
+Goes-append history xs ys os ps r s g k =
+    let done = kept xs os in
+    let new = kept ys ps in
+    let all : kept (xs ++ ys) (os ++ ps) ≡ done ++ new = kept-append xs ys os ps g.each in
+    record {
+      each = omega (arith, g.each, k.each, length-append xs ys, length-append os ps);
+      told = λ a.
+          told-append a xs ys os ps g.each
+          ∙ ap (λ l. l ++ told a ys ps) (g.told a)
+          ∙ ap (λ l. says_after (life_of (own a history)) (own a done) ++ l) (k.told a)
+          ∙ ap (λ life. says_after (life_of (own a history)) (own a done) ++ says_after life (own a new))
+          (ap life_of (own-append a history done) ∙ life_after-append None (own a history) (own a done))
+          ∙ sym (says_after-append (life_of (own a history)) (own a done) (own a new))
+          ∙ ap (says_after (life_of (own a history))) (sym (own-append a done new) ∙ ap (own a) (sym all));
+      answered = AreAnswered-append history xs ys os ps g.each g.answered k.answered;
+      stands = subst (λ l. StandsFor s l) (append_assoc history done new ∙ ap (λ l. history ++ l) (sym all)) k.stands;
+    }
+
+pub Tells-nil : {A : Type 0} (history : List (Event A)) (s : Registry) → StandsFor s history → Tells history [] [] s
+Tells-nil history s stands = Goes-tells history [] [] s (Goes-nil history s stands)
+
+pub Tells-append : {A : Type 0} (history xs ys : List (Event A)) (os ps : List Outcome) (r s : Registry) → Tells history xs os r
+    → (StandsFor r (history ++ kept xs os) → Tells (history ++ kept xs os) ys ps s) → Tells history (xs ++ ys) (os ++ ps) s
+Tells-append history xs ys os ps r s t more = Goes-tells history (xs ++ ys) (os ++ ps) s
+    (Goes-append history xs ys os ps r s (Tells-goes history xs os r t)
+    (Tells-goes (history ++ kept xs os) ys ps s (more t.stands)))
+
+-- one event alone
+pub Tells-one : {A : Type 0} (history : List (Event A)) (e : Event A) (o : Outcome) (r s : Registry) → StandsFor r history
+    → TellsOne history e o s → Tells history (e ∷ []) (o ∷ []) s
+Tells-one history e o r s stands one = Goes-tells history (e ∷ []) (o ∷ []) s
+    (Goes-push history [] [] r s e o (Goes-nil history r stands)
+    (λ _. subst (λ h. TellsOne h e o s) (sym (append-nil history)) one))

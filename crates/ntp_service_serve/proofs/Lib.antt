@@ -1,3 +1,6 @@
+pub mod Sequences
+pub mod ManyTurns
 mod OneTurn
-mod ManyTurns
+mod Answering
+mod Counting
 mod Receiving

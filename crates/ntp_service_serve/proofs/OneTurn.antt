@@ -1,319 +1,233 @@
 -- One turn, by the calls that were made in it.
-use Rattle.std.proofs.Common.{◌≡◌, ℕ, ◌+◌, ◌≤◌, Bool, true, false, Option, None, Some, Result, Ok, Err, List, [], ◌∷◌, ◌++◌, length, take, drop, refl, sym, ap, ◌∙◌, subst, append-nil, arith, rules}
-use Rattle.std.specs.Prelude.{nat_le, is_err, if◌then◌else◌}
+use Rattle.std.proofs.Common.{◌≡◌, ℕ, ◌+◌, ◌≤◌, Bool, true, false, Option, None, Some, Result, Ok, Err, List, [], ◌∷◌, ◌++◌, length, drop, refl, sym, ap, ◌∙◌, subst, append-nil, arith, rules}
+use Rattle.std.specs.Prelude.{nat_le, not, ◌||◌, is_some, is_err, if◌then◌else◌}
 use Rattle.ntp_time.specs.declared.moment.Moment.{Moment}
 use Rattle.ntp_time.specs.declared.stamp.Stamp.{Stamp}
 use Rattle.ntp_mac.specs.Mac.{most_reply_octets}
 use Rattle.ntp_register.specs.declared.address.Address.{Address}
 use Rattle.ntp_register.specs.Registry.{Registry}
-use Rattle.ntp_reply_packets.specs.Reference.{ReferenceState}
 use Rattle.ntp_reply.specs.declared.answers.Answer.{Answer}
 use Rattle.ntp_reply.specs.declared.answers.Answer.TheVariants as answer
-use Rattle.ntp_reply.specs.declared.answers.Reason.TheVariants as reason
+use Rattle.ntp_observer.specs.declared.outcomes.Sending.TheVariants.{NoReply, NotSent, Sent as WasSent}
 use Rattle.ntp_admin.specs.declared.event.Event.{Event}
 use Rattle.ntp_admin.specs.declared.event.Event.TheVariants as event
-use Rattle.ntp_admin.specs.declared.outcome.Outcome.TheVariants as outcome
 use Rattle.ntp_service_run.specs.Model.{departure_outcome}
 use Rattle.ntp_service_run.specs.Headline.{StandsFor, TellsOne}
+use Rattle.ntp_service_run.proofs.Runs.{Tells-nil, Tells-one}
 use Rattle.ntp_service_serve.specs.declared.memory_port.Sent.{Sent}
-use Rattle.ntp_service_serve.specs.declared.port.Arrival.{Arrival}
 use Rattle.ntp_service_serve.specs.declared.port.PortFault.{PortFault}
 use Rattle.ntp_service_serve.specs.declared.port.PortFault.TheVariants.{Send}
-use Rattle.ntp_service_serve.specs.declared.serving.Served.{Served}
-use Rattle.ntp_service_serve.specs.Port.{IncomingValue, TurnValue, Told, Arrives, Receives, ReceiveTells, NowTells, SendTells, received, shown}
-use Rattle.ntp_service_serve.specs.Made.{Made, reply_in, saved_in, events_in, outcomes_in, sent_in, has_arrived, has_departed, is_unfailing}
-use Rattle.ntp_service_serve.specs.Serving.{sent_of, count_of, outcomes_of}
-use Rattle.ntp_service_serve.specs.Steps.{Steps, TurnTells}
+use Rattle.ntp_service_serve.specs.Sequence.{firsts}
+use Rattle.ntp_service_serve.specs.Port.{IncomingValue, Readings, later, TurnValue, no_turn, Told, NowTells, SendTells}
+use Rattle.ntp_service_serve.specs.Made.{Made, reply_in, saved_in, departing, sent_back, sent_in, sending_on}
+use Rattle.ntp_service_serve.specs.Serving.{FollowsList, Follows}
+use Rattle.ntp_service_serve.specs.Sending.{turn_of, HasBegun, IsInTurn, SendingMakes}
 
--- ---- one turn, put together
-abbrev pub if_so : Bool → ℕ
-if_so b = if b then 1 else 0
+-- one turn of a port that tells its turns
+pub follows-one : (m : Made) (rest : List TurnValue) (old new : Told) → old.coming ≡ m.turn ∷ rest → new.coming ≡ rest
+    → new.sent ≡ old.sent ++ sent_in m → FollowsList (m ∷ []) old new
+follows-one m rest old new here coming sent = record {
+  begun = sym (ap (firsts no_turn 1) here);
+  coming = coming ∙ sym (ap (drop 1) here);
+  sent = sent ∙ ap (λ l. old.sent ++ l) (sym (append-nil (sent_in m)));
+}
 
-count-one : (is : Made → Bool) (m : Made) → count_of is (m ∷ []) ≡ if_so (is m)
-count-one is m = chosen (is m)
-  where
-    chosen : (b : Bool) → length (if b then m ∷ [] else []) ≡ if_so b
-    chosen true = refl
-    chosen false = refl
+-- an answer with no reply is no time
+unsaved-silence : (a : Answer) → reply_in a ≡ None → saved_in a ≡ None
+unsaved-silence (answer.Time reply saved) e = cc
+unsaved-silence (answer.Rate reply) e = refl
+unsaved-silence (answer.Deny reply) e = refl
+unsaved-silence (answer.Nak reply) e = refl
+unsaved-silence (answer.Silent why) e = refl
 
-one-turn : (A : Type 0) (reference : ReferenceState) (m : Made) (rest : List TurnValue) (old new : Told) (f g : ℕ)
-    (s r : Registry) (c d : Served) → old.coming ≡ m.turn ∷ rest → new.coming ≡ rest → new.sent ≡ old.sent ++ sent_in m
-    → d.arrivals ≡ c.arrivals + if_so (has_arrived m) → d.sent ≡ c.sent + length (sent_in m)
-    → d.departed ≡ c.departed + if_so (has_departed m) → g + if_so (is_unfailing m) ≡ f + 1
-    → Steps A s (events_in reference m) (outcomes_in m) r → TurnTells A reference (Some old) (Some new) f g s r c d
-one-turn A reference m rest old new f g s r c d here coming sent arrivals counted departed failures steps =
-    let alone : sent_of (m ∷ []) ≡ sent_in m = append-nil (sent_in m) in (
-      m ∷ [],
-      record {
-        begun = sym (ap (take 1) here);
-        coming = coming ∙ sym (ap (drop 1) here);
-        sent = sent ∙ ap (λ l. old.sent ++ l) (sym alone);
-        arrivals = arrivals ∙ ap (λ n. c.arrivals + n) (sym (count-one has_arrived m));
-        counted = counted ∙ ap (λ l. c.sent + length l) (sym alone);
-        departed = departed ∙ ap (λ n. c.departed + n) (sym (count-one has_departed m));
-        failures = ap (λ n. g + n) (count-one is_unfailing m) ∙ failures;
-      },
-      subst (λ es. Steps A s es (outcomes_of (m ∷ [])) r) (sym (append-nil (events_in reference m)))
-          (subst (λ os. Steps A s (events_in reference m) os r) (sym (append-nil (outcomes_in m))) steps),
+undeparting : (sends : Bool) (a : Answer) → saved_in a ≡ None → departing sends a ≡ None
+undeparting true a e = e
+undeparting false a e = refl
+
+-- what a port tells in a turn, once it tried to send a reply
+abbrev pub tried_in : List TurnValue → TurnValue → List Sent → Told
+tried_in rest turn sent = record { coming = rest; present = Some turn; clock = later turn.clock; has_tried_send = true; sent = sent }
+
+-- a reply to where a datagram came from, where it was sent
+abbrev pub if_sent : Bool → List Sent → IncomingValue → List ℕ → List Sent
+if_sent good sent from reply = if good then sent ++ sent_back from (Some reply) else sent
+
+-- a datagram and the first reading of the clock
+module _ (from : IncomingValue) (transmit : Moment) where
+  pub record HasTriedOne (good : Bool) (reply : List ℕ) (old new : Told) (clock : Readings) (rest : List TurnValue) : Type 0 where
+    pub first : clock false 0 ≡ transmit
+    pub coming : old.coming ≡ turn_of from clock good ∷ rest
+    pub after : new ≡ tried_in rest (turn_of from clock good) (if_sent good old.sent from reply)
+
+  -- a port is in a turn, and tried to send a reply
+  abbrev pub HasTried : Bool → List ℕ → Option Told → Option Told → Type 0
+  HasTried good reply None w = Unit {0}
+  HasTried good reply (Some old) None = ⊥
+  HasTried good reply (Some old) (Some new) = (clock : Readings) × (rest : List TurnValue) × HasTriedOne good reply old new clock rest
+
+  tried-one : (reply : List ℕ) (old mid new : Told) (sent : Result (Unit {0}) PortFault) (clock : Readings) (sends : Bool)
+      (rest : List TurnValue) → nat_le (length reply) most_reply_octets ≡ true → HasBegun old mid from transmit clock sends rest
+      → SendTells (Some mid) (Some new) from.address from.port reply sent → HasTried (not (is_err sent)) reply (Some old) (Some new)
+  tried-one reply old mid new sent clock sends rest fits b told =
+      by_sends sends b.coming (subst (λ m. SendTells (Some m) (Some new) from.address from.port reply sent) b.after told)
+    where
+      by_sends : (sends : Bool) → old.coming ≡ turn_of from clock sends ∷ rest
+          → SendTells (Some (record {
+            coming = rest;
+            present = Some (turn_of from clock sends);
+            clock = later clock;
+            has_tried_send = false;
+            sent = old.sent;
+          })) (Some new) from.address from.port reply sent → HasTried (not (is_err sent)) reply (Some old) (Some new)
+      by_sends false coming p = rw p.0 (clock, rest, record { first = b.first; coming = coming; after = p.1 })
+      by_sends true coming p =
+          let good : sent ≡ Ok tt = p.0 ∙ ap (λ (z : Bool). if z then Ok tt else Err Send) fits in
+          rw good (
+            clock,
+            rest,
+            record {
+              first = b.first;
+              coming = coming;
+              after = p.1 ∙ ap (λ z. tried_in rest (turn_of from clock true) (if_sent z old.sent from reply)) fits;
+            },
+          )
+
+  pub tried : (reply : List ℕ) (t v w : Option Told) (sent : Result (Unit {0}) PortFault) (address : Address) (port : ℕ)
+      → length reply ≤ most_reply_octets → from.address ≡ address → from.port ≡ port
+      → IsInTurn t v from transmit → SendTells v w address port reply sent → HasTried (not (is_err sent)) reply t w
+  tried reply None v w sent address port few e h i p = tt
+  tried reply (Some old) None w sent address port few e h i p = absurd i
+  tried reply (Some old) (Some mid) None sent address port few e h i p = absurd p
+  tried reply (Some old) (Some mid) (Some new) sent address port few e h i p =
+      tried-one reply old mid new sent i.0 i.1 i.2 (search rules) i.3
+      (subst (λ q. SendTells (Some mid) (Some new) from.address q reply sent) (sym h)
+      (subst (λ q. SendTells (Some mid) (Some new) q port reply sent) (sym e) p))
+
+  -- the answer to the datagram
+  module _ (a : Answer) where
+    abbrev pub made_of : Readings → Bool → Bool → Made
+    made_of clock sends noted = record { turn = turn_of from clock sends; answer = a; noted = noted }
+
+    -- ---- there is no reply
+    nothing-sent : (clock : Readings) (sends : Bool) → reply_in a ≡ None → sent_in (made_of clock sends false) ≡ []
+    nothing-sent clock true none = ap (sent_back from) none
+    nothing-sent clock false none = refl
+
+    follows-silent : (t u : Option Told) → reply_in a ≡ None → IsInTurn t u from transmit
+        → (clock : Readings) × (sends : Bool) × (clock false 0 ≡ transmit) × Follows (made_of clock sends false ∷ []) t u
+    follows-silent None u none i = (λ tried n. transmit, false, refl, tt)
+    follows-silent (Some old) None none i = absurd i
+    follows-silent (Some old) (Some new) none i = (
+      i.0,
+      i.1,
+      i.3.first,
+      follows-one (made_of i.0 i.1 false) i.2 old new i.3.coming (ap (λ (z : Told). z.coming) i.3.after)
+          (ap (λ (z : Told). z.sent) i.3.after ∙ sym (append-nil old.sent) ∙ ap (λ l. old.sent ++ l) (sym (nothing-sent i.0 i.1 none))),
     )
 
--- ---- a turn in which nothing came
-nothing-came : (A : Type 0) (reference : ReferenceState) (coming : List TurnValue) (old new : Told) (r : Result Arrival PortFault)
-    (buffer : List ℕ) (f g : ℕ) (s : Registry) (c : Served)
-    → old.coming ≡ coming → is_err r ≡ true → Receives coming old new r buffer → g ≡ f + 1
-    → TurnTells A reference (Some old) (Some new) f g s s c c
-nothing-came A reference [] old new r buffer f g s c here failed p count = (
-  [],
-  record {
-    begun = sym (ap (take 1) here);
-    coming = ap (λ (t : Told). t.coming) p.1 ∙ sym (ap (drop 1) here);
-    sent = ap (λ (t : Told). t.sent) p.1 ∙ sym (append-nil old.sent);
-    arrivals = omega arith;
-    counted = omega arith;
-    departed = omega arith;
-    failures = omega (arith, count);
-  },
-  refl,
-)
-nothing-came A reference (turn ∷ rest) old new r buffer f g s c here failed p count = by_arrival turn.arrival refl r failed p.0
-  where
-    by_arrival : (x : Option IncomingValue) → turn.arrival ≡ x → (r : Result Arrival PortFault) → is_err r ≡ true → Arrives x r buffer
-        → TurnTells A reference (Some old) (Some new) f g s s c c
-    by_arrival None is r failed q =
-        let whole : turn ≡ record { arrival = None; transmit = turn.transmit; departure = turn.departure; sends = turn.sends } =
-        ap (λ z. record { arrival = z; transmit = turn.transmit; departure = turn.departure; sends = turn.sends }) is in
-        one-turn A reference (record {
-          turn = record { arrival = None; transmit = turn.transmit; departure = turn.departure; sends = turn.sends };
-          answer = answer.Silent reason.Unregistered;
+    silent-unfailing : (sends : Bool) → reply_in a ≡ None → ◌≡◌ {A = ℕ} (if sends || not (is_some (reply_in a)) then 1 else 0) 1
+    silent-unfailing true none = refl
+    silent-unfailing false none = rw none refl
+
+    pub makes-no-reply : (A : Type 0) (t u : Option Told) (f g : ℕ) (s : Registry) → reply_in a ≡ None → g ≡ f
+        → IsInTurn t u from transmit → SendingMakes A a from transmit t u f g s s NoReply
+    makes-no-reply A t u f g s none count i =
+        let p = follows-silent t u none i in
+        let gone : departing p.1 a ≡ None = undeparting p.1 a (unsaved-silence a none) in
+        record {
+          clock = p.0;
+          first = p.2;
+          sends = p.1;
           noted = false;
-        }) rest old new f g s s c c (here ∙ ap (λ z. z ∷ rest) whole) (ap (λ (t : Told). t.coming) p.1)
-        (ap (λ (t : Told). t.sent) p.1 ∙ sym (append-nil old.sent)) (omega arith) (omega arith) (omega arith) (omega (arith, count)) refl
-    by_arrival (Some d) is (Ok a) failed q = cc
-    by_arrival (Some d) is (Err fault) failed q = absurd q
+          comes_to = rw none refl;
+          port = p.3;
+          failures = omega (arith, count, silent-unfailing p.1 none);
+          tells = λ history stands. rw gone (Tells-nil history s stands);
+        }
 
-pub no-arrival : (A : Type 0) (reference : ReferenceState) (t u : Option Told) (r : Result Arrival PortFault) (buffer : List ℕ) (f g : ℕ)
-    (s : Registry) (c : Served) → is_err r ≡ true → ReceiveTells t u r buffer → g ≡ f + 1 → TurnTells A reference t u f g s s c c
-no-arrival A reference None u r buffer f g s c failed p count = tt
-no-arrival A reference (Some old) None r buffer f g s c failed p count = absurd p
-no-arrival A reference (Some old) (Some new) r buffer f g s c failed p count =
-    nothing-came A reference old.coming old new r buffer f g s c refl failed p count
+    -- ---- there is one
+    module _ (reply : List ℕ) (is : reply_in a ≡ Some reply) where
+      tried-sent : (old : List Sent) (good noted : Bool) (clock : Readings)
+          → if_sent good old from reply ≡ old ++ sent_in (made_of clock good noted)
+      tried-sent old true noted clock = ap (λ r. old ++ sent_back from r) (sym is)
+      tried-sent old false noted clock = sym (append-nil old)
 
--- ---- a turn in which a datagram came, and the clock was read
-abbrev pub turn_of : IncomingValue → Moment → Moment → Bool → TurnValue
-turn_of from transmit departure sends = record { arrival = Some from; transmit = transmit; departure = departure; sends = sends }
+      follows-tried : (good noted : Bool) (t w : Option Told) → HasTried good reply t w
+          → (clock : Readings) × (clock false 0 ≡ transmit) × Follows (made_of clock good noted ∷ []) t w
+      follows-tried good noted None w p = (λ tried n. transmit, refl, tt)
+      follows-tried good noted (Some old) None p = absurd p
+      follows-tried good noted (Some old) (Some new) p = (
+        p.0,
+        p.2.first,
+        follows-one (made_of p.0 good noted) p.1 old new p.2.coming (ap (λ (z : Told). z.coming) p.2.after)
+            (ap (λ (z : Told). z.sent) p.2.after ∙ tried-sent old.sent good noted p.0),
+      )
 
--- what a port tells in a turn, once the clock was read
-abbrev pub read_in : List TurnValue → TurnValue → Bool → List Sent → Told
-read_in rest turn tried sent = record { coming = rest; present = Some turn; has_read_clock = true; has_tried_send = tried; sent = sent }
+      follows-departed : (noted : Bool) (t w z : Option Told) (moment : Moment) → HasTried true reply t w → NowTells w z moment
+          → (clock : Readings) × (clock false 0 ≡ transmit) × (clock true 1 ≡ moment) × Follows (made_of clock true noted ∷ []) t z
+      follows-departed noted None w z moment p k = (λ tried n. if tried then moment else transmit, refl, refl, tt)
+      follows-departed noted (Some old) None z moment p k = absurd p
+      follows-departed noted (Some old) (Some mid) None moment p k = absurd k
+      follows-departed noted (Some old) (Some mid) (Some new) moment p k =
+          let shown : moment ≡ p.0 true 1 = k.0 ∙ ap (λ (x : Told). x.clock x.has_tried_send 0) p.2.after in
+          let after = k.1 ∙ ap (λ (x : Told). record x { clock = later x.clock }) p.2.after in (
+            p.0,
+            p.2.first,
+            sym shown,
+            follows-one (made_of p.0 true noted) p.1 old new p.2.coming (ap (λ (x : Told). x.coming) after)
+                (ap (λ (x : Told). x.sent) after ∙ tried-sent old.sent true noted p.0),
+          )
 
--- and then sent
-abbrev then_sent : List Sent → Address → ℕ → List ℕ → List Sent
-then_sent sent address port reply = sent ++ record { address = address; port = port; reply = reply } ∷ []
-
-pub record Begun (old new : Told) (x : Arrival) (buffer : List ℕ) (from : IncomingValue) (transmit departure : Moment) (sends : Bool)
-    (rest : List TurnValue) : Type 0 where
-  pub coming : old.coming ≡ turn_of from transmit departure sends ∷ rest
-  pub after : new ≡ read_in rest (turn_of from transmit departure sends) false old.sent
-  pub address : x.address ≡ from.address
-  pub port : x.port ≡ from.port
-  pub receipt : x.receipt ≡ from.receipt
-  pub octets : take x.length buffer ≡ received from
-
-abbrev pub Begins : Option Told → Option Told → Arrival → List ℕ → Moment → Type 0
-Begins None new x buffer transmit = Unit {0}
-Begins (Some old) None x buffer transmit = ⊥
-Begins (Some old) (Some new) x buffer transmit = (from : IncomingValue) × (departure : Moment) × (sends : Bool) × (rest : List TurnValue)
-    × Begun old new x buffer from transmit departure sends rest
-
-begun-next : (coming : List TurnValue) (old mid new : Told) (x : Arrival) (buffer : List ℕ) (m : Moment) → old.coming ≡ coming
-    → Receives coming old mid (Ok x) buffer → NowTells (Some mid) (Some new) m → Begins (Some old) (Some new) x buffer m
-begun-next [] old mid new x buffer m here p q = cc
-begun-next (turn ∷ rest) old mid new x buffer m here p q = by_arrival turn.arrival refl p.0
-  where
-    by_arrival : (y : Option IncomingValue) → turn.arrival ≡ y → Arrives y (Ok x) buffer → Begins (Some old) (Some new) x buffer m
-    by_arrival None is a = cc
-    by_arrival (Some d) is a =
-        let clock : m ≡ turn.transmit = q.0 ∙ ap (λ (t : Told). shown t.present t.has_read_clock) p.1 in
-        let whole : turn ≡ turn_of d m turn.departure turn.sends =
-        ap (λ z. record { arrival = z; transmit = turn.transmit; departure = turn.departure; sends = turn.sends }) is
-        ∙ ap (λ z. turn_of d z turn.departure turn.sends) (sym clock) in (
-          d,
-          turn.departure,
-          turn.sends,
-          rest,
+      pub makes-not-sent : (A : Type 0) (t w : Option Told) (f g : ℕ) (s : Registry) (sent : Result (Unit {0}) PortFault)
+          → is_err sent ≡ true → g ≡ f + 1 → HasTried (not (is_err sent)) reply t w
+          → SendingMakes A a from transmit t w f g s s NotSent
+      makes-not-sent A t w f g s sent failed count p =
+          let q = follows-tried false false t w (subst (λ b. HasTried (not b) reply t w) failed p) in
           record {
-            coming = here ∙ ap (λ z. z ∷ rest) whole;
-            after = q.1 ∙ ap (λ (t : Told). record t { has_read_clock = true }) p.1
-                ∙ ap (λ z. read_in rest z false old.sent) whole;
-            address = a.0;
-            port = a.1;
-            receipt = a.2;
-            octets = a.3;
-          },
-        )
+            clock = q.0;
+            first = q.1;
+            sends = false;
+            noted = false;
+            comes_to = rw is refl;
+            port = q.2;
+            failures = rw is (omega (arith, count));
+            tells = λ history stands. Tells-nil history s stands;
+          }
 
-pub begins : (t u v : Option Told) (x : Arrival) (buffer : List ℕ) (m : Moment) → ReceiveTells t u (Ok x) buffer → NowTells u v m
-    → Begins t v x buffer m
-begins None u v x buffer m p q = tt
-begins (Some old) None v x buffer m p q = absurd p
-begins (Some old) (Some mid) None x buffer m p q = absurd q
-begins (Some old) (Some mid) (Some new) x buffer m p q = begun-next old.coming old mid new x buffer m refl p q
+      pub makes-sent : (A : Type 0) (t w : Option Told) (f g : ℕ) (s : Registry) (sent : Result (Unit {0}) PortFault)
+          → is_err sent ≡ false → saved_in a ≡ None → g ≡ f → HasTried (not (is_err sent)) reply t w
+          → SendingMakes A a from transmit t w f g s s WasSent
+      makes-sent A t w f g s sent good unsaved count p =
+          let q = follows-tried true false t w (subst (λ b. HasTried (not b) reply t w) good p) in
+          record {
+            clock = q.0;
+            first = q.1;
+            sends = true;
+            noted = false;
+            comes_to = rw (is, unsaved) refl;
+            port = q.2;
+            failures = omega (arith, count);
+            tells = λ history stands. rw unsaved (Tells-nil history s stands);
+          }
 
--- ---- a turn in which a datagram came and was answered
-module _ {A : Type 0} (reference : ReferenceState) (x : Arrival) (buffer : List ℕ) (transmit : Moment) (s r : Registry) (a : Answer)
-    (told : (history : List (Event A)) → StandsFor s history
-    → TellsOne history (event.Datagram x.address x.receipt transmit reference (take x.length buffer)) (outcome.Datagram a) r) where
-  told-from : (old new : Told) (from : IncomingValue) (departure : Moment) (sends : Bool) (rest : List TurnValue)
-      → Begun old new x buffer from transmit departure sends rest → (history : List (Event A)) → StandsFor s history
-      → TellsOne history (event.Datagram from.address from.receipt transmit reference (received from)) (outcome.Datagram a) r
-  told-from old new from departure sends rest b history stands =
-      let same : ◌≡◌ {A = Event A} (event.Datagram x.address x.receipt transmit reference (take x.length buffer))
-      (event.Datagram from.address from.receipt transmit reference (received from)) =
-      ap (λ z. event.Datagram z x.receipt transmit reference (take x.length buffer)) b.address
-      ∙ ap (λ z. event.Datagram from.address z transmit reference (take x.length buffer)) b.receipt
-      ∙ ap (λ z. event.Datagram from.address from.receipt transmit reference z) b.octets in
-      subst (λ e. TellsOne history e (outcome.Datagram a) r) same (told history stands)
-
-  -- there is no reply
-  silent : (old new : Told) (from : IncomingValue) (departure : Moment) (sends : Bool) (rest : List TurnValue)
-      (f g : ℕ) (c : Served) → reply_in a ≡ None → saved_in a ≡ None → g ≡ f
-      → Begun old new x buffer from transmit departure sends rest
-      → TurnTells A reference (Some old) (Some new) f g s r c (record c { arrivals = c.arrivals + 1 })
-  silent old new from departure true rest f g c no_reply unsaved count b =
-      one-turn A reference (record { turn = turn_of from transmit departure true; answer = a; noted = false }) rest old new f g s r c
-      (record c { arrivals = c.arrivals + 1 }) b.coming (ap (λ (t : Told). t.coming) b.after)
-      (rw no_reply (ap (λ (t : Told). t.sent) b.after ∙ sym (append-nil old.sent))) refl (rw no_reply (omega arith))
-      (rw unsaved (omega arith)) (omega (arith, count))
-      (rw unsaved (r, told-from old new from departure true rest b, refl))
-  silent old new from departure false rest f g c no_reply unsaved count b =
-      one-turn A reference (record { turn = turn_of from transmit departure false; answer = a; noted = false }) rest old new f g s r c
-      (record c { arrivals = c.arrivals + 1 }) b.coming (ap (λ (t : Told). t.coming) b.after)
-      (ap (λ (t : Told). t.sent) b.after ∙ sym (append-nil old.sent)) refl (omega arith)
-      (omega arith) (rw no_reply (omega (arith, count)))
-      (r, told-from old new from departure false rest b, refl)
-
-  unsaved-silence : reply_in a ≡ None → saved_in a ≡ None
-  unsaved-silence = by_answer a
-    where
-      by_answer : (a : Answer) → reply_in a ≡ None → saved_in a ≡ None
-      by_answer (answer.Time reply saved) e = cc
-      by_answer (answer.Rate reply) e = refl
-      by_answer (answer.Deny reply) e = refl
-      by_answer (answer.Nak reply) e = refl
-      by_answer (answer.Silent why) e = refl
-
-  pub no-reply : (t v : Option Told) (f g : ℕ) (c : Served) → reply_in a ≡ None → g ≡ f → Begins t v x buffer transmit
-      → TurnTells A reference t v f g s r c (record c { arrivals = c.arrivals + 1 })
-  no-reply None v f g c no_reply count b = tt
-  no-reply (Some old) None f g c no_reply count b = absurd b
-  no-reply (Some old) (Some new) f g c no_reply count b =
-      silent old new b.0 b.1 b.2 b.3 f g c no_reply (unsaved-silence no_reply) count b.4
-
-  -- the reply is not sent
-  module _ (reply : List ℕ) (is : reply_in a ≡ Some reply) (few : length reply ≤ most_reply_octets) where
-    fits : nat_le (length reply) most_reply_octets ≡ true
-    fits = search rules
-
-    unsent : (old mid new : Told) (from : IncomingValue) (departure : Moment) (sends : Bool) (rest : List TurnValue)
-        (f g : ℕ) (c : Served) (sent : Result (Unit {0}) PortFault) → is_err sent ≡ true → g ≡ f + 1
-        → Begun old mid x buffer from transmit departure sends rest
-        → SendTells (Some (read_in rest (turn_of from transmit departure sends) false old.sent)) (Some new) x.address x.port reply sent
-        → TurnTells A reference (Some old) (Some new) f g s r c (record c { arrivals = c.arrivals + 1 })
-    unsent old mid new from departure true rest f g c sent failed count b p =
-        let good : sent ≡ Ok tt = p.0 ∙ ap (λ (z : Bool). if z then Ok tt else Err Send) fits in cc
-    unsent old mid new from departure false rest f g c sent failed count b p =
-        one-turn A reference (record { turn = turn_of from transmit departure false; answer = a; noted = false }) rest old new f g s r c
-        (record c { arrivals = c.arrivals + 1 }) b.coming (ap (λ (t : Told). t.coming) p.1)
-        (ap (λ (t : Told). t.sent) p.1 ∙ sym (append-nil old.sent)) refl (omega arith)
-        (omega arith) (rw is (omega (arith, count)))
-        (r, told-from old mid from departure false rest b, refl)
-
-    pub no-send : (t v w : Option Told) (f g : ℕ) (c : Served) (sent : Result (Unit {0}) PortFault) → is_err sent ≡ true → g ≡ f + 1
-        → Begins t v x buffer transmit → SendTells v w x.address x.port reply sent
-        → TurnTells A reference t w f g s r c (record c { arrivals = c.arrivals + 1 })
-    no-send None v w f g c sent failed count b p = tt
-    no-send (Some old) None w f g c sent failed count b p = absurd b
-    no-send (Some old) (Some mid) None f g c sent failed count b p = absurd p
-    no-send (Some old) (Some mid) (Some new) f g c sent failed count b p =
-        unsent old mid new b.0 b.1 b.2 b.3 f g c sent failed count b.4
-        (subst (λ t. SendTells (Some t) (Some new) x.address x.port reply sent) b.4.after p)
-
-    -- the reply is sent
-    went : (old mid new : Told) (from : IncomingValue) (departure : Moment) (sends : Bool) (rest : List TurnValue)
-        (sent : Result (Unit {0}) PortFault) → is_err sent ≡ false
-        → Begun old mid x buffer from transmit departure sends rest
-        → SendTells (Some (read_in rest (turn_of from transmit departure sends) false old.sent)) (Some new) x.address x.port reply sent
-        → (sends ≡ true)
-        × (new ≡ read_in rest (turn_of from transmit departure sends) true (then_sent old.sent from.address from.port reply))
-    went old mid new from departure false rest sent good b p = cc
-    went old mid new from departure true rest sent good b p =
-        let turn = turn_of from transmit departure true in (
-          refl,
-          p.1
-              ∙ ap (λ (z : Bool). read_in rest turn true (if z then then_sent old.sent x.address x.port reply else old.sent)) fits
-              ∙ ap (λ z. read_in rest turn true (then_sent old.sent z x.port reply)) b.address
-              ∙ ap (λ z. read_in rest turn true (then_sent old.sent from.address z reply)) b.port,
-        )
-
-    -- and the answer was no time
-    stayed : (old mid new : Told) (from : IncomingValue) (departure : Moment) (sends : Bool) (rest : List TurnValue)
-        (f g : ℕ) (c : Served) (sent : Result (Unit {0}) PortFault) → is_err sent ≡ false → saved_in a ≡ None → g ≡ f
-        → Begun old mid x buffer from transmit departure sends rest
-        → (sends ≡ true)
-        × (new ≡ read_in rest (turn_of from transmit departure sends) true (then_sent old.sent from.address from.port reply))
-        → TurnTells A reference (Some old) (Some new) f g s r c (record c { arrivals = c.arrivals + 1; sent = c.sent + 1 })
-    stayed old mid new from departure false rest f g c sent good unsaved count b p = cc
-    stayed old mid new from departure true rest f g c sent good unsaved count b p =
-        one-turn A reference (record { turn = turn_of from transmit departure true; answer = a; noted = false }) rest old new f g s r c
-        (record c { arrivals = c.arrivals + 1; sent = c.sent + 1 }) b.coming (ap (λ (t : Told). t.coming) p.1)
-        (rw is (ap (λ (t : Told). t.sent) p.1)) refl (rw is refl) (rw unsaved (omega arith)) (omega (arith, count))
-        (rw unsaved (r, told-from old mid from departure true rest b, refl))
-
-    pub no-departure : (t v w : Option Told) (f g : ℕ) (c : Served) (sent : Result (Unit {0}) PortFault) → is_err sent ≡ false
-        → saved_in a ≡ None → g ≡ f → Begins t v x buffer transmit → SendTells v w x.address x.port reply sent
-        → TurnTells A reference t w f g s r c (record c { arrivals = c.arrivals + 1; sent = c.sent + 1 })
-    no-departure None v w f g c sent good unsaved count b p = tt
-    no-departure (Some old) None w f g c sent good unsaved count b p = absurd b
-    no-departure (Some old) (Some mid) None f g c sent good unsaved count b p = absurd p
-    no-departure (Some old) (Some mid) (Some new) f g c sent good unsaved count b p =
-        stayed old mid new b.0 b.1 b.2 b.3 f g c sent good unsaved count b.4 (went old mid new b.0 b.1 b.2 b.3 sent good b.4
-        (subst (λ t. SendTells (Some t) (Some new) x.address x.port reply sent) b.4.after p))
-
-    -- and its departure was reported
-    module _ (saved : Stamp) (was : saved_in a ≡ Some saved) (moment : Moment) (noted : Bool) (q : Registry)
-        (reported : (history : List (Event A)) → StandsFor r history
-        → TellsOne history (event.Departed x.address saved moment) (departure_outcome noted) q) where
-      left : (old mid new last : Told) (from : IncomingValue) (departure : Moment) (sends : Bool) (rest : List TurnValue)
-          (f g : ℕ) (c : Served) (n : ℕ) (sent : Result (Unit {0}) PortFault) → is_err sent ≡ false → g ≡ f → n ≡ c.departed + if_so noted
-          → Begun old mid x buffer from transmit departure sends rest
-          → (sends ≡ true)
-          × (new ≡ read_in rest (turn_of from transmit departure sends) true (then_sent old.sent from.address from.port reply))
-          → NowTells (Some new) (Some last) moment
-          → TurnTells A reference (Some old) (Some last) f g s q c
-          (record { arrivals = c.arrivals + 1; sent = c.sent + 1; departed = n })
-      left old mid new last from departure false rest f g c n sent good count more b p k = cc
-      left old mid new last from departure true rest f g c n sent good count more b p k =
-          let clock : moment ≡ departure = k.0 ∙ ap (λ (t : Told). shown t.present t.has_read_clock) p.1 in
-          let after = k.1 ∙ ap (λ (t : Told). record t { has_read_clock = true }) p.1 in
-          let same : ◌≡◌ {A = Event A} (event.Departed x.address saved moment) (event.Departed from.address saved departure) =
-          ap (λ z. event.Departed z saved moment) b.address ∙ ap (λ z. event.Departed from.address saved z) clock in
-          one-turn A reference (record { turn = turn_of from transmit departure true; answer = a; noted = noted }) rest old last f g s q c
-          (record { arrivals = c.arrivals + 1; sent = c.sent + 1; departed = n }) b.coming (ap (λ (t : Told). t.coming) after)
-          (rw is (ap (λ (t : Told). t.sent) after)) refl (rw is refl) (rw was more) (omega (arith, count))
-          (rw was (
-            r,
-            told-from old mid from departure true rest b,
-            (q, (λ history stands. subst (λ e. TellsOne history e (departure_outcome noted) q) same (reported history stands)), refl),
-          ))
-
-      pub departure : (t v w z : Option Told) (f g : ℕ) (c : Served) (n : ℕ) (sent : Result (Unit {0}) PortFault) → is_err sent ≡ false
-          → g ≡ f → n ≡ c.departed + if_so noted → Begins t v x buffer transmit → SendTells v w x.address x.port reply sent
-          → NowTells w z moment
-          → TurnTells A reference t z f g s q c (record { arrivals = c.arrivals + 1; sent = c.sent + 1; departed = n })
-      departure None v w z f g c n sent good count more b p k = tt
-      departure (Some old) None w z f g c n sent good count more b p k = absurd b
-      departure (Some old) (Some mid) None z f g c n sent good count more b p k = absurd p
-      departure (Some old) (Some mid) (Some new) None f g c n sent good count more b p k = absurd k
-      departure (Some old) (Some mid) (Some new) (Some last) f g c n sent good count more b p k =
-          left old mid new last b.0 b.1 b.2 b.3 f g c n sent good count more b.4 (went old mid new b.0 b.1 b.2 b.3 sent good b.4
-          (subst (λ t. SendTells (Some t) (Some new) x.address x.port reply sent) b.4.after p)) k
+      pub makes-departed : (A : Type 0) (t w z : Option Told) (f g : ℕ) (s r : Registry) (sent : Result (Unit {0}) PortFault)
+          (saved : Stamp) (moment : Moment) (noted : Bool) (address : Address) → is_err sent ≡ false → saved_in a ≡ Some saved → g ≡ f
+          → from.address ≡ address → HasTried (not (is_err sent)) reply t w → NowTells w z moment
+          → ((history : List (Event A)) → StandsFor s history
+          → TellsOne history (event.Departed address saved moment) (departure_outcome noted) r)
+          → SendingMakes A a from transmit t z f g s r (sending_on (Some saved) noted)
+      makes-departed A t w z f g s r sent saved moment noted address good was count e p k told =
+          let q = follows-departed noted t w z moment (subst (λ b. HasTried (not b) reply t w) good p) k in
+          record {
+            clock = q.0;
+            first = q.1;
+            sends = true;
+            noted = noted;
+            comes_to = rw (is, was) refl;
+            port = q.3;
+            failures = omega (arith, count);
+            tells = λ history stands.
+                rw was (Tells-one history (event.Departed from.address saved (q.0 true 1)) (departure_outcome noted) s r stands
+                (subst (λ m. TellsOne history (event.Departed from.address saved m) (departure_outcome noted) r) (sym q.2)
+                (subst (λ x. TellsOne history (event.Departed x saved moment) (departure_outcome noted) r) (sym e) (told history stands))));
+          }

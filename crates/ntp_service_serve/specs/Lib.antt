@@ -1,5 +1,6 @@
+pub mod Sequence
 pub mod Port
 pub mod Memory
 pub mod Made
 pub mod Serving
-pub mod Steps
+pub mod Sending

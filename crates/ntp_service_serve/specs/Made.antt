@@ -1,18 +1,23 @@
 -- A turn that a server made, and what it gives.
-use Rattle.std.specs.Prelude.{ℕ, Bool, not, ◌&&◌, ◌||◌, Option, None, Some, is_some, List, [], ◌∷◌, if◌then◌else◌}
+use Rattle.std.specs.Prelude.{ℕ, Bool, not, ◌&&◌, ◌||◌, Option, None, Some, is_some, List, [], ◌∷◌, length, if◌then◌else◌}
 use Rattle.ntp_time.specs.declared.stamp.Stamp.{Stamp}
 use Rattle.ntp_time.specs.declared.moment.Moment.{Moment}
 use Rattle.ntp_register.specs.declared.address.Address.{Address}
 use Rattle.ntp_reply_packets.specs.Reference.{ReferenceState}
 use Rattle.ntp_reply.specs.declared.answers.Answer.{Answer}
 use Rattle.ntp_reply.specs.declared.answers.Answer.TheVariants as answer
+use Rattle.ntp_observer.specs.declared.outcomes.Arrival.{Arrival}
+use Rattle.ntp_observer.specs.declared.outcomes.Sending.{Sending}
+use Rattle.ntp_observer.specs.declared.outcomes.Sending.TheVariants.{NoReply, NotSent, Sent as WasSent, Noted, NotNoted}
+use Rattle.ntp_observer.specs.declared.outcomes.TurnOutcome.{TurnOutcome}
+use Rattle.ntp_observer.specs.declared.outcomes.TurnOutcome.TheVariants.{NothingReceived, Answered}
 use Rattle.ntp_admin.specs.declared.event.Event.{Event}
 use Rattle.ntp_admin.specs.declared.event.Event.TheVariants as event
 use Rattle.ntp_admin.specs.declared.outcome.Outcome.{Outcome}
 use Rattle.ntp_admin.specs.declared.outcome.Outcome.TheVariants as outcome
 use Rattle.ntp_service_run.specs.Model.{departure_outcome}
 use Rattle.ntp_service_serve.specs.declared.memory_port.Sent.{Sent}
-use Rattle.ntp_service_serve.specs.Port.{IncomingValue, TurnValue, received}
+use Rattle.ntp_service_serve.specs.Port.{IncomingValue, TurnValue, transmit_of, departure_of, received}
 
 -- a turn, with the answer to its datagram and whether its departure was noted, which say nothing where it has none (profile)
 pub record Made : Type 0 where
@@ -45,8 +50,8 @@ departure_events address departure (Some saved) = event.Departed address saved d
 -- the events of a turn with this datagram (profile)
 abbrev pub arrival_events : {A : Type 0} → ReferenceState → Option IncomingValue → TurnValue → Answer → List (Event A)
 arrival_events reference None turn a = []
-arrival_events reference (Some d) turn a = event.Datagram d.address d.receipt turn.transmit reference (received d)
-    ∷ departure_events d.address turn.departure (departing turn.sends a)
+arrival_events reference (Some d) turn a = event.Datagram d.address d.receipt (transmit_of turn) reference (received d)
+    ∷ departure_events d.address (departure_of turn) (departing turn.sends a)
 
 -- the events of a turn: its datagram; and where the answer was time and was sent, the departure (profile)
 abbrev pub events_in : {A : Type 0} → ReferenceState → Made → List (Event A)
@@ -86,3 +91,25 @@ has_departed m = has_arrived m && is_some (departing m.turn.sends m.answer) && m
 -- whether no call of a turn failed: it has a datagram, and the reply, if any, was sent (profile)
 abbrev pub is_unfailing : Made → Bool
 is_unfailing m = has_arrived m && (m.turn.sends || not (is_some (reply_in m.answer)))
+
+-- what is told of a datagram beside its octets (profile)
+abbrev pub arrival_of : IncomingValue → Arrival
+arrival_of d = record { address = d.address; port = d.port; length = length (received d); receipt = d.receipt }
+
+-- what became of a reply that was sent: the departure of a time reply is noted, or not (profile)
+abbrev pub sending_on : Option Stamp → Bool → Sending
+sending_on None noted = WasSent
+sending_on (Some saved) noted = if noted then Noted else NotNoted
+
+-- what became of the reply of an answer (profile)
+abbrev pub sending_of : Bool → Answer → Bool → Sending
+sending_of sends a noted = if not (is_some (reply_in a)) then NoReply else (if sends then sending_on (saved_in a) noted else NotSent)
+
+-- what a turn with this datagram comes to (profile)
+abbrev pub arrival_outcome : Option IncomingValue → Bool → Answer → Bool → TurnOutcome
+arrival_outcome None sends a noted = NothingReceived
+arrival_outcome (Some d) sends a noted = Answered (arrival_of d) a (sending_of sends a noted)
+
+-- what a turn comes to (profile)
+abbrev pub turn_outcome : Made → TurnOutcome
+turn_outcome m = arrival_outcome m.turn.arrival m.turn.sends m.answer m.noted

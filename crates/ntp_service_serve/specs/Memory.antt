@@ -1,18 +1,24 @@
 -- What a port in memory tells.
-use Rattle.std.specs.Prelude.{ℕ, ◌-◌, Option, None, map, option_map, drop, slice_get, if◌then◌else◌}
+use Rattle.std.specs.Prelude.{ℕ, zero, suc, ◌-◌, Option, None, map, option_map, drop, slice_get, if◌then◌else◌}
+use Rattle.ntp_time.specs.declared.moment.Moment.{Moment}
 use Rattle.ntp_service_serve.specs.declared.turn.Incoming.{Incoming}
 use Rattle.ntp_service_serve.specs.declared.turn.Turn.{Turn}
 use Rattle.ntp_service_serve.specs.declared.memory_port.MemoryPort.{MemoryPort}
-use Rattle.ntp_service_serve.specs.Port.{IncomingValue, TurnValue, Told}
+use Rattle.ntp_service_serve.specs.Port.{IncomingValue, Readings, later, TurnValue, clock_of, Told}
 
 -- a datagram of a list of turns, as a port tells it (profile)
 abbrev pub incoming_told : {A : Type 0} → Incoming A → IncomingValue
 incoming_told d = record { address = d.address; port = d.port; receipt = d.receipt; octets = d.octets }
 
+-- the first reading, and all later ones (profile)
+abbrev pub readings : Moment → Moment → Readings
+readings first behind tried zero = first
+readings first behind tried (suc n) = behind
+
 -- a turn of that list (profile)
 abbrev pub turn_told : {A : Type 0} → Turn A → TurnValue
 turn_told turn =
-    record { arrival = option_map incoming_told turn.arrival; transmit = turn.transmit; departure = turn.departure; sends = turn.sends }
+    record { arrival = option_map incoming_told turn.arrival; clock = readings turn.transmit turn.departure; sends = turn.sends }
 
 -- the present turn (profile)
 abbrev pub present_of : {A : Type 0} → MemoryPort A → Option TurnValue
@@ -23,7 +29,7 @@ abbrev pub told_by : {A : Type 0} → MemoryPort A → Told
 told_by p = record {
   coming = map turn_told (drop p.begun p.turns.items);
   present = present_of p;
-  has_read_clock = p.has_read_clock;
+  clock = if p.has_read_clock then later (clock_of (present_of p)) else clock_of (present_of p);
   has_tried_send = p.has_tried_send;
   sent = p.sent.items;
 }

@@ -1,10 +1,10 @@
 -- What a port that tells its turns answers.
-use Rattle.std.specs.Prelude.{◌≡◌, ℕ, Bool, true, false, not, ◌&&◌, Option, None, Some, Result, Ok, Err, List, [], ◌∷◌, ◌++◌, length, take, nat_le, if◌then◌else◌}
+use Rattle.std.specs.Prelude.{◌≡◌, ℕ, suc, Bool, true, false, not, ◌&&◌, Option, None, Some, Result, Ok, Err, List, [], ◌∷◌, ◌++◌, length, take, nat_le, if◌then◌else◌}
 use Rattle.ntp_time.specs.declared.moment.Moment.{Moment}
 use Rattle.ntp_mac.specs.Mac.{most_reply_octets}
 use Rattle.ntp_register.specs.declared.address.Address.{Address}
 use Rattle.ntp_service_serve.specs.declared.memory_port.Sent.{Sent}
-use Rattle.ntp_service_serve.specs.declared.port.Arrival.{Arrival}
+use Rattle.ntp_observer.specs.declared.outcomes.Arrival.{Arrival}
 use Rattle.ntp_service_serve.specs.declared.port.PortFault.{PortFault}
 use Rattle.ntp_service_serve.specs.declared.port.PortFault.TheVariants.{Receive, Send}
 
@@ -19,24 +19,52 @@ pub record IncomingValue : Type 0 where
   pub receipt : Moment
   pub octets : List ℕ
 
--- one turn of a port: its datagram, if any, what the clock shows at first and afterwards, and whether a reply can be sent (profile)
+-- stamp 0 of era 0 (profile)
+abbrev pub zero_moment : Moment
+zero_moment = record { era = 0; stamp = record { 0 = 0 } }
+
+-- what a clock shows in a turn, read by read: first whether a send was tried, then how many times it was read before (profile)
+abbrev pub Readings : Type 0
+Readings = Bool → ℕ → Moment
+
+-- what it shows after one reading more (profile)
+abbrev pub later : Readings → Readings
+later clock = λ tried n. clock tried (suc n)
+
+-- one turn of a port: its datagram, if any, what the clock shows, and whether a reply can be sent (profile)
 pub record TurnValue : Type 0 where
   pub arrival : Option IncomingValue
-  pub transmit : Moment
-  pub departure : Moment
+  pub clock : Readings
   pub sends : Bool
+
+-- the moment of its first reading, before a send was tried (profile)
+abbrev pub transmit_of : TurnValue → Moment
+transmit_of turn = turn.clock false 0
+
+-- the moment of its second reading, once a send was tried (profile)
+abbrev pub departure_of : TurnValue → Moment
+departure_of turn = turn.clock true 1
+
+-- the turn that a port makes once its list has run out: nothing comes, the clock shows stamp 0 of era 0, and nothing can be sent (profile)
+abbrev pub no_turn : TurnValue
+no_turn = record { arrival = None; clock = λ tried n. zero_moment; sends = false }
 
 -- the turns to come, the present one, what was called in it, and what was sent (profile)
 pub record Told : Type 0 where
   pub coming : List TurnValue
   pub present : Option TurnValue
-  pub has_read_clock : Bool
+  pub clock : Readings
   pub has_tried_send : Bool
   pub sent : List Sent
 
+-- what the clock shows in a turn, or outside of any (profile)
+abbrev pub clock_of : Option TurnValue → Readings
+clock_of None = no_turn.clock
+clock_of (Some turn) = turn.clock
+
 -- a turn begins, or none where the list has run out (profile)
 abbrev pub begun : Told → Option TurnValue → List TurnValue → Told
-begun old turn rest = record { coming = rest; present = turn; has_read_clock = false; has_tried_send = false; sent = old.sent }
+begun old turn rest = record { coming = rest; present = turn; clock = clock_of turn; has_tried_send = false; sent = old.sent }
 
 -- the octets of a datagram, as a port gives them: cut (profile)
 abbrev pub received : IncomingValue → List ℕ
@@ -60,16 +88,11 @@ ReceiveTells None new r buffer = Unit {0}
 ReceiveTells (Some old) None r buffer = ⊥
 ReceiveTells (Some old) (Some new) r buffer = Receives old.coming old new r buffer
 
--- the moment that the clock shows in a turn, or outside of any, read again or not (profile)
-abbrev pub shown : Option TurnValue → Bool → Moment
-shown None again = record { era = 0; stamp = record { 0 = 0 } }
-shown (Some turn) again = if again then turn.departure else turn.transmit
-
 -- what a call of `now` tells (profile)
 abbrev pub NowTells : Option Told → Option Told → Moment → Type 0
 NowTells None new r = Unit {0}
 NowTells (Some old) None r = ⊥
-NowTells (Some old) (Some new) r = (r ≡ shown old.present old.has_read_clock) × (new ≡ record old { has_read_clock = true })
+NowTells (Some old) (Some new) r = (r ≡ old.clock old.has_tried_send 0) × (new ≡ record old { clock = later old.clock })
 
 -- whether a turn takes a reply: it sends, and nothing was tried to be sent in it (profile)
 abbrev pub can_send : Option TurnValue → Bool → Bool

@@ -1,10 +1,11 @@
 //! A port in memory.
-ghost use Rattle.std.specs.Prelude.{◌≡◌, ◌+◌, ◌≤◌, ◌<◌, false, not, ◌&&◌, vec_len, vec_capacity, if◌then◌else◌, IfOk, IsTrue, Some, None, [], map};
+ghost use Rattle.std.specs.Prelude.{◌≡◌, ◌+◌, ◌≤◌, ◌<◌, true, false, not, ◌&&◌, vec_len, vec_capacity, if◌then◌else◌, IfOk, IsTrue, Some, None, [], map};
 
-use crate::port::{Arrival, MOST_DATAGRAM_OCTETS, Port, PortFault};
+use crate::port::{MOST_DATAGRAM_OCTETS, Port, PortFault, TimedPort};
 use crate::turn::Turn;
 use ntp_admin::NoMemory;
 use ntp_mac::Reply;
+use ntp_observer::Arrival;
 use ntp_register::Address;
 use ntp_time::{Moment, Stamp};
 use std::alloc::{Allocator, Global};
@@ -43,6 +44,7 @@ pub struct MemoryPort<A: Allocator = Global> {
 }
 
 impl<A: Allocator + Copy> MemoryPort<A> {
+    ghost use Rattle.ntp_service_serve.specs.Port.{no_turn};
     ghost use Rattle.ntp_service_serve.specs.Memory.{turn_told, told_by, failures_of};
 
     /// A port that will make these turns. The room for all that can be sent is taken from `alloc` here, so that
@@ -51,7 +53,7 @@ impl<A: Allocator + Copy> MemoryPort<A> {
         ensures told { IfOk result (λ port. told_by port ≡ record {
           coming = map turn_told turns.items;
           present = None;
-          has_read_clock = false;
+          clock = no_turn.clock;
           has_tried_send = false;
           sent = [];
         }) }
@@ -159,5 +161,13 @@ impl<A: Allocator> Port for MemoryPort<A> {
 
     fn failures(&self) -> u64 {
         self.failures
+    }
+}
+
+impl<A: Allocator> TimedPort for MemoryPort<A> {
+    ghost is_prompt = { true };
+
+    fn receive_in_time(&mut self, datagram: &mut [u8; 1025]) -> Option<Result<Arrival, PortFault>> {
+        Some(self.receive(datagram))
     }
 }

@@ -1,26 +1,15 @@
 //! What a server asks of the network and of the clock.
-ghost use Rattle.std.specs.Prelude.{◌≡◌, ℕ, ◌+◌, ◌-◌, ◌≤◌, ◌<◌, ◌^◌, Option, None, IfOk, IfErr, is_err, if◌then◌else◌};
+ghost use Rattle.std.specs.Prelude.{◌≡◌, ℕ, ◌+◌, ◌-◌, ◌≤◌, ◌<◌, ◌^◌, Option, None, IfOk, IfErr, IfSome, IfNone, Bool, false, is_err, if◌then◌else◌};
+ghost use Rattle.std.specs.Option.{option_map_or};
 ghost use Rattle.ntp_service_serve.specs.Port.{Told, most_datagram_octets, ReceiveTells, NowTells, SendTells};
 
+use ntp_observer::Arrival;
 use ntp_register::Address;
 use ntp_time::Moment;
 
 /// How many octets of a datagram are taken at most: one more than a packet may have, so that a longer one is
 /// still told from the longest packet (profile).
 pub(crate) const MOST_DATAGRAM_OCTETS: usize = 1025;
-
-/// What is known of a datagram beside its octets.
-#[derive(Clone, Copy, Debug, PartialEq, Eq)]
-pub struct Arrival {
-    /// The address from which it came.
-    pub address: Address,
-    /// The UDP port from which it came.
-    pub port: u16,
-    /// How many octets it has, at most 1,025: a longer one is cut.
-    pub length: usize,
-    /// When it came.
-    pub receipt: Moment,
-}
 
 /// Why a call of a port gave nothing.
 #[derive(Clone, Copy, Debug, PartialEq, Eq)]
@@ -64,4 +53,21 @@ pub trait Port {
     /// How many calls of `receive` and `send` failed.
     fn failures(&self) -> u64
         ensures { result ≡ failure_count self.now };
+}
+
+/// A port at which a wait for a datagram may end with none, so that there is time to look at something else (profile).
+pub trait TimedPort: Port {
+    // Whether no wait of it ends with none.
+    ghost is_prompt: { Bool } = { false };
+
+    /// Receives a datagram as `receive` does, where one comes in time. Nothing where none did, which is no failure and
+    /// begins no turn.
+    fn receive_in_time(&mut self, datagram: &mut [u8; 1025]) -> Option<Result<Arrival, PortFault>>
+        requires { Self.failure_count self.old < 2 ^ 64 - 1 }
+        ensures length { IfSome result (λ received. IfOk received (λ arrival. arrival.length ≤ most_datagram_octets)) }
+        ensures fault { IfSome result (λ received. IfErr received (λ fault. fault ≡ PortFault.Receive)) }
+        ensures failures { Self.failure_count self.new
+            ≡ Self.failure_count self.old + option_map_or (λ received. if is_err received then 1 else 0) result 0 }
+        ensures turns { IfSome result (λ received. ReceiveTells (Self.told self.old) (Self.told self.new) received datagram.new) }
+        ensures nothing { IfNone result ((is_prompt ≡ false) × (Self.told self.new ≡ Self.told self.old)) };
 }

@@ -1,11 +1,14 @@
 //! A server: datagrams in, replies out.
-ghost use Rattle.std.specs.Prelude.{◌≡◌, ◌+◌, ◌-◌, ◌≤◌, ◌<◌, ◌^◌, option_map};
+ghost use Rattle.std.specs.Prelude.{◌≡◌, ℕ, ◌+◌, ◌-◌, ◌≤◌, ◌<◌, ◌^◌, Option, option_map, OnOk, IfOk};
+ghost use Rattle.ntp_time.specs.declared.moment.Moment.{Moment};
+ghost use Rattle.ntp_service_serve.specs.Port.{Told, IncomingValue, ReceiveTells, most_datagram_octets};
 ghost use Rattle.ntp_service_serve.specs.Made.{reply_in, saved_in};
-ghost use Rattle.ntp_service_serve.specs.Serving.{ServeTells};
-ghost use Rattle.ntp_service_serve.specs.Steps.{TurnTells};
+ghost use Rattle.ntp_service_serve.specs.Serving.{ServeMakes, TurnMakes};
+ghost use Rattle.ntp_service_serve.specs.Sending.{IsInTurn, SendingMakes, counted};
 
-use crate::port::{MOST_DATAGRAM_OCTETS, Port};
+use crate::port::{MOST_DATAGRAM_OCTETS, Port, PortFault};
 use ntp_mac::Reply;
+use ntp_observer::{Arrival, Sending, TurnOutcome};
 use ntp_reply::{Answer, Reference};
 use ntp_service_run::Service;
 use ntp_time::Stamp;
@@ -27,9 +30,10 @@ pub struct Served {
 /// datagram came from. Where that succeeded and the reply was time, the clock is read again, and the service is told
 /// that the reply departed (profile). It takes no memory.
 ///
-/// At any port at most as many calls fail as turns are made, and no count is above the turns. Where the port tells its
-/// turns, the events are those of its turns, their outcomes are what the service tells, and what was sent is the replies
-/// of the turns that send, each to where its datagram came from, in order.
+/// At any port the service is told of at most one datagram a turn, and of the departure of its reply where that was time
+/// and was sent, and of nothing else; the outcomes are what the service tells, and the counts are theirs. Which datagrams
+/// they are, only a port that tells its turns says: they are those of its turns, and what was sent is the replies of the
+/// turns that send, each to where its datagram came from, in order.
 pub fn serve<P: Port, A: Allocator + Copy>(
     port: &mut P,
     service: &mut Service<A>,
@@ -39,7 +43,7 @@ pub fn serve<P: Port, A: Allocator + Copy>(
     requires { P.failure_count port.old + turns < 2 ^ 64 }
     ensures failures { P.failure_count port.new ≤ P.failure_count port.old + turns }
     ensures counts { (result.arrivals ≤ turns) × (result.sent ≤ turns) × (result.departed ≤ turns) }
-    ensures turns { ServeTells A reference.now turns (P.told port.old) (P.told port.new)
+    ensures turns { ServeMakes A reference.now turns (P.told port.old) (P.told port.new)
         (P.failure_count port.old) (P.failure_count port.new) service.old service.new result }
 {
     let mut datagram = [0; MOST_DATAGRAM_OCTETS];
@@ -49,34 +53,31 @@ pub fn serve<P: Port, A: Allocator + Copy>(
         departed: 0,
     };
     for _turn in 0..turns {
-        make_turn(port, service, reference, &mut datagram, &mut served);
+        let received = port.receive(&mut datagram);
+        let outcome = answer_received(port, service, reference, received, &datagram);
+        served.count(&outcome);
     }
     served
 }
 
-// Makes one turn, and counts what was done in it.
-fn make_turn<P: Port, A: Allocator + Copy>(
+/// Makes the rest of a turn, once a datagram was received into `datagram`, or could not be: it is answered, and a reply
+/// is sent, as `serve` does it. It takes no memory.
+pub fn answer_received<P: Port, A: Allocator + Copy>(
     port: &mut P,
     service: &mut Service<A>,
     reference: &Reference,
-    datagram: &mut [u8; 1025],
-    served: &mut Served,
-)
-    requires failures { P.failure_count port.old < 2 ^ 64 - 1 }
-    requires arrivals { served.old.arrivals < 2 ^ 32 - 1 }
-    requires sent { served.old.sent < 2 ^ 32 - 1 }
-    requires departed { served.old.departed < 2 ^ 32 - 1 }
-    ensures failures { P.failure_count port.new ≤ P.failure_count port.old + 1 }
-    ensures arrivals { served.new.arrivals ≤ served.old.arrivals + 1 }
-    ensures sent { served.new.sent ≤ served.old.sent + 1 }
-    ensures departed { served.new.departed ≤ served.old.departed + 1 }
-    ensures turns { TurnTells A reference.now (P.told port.old) (P.told port.new)
-        (P.failure_count port.old) (P.failure_count port.new) service.old service.new served.old served.new }
+    received: Result<Arrival, PortFault>,
+    datagram: &[u8; 1025],
+) -> TurnOutcome
+    requires length { IfOk received (λ arrival. arrival.length ≤ most_datagram_octets) }
+    requires failures { OnOk received (P.failure_count port.old < 2 ^ 64 - 1) }
+    ensures { (t : Option Told) → ReceiveTells t (P.told port.old) received datagram.now
+        → TurnMakes A reference.now received datagram.now t (P.told port.new) (P.failure_count port.old) (P.failure_count port.new)
+        service.old service.new result }
 {
-    let Ok(arrival) = port.receive(datagram) else {
-        return;
+    let Ok(arrival) = received else {
+        return TurnOutcome::NothingReceived;
     };
-    served.arrivals += 1;
     let transmit = port.now();
     let octets = &datagram[..arrival.length];
     let answer = service.datagram(
@@ -86,20 +87,63 @@ fn make_turn<P: Port, A: Allocator + Copy>(
         reference,
         octets,
     );
-    let Some(reply) = reply_in(&answer) else {
-        return;
+    let sending = send_reply(port, service, arrival, &answer);
+    TurnOutcome::Answered {
+        arrival,
+        answer,
+        sending,
+    }
+}
+
+// Sends the reply of an answer, where it has one, to where its datagram came from, and reports its departure where it was time.
+fn send_reply<P: Port, A: Allocator + Copy>(
+    port: &mut P,
+    service: &mut Service<A>,
+    arrival: Arrival,
+    answer: &Answer,
+) -> Sending
+    requires failures { P.failure_count port.old < 2 ^ 64 - 1 }
+    ensures { (t : Option Told) (from : IncomingValue) (transmit : Moment) → IsInTurn t (P.told port.old) from transmit
+        → from.address ≡ arrival.address → from.port ≡ arrival.port
+        → SendingMakes A answer.now from transmit t (P.told port.new) (P.failure_count port.old) (P.failure_count port.new)
+        service.old service.new result }
+{
+    let Some(reply) = reply_in(answer) else {
+        return Sending::NoReply;
     };
     let sent = port.send(arrival.address, arrival.port, reply.octets());
     if sent.is_err() {
-        return;
+        return Sending::NotSent;
     }
-    served.sent += 1;
-    let Some(saved) = saved_in(&answer) else {
-        return;
+    let Some(saved) = saved_in(answer) else {
+        return Sending::Sent;
     };
     let departure = port.now();
     if service.departed(arrival.address, saved, departure) {
-        served.departed += 1;
+        Sending::Noted
+    } else {
+        Sending::NotNoted
+    }
+}
+
+impl Served {
+    // Counts what was done in a turn.
+    fn count(&mut self, outcome: &TurnOutcome)
+        requires { (self.old.arrivals < 2 ^ 32 - 1) × (self.old.sent < 2 ^ 32 - 1) × (self.old.departed < 2 ^ 32 - 1) }
+        ensures { self.new ≡ counted outcome.now self.old }
+    {
+        let TurnOutcome::Answered { sending, .. } = outcome else {
+            return;
+        };
+        self.arrivals += 1;
+        match sending {
+            Sending::NoReply | Sending::NotSent => {}
+            Sending::Sent | Sending::NotNoted => self.sent += 1,
+            Sending::Noted => {
+                self.sent += 1;
+                self.departed += 1;
+            }
+        }
     }
 }
 

@@ -1,5 +1,5 @@
 use Rattle.std.proofs.Common.{◌≤◌, ◌+◌}
-use Rattle.ntp_service_serve.proofs.ManyTurns.{Serving}
+use Rattle.ntp_service_serve.specs.Serving.{ServeMakes}
 use Rattle.ntp_service_serve.proofs.serving.serve.Given as goal
 
 abbrev pub invariant-loop-turn : goal.invariant-loop-turn
@@ -8,6 +8,6 @@ invariant-loop-turn g l = record {
   arrivals : l.served.arrivals ≤ l._turn;
   sent : l.served.sent ≤ l._turn;
   departed : l.served.departed ≤ l._turn;
-  serving : Serving g.row.A.Denot l.reference l._turn (g.P.Port.told l.fn.port) (g.P.Port.told l.port)
+  makes : ServeMakes g.row.A.Denot l.reference l._turn (g.P.Port.told l.fn.port) (g.P.Port.told l.port)
       (g.P.Port.failure_count l.fn.port) (g.P.Port.failure_count l.port) l.fn.service l.service l.served;
 }

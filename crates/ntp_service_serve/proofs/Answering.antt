@@ -1,0 +1,163 @@
+-- What a turn comes to, once a datagram was received, or could not be.
+use Rattle.std.proofs.Common.{◌≡◌, ℕ, ◌+◌, ◌≤◌, true, false, Option, None, Some, Ok, Err, List, [], ◌∷◌, length, take, refl, sym, ap, ◌∙◌, subst, append-nil, length-take, arith}
+use Rattle.std.proofs.lemmas.List.{take_all}
+use Rattle.ntp_time.specs.declared.moment.Moment.{Moment}
+use Rattle.ntp_register.specs.Registry.{Registry}
+use Rattle.ntp_reply_packets.specs.Reference.{ReferenceState}
+use Rattle.ntp_reply.specs.declared.answers.Answer.{Answer}
+use Rattle.ntp_reply.specs.declared.answers.Answer.TheVariants as answer
+use Rattle.ntp_reply.specs.declared.answers.Reason.TheVariants as reason
+use Rattle.ntp_observer.specs.declared.outcomes.Arrival.{Arrival}
+use Rattle.ntp_observer.specs.declared.outcomes.Sending.{Sending}
+use Rattle.ntp_observer.specs.declared.outcomes.TurnOutcome.TheVariants.{NothingReceived, Answered}
+use Rattle.ntp_admin.specs.declared.event.Event.{Event}
+use Rattle.ntp_admin.specs.declared.event.Event.TheVariants as event
+use Rattle.ntp_admin.specs.declared.outcome.Outcome.TheVariants as outcome
+use Rattle.ntp_service_run.specs.Headline.{StandsFor, TellsOne}
+use Rattle.ntp_service_run.proofs.Runs.{Tells-nil, Tells-one, Tells-append}
+use Rattle.ntp_service_serve.specs.declared.port.PortFault.{PortFault}
+use Rattle.ntp_service_serve.specs.Port.{IncomingValue, TurnValue, no_turn, Told, Arrives, Receives, ReceiveTells, NowTells, later, received}
+use Rattle.ntp_service_serve.specs.Made.{Made, departing, departure_events, arrival_of, sending_of}
+use Rattle.ntp_service_serve.specs.Serving.{Follows, TurnMakes}
+use Rattle.ntp_service_serve.specs.Sending.{turn_of, IsInTurn, SendingMakes}
+use Rattle.ntp_service_serve.proofs.OneTurn.{follows-one}
+
+-- ---- a turn in which nothing came
+-- what is made of a turn with no datagram
+abbrev unanswered : TurnValue → Made
+unanswered turn = record { turn = turn; answer = answer.Silent reason.Unregistered; noted = false }
+
+made-empty : (A : Type 0) (reference : ReferenceState) (turn : TurnValue) (t u : Option Told) (f g : ℕ) (fault : PortFault)
+    (buffer : List ℕ) (s : Registry) → turn.arrival ≡ None → Follows (unanswered turn ∷ []) t u → g ≡ f
+    → TurnMakes A reference (Err fault) buffer t u f g s s NothingReceived
+made-empty A reference turn t u f g fault buffer s none follows count = record {
+  made = unanswered turn;
+  comes_to = rw none refl;
+  arrived = rw none refl;
+  octets = rw none refl;
+  port = follows;
+  failures = rw none (omega (arith, count));
+  tells = λ history stands. rw none (Tells-nil history s stands);
+}
+
+pub nothing-came : (A : Type 0) (reference : ReferenceState) (t u : Option Told) (f g : ℕ) (fault : PortFault) (buffer : List ℕ)
+    (s : Registry) → g ≡ f → ReceiveTells t u (Err fault) buffer → TurnMakes A reference (Err fault) buffer t u f g s s NothingReceived
+nothing-came A reference t u f g fault buffer s count told = by_told t u told
+  where
+    by_turns : (coming : List TurnValue) (old new : Told) → old.coming ≡ coming → Receives coming old new (Err fault) buffer
+        → TurnMakes A reference (Err fault) buffer (Some old) (Some new) f g s s NothingReceived
+    by_turns [] old new here p = made-empty A reference no_turn (Some old) (Some new) f g fault buffer s refl (record {
+      begun = rw here refl;
+      coming = rw (here, p.1) refl;
+      sent = rw p.1 (sym (append-nil old.sent));
+    }) count
+    by_turns (turn ∷ rest) old new here p = by_arrival turn.arrival refl p.0
+      where
+        by_arrival : (x : Option IncomingValue) → turn.arrival ≡ x → Arrives x (Err fault) buffer
+            → TurnMakes A reference (Err fault) buffer (Some old) (Some new) f g s s NothingReceived
+        by_arrival (Some d) is q = absurd q
+        by_arrival None is q = made-empty A reference turn (Some old) (Some new) f g fault buffer s is
+            (follows-one (unanswered turn) rest old new here (ap (λ (z : Told). z.coming) p.1)
+            (ap (λ (z : Told). z.sent) p.1 ∙ rw is (sym (append-nil old.sent)))) count
+
+    by_told : (t u : Option Told) → ReceiveTells t u (Err fault) buffer
+        → TurnMakes A reference (Err fault) buffer t u f g s s NothingReceived
+    by_told None u p = made-empty A reference no_turn None u f g fault buffer s refl tt count
+    by_told (Some old) None p = absurd p
+    by_told (Some old) (Some new) p = by_turns old.coming old new refl p
+
+-- ---- a turn in which a datagram came
+-- the datagram of a turn, once the clock was read
+pub record Comes (t v : Option Told) (x : Arrival) (buffer : List ℕ) (transmit : Moment) : Type 0 where
+  pub from : IncomingValue
+  pub arrival : arrival_of from ≡ x
+  pub octets : received from ≡ take x.length buffer
+  pub in_turn : IsInTurn t v from transmit
+
+same-arrival : (d : IncomingValue) (x : Arrival) → d.address ≡ x.address → d.port ≡ x.port → d.receipt ≡ x.receipt
+    → length (received d) ≡ x.length → arrival_of d ≡ x
+same-arrival d x e h k n = rw (e, h, k, n) refl
+
+module _ (x : Arrival) (buffer : List ℕ) (transmit : Moment) (most : x.length ≤ 1025) (long : length buffer ≡ 1025) where
+  taken : length (take x.length buffer) ≡ x.length
+  taken = omega (arith, length-take x.length buffer)
+
+  -- the datagram that is seen at a port that tells nothing
+  abbrev seen : IncomingValue
+  seen = record { address = x.address; port = x.port; receipt = x.receipt; octets = take x.length buffer }
+
+  seen-whole : received seen ≡ take x.length buffer
+  seen-whole = take_all 1025 (take x.length buffer) (omega (arith, taken))
+
+  comes-next : (coming : List TurnValue) (old mid new : Told) → old.coming ≡ coming
+      → Receives coming old mid (Ok x) buffer → NowTells (Some mid) (Some new) transmit → Comes (Some old) (Some new) x buffer transmit
+  comes-next [] old mid new here p q = cc
+  comes-next (turn ∷ rest) old mid new here p q = by_arrival turn.arrival refl p.0
+    where
+      by_arrival : (y : Option IncomingValue) → turn.arrival ≡ y → Arrives y (Ok x) buffer → Comes (Some old) (Some new) x buffer transmit
+      by_arrival None is a = cc
+      by_arrival (Some d) is a =
+          let shown : transmit ≡ turn.clock false 0 = q.0 ∙ ap (λ (t : Told). t.clock t.has_tried_send 0) p.1 in
+          let whole : turn ≡ turn_of d turn.clock turn.sends =
+          ap (λ z. record { arrival = z; clock = turn.clock; sends = turn.sends }) is in
+          record {
+            from = d;
+            arrival = same-arrival d x (sym a.0) (sym a.1) (sym a.2) (ap length (sym a.3) ∙ taken);
+            octets = sym a.3;
+            in_turn = (
+              turn.clock,
+              turn.sends,
+              rest,
+              record {
+                first = sym shown;
+                coming = here ∙ ap (λ z. z ∷ rest) whole;
+                after = q.1 ∙ ap (λ (t : Told). record t { clock = later t.clock }) p.1
+                    ∙ ap (λ z. record {
+                      coming = rest;
+                      present = Some z;
+                      clock = later turn.clock;
+                      has_tried_send = false;
+                      sent = old.sent;
+                    }) whole;
+              },
+            );
+          }
+
+  pub comes : (t u v : Option Told) → ReceiveTells t u (Ok x) buffer → NowTells u v transmit → Comes t v x buffer transmit
+  comes None u v p q = record {
+    from = seen;
+    arrival = same-arrival seen x refl refl refl (ap length seen-whole ∙ taken);
+    octets = seen-whole;
+    in_turn = tt;
+  }
+  comes (Some old) None v p q = absurd p
+  comes (Some old) (Some mid) None p q = absurd q
+  comes (Some old) (Some mid) (Some new) p q = comes-next old.coming old mid new refl p q
+
+pub answered : (A : Type 0) (reference : ReferenceState) (x : Arrival) (buffer : List ℕ) (transmit : Moment) (t v u : Option Told)
+    (f g h : ℕ) (s r q : Registry) (a : Answer) (sending : Sending) (k : Comes t v x buffer transmit) → g ≡ f
+    → ((history : List (Event A)) → StandsFor s history
+    → TellsOne history (event.Datagram x.address x.receipt transmit reference (take x.length buffer)) (outcome.Datagram a) r)
+    → SendingMakes A a k.from transmit t u g h r q sending
+    → TurnMakes A reference (Ok x) buffer t u f h s q (Answered x a sending)
+answered A reference x buffer transmit t v u f g h s r q a sending k count told p =
+    let d = k.from in
+    let same : ◌≡◌ {A = Event A} (event.Datagram x.address x.receipt transmit reference (take x.length buffer))
+    (event.Datagram d.address d.receipt (p.clock false 0) reference (received d)) =
+    ap (λ (z : Arrival). event.Datagram z.address z.receipt transmit reference (take x.length buffer)) (sym k.arrival)
+    ∙ ap (λ z. event.Datagram d.address d.receipt transmit reference z) (sym k.octets)
+    ∙ ap (λ z. event.Datagram d.address d.receipt z reference (received d)) (sym p.first) in
+    let first : Event A = event.Datagram d.address d.receipt (p.clock false 0) reference (received d) in
+    record {
+      made = record { turn = turn_of d p.clock p.sends; answer = a; noted = p.noted };
+      comes_to = ap (λ z. Answered x a z) p.comes_to ∙ ap (λ z. Answered z a (sending_of p.sends a p.noted)) (sym k.arrival);
+      arrived = ap (λ z. Some z) k.arrival;
+      octets = ap (λ l. Some l) k.octets;
+      port = p.port;
+      failures = p.failures ∙ ap (λ n. n + 1) count;
+      tells = λ history stands. Tells-append history (first ∷ []) (departure_events d.address (p.clock true 1) (departing p.sends a))
+          (outcome.Datagram a ∷ []) _ r q
+          (Tells-one history first (outcome.Datagram a) s r stands
+          (subst (λ e. TellsOne history e (outcome.Datagram a) r) same (told history stands)))
+          (λ on. p.tells _ on);
+    }

@@ -1,0 +1,142 @@
+-- The counts of turns.
+use Rattle.std.proofs.Common.{◌≡◌, ℕ, ◌+◌, ◌≤◌, Bool, true, false, Option, None, Some, List, [], ◌∷◌, ◌++◌, length, refl, sym, ap, ◌∙◌, subst, append-nil, length-append, arith}
+use Rattle.std.proofs.lemmas.Grind.{flat_map-append}
+use Rattle.std.specs.Prelude.{Result, ◌&&◌, is_some, is_err, if◌then◌else◌}
+use Rattle.ntp_register.specs.Registry.{Registry}
+use Rattle.ntp_reply_packets.specs.Reference.{ReferenceState}
+use Rattle.ntp_reply.specs.declared.answers.Answer.{Answer}
+use Rattle.ntp_reply.specs.declared.answers.Answer.TheVariants as answer
+use Rattle.ntp_observer.specs.declared.outcomes.Arrival.{Arrival}
+use Rattle.ntp_observer.specs.declared.outcomes.TurnOutcome.{TurnOutcome}
+use Rattle.ntp_observer.specs.declared.outcomes.TurnOutcome.TheVariants.{NothingReceived, Answered}
+use Rattle.ntp_service_run.specs.Headline.{Tells}
+use Rattle.ntp_service_run.proofs.Runs.{Tells-nil, Tells-append}
+use Rattle.ntp_service_serve.specs.declared.port.PortFault.{PortFault}
+use Rattle.ntp_service_serve.specs.declared.serving.Served.{Served}
+use Rattle.ntp_service_serve.specs.Port.{IncomingValue, Told}
+use Rattle.ntp_service_serve.specs.Made.{Made, departing, events_in, outcomes_in, sent_in, has_arrived, has_departed, is_unfailing, sending_of, arrival_sent, turn_outcome}
+use Rattle.ntp_service_serve.specs.Serving.{ServeMakes, TurnMakes, events_of, outcomes_of, sent_of, count_of}
+use Rattle.ntp_service_serve.specs.Sending.{counted, was_sent, was_noted}
+use Rattle.ntp_service_serve.proofs.ManyTurns.{count-append, Follows-nil, Follows-append}
+
+abbrev if_so : Bool → ℕ
+if_so b = if b then 1 else 0
+
+at-most-one : (b : Bool) → if_so b ≤ 1
+at-most-one true = omega arith
+at-most-one false = omega arith
+
+pub one-or-none : (b : Bool) → (if b then 1 else 0) + (if b then 0 else 1) ≡ 1
+one-or-none true = refl
+one-or-none false = refl
+
+-- a turn counts one at most
+pub record CountsOne (c d : Served) : Type 0 where
+  pub arrivals : d.arrivals ≤ c.arrivals + 1
+  pub sent : d.sent ≤ c.sent + 1
+  pub departed : d.departed ≤ c.departed + 1
+
+pub counts-one : (o : TurnOutcome) (c : Served) → CountsOne c (counted o c)
+counts-one NothingReceived c = record { arrivals = omega arith; sent = omega arith; departed = omega arith }
+counts-one (Answered x a sending) c = record {
+  arrivals = omega arith;
+  sent = omega (arith, at-most-one (was_sent sending));
+  departed = omega (arith, at-most-one (was_noted sending));
+}
+
+sent-one : (d : IncomingValue) (sends : Bool) (a : Answer) (noted : Bool)
+    → if_so (was_sent (sending_of sends a noted)) ≡ length (arrival_sent (Some d) sends a)
+sent-one d true (answer.Time reply saved) true = refl
+sent-one d true (answer.Time reply saved) false = refl
+sent-one d true (answer.Rate reply) noted = refl
+sent-one d true (answer.Deny reply) noted = refl
+sent-one d true (answer.Nak reply) noted = refl
+sent-one d true (answer.Silent why) noted = refl
+sent-one d false (answer.Time reply saved) noted = refl
+sent-one d false (answer.Rate reply) noted = refl
+sent-one d false (answer.Deny reply) noted = refl
+sent-one d false (answer.Nak reply) noted = refl
+sent-one d false (answer.Silent why) noted = refl
+
+noted-one : (sends : Bool) (a : Answer) (noted : Bool) → was_noted (sending_of sends a noted) ≡ (is_some (departing sends a) && noted)
+noted-one true (answer.Time reply saved) true = refl
+noted-one true (answer.Time reply saved) false = refl
+noted-one true (answer.Rate reply) noted = refl
+noted-one true (answer.Deny reply) noted = refl
+noted-one true (answer.Nak reply) noted = refl
+noted-one true (answer.Silent why) noted = refl
+noted-one false (answer.Time reply saved) noted = refl
+noted-one false (answer.Rate reply) noted = refl
+noted-one false (answer.Deny reply) noted = refl
+noted-one false (answer.Nak reply) noted = refl
+noted-one false (answer.Silent why) noted = refl
+
+-- what a turn counts
+record Counted (m : Made) (c d : Served) : Type 0 where
+  arrivals : d.arrivals ≡ c.arrivals + if_so (has_arrived m)
+  sent : d.sent ≡ c.sent + length (sent_in m)
+  departed : d.departed ≡ c.departed + if_so (has_departed m)
+
+counted-made : (m : Made) (c : Served) → Counted m c (counted (turn_outcome m) c)
+counted-made m c = by_arrival m.turn.arrival refl
+  where
+    by_arrival : (x : Option IncomingValue) → m.turn.arrival ≡ x → Counted m c (counted (turn_outcome m) c)
+    by_arrival None is = record { arrivals = rw is (omega arith); sent = rw is (omega arith); departed = rw is (omega arith) }
+    by_arrival (Some d) is = record {
+      arrivals = rw is refl;
+      sent = rw is (ap (λ n. c.sent + n) (sent-one d m.turn.sends m.answer m.noted));
+      departed = rw is (ap (λ b. c.departed + if_so b) (noted-one m.turn.sends m.answer m.noted));
+    }
+
+count-one : (is : Made → Bool) (m : Made) → count_of is (m ∷ []) ≡ if_so (is m)
+count-one is m = chosen (is m)
+  where
+    chosen : (b : Bool) → length (if b then m ∷ [] else []) ≡ if_so b
+    chosen true = refl
+    chosen false = refl
+
+count-more : (is : Made → Bool) (made : List Made) (m : Made) → count_of is (made ++ m ∷ []) ≡ count_of is made + if_so (is m)
+count-more is made m = count-append is made (m ∷ []) ∙ ap (λ n. count_of is made + n) (count-one is m)
+
+sent-more : (made : List Made) (m : Made) → length (sent_of (made ++ m ∷ [])) ≡ length (sent_of made) + length (sent_in m)
+sent-more made m = ap length (flat_map-append sent_in made (m ∷ [])) ∙ length-append (sent_of made) (sent_of (m ∷ []))
+    ∙ ap (λ l. length (sent_of made) + length l) (append-nil (sent_in m))
+
+-- ---- the turns of a server
+pub ServeMakes-nil : (A : Type 0) (reference : ReferenceState) (t : Option Told) (f : ℕ) (s : Registry)
+    → ServeMakes A reference 0 t t f f s s (record { arrivals = 0; sent = 0; departed = 0 })
+ServeMakes-nil A reference t f s = record {
+  made = [];
+  each = refl;
+  port = Follows-nil t;
+  arrivals = refl;
+  sent = refl;
+  departed = refl;
+  failures = refl;
+  tells = λ history stands. Tells-nil history s stands;
+}
+
+pub ServeMakes-turn : (A : Type 0) (reference : ReferenceState) (n : ℕ) (t u v : Option Told) (f g i h : ℕ) (s r q : Registry) (c : Served)
+    (x : Result Arrival PortFault) (buffer : List ℕ) (o : TurnOutcome) → ServeMakes A reference n t u f g s r c
+    → i ≡ g + (if is_err x then 1 else 0)
+    → TurnMakes A reference x buffer u v i h r q o → ServeMakes A reference (n + 1) t v f h s q (counted o c)
+ServeMakes-turn A reference n t u v f g i h s r q c x buffer o p came k =
+    let m = k.made in
+    let one : Counted m c (counted o c) = subst (λ z. Counted m c (counted z c)) (sym k.comes_to) (counted-made m c) in
+    record {
+      made = p.made ++ m ∷ [];
+      each = omega (arith, p.each, length-append p.made (m ∷ []));
+      port = Follows-append p.made (m ∷ []) t u v p.port k.port;
+      arrivals = omega (arith, p.arrivals, one.arrivals, count-more has_arrived p.made m);
+      sent = omega (arith, p.sent, one.sent, sent-more p.made m);
+      departed = omega (arith, p.departed, one.departed, count-more has_departed p.made m);
+      failures = omega (arith, p.failures, k.failures, came, one-or-none (is_err x), count-more is_unfailing p.made m);
+      tells = λ history stands.
+          subst (λ es. Tells history es (outcomes_of (p.made ++ m ∷ [])) q)
+          (ap (λ l. events_of reference p.made ++ l) (sym (append-nil (events_in reference m)))
+          ∙ sym (flat_map-append (events_in reference) p.made (m ∷ [])))
+          (subst (λ os. Tells history (events_of reference p.made ++ events_in reference m) os q)
+          (ap (λ l. outcomes_of p.made ++ l) (sym (append-nil (outcomes_in m))) ∙ sym (flat_map-append outcomes_in p.made (m ∷ [])))
+          (Tells-append history (events_of reference p.made) (events_in reference m) (outcomes_of p.made) (outcomes_in m) r q
+          (p.tells history stands) (λ on. k.tells _ on)));
+    }

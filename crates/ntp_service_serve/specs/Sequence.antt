@@ -1,0 +1,8 @@
+-- What a list gives that goes on for ever with one value.
+use Rattle.std.specs.Prelude.{ℕ, zero, suc, List, [], ◌∷◌}
+
+-- the first so many of a list, which goes on for ever with one value
+abbrev pub firsts : {X : Type 0} → X → ℕ → List X → List X
+firsts behind zero xs = []
+firsts behind (suc n) [] = behind ∷ firsts behind n []
+firsts behind (suc n) (x ∷ xs) = x ∷ firsts behind n xs

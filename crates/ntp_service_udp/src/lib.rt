@@ -5,4 +5,4 @@ mod clock;
 mod udp_port;
 
 pub use clock::moment_now;
-pub use udp_port::{UdpPort, Waited};
+pub use udp_port::UdpPort;

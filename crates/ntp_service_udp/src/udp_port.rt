@@ -1,27 +1,13 @@
 //! A port over a UDP socket.
-ghost use Rattle.std.specs.Prelude.{◌≡◌, ◌≤◌};
-ghost use Rattle.std.specs.Option.{ForSome};
-ghost use Rattle.std.specs.Result.{ForOk};
+ghost use Rattle.std.specs.Prelude.{◌≡◌};
 
 use crate::clock::moment_now;
 use ntp_register::Address;
-use ntp_service_serve::{Arrival, Port, PortFault};
+use ntp_service_serve::{Arrival, Port, PortFault, TimedPort};
 use ntp_time::Moment;
 use std::io::{self, ErrorKind};
 use std::net::{Ipv4Addr, SocketAddr, SocketAddrV4, UdpSocket};
 use std::time::Clock;
-
-/// How many octets of a datagram are taken at most, as a port's `receive` hands them out.
-const MOST_OCTETS: usize = 1025;
-
-/// What a wait for a datagram came to.
-#[derive(Clone, Copy, Debug, PartialEq, Eq)]
-pub enum Waited {
-    /// At this moment a datagram came, or the socket failed: the next `receive` gives it at once.
-    Ready(Moment),
-    /// Nothing came within the socket's time limit, or a signal came instead.
-    Nothing,
-}
 
 /// The calls of a port over one bound UDP socket, with a clock. Nothing is known of what it receives.
 ///
@@ -32,16 +18,13 @@ pub struct UdpPort<C: Clock + Drop> {
     socket: UdpSocket,
     clock: C,
     failures: u64,
-    // What the next `receive` gives, where it was waited for.
-    taken: Option<Result<Arrival, PortFault>>,
-    datagram: [u8; 1025],
-    ghost fits: { ForSome taken (λ received. ForOk received (λ arrival. arrival.length ≤ 1025)) },
 }
 
 impl<C: Clock + Drop> UdpPort<C> {
     ghost use Rattle.ntp_service_udp.specs.Failures.{failures_of};
 
-    /// A port over a bound socket. A time limit of the socket's is the longest that a `wait` takes.
+    /// A port over a bound socket. A time limit of the socket's is the longest that `receive_in_time` takes; with none it
+    /// takes as long as nothing comes.
     pub fn new(socket: UdpSocket, clock: C) -> UdpPort<C>
         ensures { failures_of result ≡ 0 }
     {
@@ -49,35 +32,7 @@ impl<C: Clock + Drop> UdpPort<C> {
             socket,
             clock,
             failures: 0,
-            taken: None,
-            datagram: [0; MOST_OCTETS],
         }
-    }
-
-    /// Waits for a datagram and takes it, with the moment of its receipt; the next `receive` hands it out. So there is
-    /// time to look at something else once a datagram has come and before its turn begins. One that waits for
-    /// `receive` already is kept.
-    pub fn wait(&mut self) -> Waited
-        ensures { failures_of self.new ≡ failures_of self.old }
-    {
-        match self.taken {
-            Some(Ok(arrival)) => return Waited::Ready(arrival.receipt),
-            Some(Err(_)) => return Waited::Ready(moment_now(&self.clock)),
-            None => {}
-        }
-        let received = self.socket.recv_from(&mut self.datagram);
-        let receipt = moment_now(&self.clock);
-        self.taken = Some(match received {
-            Ok((length, SocketAddr::V4(source))) => Ok(Arrival {
-                address: Address(source.ip().octets()),
-                port: source.port(),
-                length,
-                receipt,
-            }),
-            Err(error) if is_no_failure(&error) => return Waited::Nothing,
-            _ => Err(PortFault::Receive),
-        });
-        Waited::Ready(receipt)
     }
 }
 
@@ -94,20 +49,15 @@ impl<C: Clock + Drop> Port for UdpPort<C> {
 
     ghost failure_count = { failures_of };
 
-    /// Hands out the datagram that a `wait` took, and waits for one where none was taken: a time limit that passes, or
-    /// a signal, ends no turn.
+    /// Waits until a datagram comes: a time limit that passes, or a signal, ends no turn.
     fn receive(&mut self, datagram: &mut [u8; 1025]) -> Result<Arrival, PortFault> {
         for _ in 0..u64::MAX {
-            if let Waited::Ready(_) = self.wait() {
-                break;
+            if let Some(received) = self.receive_in_time(datagram) {
+                return received;
             }
         }
-        let Some(Ok(arrival)) = self.taken.take() else {
-            self.failures += 1;
-            return Err(PortFault::Receive);
-        };
-        datagram[..arrival.length].copy_from_slice(&self.datagram[..arrival.length]);
-        Ok(arrival)
+        self.failures += 1;
+        Err(PortFault::Receive)
     }
 
     fn now(&mut self) -> Moment {
@@ -127,6 +77,27 @@ impl<C: Clock + Drop> Port for UdpPort<C> {
 
     fn failures(&self) -> u64 {
         self.failures
+    }
+}
+
+impl<C: Clock + Drop> TimedPort for UdpPort<C> {
+    /// Waits for a datagram as long as the socket's time limit allows. A signal ends the wait too.
+    fn receive_in_time(&mut self, datagram: &mut [u8; 1025]) -> Option<Result<Arrival, PortFault>> {
+        let received = self.socket.recv_from(datagram);
+        let receipt = moment_now(&self.clock);
+        match received {
+            Ok((length, SocketAddr::V4(source))) => Some(Ok(Arrival {
+                address: Address(source.ip().octets()),
+                port: source.port(),
+                length,
+                receipt,
+            })),
+            Err(error) if is_no_failure(&error) => None,
+            _ => {
+                self.failures += 1;
+                Some(Err(PortFault::Receive))
+            }
+        }
     }
 }
 

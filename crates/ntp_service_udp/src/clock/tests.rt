@@ -1,6 +1,7 @@
-//! The clock beside the one by which the file system notes when a file was written.
+//! The clock beside the one by which the file system notes when a file was written, and clocks that were made up.
 use super::*;
 use std::fs::{self, Metadata};
+use std::io::ErrorKind;
 use std::net::UdpSocket;
 use std::os::unix::fs::MetadataExt;
 use std::test::Fail;
@@ -47,4 +48,35 @@ fn the_clock_shows_when_a_file_is_written(rt: HostRuntime) -> Result<(), Fail> {
     }
     fs::remove_file(&rt, path.as_str())?;
     Ok(())
+}
+
+// A clock whose readings from 1970 are given, and fail where none is; its other reading is of another time.
+#[derive(Drop)]
+struct MadeUp(Option<Duration>);
+
+impl Clock for MadeUp {
+    fn monotonic(&self) -> io::Result<Duration> {
+        Ok(Duration::from_secs(1))
+    }
+
+    fn since_1970(&self) -> io::Result<Duration> {
+        self.0.ok_or(io::Error::from(ErrorKind::Other))
+    }
+}
+
+// Half a second after 1970 began, 2,208,988,800 seconds from 1900; and the second at which era 1 begins.
+#[test]
+fn a_clock_shows_its_moment_or_stamp_0(rt: HostRuntime) {
+    let shown = |reading| {
+        let moment = moment_now(&MadeUp(reading));
+        (moment.era, moment.stamp.0)
+    };
+    assert_eq!(rt; shown(None), (0, 0));
+    assert_eq!(rt;
+        shown(Some(Duration::new(0, 500_000_000))),
+        (0, 0x83aa_7e80_8000_0000)
+    );
+    assert_eq!(rt; shown(Some(Duration::new(2_085_978_496, 0))), (1, 0));
+    // No clock counts 2^63 seconds.
+    assert_eq!(rt; shown(Some(Duration::new(1 << 63, 0))), (0, 0));
 }

@@ -30,17 +30,15 @@ fn a_datagram_comes_and_a_reply_goes_back(rt: HostRuntime) -> Result<(), Fail> {
     let (mut port, client) = port_and_client(&rt)?;
     let before = moment_now(&&rt);
     client.send(b"a query")?;
-    let Waited::Ready(receipt) = port.wait() else {
+    let mut datagram = [7; 1025];
+    let Some(Ok(arrival)) = port.receive_in_time(&mut datagram) else {
         return Err("nothing came".into());
     };
-    let mut datagram = [7; 1025];
-    let arrival = port.receive(&mut datagram)?;
     assert!(rt; arrival.address == Address([127, 0, 0, 1]));
     assert_eq!(rt; arrival.port, client.local_addr()?.port());
     assert_eq!(rt; &datagram[..arrival.length], b"a query".as_slice());
     assert_eq!(rt; datagram[arrival.length], 7);
-    assert!(rt; arrival.receipt == receipt);
-    assert!(rt; is_near(before, receipt) && is_near(receipt, port.now()));
+    assert!(rt; is_near(before, arrival.receipt) && is_near(arrival.receipt, port.now()));
     port.send(arrival.address, arrival.port, b"a reply")?;
     let mut reply = [0; 1025];
     let length = client.recv(&mut reply)?;
@@ -49,15 +47,39 @@ fn a_datagram_comes_and_a_reply_goes_back(rt: HostRuntime) -> Result<(), Fail> {
     Ok(())
 }
 
+// A clock that sends a datagram each time that it is read.
+#[derive(Drop)]
+struct Sending<'a>(&'a UdpSocket);
+
+impl<'a> Clock for Sending<'a> {
+    fn monotonic(&self) -> io::Result<Duration> {
+        Err(io::Error::from(ErrorKind::Other))
+    }
+
+    fn since_1970(&self) -> io::Result<Duration> {
+        self.0.send(b"late")?;
+        Ok(Duration::from_secs(5))
+    }
+}
+
+// A wait ends with nothing once, and then with a datagram: it is sent when the clock is read after the first.
 #[test]
 fn a_time_limit_that_passes_is_no_failure(rt: HostRuntime) -> Result<(), Fail> {
-    let (mut port, client) = port_and_client(&rt)?;
-    assert!(rt; port.wait() == Waited::Nothing);
-    assert_eq!(rt; port.failures(), 0);
-    client.send(b"late")?;
+    let (port, client) = port_and_client(&rt)?;
+    let UdpPort { socket, .. } = port;
+    let mut port = UdpPort::new(socket, Sending(&client));
     let mut datagram = [0; 1025];
+    assert!(rt; port.receive_in_time(&mut datagram).is_none());
     assert_eq!(rt; port.receive(&mut datagram)?.length, 4);
+    assert_eq!(rt; port.receive(&mut datagram)?.length, 4);
+    assert_eq!(rt; port.failures(), 0);
     Ok(())
+}
+
+#[test]
+fn a_signal_is_no_failure(rt: HostRuntime) {
+    assert!(rt; is_no_failure(&io::Error::from(ErrorKind::Interrupted)));
+    assert!(rt; !is_no_failure(&io::Error::from(ErrorKind::ConnectionRefused)));
 }
 
 #[test]
@@ -126,7 +148,7 @@ fn a_failed_receive_is_not_tried_again(rt: HostRuntime) -> Result<(), Fail> {
     };
     client.send_to(b"a query", served)?;
     let mut datagram = [0; 1025];
-    assert!(rt; port.receive(&mut datagram) == Err(PortFault::Receive));
+    assert!(rt; port.receive_in_time(&mut datagram) == Some(Err(PortFault::Receive)));
     assert_eq!(rt; port.failures(), 1);
     assert_eq!(rt; port.receive(&mut datagram)?.length, 7);
     assert_eq!(rt; port.failures(), 1);

@@ -1,0 +1,12 @@
+-- What a clock shows, as a moment.
+use Rattle.std.specs.Prelude.{ℕ, pos, ◌/◌, ◌%◌}
+use Rattle.ntp_time.specs.declared.moment.Moment.{Moment}
+use Rattle.ntp_time.specs.Unix.{second_nanos, IsUnixTime}
+
+-- a moment is that of a count of nanoseconds from 1970-01-01 at 00:00 UTC (RFC 5905, 6)
+abbrev pub IsMomentOf : Moment → ℕ → Type 0
+IsMomentOf m nanos = IsUnixTime m (pos (nanos / second_nanos)) (nanos % second_nanos)
+
+-- what a clock reads as that cannot be read: stamp 0 of era 0 (profile)
+abbrev pub unread : Moment
+unread = record { era = 0; stamp = record { 0 = 0 } }

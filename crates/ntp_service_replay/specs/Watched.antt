@@ -7,11 +7,11 @@ use Rattle.ntp_service_replay.specs.declared.watch.Watched.{Watched}
 abbrev pub inner_of : {T : Type 0} → Watched T → T
 inner_of watched = watched.inner
 
--- whether a call through it failed
+-- whether a failure was noted
 abbrev pub has_failed : {T : Type 0} → Watched T → Bool
 has_failed watched = watched.failed
 
--- the reads made through it, up to 2^64 - 1
+-- the reads that were counted, up to 2^64 - 1
 abbrev pub read_count : {T : Type 0} → Watched T → ℕ
 read_count watched = watched.reads
 

@@ -8,9 +8,9 @@ use ntp_admin::LineFault;
 pub enum ReplayFaultKind {
     /// The line spells no event.
     Line(LineFault),
-    /// A read failed, or 4,294,967,295 reads did not reach the end.
+    /// A failure of a read was noted, or 4,294,967,295 reads did not reach the end.
     Read,
-    /// A write failed, or took no octet.
+    /// A failure of a write was noted.
     Write,
     /// A growth was refused, for the line or for its answer.
     NoMemory,

@@ -1,19 +1,22 @@
-//! A reader or a writer, and whether it failed.
+//! A reader or a writer, and whether a failure was noted.
 ghost use Rattle.std.specs.Prelude.{◌≡◌, ℕ, ◌+◌, ◌-◌, ◌<◌, ◌≤◌, ◌^◌, ◌++◌, List, [], length, take, min, true, false};
 ghost use Rattle.std.specs.Prelude.{IfOk, IsErr, OnOk, OnErr};
 ghost use Rattle.std.specs.Io.KnownBytes.{Keeps, Consumes, IsAtEnd};
 
 use std::io::{self, ErrorKind, Read, Write};
 
-/// A reader or a writer that is watched: whether a call through it failed, and how many reads there were.
+/// A reader or a writer that is watched: whether a failure was noted, and how many reads were counted. A failure is
+/// noted, and a read counted, where a call is made through it.
 #[derive(Debug, Drop)]
 pub struct Watched<T> {
     inner: T,
+    // Whether a failure was noted.
     failed: bool,
+    // How many reads were counted.
     reads: u64,
 }
 
-/// A call through a `Watched` failed.
+/// A failure was noted.
 #[derive(Clone, Copy, Debug, PartialEq, Eq)]
 pub(crate) struct Failed;
 
@@ -33,7 +36,7 @@ impl<T> Watched<T> {
         }
     }
 
-    /// Whether a read or a write through it failed, or a write of one or more octets took none.
+    /// Whether a failure was noted: of a read or a write, or of a write of one or more octets that took none.
     pub fn failed(&self) -> bool
         ensures { result ≡ has_failed self.now }
     {
@@ -52,7 +55,7 @@ impl<T> Watched<T> {
         inner
     }
 
-    /// How many reads were made through it, at most 2^64 - 1.
+    /// How many reads were counted, at most 2^64 - 1.
     pub fn reads(&self) -> u64
         ensures { result ≡ read_count self.now }
     {
@@ -77,7 +80,7 @@ impl<T> Watched<T> {
 impl<R: Read> Watched<R> {
     ghost use Rattle.ntp_service_replay.specs.Watched.{inner_of, has_failed, read_count};
 
-    // One read, tried once. It gives no octet only at the end of the input.
+    // One read, tried once. It gives no octet only at the end of the input. An error is noted as a failure.
     pub(crate) fn read_chunk(&mut self, chunk: &mut [u8]) -> Result<usize, Failed>
         requires { 0 < length chunk.old }
         ensures bound { IfOk result (λ n. n ≤ length chunk.new) }
@@ -112,7 +115,7 @@ impl<W: Write> Watched<W> {
         Ok(())
     }
 
-    // One write, tried once. One that takes no octet has failed.
+    // One write, tried once. An error is noted as a failure, and so is that it took no octet.
     fn write_some(&mut self, octets: &[u8]) -> Result<usize, Failed>
         ensures some { IfOk result (λ n. (0 < n) × (n ≤ length octets.now)) }
         ensures octets { IfOk result (λ n. Wrote W.contents self.old self.new (take n octets.now)) }

@@ -3,16 +3,17 @@ use super::*;
 use crate::faulty::Faulty;
 
 #[test]
-fn a_read_is_one_call_and_is_counted_once(rt: HostRuntime) {
+fn each_read_is_one_call_and_is_counted_once(rt: HostRuntime) {
     let mut reader = Watched::new(Faulty::sound(b"ab".as_slice()));
-    let mut chunk = [0; 4];
-    assert_eq!(rt; reader.read_chunk(&mut chunk), Ok(1));
-    assert_eq!(rt; chunk[0], b'a');
-    assert_eq!(rt; reader.reads(), 1);
-    assert!(rt; !reader.failed());
+    // The last two are at the end of the input.
+    for (reads, given) in [(1, 1), (2, 1), (3, 0), (4, 0)] {
+        assert_eq!(rt; reader.read_chunk(&mut [0; 4]), Ok(given));
+        assert_eq!(rt; reader.reads(), reads);
+        assert!(rt; !reader.failed());
+    }
     let (calls, left) = reader.into_inner().into_parts();
-    assert_eq!(rt; calls, 1);
-    assert_eq!(rt; left, b"b".as_slice());
+    assert_eq!(rt; calls, 4);
+    assert!(rt; left.is_empty());
 }
 
 #[test]

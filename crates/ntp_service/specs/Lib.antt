@@ -7,6 +7,7 @@ pub use Rattle.ntp_service_replay.specs.Watched
 pub use Rattle.ntp_service_replay.specs.Script
 pub use Rattle.ntp_service_replay.specs.Replay
 pub use Rattle.ntp_service_replay.specs.declared.faults
+pub use Rattle.ntp_service_serve.specs.Sequence
 pub use Rattle.ntp_service_serve.specs.Port
 pub use Rattle.ntp_service_serve.specs.Memory
 pub use Rattle.ntp_service_serve.specs.Made

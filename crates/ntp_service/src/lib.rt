@@ -9,6 +9,7 @@ pub use ntp_service_run::{
     replies_in_a_window_are_few, stamps_are_told_apart, what_is_kept_of_a_life_tells_all,
 };
 pub use ntp_service_serve::{
-    Arrival, Incoming, MemoryPort, Port, PortFault, Sent, Served, Turn, serve,
+    Arrival, Incoming, MemoryPort, Port, PortFault, Sent, Served, TimedPort, Turn, answer_received,
+    serve,
 };
-pub use ntp_service_udp::{UdpPort, Waited, moment_now};
+pub use ntp_service_udp::{UdpPort, moment_now};

@@ -10,8 +10,7 @@ use Rattle.ntp_admin.specs.declared.event.Event.TheVariants as event
 use Rattle.ntp_admin.specs.declared.outcome.Outcome.TheVariants as outcome
 use Rattle.ntp_service_run.specs.Headline.{StandsFor, TellsOne, kept}
 use Rattle.ntp_service_run.proofs.Runs.{Goes, Goes-nil, Goes-push, Goes-tells}
-use Rattle.ntp_operating.specs.CommandsFile.{orders}
-use Rattle.ntp_operating.specs.Loading.{all_done, Enrols, IsRefused}
+use Rattle.ntp_operating.specs.Loading.{orders, all_done, Enrols, IsRefused}
 
 -- a service was given commands and nothing before them, and each was done
 pub record Enrolled (commands : List Command) (service : Registry) : Type 0 where

@@ -1,3 +1,4 @@
 mod LinesCut
+pub mod LinesTaken
 mod LinesApplied
 mod Enrolments

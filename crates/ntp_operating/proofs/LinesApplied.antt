@@ -1,71 +1,79 @@
 -- Lines applied one after another.
-use Rattle.std.proofs.Common.{◌≡◌, ℕ, ◌+◌, ◌<◌, ◌≤◌, false, List, [], ◌∷◌, ◌++◌, length, drop, Option, Some, None, Ok, arith, refl, sym, ap, ◌∙◌, subst, append_assoc, append-nil}
-use Rattle.std.specs.List.{filter_map}
-use Rattle.std.proofs.lemmas.List.{length-append, drop-append-le, drop_all, map-append}
-use Rattle.std.proofs.lemmas.List.Elements.{filter_map-append}
+use Rattle.std.proofs.Common.{◌≡◌, ℕ, ◌+◌, ◌<◌, ◌≤◌, ◌-◌, true, false, List, [], ◌∷◌, ◌++◌, length, drop, Option, Ok, Err, arith, refl, sym, ap, ◌∙◌, subst, append_assoc, append-nil}
+use Rattle.std.specs.Prelude.{Result}
+use Rattle.std.proofs.lemmas.List.{length-append, length-map, length-drop, drop-append-le, drop_all, map-append}
+use Rattle.ntp_register.specs.declared.refusal.Refusal.{Refusal}
 use Rattle.ntp_register.specs.Registry.{Registry}
 use Rattle.ntp_admin.specs.Words.{words}
 use Rattle.ntp_admin.specs.Spells.{command_in}
 use Rattle.ntp_admin.specs.declared.command.Command.{Command}
 use Rattle.ntp_admin.specs.declared.event.Event.{Event}
 use Rattle.ntp_admin.specs.declared.event.Event.TheVariants as event
-use Rattle.ntp_admin.specs.declared.outcome.Outcome.{Outcome}
-use Rattle.ntp_service_run.specs.Headline.{StandsFor, TellsOne}
-use Rattle.ntp_service_run.proofs.Runs.{Goes, Goes-nil, Goes-push, Goes-tells}
+use Rattle.ntp_admin.specs.declared.line_fault.LineFault.{LineFault}
+use Rattle.ntp_observer.specs.declared.outcomes.LineOutcome.{LineOutcome}
+use Rattle.ntp_observer.specs.declared.outcomes.LineOutcome.TheVariants.{Faulty}
+use Rattle.ntp_observer.specs.declared.outcomes.Observation.{Observation}
+use Rattle.ntp_observer.specs.declared.outcomes.Observation.TheVariants.{Line}
+use Rattle.ntp_observer.specs.Sees.{Sees}
+use Rattle.ntp_observer.proofs.Seen.{Sees-nil}
+use Rattle.ntp_service_run.specs.Headline.{StandsFor, TellsOne, command_outcome}
+use Rattle.ntp_service_run.proofs.Runs.{Tells-nil, Tells-one}
 use Rattle.ntp_service_replay.specs.Script.{is_passed_over}
-use Rattle.ntp_operating.specs.CommandsFile.{complete_lines, command_on, commands_in, orders}
-use Rattle.ntp_operating.specs.Applying.{CarriesOut, Applies}
+use Rattle.ntp_operating.specs.FileText.{IsText}
+use Rattle.ntp_operating.specs.CommandsFile.{complete_lines, reading_of, TakenLine, carried_out, observed_read, CarriesOutDue}
+use Rattle.ntp_operating.specs.Applying.{ComesTo, AppliesLine, Applies}
+use Rattle.ntp_operating.proofs.LinesTaken.{CarriesOut-none, CarriesOut-more}
 
--- a line that is a command was carried out
-pub carries-command : (A : Type 0) (old new : Registry) (line : List ℕ) (c : Command) (o : Outcome)
-    → is_passed_over line ≡ false → command_in (words line) ≡ Ok c
-    → ((history : List (Event A)) → StandsFor old history → TellsOne history (event.Command c) o new)
-    → CarriesOut A old (command_on line) new
-carries-command A old new line c o taken read tells = rw (taken, read) (o, tells)
+-- ---- one line
+-- a command was carried out or refused
+pub ComesTo-command : (A : Type 0) (old new : Registry) (read : Result Command LineFault) (c : Command) (r : Result (Unit {0}) Refusal)
+    (o : LineOutcome) → read ≡ Ok c → o ≡ carried_out r
+    → ((history : List (Event A)) → StandsFor old history → TellsOne history (event.Command c) (command_outcome r) new)
+    → ComesTo A read o old new
+ComesTo-command A old new read c r o is said tells =
+    subst (λ x. ComesTo A x o old new) (sym is)
+    (r, λ number. ap (λ x. Line number x ∷ []) (sym said), λ history stands. Tells-one history _ _ old new stands (tells history stands))
 
--- commands behind others
-orders-append : {A : Type 0} (xs ys : List (List ℕ))
-    → orders {A = A} (commands_in (xs ++ ys)) ≡ orders (commands_in xs) ++ orders (commands_in ys)
-orders-append xs ys = ap orders (filter_map-append command_on xs ys) ∙ map-append event.Command (commands_in xs) (commands_in ys)
+-- there is no command
+pub ComesTo-fault : (A : Type 0) (s : Registry) (read : Result Command LineFault) (f : LineFault) → read ≡ Err f
+    → ComesTo A read (Faulty f) s s
+ComesTo-fault A s read f is =
+    subst (λ x. ComesTo A x (Faulty f) s s) (sym is) (Ok tt, λ number. refl, λ history stands. Tells-nil history s stands)
 
--- a service went on with the commands of lines
-abbrev pub GoesOn : (A : Type 0) → Registry → List (List ℕ) → Registry → Type 0
-GoesOn A old lines new =
-    (history : List (Event A)) → StandsFor old history → (outcomes : List Outcome) × Goes history (orders (commands_in lines)) outcomes new
+-- a line that is passed over
+pub AppliesLine-none : (A : Type 0) (number : ℕ) (line : List ℕ) (s : Registry) (seen : Option (List Observation))
+    → is_passed_over line ≡ true → AppliesLine A number line s s seen seen
+AppliesLine-none A number line s seen over =
+    rw over (Ok tt, Sees-nil seen, λ history stands. Tells-nil history s stands)
 
--- with one line more
-GoesOn-line : (A : Type 0) (old mid new : Registry) (lines : List (List ℕ)) (line : List ℕ)
-    → GoesOn A old lines mid → CarriesOut A mid (command_on line) new → GoesOn A old (lines ++ line ∷ []) new
-GoesOn-line A old mid new lines line before carried = λ history stands.
-    let more = before history stands in
-    let whole : (os : List Outcome) × Goes history (orders (commands_in lines) ++ orders (commands_in (line ∷ []))) os new =
-    at history more.0 more.1 (command_on line) carried in
-    (whole.0, rw (orders-append {A = A} lines (line ∷ [])) whole.1)
-  where
-    at : (history : List (Event A)) (os : List Outcome) → Goes history (orders (commands_in lines)) os mid
-        → (c : Option Command) → CarriesOut A mid c new
-        → (all : List Outcome) × Goes history (orders (commands_in lines) ++ orders (filter_map (λ l. c) (line ∷ []))) all new
-    at history os goes None same = (os, rw (append-nil (orders {A = A} (commands_in lines)), same) goes)
-    at history os goes (Some c) told =
-        (os ++ told.0 ∷ [], Goes-push history _ os mid new (event.Command c) told.0 goes (λ stands. told.1 _ stands))
+-- one that is not
+pub AppliesLine-read : (A : Type 0) (number : ℕ) (line : List ℕ) (o : LineOutcome) (old new : Registry)
+    (seen told : Option (List Observation)) → is_passed_over line ≡ false → ComesTo A (command_in (words line)) o old new
+    → Sees seen told (Line number o ∷ []) → AppliesLine A number line old new seen told
+AppliesLine-read A number line o old new seen told taken c sees =
+    rw taken (c.0, subst (λ os. Sees seen told os) (sym (c.1 number)) sees, c.2)
 
+-- ---- the lines of a text
 -- what was applied of a text, of which the rest is still to be read
-pub record Applied (A : Type 0) (old : Registry) (text : List ℕ) (applied : ℕ) (rest : List ℕ) (number : ℕ) (new : Registry) : Type 0 where
+pub record Applied (A : Type 0) (old : Registry) (seen : Option (List Observation)) (text : List ℕ) (applied : ℕ) (rest : List ℕ)
+    (number : ℕ) (new : Registry) (told : Option (List Observation)) : Type 0 where
   pub done : List (List ℕ)
   pub whole : complete_lines text ≡ done ++ complete_lines rest
   pub counted : length done ≡ number
-  pub goes : GoesOn A old (drop applied done) new
+  pub lines : Applies A applied (drop applied done) old new seen told
 
-pub Applied-none : (A : Type 0) (s : Registry) (text : List ℕ) (applied : ℕ) → Applied A s text applied text 0 s
-Applied-none A s text applied = record {
+pub Applied-none : (A : Type 0) (s : Registry) (seen : Option (List Observation)) (text : List ℕ) (applied : ℕ)
+    → Applied A s seen text applied text 0 s seen
+Applied-none A s seen text applied = record {
   done = [];
   whole = refl;
   counted = refl;
-  goes = λ history stands. ([], rw (drop_all {X = List ℕ} applied [] (omega arith)) (Goes-nil history s stands));
+  lines = ([], sym (drop_all {X = List ℕ} applied [] (omega arith)), CarriesOut-none A applied s seen);
 }
 
-module _ (A : Type 0) (old mid new : Registry) (text : List ℕ) (applied : ℕ) (rest line others : List ℕ) (number : ℕ)
-    (a : Applied A old text applied rest number mid) (cut : complete_lines rest ≡ line ∷ complete_lines others) where
+module _ (A : Type 0) (old mid new : Registry) (seen halfway told : Option (List Observation)) (text : List ℕ) (applied : ℕ)
+    (rest line others : List ℕ) (number : ℕ) (a : Applied A old seen text applied rest number mid halfway)
+    (cut : complete_lines rest ≡ line ∷ complete_lines others) where
   -- the lines with one more
   more-lines : complete_lines text ≡ (a.done ++ line ∷ []) ++ complete_lines others
   more-lines = a.whole ∙ ap (λ l. a.done ++ l) cut ∙ sym (append_assoc a.done (line ∷ []) (complete_lines others))
@@ -73,36 +81,58 @@ module _ (A : Type 0) (old mid new : Registry) (text : List ℕ) (applied : ℕ)
   more-count : length (a.done ++ line ∷ []) ≡ number + 1
   more-count = omega (arith, length-append a.done (line ∷ []), a.counted)
 
+  -- the place of a line that is due
+  place : applied ≤ number → applied + length a.lines.0 + 1 ≡ number + 1
+  place due =
+      let some : length a.lines.0 ≡ length a.done - applied =
+      sym (length-map a.lines.0 (λ t. t.line)) ∙ ap length a.lines.1 ∙ length-drop applied a.done in
+      omega (arith, some, a.counted)
+
   -- a line that is due
-  pub Applied-due : applied ≤ number → CarriesOut A mid (command_on line) new → Applied A old text applied others (number + 1) new
-  Applied-due due carried = record {
-    done = a.done ++ line ∷ [];
-    whole = more-lines;
-    counted = more-count;
-    goes = rw (drop-append-le applied a.done (line ∷ []) (omega (arith, a.counted)))
-        (GoesOn-line A old mid new (drop applied a.done) line a.goes carried);
-  }
+  pub Applied-due : applied ≤ number → AppliesLine A (number + 1) line mid new halfway told
+      → Applied A old seen text applied others (number + 1) new told
+  Applied-due due carried =
+      let t : TakenLine = record { line = line; result = carried.0 } in
+      record {
+        done = a.done ++ line ∷ [];
+        whole = more-lines;
+        counted = more-count;
+        lines = (
+          a.lines.0 ++ t ∷ [],
+          map-append (λ x. x.line) a.lines.0 (t ∷ []) ∙ ap (λ ls. ls ++ line ∷ []) a.lines.1
+              ∙ sym (drop-append-le applied a.done (line ∷ []) (omega (arith, a.counted))),
+          CarriesOut-more A applied a.lines.0 t old mid new seen halfway told a.lines.2
+              (subst (λ n. Sees halfway told (observed_read n (reading_of line) carried.0)) (sym (place due)) carried.1) carried.2,
+        );
+      }
 
   -- a line that was applied before
-  pub Applied-before : number < applied → Applied A old text applied others (number + 1) mid
+  pub Applied-before : number < applied → Applied A old seen text applied others (number + 1) mid halfway
   Applied-before early = record {
     done = a.done ++ line ∷ [];
     whole = more-lines;
     counted = more-count;
-    goes = subst (λ ls. GoesOn A old ls mid) (drop_all applied a.done (omega (arith, a.counted))
-        ∙ sym (drop_all applied (a.done ++ line ∷ []) (omega (arith, more-count)))) a.goes;
+    lines = subst (λ ls. Applies A applied ls old mid seen halfway) (drop_all applied a.done (omega (arith, a.counted))
+        ∙ sym (drop_all applied (a.done ++ line ∷ []) (omega (arith, more-count)))) a.lines;
   }
 
 -- at the end
-module _ (A : Type 0) (old new : Registry) (text : List ℕ) (applied : ℕ) (rest : List ℕ) (number : ℕ)
-    (a : Applied A old text applied rest number new) (end : complete_lines rest ≡ []) where
+module _ (A : Type 0) (old new : Registry) (seen told : Option (List Observation)) (text : List ℕ) (applied : ℕ) (rest : List ℕ)
+    (number : ℕ) (a : Applied A old seen text applied rest number new told) (end : complete_lines rest ≡ []) where
   all-done : complete_lines text ≡ a.done
   all-done = a.whole ∙ ap (λ l. a.done ++ l) end ∙ append-nil a.done
 
   pub Applied-count : number ≡ length (complete_lines text)
   Applied-count = sym a.counted ∙ ap length (sym all-done)
 
-  pub Applied-tells : Applies A old (drop applied (complete_lines text)) new
-  Applied-tells = rw all-done (λ history stands.
-      let g = a.goes history stands in
-      (g.0, Goes-tells history _ g.0 new g.1))
+  pub Applied-lines : Applies A applied (drop applied (complete_lines text)) old new seen told
+  Applied-lines = subst (λ ls. Applies A applied (drop applied ls) old new seen told) (sym all-done) a.lines
+
+-- ---- octets that are no text
+pub Due-none : (A : Type 0) (applied : ℕ) (octets : List ℕ) (s : Registry) (seen : Option (List Observation))
+    → (IsText octets → ⊥) → CarriesOutDue A applied octets applied s s seen seen
+Due-none A applied octets s seen not = record {
+  taken = [];
+  due = (λ yes. absurd (not yes), λ no. (refl, refl));
+  done = CarriesOut-none A applied s seen;
+}

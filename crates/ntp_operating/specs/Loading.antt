@@ -8,6 +8,7 @@ use Rattle.ntp_register_file.specs.RegisterFile.{state_in, register_in}
 use Rattle.ntp_register_file.specs.declared.fault.RegisterFault.{RegisterFault}
 use Rattle.ntp_register_file.specs.declared.fault.RegisterFault.TheVariants.{NoMemory}
 use Rattle.ntp_admin.specs.declared.command.Command.{Command}
+use Rattle.ntp_admin.specs.declared.event.Event.{Event}
 use Rattle.ntp_admin.specs.declared.event.Event.TheVariants as event
 use Rattle.ntp_admin.specs.declared.outcome.Outcome.{Outcome}
 use Rattle.ntp_admin.specs.declared.outcome.Outcome.TheVariants as outcome
@@ -15,7 +16,10 @@ use Rattle.ntp_service_run.specs.Headline.{Tells, TellsOne}
 use Rattle.ntp_operating.specs.declared.loading.LoadFault.{LoadFault}
 use Rattle.ntp_operating.specs.declared.loading.LoadFault.TheVariants as load_fault
 use Rattle.ntp_operating.specs.FileText.{IsText}
-use Rattle.ntp_operating.specs.CommandsFile.{orders}
+
+-- the events that commands are (profile)
+abbrev pub orders : {A : Type 0} → List Command → List (Event A)
+orders commands = map event.Command commands
 
 -- for each command, that it was done (profile)
 abbrev pub all_done : List Command → List Outcome

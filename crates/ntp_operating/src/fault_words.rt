@@ -1,9 +1,13 @@
 //! The words for faults.
+ghost use Rattle.std.specs.Prelude.{◌≡◌};
+ghost use Rattle.ntp_operating.specs.CommandsFile.{line_fault_text};
 
 use ntp_admin::LineFault;
 
 /// The word for what is wrong with a line. It takes no memory.
-pub fn fault_word(fault: LineFault) -> &'static str {
+pub fn fault_word(fault: LineFault) -> &'static str
+    ensures { result.now ≡ line_fault_text fault }
+{
     match fault {
         LineFault::Word => "word",
         LineFault::Count => "count",

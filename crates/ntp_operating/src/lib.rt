@@ -2,13 +2,15 @@
 #![tactic(auto)]
 
 mod commands;
+mod fault_lines;
 mod fault_words;
 mod file_text;
 mod loading;
 #[cfg(test)]
 mod tests;
 
-pub use commands::commands_step;
+pub use commands::{apply_commands, commands_step};
+pub use fault_lines::FaultLines;
 pub use fault_words::fault_word;
 pub use file_text::MOST_FILE_OCTETS;
 pub use loading::{LoadFault, Loaded, load_register};

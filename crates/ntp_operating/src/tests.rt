@@ -1,8 +1,12 @@
 //! What is told of faulty lines, and each call once with its answer. What is applied is told by the answers to further
 //! commands.
 
-use crate::{LoadFault, Loaded, MOST_FILE_OCTETS, commands_step, fault_word, load_register};
+use crate::{
+    FaultLines, LoadFault, Loaded, MOST_FILE_OCTETS, apply_commands, commands_step, fault_word,
+    load_register,
+};
 use ntp_admin::{LineFault, parse_command};
+use ntp_observer::{LineOutcome, Observer, TurnOutcome};
 use ntp_register::Refusal;
 use ntp_register_file::RegisterFault;
 use ntp_service_run::Service;
@@ -168,6 +172,89 @@ fn lines_are_applied_though_nobody_is_told(rt: HostRuntime) -> Result<(), Fail> 
     assert_eq!(rt; applied, 5);
     assert_eq!(rt; ordered(&mut service, B)?, Err(Refusal::AlreadyEnrolled));
     Ok(())
+}
+
+// A writer that fails at first, and then takes what comes.
+#[derive(Drop)]
+struct Waking<M: Allocator> {
+    is_awake: bool,
+    taken: Vec<u8, M>,
+}
+
+impl<M: Allocator> Write for Waking<M> {
+    fn write(&mut self, buf: &[u8]) -> io::Result<usize> {
+        if !self.is_awake {
+            self.is_awake = true;
+            return Err(io::Error::from(ErrorKind::BrokenPipe));
+        }
+        self.taken.extend_from_slice(buf)?;
+        Ok(buf.len())
+    }
+
+    fn flush(&mut self) -> io::Result<()> {
+        Ok(())
+    }
+}
+
+#[test]
+fn a_line_that_could_not_be_written_is_noted_and_not_written_later(rt: HostRuntime) {
+    let mut faults = Waking {
+        is_awake: false,
+        taken: Vec::new(rt.alloc()),
+    };
+    let mut service = Service::new(rt.alloc());
+    let octets = b"revoke 192.0.2.10\nrevoke 192.0.2.20 9\n";
+    let mut lines = FaultLines::new(&mut faults);
+    assert!(rt; !lines.has_failed());
+    let applied = apply_commands(&mut service, octets, 0, &mut lines);
+    assert_eq!(rt; applied, 2);
+    assert!(rt; lines.has_failed());
+    assert_eq!(rt;
+        apply_commands(&mut service, octets, applied, &mut lines),
+        2
+    );
+    assert_eq!(rt;
+        faults.taken.as_slice(),
+        b"commands: line 2: count\n".as_slice()
+    );
+}
+
+// What an observer was told of lines, as far as it has memory.
+#[derive(Drop)]
+struct Heard<M: Allocator> {
+    lines: Vec<(u64, LineOutcome), M>,
+}
+
+impl<M: Allocator> Observer for Heard<M> {
+    fn line(&mut self, number: u64, outcome: LineOutcome) {
+        let _ = self.lines.push((number, outcome));
+    }
+
+    fn turn(&mut self, _outcome: &TurnOutcome) {}
+}
+
+#[test]
+fn each_line_is_told_with_its_number(rt: HostRuntime) {
+    let mut service = Service::new(rt.alloc());
+    let mut heard = Heard {
+        lines: Vec::new(rt.alloc()),
+    };
+    let applied = apply_commands(&mut service, UNFINISHED, 0, &mut heard);
+    assert_eq!(rt; applied, 4);
+    let applied = apply_commands(&mut service, FINISHED, applied, &mut heard);
+    assert_eq!(rt; applied, 5);
+    let again = b"\n#\n\n\n\nenrol 192.0.2.20 9 md5 6b6579 10\n";
+    assert_eq!(rt; apply_commands(&mut service, again, applied, &mut heard), 6);
+    assert_eq!(rt;
+        heard.lines.as_slice(),
+        [
+            (1, LineOutcome::Done),
+            (4, LineOutcome::Faulty(LineFault::Address)),
+            (5, LineOutcome::Done),
+            (6, LineOutcome::Refused(Refusal::AlreadyEnrolled)),
+        ]
+        .as_slice()
+    );
 }
 
 #[test]

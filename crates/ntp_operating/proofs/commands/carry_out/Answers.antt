@@ -1,7 +1,9 @@
-use Rattle.std.proofs.Common.{rules}
-use Rattle.ntp_operating.proofs.LinesApplied.{carries-command}
+use Rattle.ntp_operating.proofs.LinesApplied.{ComesTo-command, ComesTo-fault}
 use Rattle.ntp_operating.proofs.commands.carry_out.Goals as goal
 
-pub returns-in-Err-command : goal.returns-in-Err-command
-returns-in-Err-command g c =
-    carries-command _ _ _ c.args.line.now c.in-Ok.command _ (search rules) c.in-Ok.ensures.only c.in-Err-command.ensures.tells
+pub returns-in-Ok : goal.returns-in-Ok
+returns-in-Ok g c =
+    ComesTo-command _ _ _ _ c.in-Ok.command c.command.result _ c.in-Ok.ensures.only c.outcome_of.ensures c.command.ensures.tells
+
+pub returns-in-Err : goal.returns-in-Err
+returns-in-Err g c = ComesTo-fault _ _ _ c.in-Err.fault c.in-Err.ensures.fault

@@ -1,4 +1,6 @@
+use Rattle.std.proofs.Common.{None}
+use Rattle.ntp_operating.proofs.LinesApplied.{Due-none}
 use Rattle.ntp_operating.proofs.commands.commands_step.Goals as goal
 
-pub returns-clause-tells : goal.returns-clause-tells
-returns-clause-tells g c = λ text. rw (← c.in-Some.ensures.text.1) c.apply_lines-complete.ensures.tells
+pub returns-in-None-clause-due : goal.returns-in-None-clause-due
+returns-in-None-clause-due g c = Due-none _ _ _ _ None c.in-None.ensures.none

@@ -1,0 +1,4 @@
+pub mod Sources
+pub mod Memory
+pub mod Rounds
+pub mod Steps

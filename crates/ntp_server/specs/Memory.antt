@@ -1,0 +1,32 @@
+-- What the parts of a server that are in memory tell.
+use Rattle.std.specs.Prelude.{ℕ, ◌<◌, Option, None, Some, option_map, List, map, drop, vec_len, vec_capacity, if◌then◌else◌}
+use Rattle.ntp_reply_packets.specs.Reference.{ReferenceState}
+use Rattle.ntp_observer.specs.declared.outcomes.Observation.{Observation}
+use Rattle.ntp_server.specs.declared.memory.MemoryCommands.{MemoryCommands}
+use Rattle.ntp_server.specs.declared.memory.MemoryStates.{MemoryStates}
+use Rattle.ntp_server.specs.declared.memory.MemoryObserver.{MemoryObserver}
+use Rattle.ntp_server.specs.Sources.{Coming}
+
+-- these and then nothing more, whatever is asked with (profile)
+abbrev pub commands_coming : List (Option (List ℕ)) → Coming (Option (List ℕ))
+commands_coming looks = record { coming = map (λ look. λ _. look) looks; behind = λ _. None }
+
+-- what a commands file in memory will give (profile)
+abbrev pub commands_told : {A : Type 0} → MemoryCommands A → Coming (Option (List ℕ))
+commands_told m = commands_coming (map (λ look. option_map (λ octets. octets.items) look) (drop m.made m.looks.items))
+
+-- these states and then one for ever, whatever is asked with (profile)
+abbrev pub states_coming : List ReferenceState → ReferenceState → Coming ReferenceState
+states_coming states behind = record { coming = map (λ state. λ _. state) states; behind = λ _. behind }
+
+-- what a list of states will give (profile)
+abbrev pub states_told : {A : Type 0} → MemoryStates A → Coming ReferenceState
+states_told m = states_coming (drop m.given m.states.items) m.behind
+
+-- what an observer in memory has seen, where it missed nothing (profile)
+abbrev pub seen_by : {A : Type 0} → MemoryObserver A → Option (List Observation)
+seen_by m = if m.has_missed then None else Some m.seen.items
+
+-- an observer in memory has room for one observation more (profile)
+abbrev pub HasRoom : {A : Type 0} → MemoryObserver A → Type 0
+HasRoom m = vec_len m.seen < vec_capacity m.seen

@@ -1,0 +1,129 @@
+-- What a server with its commands does.
+use Rattle.std.specs.Prelude.{◌≡◌, ℕ, ◌+◌, ◌<◌, Bool, true, false, Option, None, Some, option_map, List, [], ◌∷◌, ◌++◌, length, map, flat_map, All}
+use Rattle.ntp_time.specs.declared.moment.Moment.{Moment}
+use Rattle.ntp_register.specs.Registry.{Registry}
+use Rattle.ntp_reply_packets.specs.Reference.{ReferenceState}
+use Rattle.ntp_admin.specs.declared.event.Event.{Event}
+use Rattle.ntp_admin.specs.declared.outcome.Outcome.{Outcome}
+use Rattle.ntp_observer.specs.declared.outcomes.Observation.{Observation}
+use Rattle.ntp_observer.specs.declared.outcomes.Observation.TheVariants.{Turn}
+use Rattle.ntp_observer.specs.Sees.{Sees}
+use Rattle.ntp_service_run.specs.Headline.{StandsFor, Tells}
+use Rattle.ntp_service_serve.specs.Port.{Told}
+use Rattle.ntp_service_serve.specs.Made.{Made, events_in, outcomes_in, has_arrived, has_departed, is_unfailing, turn_outcome}
+use Rattle.ntp_service_serve.specs.Serving.{Follows, sent_of, count_of}
+use Rattle.ntp_operating.specs.CommandsFile.{TakenLine, AreDue, lines_taken, line_events, line_outcomes, line_observations}
+use Rattle.ntp_server.specs.declared.server.Totals.{Totals}
+use Rattle.ntp_server.specs.Sources.{Coming, Gives}
+
+-- a look at the commands: what the source was asked with, how many lines were applied before, the octets that it gave, if any, and the
+-- lines that were taken (profile)
+pub record Look : Type 0 where
+  pub asked : Option Moment
+  pub applied : ℕ
+  pub given : Option (List ℕ)
+  pub taken : List TakenLine
+
+-- a turn with the looks before it, and the state of the clock that was in force (profile)
+pub record Round : Type 0 where
+  pub looks : List Look
+  pub reference : ReferenceState
+  pub made : Made
+
+-- the lines that are due at a look (profile)
+abbrev pub AreDueAt : ℕ → Option (List ℕ) → List (List ℕ) → ℕ → Type 0
+AreDueAt applied None lines after = (lines ≡ []) × (after ≡ applied)
+AreDueAt applied (Some octets) lines after = AreDue applied octets lines after
+
+-- at each of these looks, one after another, the lines that were due were taken (profile)
+abbrev pub AreDueInTurn : ℕ → List Look → ℕ → Type 0
+AreDueInTurn applied [] after = after ≡ applied
+AreDueInTurn applied (l ∷ looks) after = (next : ℕ)
+    × (l.applied ≡ applied) × AreDueAt applied l.given (lines_taken l.taken) next × AreDueInTurn next looks after
+
+-- the looks, the states and the turns of rounds, in their order
+abbrev pub looks_of : List Round → List Look
+looks_of rounds = flat_map (λ r. r.looks) rounds
+
+abbrev pub states_of : List Round → List ReferenceState
+states_of rounds = map (λ r. r.reference) rounds
+
+abbrev pub made_in : List Round → List Made
+made_in rounds = map (λ r. r.made) rounds
+
+-- what looks were asked with, in their order
+abbrev pub asked_of : List Look → List (Option Moment)
+asked_of looks = map (λ l. l.asked) looks
+
+-- what looks gave, in their order
+abbrev pub given_of : List Look → List (Option (List ℕ))
+given_of looks = map (λ l. l.given) looks
+
+-- the events of looks: the commands of the lines that were taken (profile)
+abbrev pub looks_events : {A : Type 0} → List Look → List (Event A)
+looks_events looks = flat_map (λ l. line_events l.taken) looks
+
+-- their outcomes (profile)
+abbrev pub looks_outcomes : List Look → List Outcome
+looks_outcomes looks = flat_map (λ l. line_outcomes l.taken) looks
+
+-- what an observer is told of looks: each line that was taken (profile)
+abbrev pub looks_observations : List Look → List Observation
+looks_observations looks = flat_map (λ l. line_observations l.applied l.taken) looks
+
+-- the events of a round: the commands of its looks, then those of its turn (profile)
+abbrev pub round_events : {A : Type 0} → Round → List (Event A)
+round_events r = looks_events r.looks ++ events_in r.reference r.made
+
+-- their outcomes (profile)
+abbrev pub round_outcomes : Round → List Outcome
+round_outcomes r = looks_outcomes r.looks ++ outcomes_in r.made
+
+-- what an observer is told of a round: each line that was taken, then the turn (profile)
+abbrev pub round_observations : Round → List Observation
+round_observations r = looks_observations r.looks ++ Turn (turn_outcome r.made) ∷ []
+
+-- when the datagram of a turn came (profile)
+abbrev pub receipt_in : Made → Option Moment
+receipt_in m = option_map (λ d. d.receipt) m.turn.arrival
+
+-- when the datagrams of rounds came
+abbrev pub receipts_of : List Round → List (Option Moment)
+receipts_of rounds = map (λ r. receipt_in r.made) rounds
+
+-- commands are looked at in each turn, and just once at a port at which no wait ends with none (profile)
+abbrev pub HasLooks : Bool → Round → Type 0
+HasLooks true r = length r.looks ≡ 1
+HasLooks false r = 0 < length r.looks
+
+-- the last look of a round is asked with when its datagram came, and those before it, while none had come, with nothing (profile)
+pub record AsksRight (r : Round) : Type 0 where
+  pub idle : List Look
+  pub last : Look
+  pub all : r.looks ≡ idle ++ last ∷ []
+  pub waiting : All (λ l. l.asked ≡ None) idle
+  pub come : last.asked ≡ receipt_in r.made
+
+-- so many rounds were made at a port that is prompt or not. What the port, its failures, the commands, the states and the observer told
+-- before, and what they tell afterwards, and how many lines were applied (profile)
+pub record ServesRounds (A : Type 0) (prompt : Bool) (turns applied_before applied_after : ℕ) (port_before port_after : Option Told)
+    (failures_before failures_after : ℕ) (commands_before commands_after : Option (Coming (Option (List ℕ))))
+    (states_before states_after : Option (Coming ReferenceState)) (seen_before seen_after : Option (List Observation))
+    (before after : Registry) (totals : Totals) : Type 0 where
+  pub rounds : List Round
+  pub each : length rounds ≡ turns
+  pub looked : All (HasLooks prompt) rounds
+  pub asked : All AsksRight rounds
+  pub due : AreDueInTurn applied_before (looks_of rounds) applied_after
+  pub commands : Gives commands_before commands_after (asked_of (looks_of rounds)) (given_of (looks_of rounds))
+  pub states : Gives states_before states_after (receipts_of rounds) (states_of rounds)
+  pub port : Follows (made_in rounds) port_before port_after
+  pub observed : Sees seen_before seen_after (flat_map round_observations rounds)
+  pub arrivals : totals.arrivals ≡ count_of has_arrived (made_in rounds)
+  pub sent : totals.sent ≡ length (sent_of (made_in rounds))
+  pub departed : totals.departed ≡ count_of has_departed (made_in rounds)
+  -- one call failed in each turn, unless it has a datagram, and the reply, if any, was sent
+  pub failures : failures_after + count_of is_unfailing (made_in rounds) ≡ failures_before + turns
+  -- whatever history the service stood for, it tells the rounds' events these outcomes
+  pub tells : (history : List (Event A)) → StandsFor before history
+      → Tells history (flat_map round_events rounds) (flat_map round_outcomes rounds) after

@@ -1,0 +1,12 @@
+//! A server with its commands, the state of its clock and who is told of what it does.
+#![tactic(auto)]
+
+mod memory;
+mod server;
+mod sources;
+#[cfg(test)]
+mod tests;
+
+pub use memory::{MemoryCommands, MemoryObserver, MemoryStates};
+pub use server::{Server, Totals};
+pub use sources::{CommandsSource, FixedReference, ReferenceSource};

@@ -1,0 +1,172 @@
+//! A server, turn by turn.
+ghost use Rattle.std.specs.Prelude.{◌≡◌, ◌+◌, ◌-◌, ◌≤◌, ◌<◌, ◌^◌, option_map, IfOk, is_err, if◌then◌else◌};
+ghost use Rattle.std.specs.Result.{result_ok};
+ghost use Rattle.ntp_service_serve.specs.Port.{most_datagram_octets, ReceiveTells};
+ghost use Rattle.ntp_server.specs.Rounds.{ServesRounds};
+ghost use Rattle.ntp_server.specs.Steps.{LooksOnce, Waits, MakesRound, arrivals_in, replies_in, departures_in};
+
+use crate::sources::{CommandsSource, ReferenceSource};
+use ntp_observer::{Arrival, Observer, Sending, TurnOutcome};
+use ntp_operating::apply_commands;
+use ntp_service_run::Service;
+use ntp_service_serve::{PortFault, TimedPort, answer_received};
+use ntp_time::Moment;
+use std::alloc::Allocator;
+
+/// A service, and what it works with.
+#[derive(Drop)]
+pub struct Server<P, C, R, O, A: Allocator> {
+    /// Where datagrams come from and replies go to.
+    pub port: P,
+    /// Where the commands come from.
+    pub commands: C,
+    /// How many lines of the commands file are applied.
+    pub applied: u64,
+    /// Where the state of the clock comes from.
+    pub reference: R,
+    /// Who is told what is done.
+    pub observer: O,
+    /// Who answers.
+    pub service: Service<A>,
+}
+
+/// What a server did.
+#[derive(Clone, Copy, Debug, PartialEq, Eq)]
+pub struct Totals {
+    /// How many datagrams came.
+    pub arrivals: u64,
+    /// How many replies were sent; those that could not be sent are not counted.
+    pub sent: u64,
+    /// How many departures were noted.
+    pub departed: u64,
+}
+
+impl<
+    P: TimedPort,
+    C: CommandsSource<A>,
+    R: ReferenceSource,
+    O: Observer,
+    A: Allocator + Copy,
+> Server<P, C, R, O, A> {
+    /// Makes `turns` turns. In each a datagram is waited for. Once it has come, and whenever a wait ended with none, the
+    /// commands file is looked at, and the lines that are due are carried out, in order, each once. Then the datagram is
+    /// answered with the state of the clock that is in force, and its reply is sent, as `serve` does it. The observer is
+    /// told each line and each turn as it is done. It takes memory for enrolments, rollovers and the octets of a commands
+    /// file that changed.
+    pub fn serve(&mut self, turns: u64) -> Totals
+        requires { P.failure_count self.old.port + turns < 2 ^ 64 }
+        ensures { ServesRounds A P.is_prompt turns self.old.applied self.new.applied (P.told self.old.port) (P.told self.new.port)
+            (P.failure_count self.old.port) (P.failure_count self.new.port) (C.coming self.old.commands) (C.coming self.new.commands)
+            (R.coming self.old.reference) (R.coming self.new.reference) (O.seen self.old.observer) (O.seen self.new.observer)
+            self.old.service self.new.service result }
+    {
+        let mut datagram = [0; 1025];
+        let mut totals = Totals {
+            arrivals: 0,
+            sent: 0,
+            departed: 0,
+        };
+        for _turn in 0..turns {
+            let outcome = self.turn(&mut datagram);
+            totals.count(&outcome);
+        }
+        totals
+    }
+
+    // Makes one turn.
+    fn turn(&mut self, datagram: &mut [u8; 1025]) -> TurnOutcome
+        requires { P.failure_count self.old.port < 2 ^ 64 - 1 }
+        ensures { MakesRound A P.is_prompt self.old.applied self.new.applied (P.told self.old.port) (P.told self.new.port)
+            (P.failure_count self.old.port) (P.failure_count self.new.port) (C.coming self.old.commands) (C.coming self.new.commands)
+            (R.coming self.old.reference) (R.coming self.new.reference) (O.seen self.old.observer) (O.seen self.new.observer)
+            self.old.service self.new.service result }
+    {
+        let received = self.wait(datagram);
+        let receipt = receipt_of(&received);
+        self.look(receipt);
+        let reference = self.reference.in_force(receipt);
+        let outcome = answer_received(
+            &mut self.port,
+            &mut self.service,
+            &reference,
+            received,
+            datagram,
+        );
+        self.observer.turn(&outcome);
+        outcome
+    }
+
+    // Waits until a datagram has come or could not be received, and carries out what is ordered meanwhile.
+    fn wait(&mut self, datagram: &mut [u8; 1025]) -> Result<Arrival, PortFault>
+        requires { P.failure_count self.old.port < 2 ^ 64 - 1 }
+        ensures length { IfOk result (λ arrival. arrival.length ≤ most_datagram_octets) }
+        ensures failures { P.failure_count self.new.port ≡ P.failure_count self.old.port + (if is_err result then 1 else 0) }
+        ensures turns { ReceiveTells (P.told self.old.port) (P.told self.new.port) result datagram.new }
+        ensures reference { self.new.reference ≡ self.old.reference }
+        ensures looks { Waits A P.is_prompt self.old.applied self.new.applied
+            (C.coming self.old.commands) (C.coming self.new.commands) (O.seen self.old.observer) (O.seen self.new.observer)
+            self.old.service self.new.service }
+    {
+        for _ in 0..u64::MAX {
+            if let Some(received) = self.port.receive_in_time(datagram) {
+                return received;
+            }
+            self.look(None);
+        }
+        self.port.receive(datagram)
+    }
+
+    // Looks at the commands file, and carries out the lines that are due.
+    fn look(&mut self, receipt: Option<Moment>)
+        ensures port { self.new.port ≡ self.old.port }
+        ensures reference { self.new.reference ≡ self.old.reference }
+        ensures looks { LooksOnce A receipt self.old.applied self.new.applied
+            (C.coming self.old.commands) (C.coming self.new.commands) (O.seen self.old.observer) (O.seen self.new.observer)
+            self.old.service self.new.service }
+    {
+        let alloc = self.service.allocator();
+        if let Some(octets) = self.commands.look(alloc, receipt) {
+            self.applied = apply_commands(
+                &mut self.service,
+                &octets,
+                self.applied,
+                &mut self.observer,
+            );
+        }
+    }
+}
+
+impl Totals {
+    // Counts what was done in a turn.
+    fn count(&mut self, outcome: &TurnOutcome)
+        requires arrivals { self.old.arrivals < 2 ^ 64 - 1 }
+        requires sent { self.old.sent < 2 ^ 64 - 1 }
+        requires departed { self.old.departed < 2 ^ 64 - 1 }
+        ensures arrivals { self.new.arrivals ≡ self.old.arrivals + arrivals_in outcome.now }
+        ensures sent { self.new.sent ≡ self.old.sent + replies_in outcome.now }
+        ensures departed { self.new.departed ≡ self.old.departed + departures_in outcome.now }
+    {
+        let TurnOutcome::Answered { sending, .. } = outcome else {
+            return;
+        };
+        self.arrivals += 1;
+        match sending {
+            Sending::NoReply | Sending::NotSent => {}
+            Sending::Sent | Sending::NotNoted => self.sent += 1,
+            Sending::Noted => {
+                self.sent += 1;
+                self.departed += 1;
+            }
+        }
+    }
+}
+
+// When a datagram came, if one did.
+fn receipt_of(received: &Result<Arrival, PortFault>) -> Option<Moment>
+    ensures { result ≡ option_map (λ arrival. arrival.receipt) (result_ok received.now) }
+{
+    match received {
+        Ok(arrival) => Some(arrival.receipt),
+        Err(_) => None,
+    }
+}

@@ -1,0 +1,47 @@
+//! Where a server has its commands and the state of its clock from.
+ghost use Rattle.std.specs.Prelude.{ℕ, Option, None, Some, List, [], ◌∷◌, option_map};
+ghost use Rattle.ntp_reply_packets.specs.Reference.{ReferenceState};
+ghost use Rattle.ntp_server.specs.Sources.{Coming, Gives};
+
+use ntp_reply::Reference;
+use ntp_time::Moment;
+use std::alloc::Allocator;
+
+/// The commands file of a server, which is looked at in each turn, before its datagram is answered (profile).
+///
+/// A source may tell what its looks will give, as a list and what is behind it.
+pub trait CommandsSource<A: Allocator> {
+    // What its looks will give from here on, where the source tells it.
+    ghost coming: { Self → Option (Coming (Option (List ℕ))) } = { λ _. None };
+
+    /// The octets of the whole file where something changed since they were last given, and nothing where not, or where it
+    /// cannot be read. `receipt` is when the datagram came that waits for its answer, and nothing where none waits. It may
+    /// take memory from `alloc`, and gives nothing where there is none.
+    fn look(&mut self, alloc: A, receipt: Option<Moment>) -> Option<Vec<u8, A>>
+        ensures { Gives (coming self.old) (coming self.new) (receipt ∷ []) (option_map (λ octets. octets.items) result ∷ []) };
+}
+
+/// The state of a server's clock, which is asked for in each turn (profile).
+///
+/// A source may tell what it will give, as a list and what is behind it.
+pub trait ReferenceSource {
+    // What it will give from here on, where the source tells it.
+    ghost coming: { Self → Option (Coming ReferenceState) } = { λ _. None };
+
+    /// The state that is in force. `receipt` is when the datagram came that is to be answered with it, and nothing where none
+    /// could be received.
+    fn in_force(&mut self, receipt: Option<Moment>) -> Reference
+        ensures { Gives (coming self.old) (coming self.new) (receipt ∷ []) (result ∷ []) };
+}
+
+/// A state that is in force for ever.
+#[derive(Clone, Copy, Debug, PartialEq, Eq)]
+pub struct FixedReference(pub Reference);
+
+impl ReferenceSource for FixedReference {
+    ghost coming = { λ fixed. Some (record { coming = []; behind = λ _. fixed.0 }) };
+
+    fn in_force(&mut self, _receipt: Option<Moment>) -> Reference {
+        self.0
+    }
+}

@@ -1,18 +1,36 @@
-//! A file that is looked at before each turn of a server.
+//! A commands file that is looked at in each turn of a server, before its datagram is answered.
 
 use crate::reading::read_open;
 use crate::version::Version;
-use ntp_time::Stamp;
+use ntp_server::CommandsSource;
+use ntp_time::{Moment, Stamp};
 use std::alloc::Allocator;
-use std::fs::{self, Files};
+use std::fs::{self, Files, OpenFile};
 use std::io::Read;
 
-/// How long its metadata by its path stands, in units of 2^-32 seconds: a tenth of a second (profile).
-const LOOK_PERIOD: u64 = 429_496_729;
+/// How long the metadata of the open file is not asked for again, in units of 2^-32 seconds: a thousandth of a second
+/// (profile).
+const METADATA_PERIOD: u64 = 4_294_967;
 
-/// The commands file of a server. Whether octets were appended is told by one read at its end, which costs little and
-/// is made at each look; whether it was replaced or written anew, by its metadata by its path, which is read at a look
-/// that comes a tenth of a second or more after the last such one.
+/// How long what stands at its path is not asked for again, in units of 2^-32 seconds: a tenth of a second (profile).
+const PATH_PERIOD: u64 = 429_496_729;
+
+/// The commands file of a server.
+///
+/// The file that was read last stays open. What is looked at:
+///
+/// - one octet at the end of the open file, at each look, which costs least: so octets that are appended are seen at the
+///   next look. Where the file is longer than the most octets it is not read: behind a cut there is always more;
+/// - the metadata of the open file, at a look a thousandth of a second or more after the last time, and at the look after
+///   it was read: so a file is seen that is written anew, and one that is renamed over it or moved away;
+/// - what stands at the path, at a look a tenth of a second or more after the last time, and where the open file has
+///   changed: so another file is seen where nothing happened to the first, and one that is made later.
+///
+/// Time is told by the receipts of the datagrams. All three are looked at where there is no datagram, and where the clock
+/// was set back.
+///
+/// A file is told from its earlier state by its node, length, count of names and time of change. So one that is written
+/// anew to the same length, within one tick of the file system's clock, looks unchanged.
 ///
 /// Nothing is known of what a file has: no clause speaks of it.
 #[derive(Drop)]
@@ -21,12 +39,49 @@ pub struct CommandsFile<'a, R: Files> {
     path: &'a str,
     // How many octets are given at most, and one more.
     most: u32,
-    // The file whose octets were read last, at the end of what was read.
-    file: Option<R::File>,
-    // How it was then; none where it could not be read.
-    version: Option<Version>,
-    // When its metadata was last read by its path.
-    looked: Option<Stamp>,
+    // The file that was read last; none where it could not be read.
+    given: Option<Given<R::File>>,
+    // When what stands at the path was last asked for.
+    asked: Option<Stamp>,
+}
+
+// A file that was read, and how it was just before.
+#[derive(Drop)]
+struct Given<F: Drop> {
+    file: F,
+    version: Version,
+    // Whether it had more octets than are given.
+    is_cut: bool,
+    // When its metadata was last asked for; none where it was not yet.
+    asked: Option<Stamp>,
+}
+
+impl<F: OpenFile + Read + Drop> Given<F> {
+    // Whether something happened to it. Its metadata is asked for first: so what came to the path just as it was opened,
+    // and may be a pipe, is not read on.
+    fn has_changed(&mut self, receipt: Option<Moment>) -> bool {
+        self.is_another(receipt) || self.has_grown()
+    }
+
+    // Whether its metadata is not what it was, where it is time to ask for it.
+    fn is_another(&mut self, receipt: Option<Moment>) -> bool {
+        if !is_due(self.asked, receipt, METADATA_PERIOD) {
+            return false;
+        }
+        if let Some(receipt) = receipt {
+            self.asked = Some(receipt.stamp);
+        }
+        match self.file.metadata() {
+            Ok(metadata) => Version::of(&metadata) != self.version,
+            Err(_) => true,
+        }
+    }
+
+    // Whether octets stand behind those that were read.
+    fn has_grown(&mut self) -> bool {
+        let mut next = [0];
+        !self.is_cut && !matches!(self.file.read(&mut next), Ok(0))
+    }
 }
 
 impl<'a, R: Files> CommandsFile<'a, R> {
@@ -36,49 +91,20 @@ impl<'a, R: Files> CommandsFile<'a, R> {
             files,
             path,
             most,
-            file: None,
-            version: None,
-            looked: None,
+            given: None,
+            asked: None,
         }
     }
 
-    /// The octets of the whole file where something about it changed since they were last given, cut to one more than
-    /// the most, and nothing where not, or where the file cannot be read or is no regular file. `now` is the stamp that
-    /// the clock shows. It takes memory from `alloc` only where something changed; want of it counts as a file that
-    /// cannot be read, which is tried again after a tenth of a second.
-    pub fn read_if_changed<A: Allocator + Copy>(
-        &mut self,
-        alloc: A,
-        now: Stamp,
-    ) -> Option<Vec<u8, A>> {
-        if self.has_grown() || self.is_another(now) {
-            self.read_whole(alloc)
-        } else {
-            None
-        }
-    }
-
-    // Whether octets stand behind those that were read.
-    fn has_grown(&mut self) -> bool {
-        let mut next = [0];
-        match &mut self.file {
-            Some(file) => !matches!(file.read(&mut next), Ok(0)),
+    // Whether something happened to the file that was read last.
+    fn has_changed(&mut self, receipt: Option<Moment>) -> bool {
+        match &mut self.given {
+            Some(given) => given.has_changed(receipt),
             None => false,
         }
     }
 
-    // Whether another version stands at the path than the one that was read, where it is time to look.
-    fn is_another(&mut self, now: Stamp) -> bool {
-        if let Some(looked) = self.looked
-            && now.0.wrapping_sub(looked.0) < LOOK_PERIOD
-        {
-            return false;
-        }
-        self.looked = Some(now);
-        self.version_at_path() != self.version
-    }
-
-    // The version that stands at the path.
+    // The version of the file that stands at the path; none where there is no regular file.
     fn version_at_path(&self) -> Option<Version> {
         let metadata = fs::metadata(self.files, self.path).ok()?;
         if metadata.is_file() {
@@ -88,19 +114,60 @@ impl<'a, R: Files> CommandsFile<'a, R> {
         }
     }
 
-    // Reads the file that stands at the path. The version is taken before the octets: one that changes in between is
-    // read once more.
-    fn read_whole<A: Allocator + Copy>(&mut self, alloc: A) -> Option<Vec<u8, A>> {
-        self.file = None;
-        self.version = None;
-        let version = self.version_at_path()?;
+    // The version of the file that was read last.
+    fn version_given(&self) -> Option<Version> {
+        match &self.given {
+            Some(given) => Some(given.version),
+            None => None,
+        }
+    }
+
+    // Reads the file that stands at the path. Its version was taken before, so one that changes in between is read once
+    // more.
+    fn read_whole<A: Allocator + Copy>(
+        &mut self,
+        alloc: A,
+        version: Version,
+    ) -> Option<Vec<u8, A>> {
         let mut file = fs::open(self.files, self.path).ok()?;
         let octets = read_open(&mut file, alloc, self.most).ok()?;
-        self.version = Some(version);
-        // Behind a cut there is always more to read, which tells of nothing appended.
-        if octets.len() <= self.most as usize {
-            self.file = Some(file);
-        }
+        self.given = Some(Given {
+            file,
+            version,
+            is_cut: octets.len() > self.most as usize,
+            asked: None,
+        });
         Some(octets)
+    }
+}
+
+impl<'a, R: Files, A: Allocator + Copy> CommandsSource<A> for CommandsFile<'a, R> {
+    /// The octets of the whole file where something about it changed since they were last given, cut to one more than
+    /// the most, and nothing where not, or where it cannot be read or is no regular file. It takes memory from `alloc`
+    /// only where something changed; want of it counts as a file that cannot be read. Such a one is tried again when
+    /// what stands at the path is next asked for.
+    fn look(&mut self, alloc: A, receipt: Option<Moment>) -> Option<Vec<u8, A>> {
+        let has_changed = self.has_changed(receipt);
+        if !has_changed && !is_due(self.asked, receipt, PATH_PERIOD) {
+            return None;
+        }
+        if let Some(receipt) = receipt {
+            self.asked = Some(receipt.stamp);
+        }
+        let version = self.version_at_path();
+        if !has_changed && version == self.version_given() {
+            return None;
+        }
+        // It is read only where it is regular: to open a pipe might take for ever.
+        self.given = None;
+        self.read_whole(alloc, version?)
+    }
+}
+
+// Whether it is time to ask again for what was last asked for then: where a datagram has come, by its receipt.
+fn is_due(asked: Option<Stamp>, receipt: Option<Moment>, period: u64) -> bool {
+    match (asked, receipt) {
+        (Some(asked), Some(receipt)) => receipt.stamp.0.wrapping_sub(asked.0) >= period,
+        _ => true,
     }
 }

@@ -1,4 +1,4 @@
-//! The files of a server: one read whole up to a limit, and one that is read again only where something about it changed.
+//! The files of a server: one read whole up to a limit, and the commands file, which is read again only where it changed.
 #![tactic(auto)]
 
 mod commands_file;

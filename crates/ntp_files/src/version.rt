@@ -3,12 +3,13 @@
 use std::fs::Metadata;
 use std::os::unix::fs::MetadataExt;
 
-/// Which file it is, how long, and when something about it last changed. A file that is replaced, written anew or
-/// appended to has another one.
+/// Which file it is, how long, by how many names it goes, and when something about it last changed. A file that is
+/// replaced, written anew, appended to or moved has another one, but as `CommandsFile` says.
 #[derive(Clone, Copy, PartialEq, Eq)]
 pub(crate) struct Version {
     device: u64,
     node: u64,
+    names: u64,
     length: u64,
     changed_seconds: i64,
     changed_nanos: i64,
@@ -19,6 +20,7 @@ impl Version {
         Version {
             device: metadata.dev(),
             node: metadata.ino(),
+            names: metadata.nlink(),
             length: metadata.len(),
             changed_seconds: metadata.ctime(),
             changed_nanos: metadata.ctime_nsec(),

@@ -1,0 +1,10 @@
+//! A server and a client that meet in one process, over two sockets.
+#![tactic(auto)]
+
+mod meeting;
+mod pair;
+#[cfg(test)]
+mod tests;
+mod words;
+
+pub use meeting::{LoopbackFault, meet};

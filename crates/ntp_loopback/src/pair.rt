@@ -1,0 +1,120 @@
+//! A server and a client, each with its socket.
+ghost use Rattle.std.specs.Prelude.{◌≡◌, ◌+◌, ◌-◌, ◌≤◌, ◌<◌, ◌^◌, IfOk};
+ghost use Rattle.ntp_service.specs.Failures.{failures_of};
+
+use ntp_admin::Command;
+use ntp_client::{Client, Taken};
+use ntp_mac::{Algorithm, Key};
+use ntp_observer::{Sending, TurnOutcome};
+use ntp_register::Address;
+use ntp_reply::Reference;
+use ntp_service::{Service, TimedPort, UdpPort, answer_received, moment_now};
+use ntp_time::Short;
+use std::alloc::Allocator;
+use std::io;
+use std::net::{Net, UdpSocket};
+use std::num::NonZero;
+use std::time::{Clock, Duration};
+
+/// How long the arrival of a datagram is waited for, in seconds (profile).
+const LONGEST_WAIT: u64 = 5;
+
+/// The number of the one customer's key.
+const NUMBER: u16 = 1;
+
+// The key of the one customer.
+fn key() -> Key {
+    Key::new(Algorithm::Sha1, b"loopback").unwrap()
+}
+
+/// A service with the one customer; none for want of memory.
+pub(crate) fn service_with_one<A: Allocator + Copy>(alloc: A) -> Option<Service<A>> {
+    let mut service = Service::new(alloc);
+    let enrolment = Command::Enrol {
+        address: Address([127, 0, 0, 1]),
+        number: NonZero::<u16>::new(NUMBER)?,
+        key: key(),
+        budget: NonZero::<u16>::new(65_535)?,
+    };
+    service.command(&enrolment).ok()?;
+    Some(service)
+}
+
+/// A server and a client, each with its socket.
+#[derive(Drop)]
+pub(crate) struct Pair<'a, R: Clock, A: Allocator> {
+    pub(crate) port: UdpPort<&'a R>,
+    service: Service<A>,
+    reference: Reference,
+    socket: UdpSocket,
+    client: Client,
+    clock: &'a R,
+}
+
+impl<'a, R: Net + Clock, A: Allocator + Copy> Pair<'a, R, A> {
+    /// The server with its socket, and a client whose socket is joined to it.
+    pub(crate) fn new(rt: &'a R, service: Service<A>) -> io::Result<Pair<'a, R, A>>
+        ensures { IfOk result (λ pair. failures_of pair.port ≡ 0) }
+    {
+        let served = UdpSocket::bind(rt, "127.0.0.1:0")?;
+        served.set_read_timeout(Some(Duration::from_secs(LONGEST_WAIT)))?;
+        let socket = UdpSocket::bind(rt, "127.0.0.1:0")?;
+        socket.set_read_timeout(Some(Duration::from_secs(LONGEST_WAIT)))?;
+        socket.connect(served.local_addr()?)?;
+        let now = moment_now(&rt);
+        let reference = Reference::new(0, 1, -20, Short(0), Short(0), *b"LOOP", now.stamp).unwrap();
+        Ok(Pair {
+            port: UdpPort::new(served, rt),
+            service,
+            reference,
+            socket,
+            client: Client::new(key(), NUMBER),
+            clock: rt,
+        })
+    }
+
+    /// One request and its reply, and what the client took it for; nothing where a socket failed or nothing came.
+    pub(crate) fn meet(&mut self) -> Option<Taken>
+        requires { failures_of self.old.port < 2 ^ 64 - 1 }
+        ensures { failures_of self.new.port ≤ failures_of self.old.port + 1 }
+    {
+        let query = self.client.request(moment_now(&self.clock));
+        self.socket.send(query.octets()).ok()?;
+        if !self.answer() {
+            return None;
+        }
+        let mut reply = [0; 1025];
+        let length = self.socket.recv(&mut reply).ok()?;
+        let arrival = moment_now(&self.clock);
+        Some(self.client.take(&reply[..length], arrival))
+    }
+
+    // Takes a datagram and answers it. Whether a reply was sent.
+    fn answer(&mut self) -> bool
+        requires { failures_of self.old.port < 2 ^ 64 - 1 }
+        ensures { failures_of self.new.port ≤ failures_of self.old.port + 1 }
+    {
+        let mut datagram = [0; 1025];
+        let Some(received) = self.port.receive_in_time(&mut datagram) else {
+            return false;
+        };
+        let outcome = answer_received(
+            &mut self.port,
+            &mut self.service,
+            &self.reference,
+            received,
+            &datagram,
+        );
+        is_sent(&outcome)
+    }
+}
+
+// Whether a reply was sent in a turn.
+fn is_sent(outcome: &TurnOutcome) -> bool {
+    match outcome {
+        TurnOutcome::NothingReceived => false,
+        TurnOutcome::Answered { sending, .. } => {
+            !matches!(sending, Sending::NoReply | Sending::NotSent)
+        }
+    }
+}

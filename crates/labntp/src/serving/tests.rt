@@ -30,28 +30,39 @@ fn append(rt: &HostRuntime, path: &str, text: &str) -> Result<(), Fail> {
     Ok(())
 }
 
-// A server with no customers whose commands file stands at a path, and a client's socket that is joined to it.
+// Gives a file another one's name, in whose place it comes.
+fn replace(rt: &HostRuntime, path: &str, text: &str) -> Result<(), Fail> {
+    let beside = format!(in rt.alloc(); "{path}-new")?;
+    fs::write(rt, beside.as_str(), text)?;
+    fs::rename(rt, beside.as_str(), path)?;
+    Ok(())
+}
+
+// A server with no customers whose commands file stands at a path.
+type Tried<'a> = Server<
+    UdpPort<&'a HostRuntime>,
+    CommandsFile<'a, HostRuntime>,
+    FixedReference,
+    FaultLines<&'a mut Vec<u8>>,
+    Global,
+>;
+
+// Such a server, and a client's socket that is joined to it.
 fn server_and_socket<'a>(
     rt: &'a HostRuntime,
     path: &'a str,
-) -> Result<(Server<'a, HostRuntime>, UdpSocket), Fail>
+    faults: &'a mut Vec<u8>,
+) -> Result<(Tried<'a>, UdpSocket), Fail>
     ensures { IfOk result (λ pair. failures_of pair.0.port ≡ 0) }
 {
     let served = bound(rt, 0)?;
     let socket = bound(rt, 0)?;
+    socket.set_read_timeout(Some(Duration::from_secs(5)))?;
     socket.connect(served.local_addr()?)?;
-    let Ok(Loaded { reference, service }) = load_register(rt.alloc(), EMPTY.as_bytes()) else {
+    let Ok(loaded) = load_register(rt.alloc(), EMPTY.as_bytes()) else {
         return Err("not loaded".into());
     };
-    let server = Server {
-        alloc: rt.alloc(),
-        port: UdpPort::new(served, rt),
-        service,
-        reference,
-        commands: CommandsFile::new(rt, path, MOST_FILE_OCTETS as u32),
-        applied: 0,
-    };
-    Ok((server, socket))
+    Ok((server(rt, served, path, loaded, faults), socket))
 }
 
 // What a client takes of the reply that comes, if one does.
@@ -61,69 +72,60 @@ fn reply(rt: &HostRuntime, client: &mut Client, socket: &UdpSocket) -> Option<Ta
     Some(client.take(&octets[..length], moment_now(&rt)))
 }
 
+// What is done in a turn in which a time reply departs.
+const NOTED: Totals = Totals {
+    arrivals: 1,
+    sent: 1,
+    departed: 1,
+};
+
 #[test]
 fn a_command_is_in_force_for_the_datagram_that_came_before_it(rt: HostRuntime) -> Result<(), Fail> {
     let path = path_for(&rt, "commands")?;
-    fs::write(&rt, path.as_str(), "# none yet\n")?;
-    let (mut server, socket) = server_and_socket(&rt, path.as_str())?;
-    let mut client = Client::new(Key::new(Algorithm::Md5, b"key")?, 9);
+    let path = path.as_str();
+    fs::write(&rt, path, "# none yet\n")?;
     let mut faults = Vec::new(rt.alloc());
+    let (mut server, socket) = server_and_socket(&rt, path, &mut faults)?;
+    let mut client = Client::new(Key::new(Algorithm::Md5, b"key")?, 9);
 
     // A datagram waits while the commands are written.
     socket.send(client.request(moment_now(&&rt)).octets())?;
     append(
         &rt,
-        path.as_str(),
+        path,
         "enrol 127.0.0.1 9 md5 6b6579 1\nrevoke 127.0.0.2\n",
     )?;
-    let served = server.turns(1, &mut faults);
-    assert!(rt;
-        served
-            == Served {
-                arrivals: 1,
-                sent: 1,
-                departed: 1
-            }
-    );
+    assert!(rt; server.serve(1) == NOTED);
     assert!(rt;
         matches!(reply(&rt, &mut client, &socket), Some(Taken::Sample(s)) if !s.interleaved)
     );
-    assert_eq!(rt;
-        faults.as_slice(),
-        b"commands: line 3: not-enrolled\n".as_slice()
-    );
 
-    // The budget is spent, and is raised; the next reply is interleaved.
+    // The budget is spent, and is raised in a file that takes the first one's place; the next reply is interleaved.
     socket.send(client.request(moment_now(&&rt)).octets())?;
-    append(&rt, path.as_str(), "budget 127.0.0.1 5\nrevoke 127.0.0.1")?;
-    let served = server.turns(1, &mut faults);
-    assert!(rt;
-        served
-            == Served {
-                arrivals: 1,
-                sent: 1,
-                departed: 1
-            }
-    );
+    replace(&rt, path, "#\n#\n#\nbudget 127.0.0.1 5\nrevoke 127.0.0.1")?;
+    assert!(rt; server.serve(1) == NOTED);
     assert!(rt;
         matches!(reply(&rt, &mut client, &socket), Some(Taken::Sample(s)) if s.interleaved)
     );
 
     // A line that was not complete is completed.
     socket.send(client.request(moment_now(&&rt)).octets())?;
-    append(&rt, path.as_str(), "\n")?;
-    let served = server.turns(1, &mut faults);
+    append(&rt, path, "\n")?;
     assert!(rt;
-        served
-            == Served {
+        server.serve(1)
+            == Totals {
                 arrivals: 1,
                 sent: 1,
                 departed: 0
             }
     );
     assert!(rt; reply(&rt, &mut client, &socket) == Some(Taken::Deny));
-    assert_eq!(rt; faults.len(), 31);
-    fs::remove_file(&rt, path.as_str())?;
+    drop(server);
+    assert_eq!(rt;
+        faults.as_slice(),
+        b"commands: line 3: not-enrolled\n".as_slice()
+    );
+    fs::remove_file(&rt, path)?;
     Ok(())
 }
 

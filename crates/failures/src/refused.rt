@@ -1,6 +1,6 @@
 //! Calls that take memory, with each allocation that they ask for refused in turn until none is refused: they tell that
 //! memory was wanted, and nothing else, or do all that they are to do. `read_register`, `read_reference` and
-//! `load_register` take the global allocator alone, so nothing can be refused them here.
+//! `load_register` take the global allocator alone, so nothing can be refused them here; `tests/refused_memory` does that.
 
 use crate::refused_calls::{
     answer_refused, event_refused, port_refused, replay_refused, run_refused, slots_refused,

@@ -1,7 +1,9 @@
 //! Datagrams that are cut, changed and forged.
 
-use crate::exchange::{ANSWERS, CUSTOMER, RECEIPT, TRANSMIT, WITH_FIELD, events, reference};
-use ntp_admin::print_answer;
+use crate::exchange::{
+    ANSWERS, CUSTOMER, NAK, RECEIPT, TRANSMIT, WITH_FIELD, WITH_REST, events, reference,
+};
+use ntp_admin::{Outcome, print_answer};
 use ntp_reply::{Answer, Reason};
 use ntp_service::Service;
 use ntp_tail::Malformed;
@@ -93,6 +95,33 @@ fn fields_and_rests_that_fit_nothing(rt: HostRuntime) -> Result<(), Fail> {
         octets[48..52].copy_from_slice(&[0x01, 0x04, high, low]);
         let answer = ask(&mut service, &octets)?;
         assert_eq!(rt; word_for(&answer), wanted);
+    }
+    Ok(())
+}
+
+// What the customer is answered to octets, as a line.
+fn answer_line(alloc: Global, octets: &[u8]) -> Result<String, Fail> {
+    let answer = ask(&mut enrolled(alloc)?, octets)?;
+    Ok(print_answer(alloc, &Outcome::Datagram(answer))?)
+}
+
+#[test]
+fn octets_added_to_a_query(rt: HostRuntime) -> Result<(), Fail> {
+    for (octets, answer) in [
+        (&WITH_REST[..68], ANSWERS[1]),
+        (&WITH_REST[..69], "silent rest 48\n"),
+        (&WITH_REST[..70], "silent rest 48\n"),
+        (&WITH_REST[..71], "silent rest 48\n"),
+        (&WITH_REST, NAK),
+        // A field is read over.
+        (&WITH_FIELD, ANSWERS[1]),
+    ] {
+        let length = octets.len();
+        assert_eq!(rt;
+            answer_line(rt.alloc(), octets)?.as_str(),
+            answer,
+            "{length}"
+        );
     }
     Ok(())
 }

@@ -1,4 +1,4 @@
-"""What tests/clients asks and hears: queries of its own, a relay that notes what passes, ntpdig at any port.
+"""What tests/clients and tests/program ask and hear: queries of its own, a relay that notes what passes, ntpdig at any port.
 
 A customer is written ADDRESS/NUMBER/ALGORITHM/KEY, the key in hexadecimal; an address alone has no key.
 
@@ -284,14 +284,16 @@ def relay(port, log):
 
 
 def wire(log, text):
-    customer, request, seen = Customer(text), None, {"asked": 0}
+    """A reply belongs to the newest request that it fits: on a busy host the client asks again before it has come."""
+    customer, requests, seen = Customer(text), [], {"asked": 0}
     with open(log) as notes:
         for line in notes:
             way, packet = line[0], bytes.fromhex(line[2:])
             if way == ">":
-                request, word = packet, "asked"
+                requests, word = [packet, *requests[:7]], "asked"
             else:
-                word = kind(customer, request, packet)
+                words = [kind(customer, request, packet) for request in requests]
+                word = next((it for it in words if it.isalpha()), words[0])
             seen[word] = seen.get(word, 0) + 1
     return " ".join(f"{word} {count}" for word, count in seen.items())
 
@@ -319,4 +321,5 @@ def main(word, *words):
         print(found)
 
 
-main(*sys.argv[1:])
+if __name__ == "__main__":
+    main(*sys.argv[1:])

@@ -1,9 +1,10 @@
 //! Who is told what a server does.
-ghost use Rattle.std.specs.Prelude.{Option, None, List, [], ◌∷◌};
+ghost use Rattle.std.specs.Prelude.{◌≡◌, Option, None, List, [], ◌∷◌};
 ghost use Rattle.ntp_observer.specs.Sees.{Sees};
 ghost use Rattle.ntp_observer.specs.declared.outcomes.Observation.{Observation};
 
 use crate::outcomes::{LineOutcome, TurnOutcome};
+use ntp_admin::Command;
 
 /// Who is told of each line of commands and of each turn, as it is done (profile).
 ///
@@ -11,6 +12,11 @@ use crate::outcomes::{LineOutcome, TurnOutcome};
 pub trait Observer {
     // What it was told so far, where it tells that.
     ghost seen: { Self → Option (List Observation) } = { λ _. None };
+
+    /// Hears of the command that the next line is of which it will hear, before it is carried out. It is no observation.
+    fn command(&mut self, _command: &Command)
+        ensures { seen self.new ≡ seen self.old }
+    {}
 
     /// Hears of a line of commands that was taken and is not passed over, by its number in the file, counted from 1.
     fn line(&mut self, number: u64, outcome: LineOutcome)

@@ -46,12 +46,12 @@ pub AppliesLine-none : (A : Type 0) (number : ℕ) (line : List ℕ) (s : Regist
 AppliesLine-none A number line s seen over =
     rw over (Ok tt, Sees-nil seen, λ history stands. Tells-nil history s stands)
 
--- one that is not
+-- one that is not, of whose command an observer heard before
 pub AppliesLine-read : (A : Type 0) (number : ℕ) (line : List ℕ) (o : LineOutcome) (old new : Registry)
-    (seen told : Option (List Observation)) → is_passed_over line ≡ false → ComesTo A (command_in (words line)) o old new
-    → Sees seen told (Line number o ∷ []) → AppliesLine A number line old new seen told
-AppliesLine-read A number line o old new seen told taken c sees =
-    rw taken (c.0, subst (λ os. Sees seen told os) (sym (c.1 number)) sees, c.2)
+    (seen heard told : Option (List Observation)) → is_passed_over line ≡ false → ComesTo A (command_in (words line)) o old new
+    → heard ≡ seen → Sees heard told (Line number o ∷ []) → AppliesLine A number line old new seen told
+AppliesLine-read A number line o old new seen heard told taken c same sees =
+    rw taken (c.0, subst (λ os. Sees seen told os) (sym (c.1 number)) (subst (λ s. Sees s told (Line number o ∷ [])) same sees), c.2)
 
 -- ---- the lines of a text
 -- what was applied of a text, of which the rest is still to be read

@@ -104,17 +104,25 @@ fn apply_line<A: Allocator + Copy, O: Observer>(
     ensures { AppliesLine A number line.now service.old service.new (O.seen observer.old) (O.seen observer.new) }
 {
     if !is_passed_over(line) {
-        let outcome = carry_out(service, line);
+        let outcome = carry_out(service, line, observer);
         observer.line(number, outcome);
     }
 }
 
-// Carries out the command that a line says, and gives what became of the line.
-fn carry_out<A: Allocator + Copy>(service: &mut Service<A>, line: &str) -> LineOutcome
-    ensures { ComesTo A (command_in (words line.now)) result service.old service.new }
+// Carries out the command that a line says, of which the observer hears before, and gives what became of the line.
+fn carry_out<A: Allocator + Copy, O: Observer>(
+    service: &mut Service<A>,
+    line: &str,
+    observer: &mut O,
+) -> LineOutcome
+    ensures comes_to { ComesTo A (command_in (words line.now)) result service.old service.new }
+    ensures seen { O.seen observer.new ≡ O.seen observer.old }
 {
     match parse_command(line) {
-        Ok(command) => outcome_of(service.command(&command)),
+        Ok(command) => {
+            observer.command(&command);
+            outcome_of(service.command(&command))
+        }
         Err(fault) => LineOutcome::Faulty(fault),
     }
 }

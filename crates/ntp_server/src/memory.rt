@@ -1,5 +1,5 @@
 //! The parts of a server in memory.
-ghost use Rattle.std.specs.Prelude.{◌≡◌, ◌≤◌, ◌<◌, ◌++◌, Some, None, false, [], ◌∷◌, map, option_map, vec_len, IfOk, if◌then◌else◌};
+ghost use Rattle.std.specs.Prelude.{◌≡◌, ◌≤◌, ◌<◌, ◌++◌, Some, None, false, [], ◌∷◌, map, option_map, vec_len, vec_capacity, IfOk, if◌then◌else◌};
 ghost use Rattle.ntp_observer.specs.declared.outcomes.Observation.{Observation};
 
 use crate::sources::{CommandsSource, ReferenceSource};
@@ -100,7 +100,8 @@ impl<A: Allocator> MemoryObserver<A> {
     /// One that has seen nothing. The room is taken from `alloc` here, so that no call of it takes memory: `NoMemory` only where
     /// it was refused.
     pub fn new(alloc: A, room: usize) -> Result<MemoryObserver<A>, NoMemory>
-        ensures { IfOk result (λ m. seen_by m ≡ Some []) }
+        ensures seen { IfOk result (λ m. seen_by m ≡ Some []) }
+        ensures room { IfOk result (λ m. room ≤ vec_capacity m.seen) }
     {
         let seen = Vec::with_capacity(alloc, room)?;
         Ok(MemoryObserver {

@@ -5,6 +5,7 @@ ghost use Rattle.ntp_service_serve.specs.Port.{most_datagram_octets, ReceiveTell
 ghost use Rattle.ntp_server.specs.Rounds.{ServesRounds};
 ghost use Rattle.ntp_server.specs.Steps.{LooksOnce, Waits, MakesRound, arrivals_in, replies_in, departures_in};
 
+use crate::reporter::{NoReports, Reporter};
 use crate::sources::{CommandsSource, ReferenceSource};
 use ntp_observer::{Arrival, Observer, Sending, TurnOutcome};
 use ntp_operating::apply_commands;
@@ -60,6 +61,24 @@ impl<
             (R.coming self.old.reference) (R.coming self.new.reference) (O.seen self.old.observer) (O.seen self.new.observer)
             self.old.service self.new.service result }
     {
+        self.serve_reported(turns, &mut NoReports)
+    }
+
+    /// The same, and a reporter is shown this server as it is: after each turn, with when its datagram came, and with nothing
+    /// where none could be received; and whenever a wait ended with none, with nothing, once the commands that were due are
+    /// carried out and the source of the clock's state has looked after itself. It sees the server behind a shared
+    /// reference: what the server does is the same whatever the reporter does.
+    pub fn serve_reported<Q: Reporter<Server<P, C, R, O, A>>>(
+        &mut self,
+        turns: u64,
+        reporter: &mut Q,
+    ) -> Totals
+        requires { P.failure_count self.old.port + turns < 2 ^ 64 }
+        ensures { ServesRounds A P.is_prompt turns self.old.applied self.new.applied (P.told self.old.port) (P.told self.new.port)
+            (P.failure_count self.old.port) (P.failure_count self.new.port) (C.coming self.old.commands) (C.coming self.new.commands)
+            (R.coming self.old.reference) (R.coming self.new.reference) (O.seen self.old.observer) (O.seen self.new.observer)
+            self.old.service self.new.service result }
+    {
         let mut datagram = [0; 1025];
         let mut totals = Totals {
             arrivals: 0,
@@ -67,21 +86,25 @@ impl<
             departed: 0,
         };
         for _turn in 0..turns {
-            let outcome = self.turn(&mut datagram);
+            let outcome = self.turn(&mut datagram, reporter);
             totals.count(&outcome);
         }
         totals
     }
 
     // Makes one turn.
-    fn turn(&mut self, datagram: &mut [u8; 1025]) -> TurnOutcome
+    fn turn<Q: Reporter<Server<P, C, R, O, A>>>(
+        &mut self,
+        datagram: &mut [u8; 1025],
+        reporter: &mut Q,
+    ) -> TurnOutcome
         requires { P.failure_count self.old.port < 2 ^ 64 - 1 }
         ensures { MakesRound A P.is_prompt self.old.applied self.new.applied (P.told self.old.port) (P.told self.new.port)
             (P.failure_count self.old.port) (P.failure_count self.new.port) (C.coming self.old.commands) (C.coming self.new.commands)
             (R.coming self.old.reference) (R.coming self.new.reference) (O.seen self.old.observer) (O.seen self.new.observer)
             self.old.service self.new.service result }
     {
-        let received = self.wait(datagram);
+        let received = self.wait(datagram, reporter);
         let receipt = receipt_of(&received);
         self.look(receipt);
         let reference = self.reference.in_force(receipt);
@@ -93,16 +116,21 @@ impl<
             datagram,
         );
         self.observer.turn(&outcome);
+        reporter.report(self, receipt);
         outcome
     }
 
     // Waits until a datagram has come or could not be received, and carries out what is ordered meanwhile.
-    fn wait(&mut self, datagram: &mut [u8; 1025]) -> Result<Arrival, PortFault>
+    fn wait<Q: Reporter<Server<P, C, R, O, A>>>(
+        &mut self,
+        datagram: &mut [u8; 1025],
+        reporter: &mut Q,
+    ) -> Result<Arrival, PortFault>
         requires { P.failure_count self.old.port < 2 ^ 64 - 1 }
         ensures length { IfOk result (λ arrival. arrival.length ≤ most_datagram_octets) }
         ensures failures { P.failure_count self.new.port ≡ P.failure_count self.old.port + (if is_err result then 1 else 0) }
         ensures turns { ReceiveTells (P.told self.old.port) (P.told self.new.port) result datagram.new }
-        ensures reference { self.new.reference ≡ self.old.reference }
+        ensures reference { R.coming self.new.reference ≡ R.coming self.old.reference }
         ensures looks { Waits A P.is_prompt self.old.applied self.new.applied
             (C.coming self.old.commands) (C.coming self.new.commands) (O.seen self.old.observer) (O.seen self.new.observer)
             self.old.service self.new.service }
@@ -112,6 +140,8 @@ impl<
                 return received;
             }
             self.look(None);
+            self.reference.tend();
+            reporter.report(self, None);
         }
         self.port.receive(datagram)
     }

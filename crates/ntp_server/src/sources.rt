@@ -1,5 +1,5 @@
 //! Where a server has its commands and the state of its clock from.
-ghost use Rattle.std.specs.Prelude.{ℕ, Option, None, Some, List, [], ◌∷◌, option_map};
+ghost use Rattle.std.specs.Prelude.{◌≡◌, ℕ, Option, None, Some, List, [], ◌∷◌, option_map};
 ghost use Rattle.ntp_reply_packets.specs.Reference.{ReferenceState};
 ghost use Rattle.ntp_server.specs.Sources.{Coming, Gives};
 
@@ -32,6 +32,12 @@ pub trait ReferenceSource {
     /// could be received.
     fn in_force(&mut self, receipt: Option<Moment>) -> Reference
         ensures { Gives (coming self.old) (coming self.new) (receipt ∷ []) (result ∷ []) };
+
+    /// Time for the source to look after itself, while no datagram waits for its answer. What it tells of what it will give
+    /// stays the same. A source that has nothing to look after does nothing.
+    fn tend(&mut self)
+        ensures { coming self.new ≡ coming self.old }
+    {}
 }
 
 /// A state that is in force for ever.

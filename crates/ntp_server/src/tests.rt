@@ -1,9 +1,13 @@
 //! What no contract says of a server: what three turns come to with commands between them, to the octet, that serving takes
-//! no memory where no commands change, and that commands are carried out while nothing comes. The digests are those of
-//! Python's `hashlib.md5` over the key `key` and the octets before the key number.
+//! no memory where no commands change, that commands are carried out while nothing comes, when the source of the clock's
+//! state is given time, and when a reporter is shown the server. The digests are those of Python's `hashlib.md5` over the
+//! key `key` and the octets before the key number.
 ghost use Rattle.std.specs.Prelude.{◌≡◌};
 
-use crate::{FixedReference, MemoryCommands, MemoryObserver, MemoryStates, Server, Totals};
+use crate::{
+    FixedReference, MemoryCommands, MemoryObserver, MemoryStates, ReferenceSource, Reporter,
+    Server, Totals,
+};
 use ntp_admin::Octets;
 use ntp_mac::Reply;
 use ntp_observer::{Arrival, LineOutcome, Observation, Sending, TurnOutcome};
@@ -110,6 +114,33 @@ fn done(number: u64) -> Observation {
     }
 }
 
+// What a reporter was shown: when the datagram came, and how many lines of the commands file were applied by then.
+#[derive(Drop)]
+struct Shown(Vec<(Option<Moment>, u64)>);
+
+impl<P, C, R, O, A: Allocator> Reporter<Server<P, C, R, O, A>> for Shown {
+    fn report(&mut self, server: &Server<P, C, R, O, A>, receipt: Option<Moment>) {
+        let _ = self.0.push((receipt, server.applied));
+    }
+}
+
+// A state that is in force for ever, which counts how often it was given time.
+#[derive(Drop)]
+struct Tended {
+    reference: Reference,
+    times: u64,
+}
+
+impl ReferenceSource for Tended {
+    fn in_force(&mut self, _receipt: Option<Moment>) -> Reference {
+        self.reference
+    }
+
+    fn tend(&mut self) {
+        self.times = self.times.saturating_add(1);
+    }
+}
+
 #[test]
 fn commands_are_carried_out_before_the_datagram_is_answered(rt: HostRuntime) -> Result<(), Fail> {
     let alloc = rt.alloc();
@@ -134,8 +165,15 @@ fn commands_are_carried_out_before_the_datagram_is_answered(rt: HostRuntime) -> 
         sent: 2,
         departed: 1,
     };
-    assert_eq!(rt; server.serve(3), all);
+    let mut shown = Shown(Vec::new(alloc));
+    assert_eq!(rt; server.serve_reported(3, &mut shown), all);
     assert_eq!(rt; server.applied, 2);
+    let lines_applied = [
+        (Some(moment(0xec00_000f_9000_0000)), 0),
+        (Some(moment(0xec00_0010_9000_0000)), 1),
+        (Some(moment(0xec00_0011_9000_0000)), 2),
+    ];
+    assert_eq!(rt; shown.0.as_slice(), lines_applied.as_slice());
     assert!(rt; !server.observer.has_missed());
     let reply = Reply::from_octets(FIRST_REPLY).ok_or("no reply")?;
     let denial = Reply::from_octets(DENIAL).ok_or("no denial")?;
@@ -248,7 +286,10 @@ fn commands_are_carried_out_while_nothing_comes(rt: HostRuntime) -> Result<(), F
         },
         commands: MemoryCommands::new(looks),
         applied: 0,
-        reference: FixedReference(reference()?),
+        reference: Tended {
+            reference: reference()?,
+            times: 0,
+        },
         observer: MemoryObserver::new(alloc, 3)?,
         service: Service::new(alloc),
     };
@@ -257,8 +298,14 @@ fn commands_are_carried_out_while_nothing_comes(rt: HostRuntime) -> Result<(), F
         sent: 0,
         departed: 0,
     };
-    assert_eq!(rt; server.serve(1), nothing);
+    let mut shown = Shown(Vec::new(alloc));
+    assert_eq!(rt; server.serve_reported(1, &mut shown), nothing);
     assert_eq!(rt; server.applied, 2);
+    assert_eq!(rt; server.reference.times, 2);
+    assert_eq!(rt;
+        shown.0.as_slice(),
+        [(None, 1), (None, 2), (None, 2)].as_slice()
+    );
     let told = [
         done(1),
         done(2),

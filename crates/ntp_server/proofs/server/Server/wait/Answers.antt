@@ -9,6 +9,6 @@ pub loop-preserved : goal.loop-preserved
 loop-preserved g c = record {
   port = ap g.P.Port.told c.look.ensures.port ∙ c.in_default.ensures.nothing.1 ∙ c.loop.invariant.port;
   failures = omega (arith, ap g.P.Port.failure_count c.look.ensures.port, c.in_default.ensures.failures, c.loop.invariant.failures);
-  reference = search rules;
+  reference = c.tend.ensures ∙ ap g.R.ReferenceSource.coming c.look.ensures.reference ∙ c.loop.invariant.reference;
   waits = Waits-more _ _ _ _ _ _ _ _ _ _ _ _ _ _ c.in_default.ensures.nothing.0 c.loop.invariant.waits c.look.ensures.looks;
 }

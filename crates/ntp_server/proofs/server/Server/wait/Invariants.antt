@@ -6,7 +6,7 @@ abbrev pub invariant-loop : goal.invariant-loop
 invariant-loop g l = record {
   port : g.P.Port.told l.self.port ≡ g.P.Port.told l.fn.self.port;
   failures : g.P.Port.failure_count l.self.port ≡ g.P.Port.failure_count l.fn.self.port;
-  reference : l.self.reference ≡ l.fn.self.reference;
+  reference : g.R.ReferenceSource.coming l.self.reference ≡ g.R.ReferenceSource.coming l.fn.self.reference;
   waits : Waits g.row.A.Denot g.P.TimedPort.is_prompt l.fn.self.applied l.self.applied
       (g.C.CommandsSource.coming l.fn.self.commands) (g.C.CommandsSource.coming l.self.commands)
       (g.O.Observer.seen l.fn.self.observer) (g.O.Observer.seen l.self.observer) l.fn.self.service l.self.service;

@@ -1,5 +1,5 @@
 use Rattle.ntp_server.specs.Rounds.{ServesRounds}
-use Rattle.ntp_server.proofs.server.Server.serve.Given as goal
+use Rattle.ntp_server.proofs.server.Server.serve_reported.Given as goal
 
 abbrev pub invariant-loop-turn : goal.invariant-loop-turn
 invariant-loop-turn g l =

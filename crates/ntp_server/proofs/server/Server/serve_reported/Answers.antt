@@ -1,6 +1,6 @@
 use Rattle.std.proofs.Common.{arith}
 use Rattle.ntp_server.proofs.Making.{Serves-none, Serves-round, Serves-few}
-use Rattle.ntp_server.proofs.server.Server.serve.Goals as goal
+use Rattle.ntp_server.proofs.server.Server.serve_reported.Goals as goal
 
 pub loop-turn-init : goal.loop-turn-init
 loop-turn-init g c = Serves-none _ _ _ _ _ _ _ _ _

@@ -1,5 +1,6 @@
 //! A commands file that is looked at in each turn of a server, before its datagram is answered.
 
+use crate::pacing::{MILLISECOND, is_due};
 use crate::reading::read_open;
 use crate::version::Version;
 use ntp_server::CommandsSource;
@@ -8,9 +9,8 @@ use std::alloc::Allocator;
 use std::fs::{self, Files, OpenFile};
 use std::io::Read;
 
-/// How long the metadata of the open file is not asked for again, in units of 2^-32 seconds: a thousandth of a second
-/// (profile).
-const METADATA_PERIOD: u64 = 4_294_967;
+/// How long the metadata of the open file is not asked for again (profile).
+const METADATA_PERIOD: u64 = MILLISECOND;
 
 /// How long what stands at its path is not asked for again, in units of 2^-32 seconds: a tenth of a second (profile).
 const PATH_PERIOD: u64 = 429_496_729;
@@ -96,6 +96,12 @@ impl<'a, R: Files> CommandsFile<'a, R> {
         }
     }
 
+    /// Whether the file that stands at its path was read when it was last looked at. It was not before the first look, nor
+    /// where there was no regular file or it could not be read.
+    pub fn is_read(&self) -> bool {
+        self.given.is_some()
+    }
+
     // Whether something happened to the file that was read last.
     fn has_changed(&mut self, receipt: Option<Moment>) -> bool {
         match &mut self.given {
@@ -161,13 +167,5 @@ impl<'a, R: Files, A: Allocator + Copy> CommandsSource<A> for CommandsFile<'a, R
         // It is read only where it is regular: to open a pipe might take for ever.
         self.given = None;
         self.read_whole(alloc, version?)
-    }
-}
-
-// Whether it is time to ask again for what was last asked for then: where a datagram has come, by its receipt.
-fn is_due(asked: Option<Stamp>, receipt: Option<Moment>, period: u64) -> bool {
-    match (asked, receipt) {
-        (Some(asked), Some(receipt)) => receipt.stamp.0.wrapping_sub(asked.0) >= period,
-        _ => true,
     }
 }

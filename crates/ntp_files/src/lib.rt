@@ -1,11 +1,14 @@
-//! The files of a server: one read whole up to a limit, and the commands file, which is read again only where it changed.
+//! The files of a server: one read whole up to a limit, the commands file, which is read again only where it changed, and a
+//! source of commands that is not asked at each look.
 #![tactic(auto)]
 
 mod commands_file;
+mod pacing;
 mod reading;
 #[cfg(test)]
 mod tests;
 mod version;
 
 pub use commands_file::CommandsFile;
+pub use pacing::EachMillisecond;
 pub use reading::read_file;

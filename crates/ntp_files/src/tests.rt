@@ -1,11 +1,12 @@
-//! A file that is written, appended to, replaced, moved and taken away.
+//! A file that is written, appended to, replaced, moved and taken away, and a source that is not asked at each look.
 
 mod counting;
 
-use crate::{CommandsFile, read_file};
+use crate::{CommandsFile, EachMillisecond, read_file};
 use counting::Counting;
 use ntp_server::CommandsSource;
 use ntp_time::{Moment, Stamp};
+use std::alloc::Allocator;
 use std::cell::Cell;
 use std::fs::{self, File, Files};
 use std::io::Write;
@@ -131,13 +132,18 @@ fn another_file_is_seen_after_a_tenth_of_a_second(rt: HostRuntime) -> Result<(),
     let away = format!(in rt.alloc(); "{path}-away")?;
     fs::write(&rt, path, "one\n")?;
     let mut file = CommandsFile::new(&rt, path, MOST);
+    assert!(rt; !file.is_read());
     assert!(rt; is(look(&rt, &mut file, SECOND), "one\n"));
+    assert!(rt; file.is_read());
     // It is moved away, which is seen at the next look; then another one is made.
     fs::rename(&rt, path, away.as_str())?;
     assert!(rt; look(&rt, &mut file, SECOND).is_none());
+    assert!(rt; !file.is_read());
     fs::write(&rt, path, "two\n")?;
     assert!(rt; look(&rt, &mut file, SECOND + SECOND / 20).is_none());
+    assert!(rt; !file.is_read());
     assert!(rt; is(look(&rt, &mut file, SECOND + SECOND / 9), "two\n"));
+    assert!(rt; file.is_read());
     // It is taken away and made again, and the clock is set back.
     fs::remove_file(&rt, path)?;
     assert!(rt; look(&rt, &mut file, SECOND + SECOND / 9).is_none());
@@ -257,5 +263,50 @@ fn nothing_is_read_behind_a_cut(rt: HostRuntime) -> Result<(), Fail> {
         look(&rt, &mut file, SECOND + 2 * MILLISECOND).is_some_and(|text| text.len() == 101)
     );
     fs::remove_file(&rt, path)?;
+    Ok(())
+}
+
+// A source that gives two octets whenever it is asked: how often it was asked before, and whether a datagram waits.
+#[derive(Drop)]
+struct Asked(u8);
+
+impl<A: Allocator> CommandsSource<A> for Asked {
+    fn look(&mut self, alloc: A, receipt: Option<Moment>) -> Option<Vec<u8, A>> {
+        let before = self.0;
+        self.0 = before.wrapping_add(1);
+        [before, u8::from(receipt.is_some())].to_vec(alloc).ok()
+    }
+}
+
+#[test]
+fn a_source_is_asked_once_in_a_thousandth_of_a_second(rt: HostRuntime) -> Result<(), Fail> {
+    let mut source = EachMillisecond::new(Asked(0));
+    let looks = [
+        (Some(SECOND), Some([0, 1])),
+        (Some(SECOND), None),
+        (Some(SECOND + MILLISECOND / 2), None),
+        (Some(SECOND + MILLISECOND), Some([1, 1])),
+        (Some(SECOND + MILLISECOND * 3 / 2), None),
+        // With no datagram, which alters nothing of the time.
+        (None, Some([2, 0])),
+        (None, Some([3, 0])),
+        (Some(SECOND + MILLISECOND * 5 / 3), None),
+        (Some(SECOND + MILLISECOND * 2), Some([4, 1])),
+        // The clock was set back.
+        (Some(SECOND + MILLISECOND), Some([5, 1])),
+        (Some(SECOND + MILLISECOND * 3 / 2), None),
+    ];
+    for (at, wanted) in looks {
+        let receipt = at.map(|at| Moment {
+            era: 0,
+            stamp: Stamp(at),
+        });
+        let given = source.look(rt.alloc(), receipt);
+        assert_eq!(rt;
+            given.as_deref(),
+            wanted.as_ref().map(|octets| octets.as_slice())
+        );
+    }
+    assert_eq!(rt; source.inner().0, 6);
     Ok(())
 }

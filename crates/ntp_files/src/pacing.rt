@@ -1,0 +1,57 @@
+//! How often files are asked.
+
+use ntp_server::CommandsSource;
+use ntp_time::{Moment, Stamp};
+use std::alloc::Allocator;
+
+/// A thousandth of a second, in units of 2^-32 seconds.
+pub(crate) const MILLISECOND: u64 = 4_294_967;
+
+/// A source of commands that is asked at most once in a thousandth of a second, so that looks at it cost nothing in between
+/// (profile).
+///
+/// Time is told by the receipts of the datagrams. The source is asked where a thousandth of a second or more has passed
+/// since the last receipt with which it was asked, where the clock was set back, and always where no datagram waits. In
+/// between it is not asked, and a look gives nothing: what it would have given comes at a later look.
+#[derive(Drop)]
+pub struct EachMillisecond<C> {
+    source: C,
+    // The last receipt with which the source was asked.
+    asked: Option<Stamp>,
+}
+
+impl<C> EachMillisecond<C> {
+    /// This source, which was not asked yet.
+    pub fn new(source: C) -> EachMillisecond<C> {
+        EachMillisecond {
+            source,
+            asked: None,
+        }
+    }
+
+    /// The source.
+    pub fn inner(&self) -> &C {
+        &self.source
+    }
+}
+
+impl<C: CommandsSource<A>, A: Allocator> CommandsSource<A> for EachMillisecond<C> {
+    /// What the source gives, where it is asked, and else nothing. It takes memory only as the source does.
+    fn look(&mut self, alloc: A, receipt: Option<Moment>) -> Option<Vec<u8, A>> {
+        if !is_due(self.asked, receipt, MILLISECOND) {
+            return None;
+        }
+        if let Some(receipt) = receipt {
+            self.asked = Some(receipt.stamp);
+        }
+        self.source.look(alloc, receipt)
+    }
+}
+
+/// Whether it is time to ask again for what was last asked for then: where a datagram has come, by its receipt.
+pub(crate) fn is_due(asked: Option<Stamp>, receipt: Option<Moment>, period: u64) -> bool {
+    match (asked, receipt) {
+        (Some(asked), Some(receipt)) => receipt.stamp.0.wrapping_sub(asked.0) >= period,
+        _ => true,
+    }
+}

@@ -1,0 +1,36 @@
+use Rattle.std.proofs.Common.{◌≡◌, Ok, refl, sym, ap, ◌∙◌, arith}
+use Rattle.ntp_tail.proofs.Octets.{AreOctets}
+use Rattle.ntp_mac.specs.Reading.{reading_of}
+use Rattle.ntp_mac.proofs.ReadAs.{only-reading_of}
+use Rattle.ntp_client.specs.declared.taken.Taken.TheVariants as taken
+use Rattle.ntp_client.specs.declared.taken.Distrust.TheVariants as distrust
+use Rattle.ntp_clock.specs.Learning.{answer_read, learned_after}
+use Rattle.ntp_clock.proofs.AuthenticAnswers.{unsynchronised-signed}
+use Rattle.ntp_clock.proofs.follower.Follower.take.Goals as goal
+
+-- the octets that gave the sample are read as the very reply of which the client tells
+pub returns-in-Sample-clause-learned : goal.returns-in-Sample-clause-learned
+returns-in-Sample-clause-learned c =
+    let are : AreOctets c.args.octets.now = λ i. omega (arith, c.type_inv.octets i) in
+    let is = (c.in-Sample.ensures.sample c.in-Sample.sample).0 refl in
+    let read = only-reading_of c.args.octets.now (Ok is.reply) are is.reads in
+    let reading = reading_of c.args.octets.now in
+    c.learn-self-inside.ensures is.reply is.reads is.time
+    ∙ ap (λ r. answer_read r c.in-Sample.sample c.args.clock c.args.ticks) read
+    ∙ ap (learned_after c.args.self.now.learned reading c.args.clock c.args.ticks) (sym c.in-Sample.is)
+
+-- that reply is signed
+pub returns-in-Sample-clause-forged : goal.returns-in-Sample-clause-forged
+returns-in-Sample-clause-forged c = λ none.
+    let is = (c.in-Sample.ensures.sample c.in-Sample.sample).0 refl in
+    absurd (none is.reply is.reads (rw (← c.self.view_is) is.signed))
+
+-- and so is one of an unsynchronised clock
+pub returns-in-Refused-Unsynchronised-clause-forged : goal.returns-in-Refused-Unsynchronised-clause-forged
+returns-in-Refused-Unsynchronised-clause-forged c = λ none.
+    let are : AreOctets c.args.octets.now = λ i. omega (arith, c.type_inv.octets i) in
+    let why : c.in-Refused-Unsynchronised.field-0 ≡ distrust.Unsynchronised =
+    rw c.in-Refused-Unsynchronised.is at c.in-Refused-Unsynchronised.field-0-is in
+    let is = sym c.take-taken.ensures.first ∙ c.in-Refused-Unsynchronised.is ∙ ap taken.Refused why in
+    let signed = unsynchronised-signed c.self.inside.client c.args.octets.now c.args.clock are is in
+    absurd (none signed.0 signed.1 (rw (← c.self.view_is) signed.2))

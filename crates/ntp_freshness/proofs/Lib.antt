@@ -1,0 +1,5 @@
+pub mod Watching
+pub mod Seeing
+pub mod Keeping
+pub mod Dropping
+pub mod Waiting

@@ -1,0 +1,75 @@
+-- What a port does that passes on only what may be answered.
+use Rattle.std.specs.Prelude.{◌≡◌, ℕ, ◌+◌, ◌-◌, ◌^◌, ◌≤◌, min, Option, None, Some, Result, Ok, Err, List, [], ◌∷◌, ◌++◌, length, All}
+use Rattle.ntp_observer.specs.declared.outcomes.Arrival.{Arrival}
+use Rattle.ntp_service_serve.specs.declared.port.PortFault.{PortFault}
+use Rattle.ntp_freshness.specs.declared.queue_event.QueueEvent.{QueueEvent}
+use Rattle.ntp_freshness.specs.declared.queue_event.QueueEvent.TheVariants.{Taken, Read}
+use Rattle.ntp_freshness.specs.declared.queue_watch.QueueWatch.{QueueWatch}
+use Rattle.ntp_freshness.specs.Freshness.{takes, moment_of, IsInOrder, MayBeAnswered}
+use Rattle.ntp_freshness.specs.Queue.{last_reading, SeesMore}
+use Rattle.ntp_freshness.specs.Watch.{Watches}
+
+-- what is kept, with the last reading of the clock, is that of a history whose events are in order and no later than that reading (profile)
+pub record StandsFor {A : Type 0} (watch : QueueWatch A) (reading : ℕ) (history : List QueueEvent) : Type 0 where
+  pub watches : Watches watch history
+  pub ordered : IsInOrder history
+  pub past : All (λ event. moment_of event ≤ reading) history
+
+-- a datagram that was taken: what was seen since the take before it, newest first, which is no take; from when on the call ran that took it;
+-- and what the clock showed once it was in hand (profile)
+pub record Take : Type 0 where
+  pub seen : List QueueEvent
+  pub quiet : takes seen ≡ []
+  pub at : ℕ
+  pub now : ℕ
+
+-- the history just before the take, and with it (profile)
+abbrev pub history_before : Take → List QueueEvent → List QueueEvent
+history_before take history = take.seen ++ history
+
+abbrev pub history_after : Take → List QueueEvent → List QueueEvent
+history_after take history = Read take.now ∷ (Taken take.at ∷ history_before take history)
+
+-- these were taken, one after another, and none of them may be answered (profile)
+abbrev pub AreStale : ℕ → ℕ → List QueueEvent → List Take → List QueueEvent → Type 0
+AreStale holds longest history [] after = after ≡ history
+AreStale holds longest history (take ∷ taken) after =
+    (MayBeAnswered holds longest (history_before take history) take.now → ⊥) × AreStale holds longest (history_after take history) taken after
+
+-- nothing was taken (profile)
+abbrev pub NothingTaken : List QueueEvent → List QueueEvent → Type 0
+NothingTaken history after = (seen : List QueueEvent) × (takes seen ≡ []) × (after ≡ seen ++ history)
+
+-- what is passed on: a datagram that may be answered, or nothing that was taken (profile)
+abbrev pub PassesOn : ℕ → ℕ → List QueueEvent → Option (Result Arrival PortFault) → List QueueEvent → Type 0
+PassesOn holds longest history (Some (Ok arrival)) after =
+    (take : Take) × MayBeAnswered holds longest (history_before take history) take.now × (after ≡ history_after take history)
+PassesOn holds longest history (Some (Err fault)) after = NothingTaken history after
+PassesOn holds longest history None after = NothingTaken history after
+
+-- a count after so many more, which stays at the most that it can be (profile)
+abbrev pub counted_on : ℕ → ℕ → ℕ
+counted_on count more = min (count + more) (2 ^ 64 - 1)
+
+-- the last reading is the last one that a port tells, where it tells that
+abbrev pub IsShown : ℕ → Option (List QueueEvent) → Type 0
+IsShown reading None = Unit {0}
+IsShown reading (Some told) = last_reading told ≡ reading
+
+-- a port saw just what the history has more, where it tells that (profile)
+abbrev pub IsSeen : Option (List QueueEvent) → Option (List QueueEvent) → List QueueEvent → List QueueEvent → Type 0
+IsSeen old new history after = (more : List QueueEvent) × (after ≡ more ++ history) × SeesMore old new more
+
+-- so it is, and goes on to be, where the last reading was the last one that the port told
+abbrev pub IsSeenFrom : ℕ → ℕ → Option (List QueueEvent) → Option (List QueueEvent) → List QueueEvent → List QueueEvent → Type 0
+IsSeenFrom reading now old new history after = IsShown reading old → IsShown now new × IsSeen old new history after
+
+-- from the queue of a port were taken some datagrams that may not be answered, which are dropped and counted, and then what is passed on (profile)
+pub record ReceivesFresh (holds longest : ℕ) (reading now : ℕ) (old new : Option (List QueueEvent)) (stale_before stale_after : ℕ)
+    (history after : List QueueEvent) (result : Option (Result Arrival PortFault)) : Type 0 where
+  pub dropped : List Take
+  pub between : List QueueEvent
+  pub stale : AreStale holds longest history dropped between
+  pub passed_on : PassesOn holds longest between result after
+  pub counted : stale_after ≡ counted_on stale_before (length dropped)
+  pub seen : IsSeenFrom reading now old new history after

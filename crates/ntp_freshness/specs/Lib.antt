@@ -1,0 +1,6 @@
+pub mod Freshness
+pub mod Queue
+pub mod Watch
+pub mod Fresh
+pub mod Next
+pub mod Memory

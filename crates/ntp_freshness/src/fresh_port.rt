@@ -1,0 +1,261 @@
+//! A port that passes on only datagrams that have not waited for long.
+ghost use Rattle.std.specs.Prelude.{◌≡◌, ◌+◌, ◌-◌, ◌≤◌, ◌<◌, ◌^◌, List, All, Some, IfOk, IfErr, IfSome, is_err, if◌then◌else◌};
+ghost use Rattle.std.specs.Option.{option_map_or};
+ghost use Rattle.ntp_service_serve.specs.Port.{most_datagram_octets};
+ghost use Rattle.ntp_freshness.specs.declared.queue_event.QueueEvent.{QueueEvent};
+ghost use Rattle.ntp_freshness.specs.Freshness.{moment_of, IsInOrder};
+ghost use Rattle.ntp_freshness.specs.Watch.{Watches, holds_of, longest_of};
+ghost use Rattle.ntp_freshness.specs.Fresh.{StandsFor, ReceivesFresh, IsShown};
+ghost use Rattle.ntp_freshness.specs.Next.{TakesNext, LooksOn, failures_in};
+
+use crate::queue_watch::QueueWatch;
+use crate::queued_port::QueuedPort;
+use ntp_register::Address;
+use ntp_service_serve::{Arrival, Port, PortFault, TimedPort};
+use ntp_time::Moment;
+use std::alloc::{Allocator, Global};
+
+/// How long it is not looked again whether the queue is empty, in nanoseconds: a ten-thousandth of a second. So looking costs little
+/// while it is not. It is looked again at once where a datagram was dropped, so that what comes after a stop is answered (profile).
+const LOOK_PERIOD: u64 = 100_000;
+
+/// How many datagrams are dropped in one call at most, so that there is time to look at something else (profile).
+const MOST_DROPPED: u32 = 1_024;
+
+/// A port that passes on only datagrams that can have waited in the queue of another port for less than a given time; it drops
+/// and counts the others, which are no events (profile).
+///
+/// The other port's waits have to end well within that time: else a datagram that came during a long wait is dropped.
+#[derive(Drop)]
+pub struct FreshPort<P: QueuedPort, A: Allocator = Global> {
+    port: P,
+    watch: QueueWatch<A>,
+    // What the clock showed last. It was shown before any call that is still to be made, so that call begins then or later.
+    reading: u64,
+    // What it shows when it may be looked again whether the queue is empty.
+    next_look: u64,
+    stale: u64,
+    failures: u64,
+    ghost counted: { P.failure_count port ≤ failures },
+}
+
+// What came of one take.
+enum Next {
+    // No datagram came in time.
+    Nothing,
+    // None could be received.
+    Fault(PortFault),
+    // One came that may be answered.
+    Fresh(Arrival),
+    // One came that was dropped.
+    Stale,
+}
+
+impl<P: QueuedPort, A: Allocator> FreshPort<P, A> {
+    /// A port that passes on what may be answered of what comes at `port`, by what `watch` was told and will be. It has dropped
+    /// nothing. `watch` may know the queue already, by the port's clock: a queue that is new was empty just before.
+    pub fn new(mut port: P, watch: QueueWatch<A>) -> FreshPort<P, A>
+        ensures stands { (history : List QueueEvent) → Watches watch history → IsInOrder history
+            → All (λ event. moment_of event ≤ result.reading) history → StandsFor result.watch result.reading history }
+        ensures watch { result.watch ≡ watch }
+        ensures shown { IsShown result.reading (P.history result.port) }
+        ensures stale { result.stale ≡ 0 }
+        ensures failures { result.failures ≡ P.failure_count port }
+    {
+        let reading = port.ticks();
+        let failures = port.failures();
+        FreshPort {
+            port,
+            watch,
+            reading,
+            next_look: 0,
+            stale: 0,
+            failures,
+        }
+    }
+
+    /// The other port.
+    pub fn port(&self) -> &P
+        ensures { result.now ≡ self.now.port }
+    {
+        &self.port
+    }
+
+    /// How many datagrams were dropped, as far as the number can count.
+    pub fn stale(&self) -> u64
+        ensures { result ≡ self.now.stale }
+    {
+        self.stale
+    }
+
+    /// Receives a datagram that may be answered, where one comes in time: those that may not be answered, and come before it, are
+    /// dropped and counted. Nothing where none did, or where too many were dropped.
+    ///
+    /// Whatever history the watch stood for, it goes on to stand for one more, with which this is so; and where the other port
+    /// tells what it saw, it is just that.
+    pub fn receive_fresh(&mut self, datagram: &mut [u8; 1025]) -> Option<Result<Arrival, PortFault>>
+        requires { self.old.failures < 2 ^ 64 - 1 }
+        ensures length { IfSome result (λ received. IfOk received (λ arrival. arrival.length ≤ most_datagram_octets)) }
+        ensures fault { IfSome result (λ received. IfErr received (λ fault. fault ≡ PortFault.Receive)) }
+        ensures failures { self.new.failures
+            ≡ self.old.failures + option_map_or (λ received. if is_err received then 1 else 0) result 0 }
+        ensures holds { holds_of self.new.watch ≡ holds_of self.old.watch }
+        ensures longest { longest_of self.new.watch ≡ longest_of self.old.watch }
+        ensures fresh { (history : List QueueEvent) → StandsFor self.old.watch self.old.reading history
+            → (after : List QueueEvent) × StandsFor self.new.watch self.new.reading after
+            × ReceivesFresh (holds_of self.old.watch) (longest_of self.old.watch) self.old.reading self.new.reading
+            (P.history self.old.port) (P.history self.new.port) self.old.stale self.new.stale history after result }
+    {
+        for _ in 0..MOST_DROPPED {
+            match self.take_next(datagram) {
+                Next::Nothing => return None,
+                Next::Fault(fault) => return Some(Err(fault)),
+                Next::Fresh(arrival) => return Some(Ok(arrival)),
+                Next::Stale => {}
+            }
+        }
+        None
+    }
+
+    // Takes the next datagram out of the queue, and judges it.
+    fn take_next(&mut self, datagram: &mut [u8; 1025]) -> Next
+        requires { self.old.failures < 2 ^ 64 - 1 }
+        ensures fresh { (arrival : Arrival) → result ≡ Next.Fresh arrival → arrival.length ≤ most_datagram_octets }
+        ensures fault { (fault : PortFault) → result ≡ Next.Fault fault → fault ≡ PortFault.Receive }
+        ensures failures { self.new.failures ≡ self.old.failures + failures_in result }
+        ensures holds { holds_of self.new.watch ≡ holds_of self.old.watch }
+        ensures longest { longest_of self.new.watch ≡ longest_of self.old.watch }
+        ensures next { (history : List QueueEvent) → StandsFor self.old.watch self.old.reading history
+            → TakesNext (holds_of self.old.watch) (longest_of self.old.watch) self.old.reading self.new.reading
+            (P.history self.old.port) (P.history self.new.port) self.old.stale self.new.stale self.new.watch history result }
+    {
+        self.look();
+        let received = self.port.take_in_time(datagram);
+        let before = self.reading;
+        self.reading = self.port.ticks().max(before);
+        let Some(received) = received else {
+            self.watch.saw_empty(before);
+            return Next::Nothing;
+        };
+        match received {
+            Err(fault) => {
+                self.failures += 1;
+                Next::Fault(fault)
+            }
+            Ok(arrival) => {
+                let is_fresh = self.watch.is_fresh(self.reading);
+                self.watch.took(before);
+                if is_fresh {
+                    return Next::Fresh(arrival);
+                }
+                self.next_look = 0;
+                self.stale = self.stale.saturating_add(1);
+                Next::Stale
+            }
+        }
+    }
+
+    // Looks whether the queue is empty, where it is time to, once in a ten-thousandth of a second at most.
+    fn look(&mut self)
+        ensures reading { self.new.reading ≡ self.old.reading }
+        ensures stale { self.new.stale ≡ self.old.stale }
+        ensures failures { self.new.failures ≡ self.old.failures }
+        ensures holds { holds_of self.new.watch ≡ holds_of self.old.watch }
+        ensures longest { longest_of self.new.watch ≡ longest_of self.old.watch }
+        ensures looks { (history : List QueueEvent) → StandsFor self.old.watch self.old.reading history
+            → LooksOn self.old.reading self.new.reading (P.history self.old.port) (P.history self.new.port) self.new.watch history }
+    {
+        if self.reading >= self.next_look {
+            self.next_look = self.reading.saturating_add(LOOK_PERIOD);
+            self.look_now();
+        }
+    }
+
+    // Looks whether the queue is empty, where what is known of it is old.
+    fn look_now(&mut self)
+        ensures reading { self.new.reading ≡ self.old.reading }
+        ensures stale { self.new.stale ≡ self.old.stale }
+        ensures failures { self.new.failures ≡ self.old.failures }
+        ensures holds { holds_of self.new.watch ≡ holds_of self.old.watch }
+        ensures longest { longest_of self.new.watch ≡ longest_of self.old.watch }
+        ensures looks { (history : List QueueEvent) → StandsFor self.old.watch self.old.reading history
+            → LooksOn self.old.reading self.new.reading (P.history self.old.port) (P.history self.new.port) self.new.watch history }
+    {
+        if self.watch.is_due(self.reading) && self.port.is_empty() {
+            self.watch.saw_empty(self.reading);
+        }
+    }
+}
+
+impl<P: QueuedPort, A: Allocator> Port for FreshPort<P, A> {
+    ghost failure_count = { λ f. f.failures };
+
+    /// Waits until a datagram comes that may be answered.
+    fn receive(&mut self, datagram: &mut [u8; 1025]) -> Result<Arrival, PortFault>
+        requires { self.old.failures < 2 ^ 64 - 1 }
+        ensures length { IfOk result (λ arrival. arrival.length ≤ most_datagram_octets) }
+        ensures fault { IfErr result (λ fault. fault ≡ PortFault.Receive) }
+        ensures failures { self.new.failures ≡ self.old.failures + (if is_err result then 1 else 0) }
+        ensures holds { holds_of self.new.watch ≡ holds_of self.old.watch }
+        ensures longest { longest_of self.new.watch ≡ longest_of self.old.watch }
+        ensures fresh { (history : List QueueEvent) → StandsFor self.old.watch self.old.reading history
+            → (after : List QueueEvent) × StandsFor self.new.watch self.new.reading after
+            × ReceivesFresh (holds_of self.old.watch) (longest_of self.old.watch) self.old.reading self.new.reading
+            (P.history self.old.port) (P.history self.new.port) self.old.stale self.new.stale history after (Some result) }
+    {
+        for _ in 0..u64::MAX {
+            if let Some(received) = self.receive_fresh(datagram) {
+                return received;
+            }
+        }
+        self.failures += 1;
+        Err(PortFault::Receive)
+    }
+
+    fn now(&mut self) -> Moment
+        ensures failures { self.new.failures ≡ self.old.failures }
+        ensures watch { self.new.watch ≡ self.old.watch }
+        ensures reading { self.new.reading ≡ self.old.reading }
+        ensures stale { self.new.stale ≡ self.old.stale }
+    {
+        self.port.now()
+    }
+
+    fn send(&mut self, address: Address, port: u16, reply: &[u8]) -> Result<(), PortFault>
+        requires { self.old.failures < 2 ^ 64 - 1 }
+        ensures fault { IfErr result (λ fault. fault ≡ PortFault.Send) }
+        ensures failures { self.new.failures ≡ self.old.failures + (if is_err result then 1 else 0) }
+        ensures watch { self.new.watch ≡ self.old.watch }
+        ensures reading { self.new.reading ≡ self.old.reading }
+        ensures stale { self.new.stale ≡ self.old.stale }
+    {
+        let sent = self.port.send(address, port, reply);
+        if sent.is_err() {
+            self.failures += 1;
+        }
+        sent
+    }
+
+    fn failures(&self) -> u64 {
+        self.failures
+    }
+}
+
+impl<P: QueuedPort, A: Allocator> TimedPort for FreshPort<P, A> {
+    /// As `receive_fresh`.
+    fn receive_in_time(&mut self, datagram: &mut [u8; 1025]) -> Option<Result<Arrival, PortFault>>
+        requires { self.old.failures < 2 ^ 64 - 1 }
+        ensures length { IfSome result (λ received. IfOk received (λ arrival. arrival.length ≤ most_datagram_octets)) }
+        ensures fault { IfSome result (λ received. IfErr received (λ fault. fault ≡ PortFault.Receive)) }
+        ensures failures { self.new.failures
+            ≡ self.old.failures + option_map_or (λ received. if is_err received then 1 else 0) result 0 }
+        ensures holds { holds_of self.new.watch ≡ holds_of self.old.watch }
+        ensures longest { longest_of self.new.watch ≡ longest_of self.old.watch }
+        ensures fresh { (history : List QueueEvent) → StandsFor self.old.watch self.old.reading history
+            → (after : List QueueEvent) × StandsFor self.new.watch self.new.reading after
+            × ReceivesFresh (holds_of self.old.watch) (longest_of self.old.watch) self.old.reading self.new.reading
+            (P.history self.old.port) (P.history self.new.port) self.old.stale self.new.stale history after result }
+    {
+        self.receive_fresh(datagram)
+    }
+}

@@ -1,0 +1,13 @@
+//! What can be seen of a queue.
+
+/// What a call saw of a queue, or of the clock beside it; with a moment of that clock, in nanoseconds, which never goes
+/// back (profile).
+#[derive(Clone, Copy, Debug, PartialEq, Eq)]
+pub enum QueueEvent {
+    /// The queue was empty at some moment of a call that began at this moment or later.
+    Empty(u64),
+    /// A datagram was taken out of the queue by a call that began at this moment or later.
+    Taken(u64),
+    /// The clock showed this moment.
+    Read(u64),
+}

@@ -1,0 +1,42 @@
+//! What a port tells of the queue out of which its datagrams come.
+ghost use Rattle.std.specs.Prelude.{◌≡◌, ◌+◌, ◌-◌, ◌≤◌, ◌<◌, ◌^◌, Option, None, List, IfOk, IfErr, IfSome, IfNone, false, is_err, if◌then◌else◌};
+ghost use Rattle.std.specs.Option.{option_map_or};
+ghost use Rattle.ntp_service_serve.specs.Port.{most_datagram_octets, ReceiveTells};
+ghost use Rattle.ntp_freshness.specs.declared.queue_event.QueueEvent.{QueueEvent};
+ghost use Rattle.ntp_freshness.specs.Queue.{ReadsClock, Tells, seen_in_look, seen_in_wait};
+
+use ntp_service_serve::{Arrival, PortFault, TimedPort};
+
+/// A port whose datagrams wait in a queue, first in, first out, that can be looked at; with a clock that never goes
+/// back (profile).
+///
+/// A port may tell what its calls saw of queue and clock, as a history. No call of `Port` or `TimedPort` that takes no
+/// datagram adds to it.
+pub trait QueuedPort: TimedPort {
+    // What its calls have seen of the queue and of the clock, newest first, where it tells that.
+    ghost history: { Self → Option (List QueueEvent) } = { λ _. None };
+
+    /// What the clock shows that never goes back, in nanoseconds.
+    fn ticks(&mut self) -> u64
+        ensures failures { Self.failure_count self.new ≡ Self.failure_count self.old }
+        ensures turns { Self.told self.new ≡ Self.told self.old }
+        ensures history { ReadsClock (history self.old) (history self.new) result };
+
+    /// Looks, without waiting, whether the queue is empty; `false` also where it cannot be told.
+    fn is_empty(&mut self) -> bool
+        ensures failures { Self.failure_count self.new ≡ Self.failure_count self.old }
+        ensures turns { Self.told self.new ≡ Self.told self.old }
+        ensures history { Tells (history self.old) (history self.new) (seen_in_look result) };
+
+    /// Takes a datagram out of the queue, as `receive_in_time` does. Where it gives nothing, the queue was empty at some
+    /// moment of the call.
+    fn take_in_time(&mut self, datagram: &mut [u8; 1025]) -> Option<Result<Arrival, PortFault>>
+        requires { Self.failure_count self.old < 2 ^ 64 - 1 }
+        ensures length { IfSome result (λ received. IfOk received (λ arrival. arrival.length ≤ most_datagram_octets)) }
+        ensures fault { IfSome result (λ received. IfErr received (λ fault. fault ≡ PortFault.Receive)) }
+        ensures failures { Self.failure_count self.new
+            ≡ Self.failure_count self.old + option_map_or (λ received. if is_err received then 1 else 0) result 0 }
+        ensures turns { IfSome result (λ received. ReceiveTells (Self.told self.old) (Self.told self.new) received datagram.new) }
+        ensures nothing { IfNone result ((Self.is_prompt ≡ false) × (Self.told self.new ≡ Self.told self.old)) }
+        ensures history { Tells (history self.old) (history self.new) (seen_in_wait result) };
+}

@@ -1,0 +1,43 @@
+-- Counts, after some kinds more were counted.
+use Rattle.std.proofs.Common.{◌≡◌, ◌+◌, cond, List, [], ◌∷◌, ◌++◌, sym, ap, ◌∙◌, append-nil, arith}
+use Rattle.std.specs.Prelude.{min, count_by, flat_map}
+use Rattle.std.proofs.lemmas.Grind.{flat_map-append}
+use Rattle.std.proofs.lemmas.List.Sums.{sum_by-append}
+use Rattle.ntp_reply.specs.declared.answers.Answer.{Answer}
+use Rattle.ntp_observer.specs.declared.outcomes.Arrival.{Arrival}
+use Rattle.ntp_observer.specs.declared.outcomes.Observation.{Observation}
+use Rattle.ntp_observer.specs.declared.outcomes.Observation.TheVariants.{Turn}
+use Rattle.ntp_observer.specs.declared.outcomes.Sending.{Sending}
+use Rattle.ntp_observer.specs.declared.outcomes.TurnOutcome.TheVariants.{Answered}
+use Rattle.ntp_reports.specs.declared.kind.Kind.{Kind}
+use Rattle.ntp_reports.specs.declared.counts.Counts.{Counts}
+use Rattle.ntp_reports.specs.Kinds.{is_kind, kinds_of, answer_kind, sending_kinds}
+use Rattle.ntp_reports.specs.Counted.{most_counted, CountsMore, Adds}
+
+-- two lists of kinds were counted, one behind the other
+pub Adds-append : (a b c : Counts) (xs ys : List Kind) → Adds a b xs → Adds b c ys → Adds a c (xs ++ ys)
+Adds-append a b c xs ys first then = record {
+  each = λ kind before e.
+      let both = sum_by-append (λ k. cond (is_kind kind k) 1 0) xs ys in
+      let mid = then.each kind (before + count_by (is_kind kind) xs) (first.each kind before e) in
+      omega (arith, both, mid);
+}
+
+-- the kinds of an observation were counted
+pub counted-Adds : (old new : Counts) (more : Observation) → Adds old new (kinds_of more) → CountsMore old new more
+counted-Adds old new more adds = record {
+  counted = λ seen are. record {
+    each = λ kind.
+        let kinds : flat_map kinds_of (seen ++ more ∷ []) ≡ flat_map kinds_of seen ++ kinds_of more =
+        flat_map-append kinds_of seen (more ∷ []) ∙ ap (λ ks. flat_map kinds_of seen ++ ks) (append-nil (kinds_of more)) in
+        let all = sum_by-append (λ k. cond (is_kind kind k) 1 0) (flat_map kinds_of seen) (kinds_of more) in
+        adds.each kind (count_by (is_kind kind) (flat_map kinds_of seen)) (are.each kind) ∙ ap (λ n. min n most_counted) (sym all)
+        ∙ ap (λ ks. min (count_by (is_kind kind) ks) most_counted) (sym kinds);
+  };
+}
+
+-- an answer was counted, and then what became of the reply
+pub counted-answer : (old mid new : Counts) (arrival : Arrival) (a : Answer) (sending : Sending) (k : Kind) → k ≡ answer_kind a
+    → Adds old mid (k ∷ []) → Adds mid new (sending_kinds sending) → CountsMore old new (Turn (Answered arrival a sending))
+counted-answer old mid new arrival a sending k is first then =
+    counted-Adds old new _ (rw (← is) (Adds-append old mid new (k ∷ []) (sending_kinds sending) first then))

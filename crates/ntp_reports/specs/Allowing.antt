@@ -1,0 +1,38 @@
+-- How many lines of a kind may be written. Asks for a line are told by their minutes, the newest first.
+use Rattle.std.specs.Prelude.{◌≡◌, ℕ, ◌-◌, ◌^◌, min, ◌==◌, List, [], ◌∷◌, nat_lt, if◌then◌else◌}
+use Rattle.std.specs.List.{prefix_len}
+use Rattle.ntp_reports.specs.declared.line_allowance.Ask.{Ask}
+use Rattle.ntp_reports.specs.declared.line_allowance.Ask.TheVariants.{Say, Hold, SayWithMore}
+use Rattle.ntp_reports.specs.declared.line_allowance.LineAllowance.{LineAllowance}
+
+-- how many lines of a kind are written in a minute (profile)
+abbrev pub most_lines : ℕ
+most_lines = 10
+
+-- how many of the last asks, in a row, were made in a minute; a count stops at 2^64 - 1 (profile)
+abbrev pub asked_in : ℕ → List ℕ → ℕ
+asked_in minute asks = min (prefix_len (λ m. m == minute) asks) (2 ^ 64 - 1)
+
+-- how many lines were held in the last minute in which one was asked for (profile)
+abbrev pub held_in : List ℕ → ℕ
+held_in [] = 0
+held_in (last ∷ asks) = asked_in last (last ∷ asks) - most_lines
+
+-- the first line of a minute is written, and tells how many were held before (profile)
+abbrev pub first_answer : ℕ → Ask
+first_answer held = if nat_lt 0 held then SayWithMore held else Say
+
+-- what an ask in a minute is answered, behind these: the first ten lines of a minute are written, and no more (profile)
+abbrev pub answer_to : List ℕ → ℕ → Ask
+answer_to asks minute =
+    if asked_in minute asks == 0 then first_answer (held_in asks) else (if nat_lt (asked_in minute asks) most_lines then Say else Hold)
+
+-- the last ask, if there was one, was made in a minute
+abbrev pub IsLastIn : List ℕ → ℕ → Type 0
+IsLastIn [] minute = Unit {0}
+IsLastIn (last ∷ asks) minute = last ≡ minute
+
+-- an allowance is what these asks leave of it (profile)
+pub record IsLeftBy (asks : List ℕ) (allowance : LineAllowance) : Type 0 where
+  pub last : IsLastIn asks allowance.minute
+  pub asked : allowance.asked ≡ asked_in allowance.minute asks

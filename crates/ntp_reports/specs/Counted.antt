@@ -1,0 +1,31 @@
+-- What counts are of.
+use Rattle.std.specs.Prelude.{◌≡◌, ℕ, ◌+◌, ◌-◌, ◌^◌, min, List, [], ◌∷◌, ◌++◌, flat_map, count_by, slice_index}
+use Rattle.ntp_observer.specs.declared.outcomes.Observation.{Observation}
+use Rattle.ntp_reports.specs.declared.kind.Kind.{Kind}
+use Rattle.ntp_reports.specs.declared.counts.Counts.{Counts}
+use Rattle.ntp_reports.specs.Kinds.{is_kind, kinds_of, place_of}
+
+-- the most that is counted: no server makes so many turns (profile)
+abbrev pub most_counted : ℕ
+most_counted = 2 ^ 64 - 1
+
+-- the count of a kind
+abbrev pub count_at : Counts → Kind → ℕ
+count_at counts kind = slice_index counts.by_kind (place_of kind)
+
+-- how many there are of a kind among what these observations are counted as, or `most_counted` where there are more (profile)
+abbrev pub count_in : Kind → List Observation → ℕ
+count_in kind seen = min (count_by (is_kind kind) (flat_map kinds_of seen)) most_counted
+
+-- the counts are those of these observations (profile)
+pub record AreCounts (counts : Counts) (seen : List Observation) : Type 0 where
+  pub each : (kind : Kind) → count_at counts kind ≡ count_in kind seen
+
+-- one observation more was counted: whatever the counts were of, they are of that and this one (profile)
+pub record CountsMore (old new : Counts) (more : Observation) : Type 0 where
+  pub counted : (seen : List Observation) → AreCounts old seen → AreCounts new (seen ++ more ∷ [])
+
+-- these kinds were counted, whatever was before; no public clause cites this
+pub record Adds (old new : Counts) (kinds : List Kind) : Type 0 where
+  pub each : (kind : Kind) (before : ℕ) → count_at old kind ≡ min before most_counted
+      → count_at new kind ≡ min (before + count_by (is_kind kind) kinds) most_counted

@@ -1,0 +1,5 @@
+pub mod Interleaving
+pub mod Kinds
+pub mod Counted
+pub mod AnswerText
+pub mod Allowing

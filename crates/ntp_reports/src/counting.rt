@@ -1,0 +1,45 @@
+//! An observer that counts.
+ghost use Rattle.std.specs.Prelude.{◌≡◌, [], ◌∷◌};
+ghost use Rattle.ntp_observer.specs.Sees.{Sees};
+ghost use Rattle.ntp_observer.specs.declared.outcomes.Observation.{Observation};
+ghost use Rattle.ntp_reports.specs.Counted.{CountsMore};
+
+use crate::counts::Counts;
+use ntp_admin::Command;
+use ntp_observer::{LineOutcome, Observer, TurnOutcome};
+
+/// An observer that counts what it hears, and tells another one of it.
+#[derive(Drop)]
+pub struct Counting<O> {
+    /// What was counted so far.
+    pub counts: Counts,
+    /// Who is told.
+    pub inner: O,
+}
+
+impl<O: Observer> Observer for Counting<O> {
+    ghost seen = { λ c. O.seen c.inner };
+
+    fn command(&mut self, command: &Command)
+        ensures inner { O.seen self.new.inner ≡ O.seen self.old.inner }
+        ensures counts { self.new.counts ≡ self.old.counts }
+    {
+        self.inner.command(command);
+    }
+
+    fn line(&mut self, number: u64, outcome: LineOutcome)
+        ensures inner { Sees (O.seen self.old.inner) (O.seen self.new.inner) (Observation.Line number outcome ∷ []) }
+        ensures counts { CountsMore self.old.counts self.new.counts (Observation.Line number outcome) }
+    {
+        self.counts.count_line(outcome);
+        self.inner.line(number, outcome);
+    }
+
+    fn turn(&mut self, outcome: &TurnOutcome)
+        ensures inner { Sees (O.seen self.old.inner) (O.seen self.new.inner) (Observation.Turn outcome.now ∷ []) }
+        ensures counts { CountsMore self.old.counts self.new.counts (Observation.Turn outcome.now) }
+    {
+        self.counts.count_turn(outcome);
+        self.inner.turn(outcome);
+    }
+}

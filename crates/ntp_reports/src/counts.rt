@@ -1,0 +1,77 @@
+//! How many turns and lines of commands of each kind there were.
+ghost use Rattle.std.specs.Prelude.{◌≡◌, ℕ, List, [], ◌∷◌};
+ghost use Rattle.ntp_observer.specs.declared.outcomes.Observation.{Observation};
+ghost use Rattle.ntp_reports.specs.Kinds.{sending_kinds, turn_kinds};
+ghost use Rattle.ntp_reports.specs.Counted.{count_at, AreCounts, CountsMore, Adds};
+
+use crate::kind::{KINDS, Kind};
+use crate::kinds::{answer_kind, line_kind};
+use ntp_observer::{LineOutcome, Sending, TurnOutcome};
+
+/// How many turns and lines there were of each kind. A count that has come to 2^64 - 1 stays there; no server makes so
+/// many turns. It takes no memory.
+#[derive(Clone, Copy, Debug, PartialEq, Eq)]
+pub struct Counts {
+    by_kind: [u64; KINDS],
+}
+
+impl Counts {
+    /// The counts of nothing yet.
+    pub fn new() -> Counts
+        ensures { AreCounts result [] }
+    {
+        Counts {
+            by_kind: [0; KINDS],
+        }
+    }
+
+    /// How many there were of a kind.
+    pub fn count(&self, kind: Kind) -> u64
+        ensures { result ≡ count_at self.now kind }
+    {
+        self.by_kind[kind as usize]
+    }
+
+    /// Counts a turn: its answer, a reply that could not be sent, and a departure that was noted.
+    pub fn count_turn(&mut self, outcome: &TurnOutcome)
+        ensures { CountsMore self.old self.new (Observation.Turn outcome.now) }
+    {
+        match outcome {
+            TurnOutcome::NothingReceived => self.add(Kind::NothingReceived),
+            TurnOutcome::Answered {
+                answer,
+                sending,
+                ..
+            } => {
+                self.add(answer_kind(answer));
+                self.add_sending(*sending);
+            }
+        }
+    }
+
+    /// Counts a line of commands, whatever its number.
+    pub fn count_line(&mut self, outcome: LineOutcome)
+        ensures { (number : ℕ) → CountsMore self.old self.new (Observation.Line number outcome) }
+    {
+        self.add(line_kind(outcome));
+    }
+
+    // Counts what became of a reply, where it is counted.
+    fn add_sending(&mut self, sending: Sending)
+        ensures { Adds self.old self.new (sending_kinds sending) }
+    {
+        match sending {
+            Sending::NotSent => self.add(Kind::NotSent),
+            Sending::Noted => self.add(Kind::Noted),
+            Sending::NoReply | Sending::Sent | Sending::NotNoted => {}
+        }
+    }
+
+    // Counts one of a kind.
+    fn add(&mut self, kind: Kind)
+        ensures { Adds self.old self.new (kind ∷ []) }
+    {
+        let place = kind as usize;
+        self.by_kind[place] = self.by_kind[place].saturating_add(1);
+    }
+}

@@ -1,0 +1,71 @@
+//! How many lines of a kind may be written.
+ghost use Rattle.std.specs.Prelude.{◌≡◌, ℕ, List, [], ◌∷◌};
+ghost use Rattle.ntp_reports.specs.Allowing.{answer_to, first_answer, IsLeftBy};
+
+/// How many lines of a kind are written in a minute (profile).
+pub const MOST_LINES: u64 = 10;
+
+/// Whether a line may be written.
+#[derive(Clone, Copy, Debug, PartialEq, Eq)]
+pub enum Ask {
+    /// It may.
+    Say,
+    /// It may not: enough were written in this minute.
+    Hold,
+    /// It may, and so many were held in the last minute in which a line was asked for.
+    SayWithMore(u64),
+}
+
+/// What may still be written of one kind of line.
+#[derive(Clone, Copy, Debug, PartialEq, Eq)]
+pub struct LineAllowance {
+    // The minute of the last ask.
+    minute: u64,
+    // How many lines were asked for in it.
+    asked: u64,
+}
+
+impl LineAllowance {
+    /// The allowance of a kind of which no line was asked for.
+    pub fn new() -> LineAllowance
+        ensures { IsLeftBy [] result }
+    {
+        LineAllowance {
+            minute: 0,
+            asked: 0,
+        }
+    }
+
+    /// Whether a line may be written in a minute. The first ten of a minute may. The first one of a minute also tells how
+    /// many were held before. A minute is a new one where it differs from that of the last ask.
+    pub fn ask(&mut self, minute: u64) -> Ask
+        ensures answer { (asks : List ℕ) → IsLeftBy asks self.old → result ≡ answer_to asks minute }
+        ensures left { (asks : List ℕ) → IsLeftBy asks self.old → IsLeftBy (minute ∷ asks) self.new }
+    {
+        let LineAllowance {
+            minute: last,
+            asked,
+        } = *self;
+        if minute != last {
+            *self = LineAllowance { minute, asked: 1 };
+            return first_answer(asked.saturating_sub(MOST_LINES));
+        }
+        self.asked = asked.saturating_add(1);
+        if asked < MOST_LINES {
+            Ask::Say
+        } else {
+            Ask::Hold
+        }
+    }
+}
+
+// What the first ask of a minute is answered, before which so many lines were held.
+fn first_answer(held: u64) -> Ask
+    ensures { result ≡ first_answer held }
+{
+    if held > 0 {
+        Ask::SayWithMore(held)
+    } else {
+        Ask::Say
+    }
+}

@@ -1,0 +1,63 @@
+//! What the stamps of a time reply tell.
+ghost use Rattle.std.specs.Prelude.{◌≡◌, ◌+◌, ◌≤◌, length, take, drop};
+ghost use Rattle.std.specs.Int.{is_negative};
+ghost use Rattle.ntp_time.specs.Difference.{difference};
+ghost use Rattle.ntp_packet.specs.Header.{header_length};
+ghost use Rattle.ntp_reports.specs.Interleaving.{stamp_at, receive_in, transmit_in, tells_departure};
+
+use ntp_mac::Reply;
+use ntp_packet::HEADER_OCTETS;
+use ntp_time::{Stamp, difference};
+
+// Whether a time reply tells the departure of an earlier one (RFC 9769, 2): its transmit stamp lies before its receive
+// stamp (profile).
+pub(crate) fn tells_departure(reply: &Reply) -> bool
+    ensures { result ≡ tells_departure reply.now }
+{
+    let octets = reply.octets();
+    octets.len() >= HEADER_OCTETS && is_before(transmit_in(octets), receive_in(octets))
+}
+
+// Whether a stamp lies before another one.
+fn is_before(a: Stamp, b: Stamp) -> bool
+    ensures { result ≡ is_negative (difference a b) }
+{
+    difference(a, b) < 0
+}
+
+// The receive stamp of a packet (RFC 5905, 7.3).
+#[tactic(auto, unfolding(crate::specs::Interleaving::receive_in))]
+fn receive_in(octets: &[u8]) -> Stamp
+    requires { header_length ≤ length octets.now }
+    ensures { result ≡ receive_in octets.now }
+{
+    stamp_at(octets, 32)
+}
+
+// Its transmit stamp (RFC 5905, 7.3).
+#[tactic(auto, unfolding(crate::specs::Interleaving::transmit_in))]
+fn transmit_in(octets: &[u8]) -> Stamp
+    requires { header_length ≤ length octets.now }
+    ensures { result ≡ transmit_in octets.now }
+{
+    stamp_at(octets, 40)
+}
+
+// The stamp at a place.
+fn stamp_at(octets: &[u8], at: usize) -> Stamp
+    requires { at + 8 ≤ length octets.now }
+    ensures { result ≡ stamp_at octets.now at }
+{
+    Stamp(u64::from_be_bytes(eight_at(octets, at)))
+}
+
+// The eight octets from a place on.
+fn eight_at(octets: &[u8], at: usize) -> [u8; 8]
+    requires { at + 8 ≤ length octets.now }
+    ensures { result ≡ take 8 (drop at octets.now) }
+{
+    let part = &octets[at..];
+    [
+        part[0], part[1], part[2], part[3], part[4], part[5], part[6], part[7],
+    ]
+}

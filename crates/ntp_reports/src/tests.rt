@@ -1,0 +1,301 @@
+//! What is written, and each call once with its answer.
+
+use crate::{
+    AnswerLines, Ask, Both, ClockGauges, Counting, Counts, Gauges, Kind, LineAllowance,
+    write_statistics,
+};
+use ntp_admin::LineFault;
+use ntp_mac::Reply;
+use ntp_observer::{Arrival, LineOutcome, Observer, Sending, TurnOutcome};
+use ntp_register::{Address, Refusal};
+use ntp_reply::{Answer, Reason};
+use ntp_tail::Malformed;
+use ntp_time::{Moment, Short, Stamp};
+use refusing::{Broken, Refusing};
+use std::test::Fail;
+
+// What is written of counts in which each metric has a number of its own.
+const STATISTICS: &str = r#"# HELP labntp_answers_total Answers to datagrams.
+# TYPE labntp_answers_total counter
+labntp_answers_total{answer="time",mode="basic"} 3
+labntp_answers_total{answer="time",mode="interleaved"} 2
+labntp_answers_total{answer="rate"} 4
+labntp_answers_total{answer="deny"} 5
+labntp_answers_total{answer="nak"} 6
+labntp_answers_total{answer="silent",reason="unregistered"} 10
+labntp_answers_total{answer="silent",reason="short"} 11
+labntp_answers_total{answer="silent",reason="long"} 12
+labntp_answers_total{answer="silent",reason="field-short"} 13
+labntp_answers_total{answer="silent",reason="field-unaligned"} 14
+labntp_answers_total{answer="silent",reason="field-past-end"} 15
+labntp_answers_total{answer="silent",reason="rest"} 16
+labntp_answers_total{answer="silent",reason="version"} 17
+labntp_answers_total{answer="silent",reason="mode"} 18
+labntp_answers_total{answer="silent",reason="bare"} 19
+labntp_answers_total{answer="silent",reason="muted"} 20
+labntp_answers_total{answer="silent",reason="over-budget"} 21
+# HELP labntp_receive_failures_total Calls that received no datagram.
+# TYPE labntp_receive_failures_total counter
+labntp_receive_failures_total 7
+# HELP labntp_send_failures_total Replies that could not be sent.
+# TYPE labntp_send_failures_total counter
+labntp_send_failures_total 5
+# HELP labntp_stale_total Datagrams that were dropped, since they may have waited for too long.
+# TYPE labntp_stale_total counter
+labntp_stale_total 50
+# HELP labntp_kernel_drops_total Datagrams that the kernel dropped for want of room.
+# TYPE labntp_kernel_drops_total counter
+labntp_kernel_drops_total 51
+# HELP labntp_commands_total Lines of commands.
+# TYPE labntp_commands_total counter
+labntp_commands_total{answer="done"} 8
+labntp_commands_total{answer="refused",reason="already-enrolled"} 30
+labntp_commands_total{answer="refused",reason="key-taken"} 31
+labntp_commands_total{answer="refused",reason="no-memory"} 32
+labntp_commands_total{answer="refused",reason="not-enrolled"} 33
+labntp_commands_total{answer="refused",reason="same-number"} 34
+labntp_commands_total{answer="refused",reason="room-full"} 35
+labntp_commands_total{answer="refused",reason="only-key"} 36
+labntp_commands_total{answer="refused",reason="not-held"} 37
+labntp_commands_total{answer="faulty"} 9
+# HELP labntp_customers Customers that are enrolled.
+# TYPE labntp_customers gauge
+labntp_customers 52
+# HELP labntp_clock_synchronised Whether replies say that the clock is synchronised.
+# TYPE labntp_clock_synchronised gauge
+labntp_clock_synchronised 1
+# HELP labntp_clock_age_seconds How old what is known of the clock is.
+# TYPE labntp_clock_age_seconds gauge
+labntp_clock_age_seconds 1.050000000
+# HELP labntp_clock_stratum The stratum that replies tell.
+# TYPE labntp_clock_stratum gauge
+labntp_clock_stratum 2
+# HELP labntp_clock_leap The leap indicator that replies tell.
+# TYPE labntp_clock_leap gauge
+labntp_clock_leap 1
+# HELP labntp_clock_root_dispersion_seconds The root dispersion that replies tell.
+# TYPE labntp_clock_root_dispersion_seconds gauge
+labntp_clock_root_dispersion_seconds 16.000015258
+# HELP labntp_log_lines_dropped_total Lines of the log that were not written.
+# TYPE labntp_log_lines_dropped_total counter
+labntp_log_lines_dropped_total 53
+# HELP labntp_files_unreadable_total Times that a file began to fail, at reading or writing.
+# TYPE labntp_files_unreadable_total counter
+labntp_files_unreadable_total 54
+# HELP labntp_start_time_seconds When the server was started, since 1970.
+# TYPE labntp_start_time_seconds gauge
+labntp_start_time_seconds 1790000000.000000001
+# HELP labntp_build_info The version of the server.
+# TYPE labntp_build_info gauge
+labntp_build_info{version="0.1.0"} 1
+"#;
+
+// A turn in which a datagram was answered.
+fn answered(answer: Answer, sending: Sending) -> TurnOutcome {
+    TurnOutcome::Answered {
+        arrival: Arrival {
+            address: Address([192, 0, 2, 10]),
+            port: 123,
+            length: 68,
+            receipt: Moment {
+                era: 0,
+                stamp: Stamp(1),
+            },
+        },
+        answer,
+        sending,
+    }
+}
+
+// A reply with these stamps.
+fn reply(receive: u64, transmit: u64) -> Option<Reply> {
+    let mut octets = [0; 68];
+    octets[32..40].copy_from_slice(&receive.to_be_bytes());
+    octets[40..48].copy_from_slice(&transmit.to_be_bytes());
+    Reply::from_octets(&octets)
+}
+
+// Time, with these stamps, that was sent and whose departure was noted.
+fn time(receive: u64, transmit: u64) -> Option<TurnOutcome> {
+    let answer = Answer::Time {
+        reply: reply(receive, transmit)?,
+        saved: Stamp(receive),
+    };
+    Some(answered(answer, Sending::Noted))
+}
+
+// Tells an observer of turns with a reply.
+fn hear_of_replies<O: Observer>(observer: &mut O) -> Option<()> {
+    // The departure of the same reply: at once, later, and in the next era.
+    observer.turn(&time(7, 7)?);
+    observer.turn(&time(7, 8)?);
+    observer.turn(&time(u64::MAX, 1)?);
+    // That of an earlier reply: a little before, and in the era before.
+    observer.turn(&time(7, 6)?);
+    observer.turn(&time(1, u64::MAX)?);
+    for _ in 0..4 {
+        observer.turn(&answered(Answer::Rate(reply(0, 0)?), Sending::Sent));
+    }
+    for _ in 0..5 {
+        observer.turn(&answered(Answer::Deny(reply(0, 0)?), Sending::NotSent));
+    }
+    for _ in 0..6 {
+        observer.turn(&answered(Answer::Nak(reply(0, 0)?), Sending::Sent));
+    }
+    Some(())
+}
+
+// Tells an observer of turns without a reply.
+fn hear_of_silences<O: Observer>(observer: &mut O) {
+    for _ in 0..7 {
+        observer.turn(&TurnOutcome::NothingReceived);
+    }
+    for (times, reason) in [
+        (10, Reason::Unregistered),
+        (11, Reason::Malformed(Malformed::Short)),
+        (12, Reason::Malformed(Malformed::Long)),
+        (13, Reason::Malformed(Malformed::FieldShort { at: 48 })),
+        (14, Reason::Malformed(Malformed::FieldUnaligned { at: 48 })),
+        (15, Reason::Malformed(Malformed::FieldPastEnd { at: 48 })),
+        (16, Reason::Malformed(Malformed::Rest { at: 48 })),
+        (17, Reason::Version),
+        (18, Reason::Mode),
+        (19, Reason::Bare),
+        (20, Reason::Muted),
+        (21, Reason::OverBudget),
+    ] {
+        for _ in 0..times {
+            observer.turn(&answered(Answer::Silent(reason), Sending::NoReply));
+        }
+    }
+}
+
+// Tells an observer of lines of commands.
+fn hear_of_lines<O: Observer>(observer: &mut O) {
+    for (times, outcome) in [
+        (8, LineOutcome::Done),
+        (9, LineOutcome::Faulty(LineFault::Budget)),
+        (30, LineOutcome::Refused(Refusal::AlreadyEnrolled)),
+        (31, LineOutcome::Refused(Refusal::KeyTaken)),
+        (32, LineOutcome::Refused(Refusal::NoMemory)),
+        (33, LineOutcome::Refused(Refusal::NotEnrolled)),
+        (34, LineOutcome::Refused(Refusal::SameNumber)),
+        (35, LineOutcome::Refused(Refusal::RoomFull)),
+        (36, LineOutcome::Refused(Refusal::OnlyKey)),
+        (37, LineOutcome::Refused(Refusal::NotHeld)),
+    ] {
+        for number in 0..times {
+            observer.line(number, outcome);
+        }
+    }
+}
+
+// What is told beside the counts.
+fn gauges() -> Gauges<'static> {
+    Gauges {
+        stale: 50,
+        kernel_drops: 51,
+        customers: 52,
+        clock: ClockGauges {
+            is_synchronised: true,
+            age: Some(1_050_000_000),
+            stratum: 2,
+            leap: 1,
+            root_dispersion: Short(0x0010_0001),
+        },
+        log_lines_dropped: 53,
+        files_unreadable: 54,
+        start_time: 1_790_000_000_000_000_001,
+        version: "0.1.0",
+    }
+}
+
+// An observer that tells nobody.
+#[derive(Drop)]
+struct Nobody;
+
+impl Observer for Nobody {
+    fn line(&mut self, _number: u64, _outcome: LineOutcome) {}
+
+    fn turn(&mut self, _outcome: &TurnOutcome) {}
+}
+
+#[test]
+fn statistics_are_written_without_memory(rt: HostRuntime) -> Result<(), Fail> {
+    let mut counting = Counting {
+        counts: Counts::new(),
+        inner: Nobody,
+    };
+    assert_eq!(rt; hear_of_replies(&mut counting), Some(()));
+    hear_of_silences(&mut counting);
+    hear_of_lines(&mut counting);
+    assert_eq!(rt; counting.counts.count(Kind::Noted), 5);
+
+    let memory = Refusing::new(rt.alloc());
+    let mut text = Vec::with_capacity(&memory, 8192)?;
+    memory.refuse_all();
+    let written = write_statistics(&mut text, &counting.counts, &gauges());
+    assert!(rt; written.is_ok());
+    assert_eq!(rt; memory.refused(), 0);
+    assert_eq!(rt; str::from_utf8(text.as_slice()), Ok(STATISTICS));
+    Ok(())
+}
+
+#[test]
+fn a_clock_of_which_nothing_is_known_has_no_age(rt: HostRuntime) -> Result<(), Fail> {
+    let mut text = Vec::new(rt.alloc());
+    let clock = ClockGauges {
+        is_synchronised: false,
+        age: None,
+        ..gauges().clock
+    };
+    let gauges = Gauges { clock, ..gauges() };
+    let written = write_statistics(&mut text, &Counts::new(), &gauges);
+    assert!(rt; written.is_ok());
+    let text = str::from_utf8(text.as_slice())?;
+    assert!(rt; text.contains("\nlabntp_clock_synchronised 0\n"));
+    assert!(rt; text.contains("\nlabntp_clock_age_seconds NaN\n"));
+    assert!(rt; write_statistics(&mut Broken, &Counts::new(), &gauges).is_err());
+    Ok(())
+}
+
+#[test]
+fn lines_are_answered_without_memory(rt: HostRuntime) -> Result<(), Fail> {
+    let memory = Refusing::new(rt.alloc());
+    let mut first = Vec::with_capacity(&memory, 100)?;
+    memory.refuse_all();
+    let mut both = Both {
+        first: AnswerLines::new(&mut first),
+        second: AnswerLines::new(Broken),
+    };
+    both.line(1, LineOutcome::Done);
+    both.turn(&TurnOutcome::NothingReceived);
+    both.line(3, LineOutcome::Refused(Refusal::AlreadyEnrolled));
+    both.line(12, LineOutcome::Faulty(LineFault::KeyText));
+    assert!(rt; !both.first.has_failed());
+    assert!(rt; both.second.has_failed());
+    assert_eq!(rt; memory.refused(), 0);
+    assert_eq!(rt;
+        str::from_utf8(first.as_slice()),
+        Ok("1 done\n3 refused already-enrolled\n12 faulty key\n")
+    );
+    Ok(())
+}
+
+#[test]
+fn ten_lines_a_minute_are_allowed(rt: HostRuntime) {
+    let mut allowance = LineAllowance::new();
+    for (minute, times, answer) in [
+        (0, 10, Ask::Say),
+        (0, 2, Ask::Hold),
+        (1, 1, Ask::SayWithMore(2)),
+        (1, 9, Ask::Say),
+        (1, 1, Ask::Hold),
+        (29_000_000, 1, Ask::SayWithMore(1)),
+        (29_000_001, 1, Ask::Say),
+    ] {
+        for _ in 0..times {
+            assert_eq!(rt; allowance.ask(minute), answer, "in minute {minute}");
+        }
+    }
+}

@@ -1,0 +1,5 @@
+pub mod Keys
+pub mod Values
+pub mod Settings
+pub mod Document
+pub mod KeyFile

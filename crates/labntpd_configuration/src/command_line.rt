@@ -1,0 +1,61 @@
+//! The words of the daemon's command line.
+
+use clap::error::ErrorKind;
+use clap::{Arg, ArgAction, Command, Error};
+use std::alloc::{AllocError, Global};
+
+/// The daemon's version.
+pub const VERSION: &str = "0.1.0";
+
+/// What the words of a command line ask for.
+#[derive(Clone, Copy, Debug, PartialEq, Eq)]
+pub struct Asked<'a> {
+    /// Whether the files are only to be checked, and nothing is to be served.
+    pub check: bool,
+    /// The path of the configuration file.
+    pub config: &'a str,
+}
+
+/// What the words ask for, of which the first is the program's name. Else the error that tells the user why: its kind may
+/// be a request for the help or the version, which go to standard output with status 0; a mistake goes to standard error
+/// with status 2; and memory may have run out.
+///
+/// ```text
+/// labntpd --config FILE
+/// labntpd --check --config FILE
+/// labntpd --help
+/// labntpd --version
+/// ```
+pub fn parse<'a>(alloc: Global, words: &'a [String]) -> Result<Asked<'a>, Error> {
+    let matches = command(alloc)?.try_get_matches_from(words)?;
+    // Words without `--config` are refused above already.
+    let Some(config) = matches.get_str("config") else {
+        let message = "--config FILE is missing";
+        return Err(command(alloc)?.error(ErrorKind::MissingRequiredArgument, message)?);
+    };
+    Ok(Asked {
+        check: matches.get_flag("check"),
+        config,
+    })
+}
+
+// The command line, with its help.
+fn command<'a>(alloc: Global) -> Result<Command<'a>, AllocError> {
+    let config = Arg::new(alloc, "config")
+        .long("config")
+        .value_name("FILE")
+        .required(true)
+        .action(ArgAction::Set)
+        .help("The configuration file");
+    let check = Arg::new(alloc, "check")
+        .long("check")
+        .action(ArgAction::SetTrue)
+        .help(
+            "Only says whether the configuration file and the files that it names can be served from",
+        );
+    Command::new(alloc, "labntpd")
+        .version(VERSION)
+        .about("Serves NTP to registered customers, with signed replies")
+        .arg(config)?
+        .arg(check)
+}

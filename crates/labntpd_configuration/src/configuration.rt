@@ -1,0 +1,83 @@
+//! What a configuration file says.
+
+use ntp_mac::Algorithm;
+use ntp_register::Address;
+use std::net::{Ipv4Addr, SocketAddrV4};
+use std::num::NonZero;
+
+/// What a configuration file says. Each number is in the range that its key has (profile).
+#[derive(Debug, PartialEq, Eq, Drop)]
+pub struct Configuration {
+    /// Where datagrams are received.
+    pub listen: Listen,
+    /// The path of the register file.
+    pub register: String,
+    /// The path of the commands file.
+    pub commands: String,
+    /// The path of the file to which the answers to commands are written, if they are.
+    pub answers: Option<String>,
+    /// The path of the file to which statistics are written, if they are.
+    pub statistics: Option<String>,
+    /// The size that the socket's receive buffer is to have, in octets: 65,536 to 1,073,741,823.
+    pub receive_buffer: u32,
+    /// How long a datagram may have waited for an answer, in nanoseconds: 0.15 to 60 s.
+    pub longest_wait: u64,
+    /// What is asked how good the host's clock is.
+    pub clock: ClockSource,
+}
+
+/// Where datagrams are received.
+#[derive(Clone, Copy, Debug, PartialEq, Eq)]
+pub enum Listen {
+    /// At a socket that is bound here.
+    Bound(Endpoint),
+    /// At the socket that was handed down: descriptor 3 of LISTEN_FDS.
+    Inherited,
+}
+
+/// An address with a UDP port.
+#[derive(Clone, Copy, Debug, PartialEq, Eq)]
+pub struct Endpoint {
+    /// The IPv4 address.
+    pub address: Address,
+    /// The UDP port.
+    pub port: NonZero<u16>,
+}
+
+impl Endpoint {
+    /// The same, as sockets take it.
+    pub fn socket_address(&self) -> SocketAddrV4 {
+        let Address([a, b, c, d]) = self.address;
+        SocketAddrV4::new(Ipv4Addr::new(a, b, c, d), self.port.get())
+    }
+}
+
+/// What is asked how good the host's clock is.
+#[derive(Debug, PartialEq, Eq, Drop)]
+pub enum ClockSource {
+    /// Nothing: replies tell the reference state of the register file.
+    Fixed,
+    /// The daemon that keeps the host's clock.
+    Daemon(ClockDaemon),
+}
+
+/// The daemon that keeps the host's clock, how it is asked, and when it is believed.
+#[derive(Debug, PartialEq, Eq, Drop)]
+pub struct ClockDaemon {
+    /// Where it answers queries.
+    pub source: Endpoint,
+    /// The number of the key that it shares with us.
+    pub number: NonZero<u16>,
+    /// The algorithm of that key.
+    pub algorithm: Algorithm,
+    /// The path of the file that has that key.
+    pub key_file: String,
+    /// For how long one of its answers is believed, in nanoseconds: 2 to 3,600 s.
+    pub valid_for: u64,
+    /// The root distance up to which it is believed, in units of 2^-16 s: 1 unit to 16 s.
+    pub most_root_distance: u32,
+    /// The age of its reference time up to which it is believed, in seconds: 1 to 1,000,000.
+    pub most_reference_age: u32,
+    /// How far the host's clock may have been set since an answer that is believed, in nanoseconds: 1 ns to 3,600 s.
+    pub most_step: u64,
+}

@@ -1,0 +1,17 @@
+//! What the daemon asks of its host: sockets, clocks, the host's clock daemon, its log and its statistics file. No clause
+//! says what the host answers.
+#![tactic(auto)]
+
+mod drops;
+mod followed_clock;
+mod log;
+mod queued_udp;
+mod socket;
+mod whole_file;
+
+pub use drops::kernel_drops;
+pub use followed_clock::{ClockSource, FollowedClock};
+pub use log::{Log, has_standard_streams};
+pub use queued_udp::{HostClocks, QueuedUdp};
+pub use socket::{bound, inherited, receive_buffer, set_receive_buffer};
+pub use whole_file::replace_file;

@@ -1,0 +1,82 @@
+//! The log of the daemon, for which nothing waits.
+
+use libc::net::{POLLNVAL, POLLOUT, poll};
+use libc::types::pollfd;
+use std::alloc::{AllocError, Global};
+use std::io::Write;
+
+/// Standard output.
+const STANDARD_OUTPUT: i32 = 1;
+
+/// Standard error.
+const STANDARD_ERROR: i32 = 2;
+
+/// How many octets a line has at most: a pipe that can be written to takes as many at once (pipe(7)).
+const MOST_LINE_OCTETS: usize = 4096;
+
+/// Writes lines to standard error, each in one piece, where that would take it at once. Where it would not, the line is
+/// dropped and counted.
+#[derive(Drop)]
+pub struct Log<W: Write + Drop> {
+    out: W,
+    line: Vec<u8>,
+    dropped: u64,
+}
+
+impl<W: Write + Drop> Log<W> {
+    /// A log that writes to `out`, which is standard error. The room for its lines is taken from `alloc` here.
+    pub fn new(alloc: Global, out: W) -> Result<Log<W>, AllocError> {
+        Ok(Log {
+            out,
+            line: Vec::with_capacity(alloc, MOST_LINE_OCTETS)?,
+            dropped: 0,
+        })
+    }
+
+    /// How many lines were dropped.
+    pub fn dropped(&self) -> u64 {
+        self.dropped
+    }
+
+    /// Begins a line, which is written into what this gives, without its line feed.
+    pub fn begin(&mut self) -> &mut Vec<u8> {
+        self.line.clear();
+        &mut self.line
+    }
+
+    /// Ends the line that was begun, and writes it or drops it.
+    pub fn end(&mut self) {
+        let has_room = self.line.len() < MOST_LINE_OCTETS && self.line.push(b'\n').is_ok();
+        if !has_room || !would_take() || self.out.write_all(&self.line).is_err() {
+            self.dropped = self.dropped.saturating_add(1);
+        }
+    }
+}
+
+// Whether standard error would take a line at once.
+fn would_take() -> bool {
+    let asked = asked(STANDARD_ERROR, POLLOUT);
+    asked.revents & POLLOUT != 0 && asked.revents & POLLNVAL == 0
+}
+
+/// Whether standard output and standard error are open. Where one is not, a file or a socket that is opened takes its place,
+/// and would get what is written to it.
+pub fn has_standard_streams() -> bool {
+    is_open(STANDARD_OUTPUT) && is_open(STANDARD_ERROR)
+}
+
+// Whether a descriptor is open.
+fn is_open(descriptor: i32) -> bool {
+    asked(descriptor, 0).revents & POLLNVAL == 0
+}
+
+// What a descriptor is ready for, of these events, without waiting.
+fn asked(descriptor: i32, events: i16) -> pollfd {
+    let mut asked = [pollfd {
+        fd: descriptor,
+        events,
+        revents: 0,
+    }];
+    poll(&mut asked, 0);
+    asked[0]
+}

@@ -1,0 +1,59 @@
+//! The daemon: `labntpd --config FILE` serves the customers of a register file day and night.
+#![tactic(auto)]
+
+mod command_log;
+mod files;
+mod housekeeping;
+mod serving;
+mod starting;
+
+use clap::error::ErrorKind;
+use labntp_status::{DONE, memory_status, unread_status, write_status};
+use labntpd_configuration::command_line::{Asked, parse};
+use serving::serve_status;
+use starting::prepare;
+use std::io::Write;
+use std::process::ExitCode;
+use std::{env, io};
+
+fn main(rt: HostRuntime) -> ExitCode {
+    ExitCode::from(status(&rt))
+}
+
+// Does what the command line asks for, and gives the exit status.
+fn status(rt: &HostRuntime) -> u8 {
+    let mut faults = rt.stderr();
+    let words = match command_line(rt) {
+        Ok(words) => words,
+        Err(error) => return unread_status(&error, &mut faults),
+    };
+    match parse(rt.alloc(), &words) {
+        Ok(Asked { check, config }) => job_status(rt, check, config),
+        Err(error) if error.kind() == ErrorKind::OutOfMemory => memory_status(&mut faults),
+        Err(error) => {
+            let _ = error.print(rt);
+            error.exit_code() as u8
+        }
+    }
+}
+
+// Checks the files that a configuration names, or serves by them.
+fn job_status(rt: &HostRuntime, check: bool, config: &str) -> u8 {
+    let mut faults = rt.stderr();
+    let prepared = match prepare(rt, rt.alloc(), config, &mut faults) {
+        Ok(prepared) => prepared,
+        Err(status) => return status,
+    };
+    if !check {
+        return serve_status(rt, rt.alloc(), prepared);
+    }
+    if writeln!(rt.stdout(), "ok").is_err() {
+        return write_status(&mut faults);
+    }
+    DONE
+}
+
+// The words of the command line, of which the first is the program's name.
+fn command_line(rt: &HostRuntime) -> io::Result<Vec<String>> {
+    Ok(env::args(rt)?.collect(rt.alloc())?)
+}

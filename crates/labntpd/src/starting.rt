@@ -1,0 +1,157 @@
+//! What a server begins with, read from its files.
+
+use labntp_status::{IO_FAILED, TEXT_FAULTY, load_status, memory_status};
+use labntpd_configuration::{
+    ClockDaemon, ClockSource, Configuration, ConfigurationFault, key_in_file, read_configuration,
+};
+use ntp_clock::{ClockLimits, Follower};
+use ntp_files::read_file;
+use ntp_operating::{LoadFault, Loaded, MOST_FILE_OCTETS, load_register};
+use ntp_register_file::{RegisterFault, read_register};
+use ntp_time::Short;
+use sha2::{Digest, Sha256};
+use std::alloc::Global;
+use std::fs::Files;
+use std::io::{self, ErrorKind, Write};
+
+/// How many octets a configuration file and a key file have at most (profile).
+const MOST_SMALL_FILE_OCTETS: u32 = 65_536;
+
+/// What a server begins with.
+#[derive(Drop)]
+pub struct Prepared {
+    pub configuration: Configuration,
+    pub loaded: Loaded,
+    /// How many customers the register file enrols.
+    pub customers: u64,
+    /// Who follows the host's clock daemon, where it is asked.
+    pub follower: Option<Follower>,
+    /// The SHA-256 digests of the configuration file and of the register file.
+    pub digests: [[u8; 32]; 2],
+}
+
+/// Reads the configuration file at a path and the files that it names. A fault is told in one line to `faults`, where a failed
+/// write is passed over, and gives the exit status.
+pub fn prepare<R: Files, F: Write>(
+    files: &R,
+    alloc: Global,
+    path: &str,
+    faults: &mut F,
+) -> Result<Prepared, u8> {
+    let text = text_of(files, alloc, path, faults)?;
+    let configuration = match read_configuration(alloc, &text) {
+        Ok(configuration) => configuration,
+        Err(ConfigurationFault::NoMemory) => return Err(memory_status(faults)),
+        Err(fault) => {
+            let _ = writeln!(faults, "{path}: {fault}");
+            return Err(TEXT_FAULTY);
+        }
+    };
+    let follower = match &configuration.clock {
+        ClockSource::Fixed => None,
+        ClockSource::Daemon(daemon) => Some(follower(files, alloc, daemon, faults)?),
+    };
+    let register = octets_of_register(files, alloc, &configuration.register, faults)?;
+    let loaded = match load_register(alloc, &register) {
+        Ok(loaded) => loaded,
+        Err(fault) => return Err(load_status(fault, faults)),
+    };
+    let digests = [Sha256::digest(text.as_bytes()), Sha256::digest(&register)];
+    Ok(Prepared {
+        customers: customers_in(alloc, &register),
+        configuration,
+        loaded,
+        follower,
+        digests,
+    })
+}
+
+// How many customers a register file enrols that was loaded.
+fn customers_in(alloc: Global, register: &[u8]) -> u64 {
+    let Ok(text) = str::from_utf8(register) else {
+        return 0;
+    };
+    match read_register(alloc, text) {
+        Ok(commands) => commands.len() as u64,
+        Err(_) => 0,
+    }
+}
+
+// Who follows the clock daemon of a configuration, with the key of its key file.
+fn follower<R: Files, F: Write>(
+    files: &R,
+    alloc: Global,
+    daemon: &ClockDaemon,
+    faults: &mut F,
+) -> Result<Follower, u8> {
+    let path = daemon.key_file.as_str();
+    let text = text_of(files, alloc, path, faults)?;
+    let Some(key) = key_in_file(&text, daemon.algorithm) else {
+        let _ = writeln!(
+            faults,
+            "{path}: one line of 2 to 64 hexadecimal digits is wanted"
+        );
+        return Err(TEXT_FAULTY);
+    };
+    let limits = ClockLimits {
+        valid_for: daemon.valid_for,
+        most_root_distance: Short(daemon.most_root_distance),
+        most_reference_age: u64::from(daemon.most_reference_age),
+        most_step: daemon.most_step,
+    };
+    Ok(Follower::new(key, daemon.number.get(), limits))
+}
+
+// The octets of a register file.
+fn octets_of_register<R: Files, F: Write>(
+    files: &R,
+    alloc: Global,
+    path: &str,
+    faults: &mut F,
+) -> Result<Vec<u8>, u8> {
+    match read_file(files, alloc, path, MOST_FILE_OCTETS as u32) {
+        Ok(octets) => Ok(octets),
+        Err(error) => Err(match error.kind() {
+            ErrorKind::OutOfMemory => {
+                load_status(LoadFault::Register(RegisterFault::NoMemory), faults)
+            }
+            _ => load_status(LoadFault::Read, faults),
+        }),
+    }
+}
+
+// The text of a small file.
+fn text_of<R: Files, F: Write>(
+    files: &R,
+    alloc: Global,
+    path: &str,
+    faults: &mut F,
+) -> Result<String, u8> {
+    let octets = match read_file(files, alloc, path, MOST_SMALL_FILE_OCTETS) {
+        Ok(octets) => octets,
+        Err(error) => return Err(unread_status(path, &error, faults)),
+    };
+    if octets.len() > MOST_SMALL_FILE_OCTETS as usize {
+        let _ = writeln!(
+            faults,
+            "{path}: at most {MOST_SMALL_FILE_OCTETS} octets are wanted"
+        );
+        return Err(TEXT_FAULTY);
+    }
+    match String::from_utf8(octets) {
+        Ok(text) => Ok(text),
+        Err(_) => {
+            let _ = writeln!(faults, "{path}: this is no UTF-8");
+            Err(TEXT_FAULTY)
+        }
+    }
+}
+
+// Tells that a file could not be read, and gives the exit status.
+fn unread_status<F: Write>(path: &str, error: &io::Error, faults: &mut F) -> u8 {
+    if error.kind() == ErrorKind::OutOfMemory {
+        return memory_status(faults);
+    }
+    let _ = writeln!(faults, "{path}: {error}");
+    IO_FAILED
+}

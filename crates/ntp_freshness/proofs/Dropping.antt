@@ -11,73 +11,71 @@ use Rattle.ntp_freshness.specs.Next.{TakesNext, Drops}
 use Rattle.ntp_freshness.proofs.Seeing.{IsSeenFrom-same, IsSeenFrom-more}
 use Rattle.ntp_freshness.proofs.Keeping.{AreStale-append, counted-append}
 
-module _ {A : Type 0} where
-  pub Drops-none : (holds longest reading s : ℕ) (q : Option (List QueueEvent)) (watch : QueueWatch A) (history : List QueueEvent)
-      → s ≤ 2 ^ 64 - 1 → StandsFor watch reading history → Drops holds longest reading reading q q s s watch history
-  Drops-none holds longest reading s q watch history fits stands = record {
-    after = history;
-    stands = stands;
-    seen = IsSeenFrom-same reading q history;
-    dropped = [];
-    stale = refl;
-    counted = omega arith;
-  }
+pub Drops-none : (longest reading s : ℕ) (q : Option (List QueueEvent)) (watch : QueueWatch) (history : List QueueEvent)
+    → s ≤ 2 ^ 64 - 1 → StandsFor watch reading history → Drops longest reading reading q q s s watch history
+Drops-none longest reading s q watch history fits stands = record {
+  after = history;
+  stands = stands;
+  seen = IsSeenFrom-same reading q history;
+  dropped = [];
+  stale = refl;
+  counted = omega arith;
+}
 
-  -- the limits may be named in two ways
-  pub TakesNext-along : (holds limit longest most reading now s t : ℕ) (q r : Option (List QueueEvent)) (watch : QueueWatch A)
-      (history : List QueueEvent) (next : Next) → holds ≡ limit → longest ≡ most → TakesNext holds longest reading now q r s t watch history next
-      → TakesNext limit most reading now q r s t watch history next
-  TakesNext-along holds limit longest most reading now s t q r watch history next same too takes =
-      subst (λ n. TakesNext n most reading now q r s t watch history next) same
-      (subst (λ n. TakesNext holds n reading now q r s t watch history next) too takes)
+-- the limit may be named in two ways
+pub TakesNext-along : (longest most reading now s t : ℕ) (q r : Option (List QueueEvent)) (watch : QueueWatch) (history : List QueueEvent)
+    (next : Next) → longest ≡ most → TakesNext longest reading now q r s t watch history next
+    → TakesNext most reading now q r s t watch history next
+TakesNext-along longest most reading now s t q r watch history next same takes =
+    subst (λ n. TakesNext n reading now q r s t watch history next) same takes
 
-  pub Drops-more : (holds longest a b c s t v : ℕ) (q r u : Option (List QueueEvent)) (watch after : QueueWatch A) (history : List QueueEvent)
-      → (drops : Drops holds longest a b q r s t watch history) → TakesNext holds longest b c r u t v after drops.after Stale
-      → Drops holds longest a c q u s v after history
-  Drops-more holds longest a b c s t v q r u watch after history drops takes =
-      let take = takes.comes_to.0.0 in
-      record {
-        after = takes.after;
-        stands = takes.stands;
-        seen = IsSeenFrom-more a b c q r u history drops.after takes.after drops.seen takes.seen;
-        dropped = drops.dropped ++ take ∷ [];
-        stale = rw takes.comes_to.0.2
-            (AreStale-append holds longest history drops.after drops.dropped take drops.stale takes.comes_to.0.1);
-        counted = takes.comes_to.1 ∙ counted-append s t drops.dropped take drops.counted;
-      }
-
-  -- and then this is passed on
-  pub Drops-end : (holds longest a b c s t v : ℕ) (q r u : Option (List QueueEvent)) (watch after : QueueWatch A) (history : List QueueEvent)
-      (next : Next) (result : Option (Result Arrival PortFault))
-      → (drops : Drops holds longest a b q r s t watch history) → (takes : TakesNext holds longest b c r u t v after drops.after next)
-      → PassesOn holds longest drops.after result takes.after → v ≡ t
-      → (k : List QueueEvent) × StandsFor after c k × ReceivesFresh holds longest a c q u s v history k result
-  Drops-end holds longest a b c s t v q r u watch after history next result drops takes passed same = (
-    takes.after,
-    takes.stands,
+pub Drops-more : (longest a b c s t v : ℕ) (q r u : Option (List QueueEvent)) (watch after : QueueWatch) (history : List QueueEvent)
+    → (drops : Drops longest a b q r s t watch history) → TakesNext longest b c r u t v after drops.after Stale
+    → Drops longest a c q u s v after history
+Drops-more longest a b c s t v q r u watch after history drops takes =
+    let take = takes.comes_to.0.0 in
     record {
-      dropped = drops.dropped;
-      between = drops.after;
-      stale = drops.stale;
-      passed_on = passed;
-      counted = same ∙ drops.counted;
+      after = takes.after;
+      stands = takes.stands;
       seen = IsSeenFrom-more a b c q r u history drops.after takes.after drops.seen takes.seen;
-    },
-  )
+      dropped = drops.dropped ++ take ∷ [];
+      stale = rw takes.comes_to.0.2
+          (AreStale-append longest history drops.after drops.dropped take drops.stale takes.comes_to.0.1);
+      counted = takes.comes_to.1 ∙ counted-append s t drops.dropped take drops.counted;
+    }
 
-  -- or nothing, after so many
-  pub Drops-out : (holds longest a b s t : ℕ) (q r : Option (List QueueEvent)) (watch : QueueWatch A) (history : List QueueEvent)
-      → Drops holds longest a b q r s t watch history
-      → (k : List QueueEvent) × StandsFor watch b k × ReceivesFresh holds longest a b q r s t history k None
-  Drops-out holds longest a b s t q r watch history drops = (
-    drops.after,
-    drops.stands,
-    record {
-      dropped = drops.dropped;
-      between = drops.after;
-      stale = drops.stale;
-      passed_on = ([], refl, refl);
-      counted = drops.counted;
-      seen = drops.seen;
-    },
-  )
+-- and then this is passed on
+pub Drops-end : (longest a b c s t v : ℕ) (q r u : Option (List QueueEvent)) (watch after : QueueWatch) (history : List QueueEvent)
+    (next : Next) (result : Option (Result Arrival PortFault))
+    → (drops : Drops longest a b q r s t watch history) → (takes : TakesNext longest b c r u t v after drops.after next)
+    → PassesOn longest drops.after result takes.after → v ≡ t
+    → (k : List QueueEvent) × StandsFor after c k × ReceivesFresh longest a c q u s v history k result
+Drops-end longest a b c s t v q r u watch after history next result drops takes passed same = (
+  takes.after,
+  takes.stands,
+  record {
+    dropped = drops.dropped;
+    between = drops.after;
+    stale = drops.stale;
+    passed_on = passed;
+    counted = same ∙ drops.counted;
+    seen = IsSeenFrom-more a b c q r u history drops.after takes.after drops.seen takes.seen;
+  },
+)
+
+-- or nothing, after so many
+pub Drops-out : (longest a b s t : ℕ) (q r : Option (List QueueEvent)) (watch : QueueWatch) (history : List QueueEvent)
+    → Drops longest a b q r s t watch history
+    → (k : List QueueEvent) × StandsFor watch b k × ReceivesFresh longest a b q r s t history k None
+Drops-out longest a b s t q r watch history drops = (
+  drops.after,
+  drops.stands,
+  record {
+    dropped = drops.dropped;
+    between = drops.after;
+    stale = drops.stale;
+    passed_on = ([], refl, refl);
+    counted = drops.counted;
+    seen = drops.seen;
+  },
+)

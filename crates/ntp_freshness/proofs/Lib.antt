@@ -3,3 +3,4 @@ pub mod Seeing
 pub mod Keeping
 pub mod Dropping
 pub mod Waiting
+pub mod Looking

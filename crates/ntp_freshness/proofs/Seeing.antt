@@ -4,7 +4,7 @@ use Rattle.ntp_observer.specs.declared.outcomes.Arrival.{Arrival}
 use Rattle.ntp_service_serve.specs.declared.port.PortFault.{PortFault}
 use Rattle.ntp_freshness.specs.declared.queue_event.QueueEvent.{QueueEvent}
 use Rattle.ntp_freshness.specs.declared.queue_event.QueueEvent.TheVariants.{Read}
-use Rattle.ntp_freshness.specs.Queue.{last_reading, SeesMore, ReadsClock, Tells, seen_in_look, seen_in_wait}
+use Rattle.ntp_freshness.specs.Queue.{last_reading, SeesMore, ReadsClock, Tells, seen_in_count, seen_in_look, seen_in_wait}
 use Rattle.ntp_freshness.specs.Fresh.{IsSeenFrom}
 
 -- nothing was seen
@@ -40,6 +40,10 @@ seen-in_call reading None (Some r) seen h keeps tells shown = absurd tells
 seen-in_call reading (Some q) (Some r) seen h keeps tells shown =
     let told : r ≡ seen reading ++ q = tells ∙ ap (λ n. seen n ++ q) shown in
     (ap last_reading told ∙ keeps reading q ∙ shown, (seen reading, refl, told))
+
+pub seen-in_count : (reading : ℕ) (q r : Option (List QueueEvent)) (count : ℕ) (h : List QueueEvent) → Tells q r (seen_in_count count)
+    → IsSeenFrom reading reading q r h (seen_in_count count reading ++ h)
+seen-in_count reading q r count h tells = seen-in_call reading q r (seen_in_count count) h (λ shown told. refl) tells
 
 keeps-look : (b : Bool) (shown : ℕ) (told : List QueueEvent) → last_reading (seen_in_look b shown ++ told) ≡ last_reading told
 keeps-look true shown told = refl

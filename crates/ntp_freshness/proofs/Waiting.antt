@@ -1,108 +1,108 @@
 -- Calls that pass on nothing, and then one more.
-use Rattle.std.proofs.Common.{◌≡◌, ℕ, ◌-◌, ◌^◌, ◌≤◌, List, [], ◌∷◌, ◌++◌, length, Option, None, Some, Result, Ok, Err, refl, sym, ap, subst, ◌∙◌, arith, append_assoc, length-append}
+use Rattle.std.proofs.Common.{◌≡◌, ℕ, ◌+◌, ◌-◌, ◌^◌, ◌≤◌, List, [], ◌∷◌, ◌++◌, length, Option, None, Some, Result, Ok, Err, refl, sym, ap, subst, ◌∙◌, arith, append_assoc, length-append}
 use Rattle.ntp_observer.specs.declared.outcomes.Arrival.{Arrival}
 use Rattle.ntp_service_serve.specs.declared.port.PortFault.{PortFault}
 use Rattle.ntp_freshness.specs.declared.queue_event.QueueEvent.{QueueEvent}
-use Rattle.ntp_freshness.specs.declared.queue_event.QueueEvent.TheVariants.{Empty, Taken, Read}
+use Rattle.ntp_freshness.specs.declared.queue_event.QueueEvent.TheVariants.{Held, Taken, Read}
 use Rattle.ntp_freshness.specs.Freshness.{takes, MayBeAnswered}
 use Rattle.ntp_freshness.specs.Fresh.{Take, history_before, history_after, AreStale, PassesOn, ReceivesFresh}
 use Rattle.ntp_freshness.proofs.Seeing.{IsSeenFrom-same, IsSeenFrom-more}
 
-takes-append : (xs ys : List QueueEvent) → takes (xs ++ ys) ≡ takes xs ++ takes ys
-takes-append [] ys = refl
-takes-append (Taken at ∷ xs) ys = ap (λ zs. at ∷ zs) (takes-append xs ys)
-takes-append (Empty at ∷ xs) ys = takes-append xs ys
+takes-append : (xs ys : List QueueEvent) → takes (xs ++ ys) ≡ takes xs + takes ys
+takes-append [] ys = omega arith
+takes-append (Taken at ∷ xs) ys = omega (arith, takes-append xs ys)
+takes-append (Held count at ∷ xs) ys = takes-append xs ys
 takes-append (Read at ∷ xs) ys = takes-append xs ys
 
-quiet-append : (xs ys : List QueueEvent) → takes xs ≡ [] → takes ys ≡ [] → takes (xs ++ ys) ≡ []
-quiet-append xs ys p q = takes-append xs ys ∙ ap (λ zs. zs ++ takes ys) p ∙ q
+pub quiet-append : (xs ys : List QueueEvent) → takes xs ≡ 0 → takes ys ≡ 0 → takes (xs ++ ys) ≡ 0
+quiet-append xs ys p q = omega (arith, takes-append xs ys, p, q)
 
 -- a take before which more was seen
-earlier : Take → (seen : List QueueEvent) → takes seen ≡ [] → Take
+earlier : Take → (seen : List QueueEvent) → takes seen ≡ 0 → Take
 earlier take seen quiet =
     record { seen = take.seen ++ seen; quiet = quiet-append take.seen seen take.quiet quiet; at = take.at; now = take.now }
 
-history_before-earlier : (take : Take) (seen history : List QueueEvent) (quiet : takes seen ≡ [])
+history_before-earlier : (take : Take) (seen history : List QueueEvent) (quiet : takes seen ≡ 0)
     → history_before (earlier take seen quiet) history ≡ history_before take (seen ++ history)
 unfolding earlier
 history_before-earlier take seen history quiet = append_assoc take.seen seen history
 
-history_after-earlier : (take : Take) (seen history : List QueueEvent) (quiet : takes seen ≡ [])
+history_after-earlier : (take : Take) (seen history : List QueueEvent) (quiet : takes seen ≡ 0)
     → history_after (earlier take seen quiet) history ≡ history_after take (seen ++ history)
 unfolding earlier
 history_after-earlier take seen history quiet = ap (λ xs. Read take.now ∷ (Taken take.at ∷ xs)) (append_assoc take.seen seen history)
 
 -- what is passed on, where more was seen before
-PassesOn-earlier : (holds longest : ℕ) (seen history after : List QueueEvent) (result : Option (Result Arrival PortFault)) → takes seen ≡ []
-    → PassesOn holds longest (seen ++ history) result after → PassesOn holds longest history result after
+PassesOn-earlier : (longest : ℕ) (seen history after : List QueueEvent) (result : Option (Result Arrival PortFault)) → takes seen ≡ 0
+    → PassesOn longest (seen ++ history) result after → PassesOn longest history result after
 unfolding earlier
-PassesOn-earlier holds longest seen history after None quiet passed =
+PassesOn-earlier longest seen history after None quiet passed =
     (passed.0 ++ seen, quiet-append passed.0 seen passed.1 quiet, passed.2 ∙ sym (append_assoc passed.0 seen history))
-PassesOn-earlier holds longest seen history after (Some (Err fault)) quiet passed =
+PassesOn-earlier longest seen history after (Some (Err fault)) quiet passed =
     (passed.0 ++ seen, quiet-append passed.0 seen passed.1 quiet, passed.2 ∙ sym (append_assoc passed.0 seen history))
-PassesOn-earlier holds longest seen history after (Some (Ok arrival)) quiet passed = (
+PassesOn-earlier longest seen history after (Some (Ok arrival)) quiet passed = (
   earlier passed.0 seen quiet,
-  subst (λ xs. MayBeAnswered holds longest xs passed.0.now) (sym (history_before-earlier passed.0 seen history quiet)) passed.1,
+  subst (λ xs. MayBeAnswered longest xs passed.0.now) (sym (history_before-earlier passed.0 seen history quiet)) passed.1,
   passed.2 ∙ sym (history_after-earlier passed.0 seen history quiet),
 )
 
 -- what is dropped, and then passed on, where more was seen before
-record Goes (holds longest : ℕ) (history after : List QueueEvent) (count : ℕ) (result : Option (Result Arrival PortFault)) : Type 0 where
+record Goes (longest : ℕ) (history after : List QueueEvent) (count : ℕ) (result : Option (Result Arrival PortFault)) : Type 0 where
   dropped : List Take
   between : List QueueEvent
-  stale : AreStale holds longest history dropped between
-  passed_on : PassesOn holds longest between result after
+  stale : AreStale longest history dropped between
+  passed_on : PassesOn longest between result after
   as_many : length dropped ≡ count
 
-Goes-earlier : (holds longest : ℕ) (seen history between after : List QueueEvent) (dropped : List Take)
-    (result : Option (Result Arrival PortFault)) → takes seen ≡ [] → AreStale holds longest (seen ++ history) dropped between
-    → PassesOn holds longest between result after → Goes holds longest history after (length dropped) result
+Goes-earlier : (longest : ℕ) (seen history between after : List QueueEvent) (dropped : List Take)
+    (result : Option (Result Arrival PortFault)) → takes seen ≡ 0 → AreStale longest (seen ++ history) dropped between
+    → PassesOn longest between result after → Goes longest history after (length dropped) result
 unfolding earlier
-Goes-earlier holds longest seen history between after [] result quiet stale passed = record {
+Goes-earlier longest seen history between after [] result quiet stale passed = record {
   dropped = [];
   between = history;
   stale = refl;
-  passed_on = PassesOn-earlier holds longest seen history after result quiet (subst (λ xs. PassesOn holds longest xs result after) stale passed);
+  passed_on = PassesOn-earlier longest seen history after result quiet (subst (λ xs. PassesOn longest xs result after) stale passed);
   as_many = refl;
 }
-Goes-earlier holds longest seen history between after (take ∷ dropped) result quiet stale passed = record {
+Goes-earlier longest seen history between after (take ∷ dropped) result quiet stale passed = record {
   dropped = earlier take seen quiet ∷ dropped;
   between = between;
   stale = (
-    (λ may. stale.0 (subst (λ xs. MayBeAnswered holds longest xs take.now) (history_before-earlier take seen history quiet) may)),
-    subst (λ xs. AreStale holds longest xs dropped between) (sym (history_after-earlier take seen history quiet)) stale.1,
+    (λ may. stale.0 (subst (λ xs. MayBeAnswered longest xs take.now) (history_before-earlier take seen history quiet) may)),
+    subst (λ xs. AreStale longest xs dropped between) (sym (history_after-earlier take seen history quiet)) stale.1,
   );
   passed_on = passed;
   as_many = refl;
 }
 
-AreStale-append : (holds longest : ℕ) (h k m : List QueueEvent) (first second : List Take) → AreStale holds longest h first k
-    → AreStale holds longest k second m → AreStale holds longest h (first ++ second) m
-AreStale-append holds longest h k m [] second a b = subst (λ xs. AreStale holds longest xs second m) a b
-AreStale-append holds longest h k m (take ∷ first) second a b =
-    (a.0, AreStale-append holds longest (history_after take h) k m first second a.1 b)
+AreStale-append : (longest : ℕ) (h k m : List QueueEvent) (first second : List Take) → AreStale longest h first k
+    → AreStale longest k second m → AreStale longest h (first ++ second) m
+AreStale-append longest h k m [] second a b = subst (λ xs. AreStale longest xs second m) a b
+AreStale-append longest h k m (take ∷ first) second a b =
+    (a.0, AreStale-append longest (history_after take h) k m first second a.1 b)
 
 -- nothing was passed on, and then this
-pub ReceivesFresh-more : (holds longest a b c : ℕ) (q r u : Option (List QueueEvent)) (s t v : ℕ) (h k m : List QueueEvent)
-    (result : Option (Result Arrival PortFault)) → ReceivesFresh holds longest a b q r s t h k None
-    → ReceivesFresh holds longest b c r u t v k m result → ReceivesFresh holds longest a c q u s v h m result
-ReceivesFresh-more holds longest a b c q r u s t v h k m result first second =
+pub ReceivesFresh-more : (longest a b c : ℕ) (q r u : Option (List QueueEvent)) (s t v : ℕ) (h k m : List QueueEvent)
+    (result : Option (Result Arrival PortFault)) → ReceivesFresh longest a b q r s t h k None
+    → ReceivesFresh longest b c r u t v k m result → ReceivesFresh longest a c q u s v h m result
+ReceivesFresh-more longest a b c q r u s t v h k m result first second =
     let nothing = first.passed_on in
-    let goes = Goes-earlier holds longest nothing.0 first.between second.between m second.dropped result nothing.1
-    (subst (λ xs. AreStale holds longest xs second.dropped second.between) nothing.2 second.stale) second.passed_on in
+    let goes = Goes-earlier longest nothing.0 first.between second.between m second.dropped result nothing.1
+    (subst (λ xs. AreStale longest xs second.dropped second.between) nothing.2 second.stale) second.passed_on in
     record {
       dropped = first.dropped ++ goes.dropped;
       between = goes.between;
-      stale = AreStale-append holds longest h first.between goes.between first.dropped goes.dropped first.stale goes.stale;
+      stale = AreStale-append longest h first.between goes.between first.dropped goes.dropped first.stale goes.stale;
       passed_on = goes.passed_on;
       counted = omega (arith, first.counted, second.counted, goes.as_many, length-append first.dropped goes.dropped);
       seen = IsSeenFrom-more a b c q r u h k m first.seen second.seen;
     }
 
 -- nothing yet
-pub ReceivesFresh-none : (holds longest reading s : ℕ) (q : Option (List QueueEvent)) (history : List QueueEvent) → s ≤ 2 ^ 64 - 1
-    → ReceivesFresh holds longest reading reading q q s s history history None
-ReceivesFresh-none holds longest reading s q history fits = record {
+pub ReceivesFresh-none : (longest reading s : ℕ) (q : Option (List QueueEvent)) (history : List QueueEvent) → s ≤ 2 ^ 64 - 1
+    → ReceivesFresh longest reading reading q q s s history history None
+ReceivesFresh-none longest reading s q history fits = record {
   dropped = [];
   between = history;
   stale = refl;
@@ -111,9 +111,9 @@ ReceivesFresh-none holds longest reading s q history fits = record {
   seen = IsSeenFrom-same reading q history;
 }
 
--- the limits may be named in two ways
-pub ReceivesFresh-along : (holds limit longest most a b : ℕ) (q r : Option (List QueueEvent)) (s t : ℕ) (h k : List QueueEvent)
-    (result : Option (Result Arrival PortFault)) → holds ≡ limit → longest ≡ most → ReceivesFresh holds longest a b q r s t h k result
-    → ReceivesFresh limit most a b q r s t h k result
-ReceivesFresh-along holds limit longest most a b q r s t h k result same too receives =
-    subst (λ n. ReceivesFresh n most a b q r s t h k result) same (subst (λ n. ReceivesFresh holds n a b q r s t h k result) too receives)
+-- the limit may be named in two ways
+pub ReceivesFresh-along : (longest most a b : ℕ) (q r : Option (List QueueEvent)) (s t : ℕ) (h k : List QueueEvent)
+    (result : Option (Result Arrival PortFault)) → longest ≡ most → ReceivesFresh longest a b q r s t h k result
+    → ReceivesFresh most a b q r s t h k result
+ReceivesFresh-along longest most a b q r s t h k result same receives =
+    subst (λ n. ReceivesFresh n a b q r s t h k result) same receives

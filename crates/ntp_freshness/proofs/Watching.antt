@@ -1,78 +1,97 @@
 -- What is kept of a history tells after which moment what comes next came.
-use Rattle.std.proofs.Common.{◌≡◌, ℕ, zero, suc, ◌+◌, ◌<◌, ◌≤◌, ◌⊎◌, inl, inr, List, [], ◌∷◌, length, get_or, Some, refl, sym, ap, ◌∙◌, arith}
-use Rattle.std.specs.Prelude.{Contains, slice_get}
+use Rattle.std.proofs.Common.{◌≡◌, ℕ, zero, suc, ◌+◌, ◌<◌, ◌≤◌, Bool, true, false, List, [], ◌∷◌, ◌++◌, Some, refl, sym, ap, subst, ◌∙◌, arith}
+use Rattle.std.specs.Prelude.{nat_le, ◌&&◌, if◌then◌else◌}
+use Rattle.std.proofs.lemmas.Bool.{le-leb, lt-leb, leb-true}
 use Rattle.std.proofs.lemmas.List.Elements.{All-contains, Contains-append_right}
-use Rattle.circular_buffer.proofs.Places.{slice_get-take}
 use Rattle.ntp_freshness.specs.declared.queue_event.QueueEvent.{QueueEvent}
-use Rattle.ntp_freshness.specs.declared.queue_event.QueueEvent.TheVariants.{Empty, Taken, Read}
+use Rattle.ntp_freshness.specs.declared.queue_event.QueueEvent.TheVariants.{Held, Taken, Read}
 use Rattle.ntp_freshness.specs.declared.queue_watch.QueueWatch.{QueueWatch}
 use Rattle.ntp_freshness.specs.Freshness.{takes, moment_of, IsInOrder, MayBeAnswered}
-use Rattle.ntp_freshness.specs.Watch.{Watches, holds_of, last_empty}
+use Rattle.ntp_freshness.specs.Watch.{Watches, longest_of, known_after, kept_after}
 
--- a member is the first one or one of the rest
-cons_cases : {X : Type 0} (xs : List X) (y x : X) (k : ℕ) → k < length (y ∷ xs) → get_or (y ∷ xs) k x ≡ x → (y ≡ x) ⊎ Contains xs x
-cons_cases xs y x zero below is = inl is
-cons_cases xs y x (suc k) below is = inr (k, omega arith, is)
+-- what is taken next after so many more takes came after this moment
+CameAfterMore : ℕ → List QueueEvent → ℕ → Type 0
+CameAfterMore more history at =
+    (since : List QueueEvent) × (before : List QueueEvent) × (count : ℕ) × (history ≡ since ++ Held count at ∷ before) × (count ≤ takes since + more)
 
-Contains-rest : {X : Type 0} (xs : List X) (y x : X) → Contains xs x → Contains (y ∷ xs) x
-Contains-rest xs y x there = Contains-append_right (y ∷ []) xs x there
+-- an event before it changes nothing of it
+came-earlier : (more less : ℕ) (event : QueueEvent) (history : List QueueEvent) (at : ℕ)
+    → ((since : List QueueEvent) → takes since + more ≤ takes (event ∷ since) + less) → CameAfterMore more history at
+    → CameAfterMore less (event ∷ history) at
+unfolding CameAfterMore
+came-earlier more less event history at counts came =
+    (event ∷ came.0, came.1, came.2, ap (λ xs. event ∷ xs) came.3, omega (arith, came.4, counts came.0))
 
--- the last moment at which the queue was seen empty is one
-last_empty-contained : (history : List QueueEvent) (at : ℕ) → last_empty history ≡ Some at → Contains history (Empty at)
-last_empty-contained [] at is = absurd (cc)
-last_empty-contained (Empty there ∷ history) at is = let same : there ≡ at = cc in (0, omega arith, ap Empty same)
-last_empty-contained (Taken there ∷ history) at is = Contains-rest history (Taken there) (Empty at) (last_empty-contained history at is)
-last_empty-contained (Read there ∷ history) at is = Contains-rest history (Read there) (Empty at) (last_empty-contained history at is)
+known-came_look : (b : Bool) (more count here : ℕ) (history : List QueueEvent) (at : ℕ) → nat_le count more ≡ b
+    → (known_after more history ≡ Some at → CameAfterMore more history at) → (if b then Some here else known_after more history) ≡ Some at
+    → CameAfterMore more (Held count here ∷ history) at
+unfolding CameAfterMore
+known-came_look true more count here history at within rest is =
+    let same : here ≡ at = cc in ([], history, count, ap (λ n. Held count n ∷ history) same, omega (arith, leb-true count more within))
+known-came_look false more count here history at within rest is =
+    came-earlier more more (Held count here) history at (λ since. omega arith) (rest is)
 
--- and none is later
-last_empty-latest : (history : List QueueEvent) (at : ℕ) → IsInOrder history → Contains history (Empty at)
-    → (last : ℕ) × (last_empty history ≡ Some last) × (at ≤ last)
-last_empty-latest [] at ordered there = absurd (omega (arith, there.1))
-last_empty-latest (Empty here ∷ history) at ordered there =
-    elim (cons_cases history (Empty here) (Empty at) there.0 there.1 there.2) [
-      | inl same ↦ let equal : here ≡ at = cc in (here, refl, omega arith)
-      | inr rest ↦ (here, refl, All-contains (λ older. moment_of older ≤ here) history (Empty at) ordered.0 rest)
-    ]
-last_empty-latest (Taken here ∷ history) at ordered there =
-    elim (cons_cases history (Taken here) (Empty at) there.0 there.1 there.2) [
-      | inl same ↦ absurd (cc)
-      | inr rest ↦ last_empty-latest history at ordered.1 rest
-    ]
-last_empty-latest (Read here ∷ history) at ordered there =
-    elim (cons_cases history (Read here) (Empty at) there.0 there.1 there.2) [
-      | inl same ↦ absurd (cc)
-      | inr rest ↦ last_empty-latest history at ordered.1 rest
-    ]
+known-came : (more : ℕ) (history : List QueueEvent) (at : ℕ) → known_after more history ≡ Some at → CameAfterMore more history at
+known-came more [] at is = absurd (cc)
+known-came more (Held count here ∷ history) at is =
+    known-came_look (nat_le count more) more count here history at refl (known-came more history at) is
+known-came more (Taken here ∷ history) at is =
+    came-earlier (suc more) more (Taken here) history at (λ since. omega arith) (known-came (suc more) history at is)
+known-came more (Read here ∷ history) at is = came-earlier more more (Read here) history at (λ since. omega arith) (known-came more history at is)
 
-module _ {A : Type 0} where
-  -- what was kept since the queue was seen empty
-  pub fresh-empty : (watch : QueueWatch A) (history : List QueueEvent) (longest now : ℕ) → Watches watch history
-      → (at : ℕ) × (watch.empty ≡ Some at) × (now < at + longest) → MayBeAnswered (holds_of watch) longest history now
-  fresh-empty watch history longest now watches known =
-      (known.0, inl (last_empty-contained history known.0 (sym watches.empty ∙ known.1)), known.2)
+-- and none that is so known is later than the one that is told
+Latest : ℕ → List QueueEvent → ℕ → Type 0
+Latest more history at = (last : ℕ) × (known_after more history ≡ Some last) × (at ≤ last)
 
-  -- the take that is kept and lies as many takes back is that of the history
-  taken-place : (watch : QueueWatch A) (history : List QueueEvent) (newer : ℕ) → Watches watch history → suc newer ≡ holds_of watch
-      → slice_get watch.taken.items newer ≡ slice_get (takes history) newer
-  taken-place watch history newer watches place =
-      ap (λ xs. slice_get xs newer) watches.taken ∙ slice_get-take (holds_of watch) (takes history) newer (omega arith)
+known-latest_look : (b : Bool) (more here : ℕ) (history : List QueueEvent) (at : ℕ) → at ≤ here → Latest more history at
+    → (last : ℕ) × ((if b then Some here else known_after more history) ≡ Some last) × (at ≤ last)
+unfolding Latest
+known-latest_look true more here history at earlier rest = (here, refl, earlier)
+known-latest_look false more here history at earlier rest = rest
 
-  pub fresh-taken : (watch : QueueWatch A) (history : List QueueEvent) (longest now at : ℕ) → Watches watch history
-      → (newer : ℕ) × (suc newer ≡ holds_of watch) × (slice_get watch.taken.items newer ≡ Some at) → now < at + longest
-      → MayBeAnswered (holds_of watch) longest history now
-  fresh-taken watch history longest now at watches known within =
-      (at, inr (known.0, known.1, sym (taken-place watch history known.0 watches known.1) ∙ known.2), within)
+known-latest : (more : ℕ) (since before : List QueueEvent) (count at : ℕ) → IsInOrder (since ++ Held count at ∷ before)
+    → count ≤ takes since + more → Latest more (since ++ Held count at ∷ before) at
+unfolding Latest
+known-latest more [] before count at ordered enough =
+    (at, ap (λ b. if b then Some at else known_after more before) (le-leb count more (omega (arith, enough))), omega arith)
+known-latest more (Held other here ∷ since) before count at ordered enough =
+    let there = Contains-append_right since (Held count at ∷ before) (Held count at) (0, omega arith, refl) in
+    let earlier = All-contains (λ older. moment_of older ≤ here) (since ++ Held count at ∷ before) (Held count at) ordered.0 there in
+    known-latest_look (nat_le other more) more here (since ++ Held count at ∷ before) at earlier
+    (known-latest more since before count at ordered.1 enough)
+known-latest more (Taken here ∷ since) before count at ordered enough =
+    known-latest (suc more) since before count at ordered.1 (omega (arith, enough))
+known-latest more (Read here ∷ since) before count at ordered enough = known-latest more since before count at ordered.1 enough
 
-  -- whoever may be answered is known by one of the two
-  pub fresh-known : (watch : QueueWatch A) (history : List QueueEvent) (longest now : ℕ) → Watches watch history → IsInOrder history
-      → MayBeAnswered (holds_of watch) longest history now
-      → ((at : ℕ) × (watch.empty ≡ Some at) × (now < at + longest))
-      ⊎ ((at : ℕ) × ((newer : ℕ) × (suc newer ≡ holds_of watch) × (slice_get watch.taken.items newer ≡ Some at)) × (now < at + longest))
-  fresh-known watch history longest now watches ordered may =
-      elim may.1 [
-        | inl empty ↦
-            let last = last_empty-latest history may.0 ordered empty in
-            inl (last.0, watches.empty ∙ last.1, omega (arith, last.2, may.2))
-        | inr back ↦
-            inr (may.0, (back.0, back.1, taken-place watch history back.0 watches back.1 ∙ back.2), may.2)
-      ]
+-- what is kept, where no more is taken
+and-false : (b : Bool) → (b && false) ≡ false
+and-false true = refl
+and-false false = refl
+
+kept-none_by : (watch : QueueWatch) (n : ℕ) → watch.waiting ≡ n → kept_after watch 0 ≡ watch.known
+kept-none_by watch zero is = ap (λ k. if nat_le 1 k && nat_le k 0 then Some watch.seen else watch.known) is
+kept-none_by watch (suc n) is =
+    ap (λ b. if nat_le 1 watch.waiting && b then Some watch.seen else watch.known) (lt-leb watch.waiting 0 (omega (arith, is)))
+    ∙ ap (λ b. if b then Some watch.seen else watch.known) (and-false (nat_le 1 watch.waiting))
+
+kept-none : (watch : QueueWatch) → kept_after watch 0 ≡ watch.known
+kept-none watch = kept-none_by watch watch.waiting refl
+
+-- what is known tells what may be answered, and the other way
+pub fresh-known : (watch : QueueWatch) (history : List QueueEvent) (now : ℕ) → Watches watch history
+    → (at : ℕ) × (watch.known ≡ Some at) × (now < at + longest_of watch) → MayBeAnswered (longest_of watch) history now
+unfolding CameAfterMore
+fresh-known watch history now watches known =
+    let came : CameAfterMore 0 history known.0 = known-came 0 history known.0 (watches 0 ∙ kept-none watch ∙ known.1) in
+    (known.0, (came.0, came.1, came.2, came.3, omega (arith, came.4)), known.2)
+
+pub known-fresh : (watch : QueueWatch) (history : List QueueEvent) (now : ℕ) → Watches watch history → IsInOrder history
+    → MayBeAnswered (longest_of watch) history now → (at : ℕ) × (watch.known ≡ Some at) × (now < at + longest_of watch)
+unfolding Latest
+known-fresh watch history now watches ordered may =
+    let came = may.1 in
+    let last = known-latest 0 came.0 came.1 came.2 may.0 (subst IsInOrder came.3 ordered) (omega (arith, came.4)) in (
+      last.0,
+      sym (kept-none watch) ∙ sym (watches 0) ∙ ap (known_after 0) came.3 ∙ last.1,
+      omega (arith, last.2, may.2),
+    )

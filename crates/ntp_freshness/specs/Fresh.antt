@@ -10,7 +10,7 @@ use Rattle.ntp_freshness.specs.Queue.{last_reading, SeesMore}
 use Rattle.ntp_freshness.specs.Watch.{Watches}
 
 -- what is kept, with the last reading of the clock, is that of a history whose events are in order and no later than that reading (profile)
-pub record StandsFor {A : Type 0} (watch : QueueWatch A) (reading : ℕ) (history : List QueueEvent) : Type 0 where
+pub record StandsFor (watch : QueueWatch) (reading : ℕ) (history : List QueueEvent) : Type 0 where
   pub watches : Watches watch history
   pub ordered : IsInOrder history
   pub past : All (λ event. moment_of event ≤ reading) history
@@ -19,7 +19,7 @@ pub record StandsFor {A : Type 0} (watch : QueueWatch A) (reading : ℕ) (histor
 -- and what the clock showed once it was in hand (profile)
 pub record Take : Type 0 where
   pub seen : List QueueEvent
-  pub quiet : takes seen ≡ []
+  pub quiet : takes seen ≡ 0
   pub at : ℕ
   pub now : ℕ
 
@@ -31,21 +31,21 @@ abbrev pub history_after : Take → List QueueEvent → List QueueEvent
 history_after take history = Read take.now ∷ (Taken take.at ∷ history_before take history)
 
 -- these were taken, one after another, and none of them may be answered (profile)
-abbrev pub AreStale : ℕ → ℕ → List QueueEvent → List Take → List QueueEvent → Type 0
-AreStale holds longest history [] after = after ≡ history
-AreStale holds longest history (take ∷ taken) after =
-    (MayBeAnswered holds longest (history_before take history) take.now → ⊥) × AreStale holds longest (history_after take history) taken after
+abbrev pub AreStale : ℕ → List QueueEvent → List Take → List QueueEvent → Type 0
+AreStale longest history [] after = after ≡ history
+AreStale longest history (take ∷ taken) after =
+    (MayBeAnswered longest (history_before take history) take.now → ⊥) × AreStale longest (history_after take history) taken after
 
 -- nothing was taken (profile)
 abbrev pub NothingTaken : List QueueEvent → List QueueEvent → Type 0
-NothingTaken history after = (seen : List QueueEvent) × (takes seen ≡ []) × (after ≡ seen ++ history)
+NothingTaken history after = (seen : List QueueEvent) × (takes seen ≡ 0) × (after ≡ seen ++ history)
 
 -- what is passed on: a datagram that may be answered, or nothing that was taken (profile)
-abbrev pub PassesOn : ℕ → ℕ → List QueueEvent → Option (Result Arrival PortFault) → List QueueEvent → Type 0
-PassesOn holds longest history (Some (Ok arrival)) after =
-    (take : Take) × MayBeAnswered holds longest (history_before take history) take.now × (after ≡ history_after take history)
-PassesOn holds longest history (Some (Err fault)) after = NothingTaken history after
-PassesOn holds longest history None after = NothingTaken history after
+abbrev pub PassesOn : ℕ → List QueueEvent → Option (Result Arrival PortFault) → List QueueEvent → Type 0
+PassesOn longest history (Some (Ok arrival)) after =
+    (take : Take) × MayBeAnswered longest (history_before take history) take.now × (after ≡ history_after take history)
+PassesOn longest history (Some (Err fault)) after = NothingTaken history after
+PassesOn longest history None after = NothingTaken history after
 
 -- a count after so many more, which stays at the most that it can be (profile)
 abbrev pub counted_on : ℕ → ℕ → ℕ
@@ -65,11 +65,11 @@ abbrev pub IsSeenFrom : ℕ → ℕ → Option (List QueueEvent) → Option (Lis
 IsSeenFrom reading now old new history after = IsShown reading old → IsShown now new × IsSeen old new history after
 
 -- from the queue of a port were taken some datagrams that may not be answered, which are dropped and counted, and then what is passed on (profile)
-pub record ReceivesFresh (holds longest : ℕ) (reading now : ℕ) (old new : Option (List QueueEvent)) (stale_before stale_after : ℕ)
+pub record ReceivesFresh (longest : ℕ) (reading now : ℕ) (old new : Option (List QueueEvent)) (stale_before stale_after : ℕ)
     (history after : List QueueEvent) (result : Option (Result Arrival PortFault)) : Type 0 where
   pub dropped : List Take
   pub between : List QueueEvent
-  pub stale : AreStale holds longest history dropped between
-  pub passed_on : PassesOn holds longest between result after
+  pub stale : AreStale longest history dropped between
+  pub passed_on : PassesOn longest between result after
   pub counted : stale_after ≡ counted_on stale_before (length dropped)
   pub seen : IsSeenFrom reading now old new history after

@@ -3,13 +3,13 @@ use Rattle.std.specs.Prelude.{◌≡◌, ℕ, ◌≤◌, Bool, true, false, Opti
 use Rattle.ntp_observer.specs.declared.outcomes.Arrival.{Arrival}
 use Rattle.ntp_service_serve.specs.declared.port.PortFault.{PortFault}
 use Rattle.ntp_freshness.specs.declared.queue_event.QueueEvent.{QueueEvent}
-use Rattle.ntp_freshness.specs.declared.queue_event.QueueEvent.TheVariants.{Empty, Taken, Read}
+use Rattle.ntp_freshness.specs.declared.queue_event.QueueEvent.TheVariants.{Held, Taken, Read}
 
 -- what the clock showed last, and 0 before its first reading (profile)
 abbrev pub last_reading : List QueueEvent → ℕ
 last_reading [] = 0
 last_reading (Read at ∷ history) = at
-last_reading (Empty at ∷ history) = last_reading history
+last_reading (Held count at ∷ history) = last_reading history
 last_reading (Taken at ∷ history) = last_reading history
 
 -- these events, newest first, were seen after what was seen before. A port that tells no longer, or never did, tells nothing of them (profile)
@@ -24,14 +24,18 @@ ReadsClock old None now = Unit {0}
 ReadsClock None (Some new) now = ⊥
 ReadsClock (Some old) (Some new) now = (last_reading old ≤ now) × (new ≡ Read now ∷ old)
 
--- what a look at the queue tells that began when the clock had shown `shown`, or later (profile)
+-- what a look tells that began when the clock had shown `shown`, or later: how many datagrams were in the queue at most (profile)
+abbrev pub seen_in_count : ℕ → ℕ → List QueueEvent
+seen_in_count count shown = Held count shown ∷ []
+
+-- or whether it was empty (profile)
 abbrev pub seen_in_look : Bool → ℕ → List QueueEvent
-seen_in_look true shown = Empty shown ∷ []
+seen_in_look true shown = Held 0 shown ∷ []
 seen_in_look false shown = []
 
 -- what a wait for a datagram tells: a failed one nothing (profile)
 abbrev pub seen_in_wait : Option (Result Arrival PortFault) → ℕ → List QueueEvent
-seen_in_wait None shown = Empty shown ∷ []
+seen_in_wait None shown = Held 0 shown ∷ []
 seen_in_wait (Some (Ok arrival)) shown = Taken shown ∷ []
 seen_in_wait (Some (Err fault)) shown = []
 

@@ -1,25 +1,28 @@
 -- What is kept of a history.
-use Rattle.std.specs.Prelude.{◌≡◌, ℕ, Option, None, Some, List, [], ◌∷◌, take}
+use Rattle.std.specs.Prelude.{◌≡◌, ℕ, suc, ◌<◌, nat_le, ◌&&◌, if◌then◌else◌, Option, None, Some, List, [], ◌∷◌}
 use Rattle.ntp_freshness.specs.declared.queue_event.QueueEvent.{QueueEvent}
-use Rattle.ntp_freshness.specs.declared.queue_event.QueueEvent.TheVariants.{Empty, Taken, Read}
+use Rattle.ntp_freshness.specs.declared.queue_event.QueueEvent.TheVariants.{Held, Taken, Read}
 use Rattle.ntp_freshness.specs.declared.queue_watch.QueueWatch.{QueueWatch}
-use Rattle.ntp_freshness.specs.Freshness.{takes}
 
--- how many datagrams the queue can hold, and how long one may have waited, in nanoseconds (profile)
-abbrev pub holds_of : {A : Type 0} → QueueWatch A → ℕ
-holds_of watch = watch.taken.capacity
-
-abbrev pub longest_of : {A : Type 0} → QueueWatch A → ℕ
+-- how long a datagram may have waited, in nanoseconds
+abbrev pub longest_of : QueueWatch → ℕ
 longest_of watch = watch.longest
 
--- when the queue was last seen empty
-abbrev pub last_empty : List QueueEvent → Option ℕ
-last_empty [] = None
-last_empty (Empty at ∷ history) = Some at
-last_empty (Taken at ∷ history) = last_empty history
-last_empty (Read at ∷ history) = last_empty history
+-- datagrams that were seen in the queue may still be in it
+abbrev pub IsWaiting : QueueWatch → Type 0
+IsWaiting watch = 0 < watch.waiting
 
--- what is kept is that of a history: when the queue was last seen empty, and the newest takes, as many as the queue can hold (profile)
-pub record Watches {A : Type 0} (watch : QueueWatch A) (history : List QueueEvent) : Type 0 where
-  pub empty : watch.empty ≡ last_empty history
-  pub taken : watch.taken.items ≡ take watch.taken.capacity (takes history)
+-- the newest moment of which it is known, after so many more takes, that what is taken next came after it
+abbrev pub known_after : ℕ → List QueueEvent → Option ℕ
+known_after more [] = None
+known_after more (Held count at ∷ history) = if nat_le count more then Some at else known_after more history
+known_after more (Taken at ∷ history) = known_after (suc more) history
+known_after more (Read at ∷ history) = known_after more history
+
+-- and by what is kept
+abbrev pub kept_after : QueueWatch → ℕ → Option ℕ
+kept_after watch more = if nat_le 1 watch.waiting && nat_le watch.waiting more then Some watch.seen else watch.known
+
+-- what is kept is that of a history (profile)
+abbrev pub Watches : QueueWatch → List QueueEvent → Type 0
+Watches watch history = (more : ℕ) → known_after more history ≡ kept_after watch more

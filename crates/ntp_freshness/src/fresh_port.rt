@@ -4,7 +4,7 @@ ghost use Rattle.std.specs.Option.{option_map_or};
 ghost use Rattle.ntp_service_serve.specs.Port.{most_datagram_octets};
 ghost use Rattle.ntp_freshness.specs.declared.queue_event.QueueEvent.{QueueEvent};
 ghost use Rattle.ntp_freshness.specs.Freshness.{moment_of, IsInOrder};
-ghost use Rattle.ntp_freshness.specs.Watch.{Watches, holds_of, longest_of};
+ghost use Rattle.ntp_freshness.specs.Watch.{Watches, longest_of};
 ghost use Rattle.ntp_freshness.specs.Fresh.{StandsFor, ReceivesFresh, IsShown};
 ghost use Rattle.ntp_freshness.specs.Next.{TakesNext, LooksOn, failures_in};
 
@@ -13,10 +13,10 @@ use crate::queued_port::QueuedPort;
 use ntp_register::Address;
 use ntp_service_serve::{Arrival, Port, PortFault, TimedPort};
 use ntp_time::Moment;
-use std::alloc::{Allocator, Global};
 
-/// How long it is not looked again whether the queue is empty, in nanoseconds: a ten-thousandth of a second. So looking costs little
-/// while it is not. It is looked again at once where a datagram was dropped, so that what comes after a stop is answered (profile).
+/// How long it is not looked again at the queue, in nanoseconds: a ten-thousandth of a second. So looking costs little
+/// while it is never empty. It is looked again at once where a datagram was dropped, so that what comes after a stop is answered
+/// (profile).
 const LOOK_PERIOD: u64 = 100_000;
 
 /// How many datagrams are dropped in one call at most, so that there is time to look at something else (profile).
@@ -27,12 +27,12 @@ const MOST_DROPPED: u32 = 1_024;
 ///
 /// The other port's waits have to end well within that time: else a datagram that came during a long wait is dropped.
 #[derive(Drop)]
-pub struct FreshPort<P: QueuedPort, A: Allocator = Global> {
+pub struct FreshPort<P: QueuedPort> {
     port: P,
-    watch: QueueWatch<A>,
+    watch: QueueWatch,
     // What the clock showed last. It was shown before any call that is still to be made, so that call begins then or later.
     reading: u64,
-    // What it shows when it may be looked again whether the queue is empty.
+    // What it shows when it may be looked again at the queue.
     next_look: u64,
     stale: u64,
     failures: u64,
@@ -51,10 +51,10 @@ enum Next {
     Stale,
 }
 
-impl<P: QueuedPort, A: Allocator> FreshPort<P, A> {
+impl<P: QueuedPort> FreshPort<P> {
     /// A port that passes on what may be answered of what comes at `port`, by what `watch` was told and will be. It has dropped
     /// nothing. `watch` may know the queue already, by the port's clock: a queue that is new was empty just before.
-    pub fn new(mut port: P, watch: QueueWatch<A>) -> FreshPort<P, A>
+    pub fn new(mut port: P, watch: QueueWatch) -> FreshPort<P>
         ensures stands { (history : List QueueEvent) → Watches watch history → IsInOrder history
             → All (λ event. moment_of event ≤ result.reading) history → StandsFor result.watch result.reading history }
         ensures watch { result.watch ≡ watch }
@@ -99,11 +99,10 @@ impl<P: QueuedPort, A: Allocator> FreshPort<P, A> {
         ensures fault { IfSome result (λ received. IfErr received (λ fault. fault ≡ PortFault.Receive)) }
         ensures failures { self.new.failures
             ≡ self.old.failures + option_map_or (λ received. if is_err received then 1 else 0) result 0 }
-        ensures holds { holds_of self.new.watch ≡ holds_of self.old.watch }
         ensures longest { longest_of self.new.watch ≡ longest_of self.old.watch }
         ensures fresh { (history : List QueueEvent) → StandsFor self.old.watch self.old.reading history
             → (after : List QueueEvent) × StandsFor self.new.watch self.new.reading after
-            × ReceivesFresh (holds_of self.old.watch) (longest_of self.old.watch) self.old.reading self.new.reading
+            × ReceivesFresh (longest_of self.old.watch) self.old.reading self.new.reading
             (P.history self.old.port) (P.history self.new.port) self.old.stale self.new.stale history after result }
     {
         for _ in 0..MOST_DROPPED {
@@ -123,10 +122,9 @@ impl<P: QueuedPort, A: Allocator> FreshPort<P, A> {
         ensures fresh { (arrival : Arrival) → result ≡ Next.Fresh arrival → arrival.length ≤ most_datagram_octets }
         ensures fault { (fault : PortFault) → result ≡ Next.Fault fault → fault ≡ PortFault.Receive }
         ensures failures { self.new.failures ≡ self.old.failures + failures_in result }
-        ensures holds { holds_of self.new.watch ≡ holds_of self.old.watch }
         ensures longest { longest_of self.new.watch ≡ longest_of self.old.watch }
         ensures next { (history : List QueueEvent) → StandsFor self.old.watch self.old.reading history
-            → TakesNext (holds_of self.old.watch) (longest_of self.old.watch) self.old.reading self.new.reading
+            → TakesNext (longest_of self.old.watch) self.old.reading self.new.reading
             (P.history self.old.port) (P.history self.new.port) self.old.stale self.new.stale self.new.watch history result }
     {
         self.look();
@@ -134,7 +132,7 @@ impl<P: QueuedPort, A: Allocator> FreshPort<P, A> {
         let before = self.reading;
         self.reading = self.port.ticks().max(before);
         let Some(received) = received else {
-            self.watch.saw_empty(before);
+            self.watch.saw(0, before);
             return Next::Nothing;
         };
         match received {
@@ -144,7 +142,7 @@ impl<P: QueuedPort, A: Allocator> FreshPort<P, A> {
             }
             Ok(arrival) => {
                 let is_fresh = self.watch.is_fresh(self.reading);
-                self.watch.took(before);
+                self.watch.took();
                 if is_fresh {
                     return Next::Fresh(arrival);
                 }
@@ -155,39 +153,79 @@ impl<P: QueuedPort, A: Allocator> FreshPort<P, A> {
         }
     }
 
-    // Looks whether the queue is empty, where it is time to, once in a ten-thousandth of a second at most.
+    // Looks at the queue where it is time to, once in a ten-thousandth of a second at most.
     fn look(&mut self)
         ensures reading { self.new.reading ≡ self.old.reading }
         ensures stale { self.new.stale ≡ self.old.stale }
         ensures failures { self.new.failures ≡ self.old.failures }
-        ensures holds { holds_of self.new.watch ≡ holds_of self.old.watch }
         ensures longest { longest_of self.new.watch ≡ longest_of self.old.watch }
         ensures looks { (history : List QueueEvent) → StandsFor self.old.watch self.old.reading history
             → LooksOn self.old.reading self.new.reading (P.history self.old.port) (P.history self.new.port) self.new.watch history }
     {
         if self.reading >= self.next_look {
             self.next_look = self.reading.saturating_add(LOOK_PERIOD);
-            self.look_now();
+            self.look_where_due();
         }
     }
 
-    // Looks whether the queue is empty, where what is known of it is old.
-    fn look_now(&mut self)
+    // Looks at the queue where what is known of it is old.
+    fn look_where_due(&mut self)
         ensures reading { self.new.reading ≡ self.old.reading }
         ensures stale { self.new.stale ≡ self.old.stale }
         ensures failures { self.new.failures ≡ self.old.failures }
-        ensures holds { holds_of self.new.watch ≡ holds_of self.old.watch }
         ensures longest { longest_of self.new.watch ≡ longest_of self.old.watch }
         ensures looks { (history : List QueueEvent) → StandsFor self.old.watch self.old.reading history
             → LooksOn self.old.reading self.new.reading (P.history self.old.port) (P.history self.new.port) self.new.watch history }
     {
-        if self.watch.is_due(self.reading) && self.port.is_empty() {
-            self.watch.saw_empty(self.reading);
+        if self.watch.is_due(self.reading) {
+            self.look_now();
+        }
+    }
+
+    // Looks whether the queue is empty, and how many datagrams are in it where that has to be known.
+    fn look_now(&mut self)
+        ensures reading { self.new.reading ≡ self.old.reading }
+        ensures stale { self.new.stale ≡ self.old.stale }
+        ensures failures { self.new.failures ≡ self.old.failures }
+        ensures longest { longest_of self.new.watch ≡ longest_of self.old.watch }
+        ensures looks { (history : List QueueEvent) → StandsFor self.old.watch self.old.reading history
+            → LooksOn self.old.reading self.new.reading (P.history self.old.port) (P.history self.new.port) self.new.watch history }
+    {
+        self.look_whether_empty();
+        self.look_how_many();
+    }
+
+    // Looks whether the queue is empty.
+    fn look_whether_empty(&mut self)
+        ensures reading { self.new.reading ≡ self.old.reading }
+        ensures stale { self.new.stale ≡ self.old.stale }
+        ensures failures { self.new.failures ≡ self.old.failures }
+        ensures longest { longest_of self.new.watch ≡ longest_of self.old.watch }
+        ensures looks { (history : List QueueEvent) → StandsFor self.old.watch self.old.reading history
+            → LooksOn self.old.reading self.new.reading (P.history self.old.port) (P.history self.new.port) self.new.watch history }
+    {
+        if self.port.is_empty() {
+            self.watch.saw(0, self.reading);
+        }
+    }
+
+    // Looks how many datagrams are in the queue, where no earlier look is waited for and what is known is old: that costs more.
+    fn look_how_many(&mut self)
+        ensures reading { self.new.reading ≡ self.old.reading }
+        ensures stale { self.new.stale ≡ self.old.stale }
+        ensures failures { self.new.failures ≡ self.old.failures }
+        ensures longest { longest_of self.new.watch ≡ longest_of self.old.watch }
+        ensures looks { (history : List QueueEvent) → StandsFor self.old.watch self.old.reading history
+            → LooksOn self.old.reading self.new.reading (P.history self.old.port) (P.history self.new.port) self.new.watch history }
+    {
+        if !self.watch.is_waiting() && self.watch.is_old(self.reading) {
+            let count = self.port.most_held();
+            self.watch.saw(count, self.reading);
         }
     }
 }
 
-impl<P: QueuedPort, A: Allocator> Port for FreshPort<P, A> {
+impl<P: QueuedPort> Port for FreshPort<P> {
     ghost failure_count = { λ f. f.failures };
 
     /// Waits until a datagram comes that may be answered.
@@ -196,11 +234,10 @@ impl<P: QueuedPort, A: Allocator> Port for FreshPort<P, A> {
         ensures length { IfOk result (λ arrival. arrival.length ≤ most_datagram_octets) }
         ensures fault { IfErr result (λ fault. fault ≡ PortFault.Receive) }
         ensures failures { self.new.failures ≡ self.old.failures + (if is_err result then 1 else 0) }
-        ensures holds { holds_of self.new.watch ≡ holds_of self.old.watch }
         ensures longest { longest_of self.new.watch ≡ longest_of self.old.watch }
         ensures fresh { (history : List QueueEvent) → StandsFor self.old.watch self.old.reading history
             → (after : List QueueEvent) × StandsFor self.new.watch self.new.reading after
-            × ReceivesFresh (holds_of self.old.watch) (longest_of self.old.watch) self.old.reading self.new.reading
+            × ReceivesFresh (longest_of self.old.watch) self.old.reading self.new.reading
             (P.history self.old.port) (P.history self.new.port) self.old.stale self.new.stale history after (Some result) }
     {
         for _ in 0..u64::MAX {
@@ -241,7 +278,7 @@ impl<P: QueuedPort, A: Allocator> Port for FreshPort<P, A> {
     }
 }
 
-impl<P: QueuedPort, A: Allocator> TimedPort for FreshPort<P, A> {
+impl<P: QueuedPort> TimedPort for FreshPort<P> {
     /// As `receive_fresh`.
     fn receive_in_time(&mut self, datagram: &mut [u8; 1025]) -> Option<Result<Arrival, PortFault>>
         requires { self.old.failures < 2 ^ 64 - 1 }
@@ -249,11 +286,10 @@ impl<P: QueuedPort, A: Allocator> TimedPort for FreshPort<P, A> {
         ensures fault { IfSome result (λ received. IfErr received (λ fault. fault ≡ PortFault.Receive)) }
         ensures failures { self.new.failures
             ≡ self.old.failures + option_map_or (λ received. if is_err received then 1 else 0) result 0 }
-        ensures holds { holds_of self.new.watch ≡ holds_of self.old.watch }
         ensures longest { longest_of self.new.watch ≡ longest_of self.old.watch }
         ensures fresh { (history : List QueueEvent) → StandsFor self.old.watch self.old.reading history
             → (after : List QueueEvent) × StandsFor self.new.watch self.new.reading after
-            × ReceivesFresh (holds_of self.old.watch) (longest_of self.old.watch) self.old.reading self.new.reading
+            × ReceivesFresh (longest_of self.old.watch) self.old.reading self.new.reading
             (P.history self.old.port) (P.history self.new.port) self.old.stale self.new.stale history after result }
     {
         self.receive_fresh(datagram)

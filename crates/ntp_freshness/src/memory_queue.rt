@@ -169,17 +169,37 @@ impl<A: Allocator> QueuedPort for MemoryQueue<A> {
         now
     }
 
+    fn most_held(&mut self) -> u64 {
+        let mut count = 0u64;
+        for due in &self.due[self.taken..] {
+            if due.at <= self.shown {
+                count = count.saturating_add(1);
+            }
+        }
+        self.log.see(QueueEvent::Held {
+            count,
+            at: self.shown,
+        });
+        count
+    }
+
     fn is_empty(&mut self) -> bool {
         if self.come_by(self.shown).is_some() {
             return false;
         }
-        self.log.see(QueueEvent::Empty(self.shown));
+        self.log.see(QueueEvent::Held {
+            count: 0,
+            at: self.shown,
+        });
         true
     }
 
     fn take_in_time(&mut self, _datagram: &mut [u8; 1025]) -> Option<Result<Arrival, PortFault>> {
         let Some(arrival) = self.come_by(self.next_reading()) else {
-            self.log.see(QueueEvent::Empty(self.shown));
+            self.log.see(QueueEvent::Held {
+                count: 0,
+                at: self.shown,
+            });
             return None;
         };
         self.taken += 1;

@@ -4,8 +4,8 @@
 /// back (profile).
 #[derive(Clone, Copy, Debug, PartialEq, Eq)]
 pub enum QueueEvent {
-    /// The queue was empty at some moment of a call that began at this moment or later.
-    Empty(u64),
+    /// The queue held at most `count` datagrams at some moment of a call that began at `at` or later.
+    Held { count: u64, at: u64 },
     /// A datagram was taken out of the queue by a call that began at this moment or later.
     Taken(u64),
     /// The clock showed this moment.

@@ -1,104 +1,100 @@
 //! What is kept of a queue, to know after which moment its next datagram came.
-ghost use Rattle.std.specs.Prelude.{◌≡◌, ℕ, suc, ◌+◌, ◌<◌, ◌↔◌, List, [], ◌∷◌, Some, IfOk, IsTrue, slice_get};
+ghost use Rattle.std.specs.Prelude.{◌≡◌, ℕ, ◌+◌, ◌<◌, ◌↔◌, ◌⊎◌, List, [], ◌∷◌, Some, IsTrue};
 ghost use Rattle.ntp_freshness.specs.declared.queue_event.QueueEvent.{QueueEvent};
 ghost use Rattle.ntp_freshness.specs.Freshness.{MayBeAnswered, IsInOrder};
+ghost use Rattle.ntp_freshness.specs.Watch.{Watches, IsWaiting, longest_of};
 
-use circular_buffer::HeapCircularBuffer;
-use ntp_admin::NoMemory;
-use std::alloc::{Allocator, Global};
+/// Into how many parts the longest time is divided that a datagram may wait: what is known of the queue is looked for anew
+/// where it is one part old by a look whether the queue is empty, and by a count where it is three parts old (profile).
+const PARTS: u64 = 10;
 
-/// How many looks that find the queue empty are made in the longest time that a datagram may wait, at most (profile).
-const LOOKS_IN_LONGEST: u64 = 10;
+const PARTS_UNCOUNTED: u64 = 3;
 
-/// What is kept of the history of a queue: when it was last seen empty, and the newest takes, as many as it can
-/// hold (profile). Moments are in nanoseconds of a clock that never goes back.
-#[derive(Drop)]
-pub struct QueueWatch<A: Allocator = Global> {
-    // When the calls that took began, newest first. Its room is how many datagrams the queue can hold.
-    taken: HeapCircularBuffer<u64, A>,
-    empty: Option<u64>,
+/// What is kept of the history of a queue: the last moment after which its next datagram is known to have come, and one
+/// more of which that will be known after so many takes (profile). Moments are in nanoseconds of a clock that never goes back.
+#[derive(Clone, Copy, Debug)]
+pub struct QueueWatch {
+    known: Option<u64>,
+    // How many of the datagrams that were in the queue at the moment `seen` may still be in it; 0 where that is not waited for.
+    waiting: u64,
+    seen: u64,
     longest: u64,
 }
 
-impl<A: Allocator> QueueWatch<A> {
-    ghost use Rattle.ntp_freshness.specs.Watch.{Watches, holds_of, longest_of};
-
-    /// Watches a queue that can hold `holds` datagrams, of which nothing was seen yet; one that waited for `longest`
-    /// nanoseconds, or for longer, may not be answered. The room for so many moments is taken from `alloc` here, and none later:
-    /// `NoMemory` only where it was refused.
-    pub fn new(alloc: A, holds: usize, longest: u64) -> Result<QueueWatch<A>, NoMemory>
-        ensures watches { IfOk result (λ watch. Watches watch []) }
-        ensures holds { IfOk result (λ watch. holds_of watch ≡ holds) }
-        ensures longest { IfOk result (λ watch. longest_of watch ≡ longest) }
+impl QueueWatch {
+    /// Watches a queue of which nothing was seen yet. A datagram that waited for `longest` nanoseconds, or for longer, may not
+    /// be answered.
+    pub fn new(longest: u64) -> QueueWatch
+        ensures watches { Watches result [] }
+        ensures longest { longest_of result ≡ longest }
     {
-        let taken = HeapCircularBuffer::with_capacity(alloc, holds)?;
-        Ok(QueueWatch {
-            taken,
-            empty: None,
+        QueueWatch {
+            known: None,
+            waiting: 0,
+            seen: 0,
             longest,
-        })
+        }
     }
 
-    /// The queue was seen empty by a call that began at this moment or later.
-    pub fn saw_empty(&mut self, at: u64)
-        ensures watches { (history : List QueueEvent) → Watches self.old history → Watches self.new (QueueEvent.Empty at ∷ history) }
-        ensures holds { holds_of self.new ≡ holds_of self.old }
+    /// The queue was seen by a call that began at this moment or later, and held at most so many datagrams. One such look is kept:
+    /// while it is waited for the datagrams of an earlier one, only an empty queue is watched.
+    pub fn saw(&mut self, count: u64, at: u64)
+        ensures watches { (history : List QueueEvent) → (count ≡ 0) ⊎ (IsWaiting self.old → ⊥) → Watches self.old history
+            → Watches self.new (QueueEvent.Held count at ∷ history) }
         ensures longest { longest_of self.new ≡ longest_of self.old }
     {
-        self.empty = Some(at);
+        if count == 0 {
+            self.known = Some(at);
+        }
+        self.waiting = count;
+        self.seen = at;
     }
 
-    /// A datagram was taken out of the queue by a call that began at this moment or later.
-    pub fn took(&mut self, at: u64)
-        ensures watches { (history : List QueueEvent) → Watches self.old history → Watches self.new (QueueEvent.Taken at ∷ history) }
-        ensures holds { holds_of self.new ≡ holds_of self.old }
+    /// A datagram was taken out of the queue.
+    pub fn took(&mut self)
+        ensures watches { (history : List QueueEvent) → (at : ℕ) → Watches self.old history → Watches self.new (QueueEvent.Taken at ∷ history) }
         ensures longest { longest_of self.new ≡ longest_of self.old }
     {
-        self.taken.push_front(at);
+        if self.waiting == 1 {
+            self.known = Some(self.seen);
+        }
+        self.waiting = self.waiting.saturating_sub(1);
+    }
+
+    /// Whether datagrams that were in the queue when it was looked at may still be in it.
+    pub fn is_waiting(&self) -> bool
+        ensures { IsTrue result ↔ IsWaiting self.now }
+    {
+        self.waiting > 0
     }
 
     /// Whether the datagram that was taken last, and is not watched yet, may be answered; it is in hand at `now`.
     pub fn is_fresh(&self, now: u64) -> bool
         ensures fresh { (history : List QueueEvent) → Watches self.now history → IsTrue result
-            → MayBeAnswered (holds_of self.now) (longest_of self.now) history now }
+            → MayBeAnswered (longest_of self.now) history now }
         ensures stale { (history : List QueueEvent) → Watches self.now history → IsInOrder history
-            → MayBeAnswered (holds_of self.now) (longest_of self.now) history now → IsTrue result }
+            → MayBeAnswered (longest_of self.now) history now → IsTrue result }
     {
         self.is_known_within(now, self.longest)
     }
 
-    // Whether it is time to look whether the queue is empty: what is known of it at `now` is as old as a tenth of the longest
-    // wait, or older.
+    // Whether it is time to look whether the queue is empty.
     pub(crate) fn is_due(&self, now: u64) -> bool {
-        !self.is_known_within(now, self.longest / LOOKS_IN_LONGEST)
+        !self.is_known_within(now, self.longest / PARTS)
+    }
+
+    // Whether it is time to count what is in it.
+    pub(crate) fn is_old(&self, now: u64) -> bool {
+        !self.is_known_within(now, self.longest / PARTS * PARTS_UNCOUNTED)
     }
 
     // Whether what comes next came after a moment that is less than `longest` before `now`.
     fn is_known_within(&self, now: u64, longest: u64) -> bool
-        ensures fresh { (history : List QueueEvent) → Watches self.now history → IsTrue result
-            → MayBeAnswered (holds_of self.now) longest history now }
-        ensures stale { (history : List QueueEvent) → Watches self.now history → IsInOrder history
-            → MayBeAnswered (holds_of self.now) longest history now → IsTrue result }
+        ensures { IsTrue result ↔ ((at : ℕ) × (self.now.known ≡ Some at) × (now < at + longest)) }
     {
-        is_within(self.empty, now, longest) || is_within(self.taken_back(), now, longest)
-    }
-
-    // When the take began that lies as many takes back as the queue can hold.
-    fn taken_back(&self) -> Option<u64>
-        ensures { (at : ℕ) → (result ≡ Some at)
-            ↔ ((newer : ℕ) × (suc newer ≡ holds_of self.now) × (slice_get self.now.taken.items newer ≡ Some at)) }
-    {
-        let newer = self.taken.capacity().checked_sub(1)?;
-        self.taken.get(newer).copied()
-    }
-}
-
-// Whether a moment is known, and less than `longest` before `now`.
-fn is_within(moment: Option<u64>, now: u64, longest: u64) -> bool
-    ensures { IsTrue result ↔ ((at : ℕ) × (moment ≡ Some at) × (now < at + longest)) }
-{
-    match moment {
-        Some(at) => now < at || now - at < longest,
-        None => false,
+        match self.known {
+            Some(at) => now < at || now - at < longest,
+            None => false,
+        }
     }
 }

@@ -3,7 +3,7 @@ ghost use Rattle.std.specs.Prelude.{◌≡◌, ◌+◌, ◌-◌, ◌≤◌, ◌<
 ghost use Rattle.std.specs.Option.{option_map_or};
 ghost use Rattle.ntp_service_serve.specs.Port.{most_datagram_octets, ReceiveTells};
 ghost use Rattle.ntp_freshness.specs.declared.queue_event.QueueEvent.{QueueEvent};
-ghost use Rattle.ntp_freshness.specs.Queue.{ReadsClock, Tells, seen_in_look, seen_in_wait};
+ghost use Rattle.ntp_freshness.specs.Queue.{ReadsClock, Tells, seen_in_count, seen_in_look, seen_in_wait};
 
 use ntp_service_serve::{Arrival, PortFault, TimedPort};
 
@@ -21,6 +21,12 @@ pub trait QueuedPort: TimedPort {
         ensures failures { Self.failure_count self.new ≡ Self.failure_count self.old }
         ensures turns { Self.told self.new ≡ Self.told self.old }
         ensures history { ReadsClock (history self.old) (history self.new) result };
+
+    /// Looks, without waiting, how many datagrams are in the queue at most.
+    fn most_held(&mut self) -> u64
+        ensures failures { Self.failure_count self.new ≡ Self.failure_count self.old }
+        ensures turns { Self.told self.new ≡ Self.told self.old }
+        ensures history { Tells (history self.old) (history self.new) (seen_in_count result) };
 
     /// Looks, without waiting, whether the queue is empty; `false` also where it cannot be told.
     fn is_empty(&mut self) -> bool

@@ -37,20 +37,18 @@ fn readings<A: Allocator>(alloc: A, milliseconds: &[u32]) -> Result<Vec<u64, A>,
     Ok(readings)
 }
 
-// A port over a queue that can hold so many datagrams.
+// A port over a queue to which these come.
 fn port<A: Allocator + Copy>(
     alloc: A,
-    holds: usize,
     coming: Vec<Due, A>,
     readings: Vec<u64, A>,
-) -> Result<FreshPort<MemoryQueue<A>, A>, Fail> {
-    let queue = MemoryQueue::new(alloc, coming, readings, 100)?;
-    let watch = QueueWatch::new(alloc, holds, LONGEST)?;
-    Ok(FreshPort::new(queue, watch))
+) -> Result<FreshPort<MemoryQueue<A>>, Fail> {
+    let queue = MemoryQueue::new(alloc, coming, readings, 1_000)?;
+    Ok(FreshPort::new(queue, QueueWatch::new(LONGEST)))
 }
 
 // The UDP port of the next datagram that may be answered, where one comes in time.
-fn next<A: Allocator>(port: &mut FreshPort<MemoryQueue<A>, A>) -> Result<Option<u16>, Fail> {
+fn next<A: Allocator>(port: &mut FreshPort<MemoryQueue<A>>) -> Result<Option<u16>, Fail> {
     if port.failures() > 0 {
         return Err(Fail::from("a call failed"));
     }
@@ -75,7 +73,7 @@ fn what_waited_while_the_process_was_stopped_is_dropped(rt: HostRuntime) -> Resu
     times.resize(12, 5_100)?;
     times.push(5_200)?;
     let readings = readings(rt.alloc(), &times)?;
-    let mut port = port(rt.alloc(), 256, coming, readings)?;
+    let mut port = port(rt.alloc(), coming, readings)?;
     assert_eq!(rt; next(&mut port)?, None);
     assert_eq!(rt; next(&mut port)?, Some(10));
     assert_eq!(rt; port.stale(), 10);
@@ -83,25 +81,24 @@ fn what_waited_while_the_process_was_stopped_is_dropped(rt: HostRuntime) -> Resu
     Ok(())
 }
 
-// Two hundred datagrams, one each 10 ms, of which three always wait, in a queue that can hold so many: those that are passed
-// on, and how many are dropped.
+// Two hundred datagrams, one each 10 ms, of which so many always wait: how many are passed on, and how many are dropped.
 fn passed_on_in_overload<A: Allocator + Copy>(
     alloc: A,
-    holds: usize,
-) -> Result<(Vec<u16, A>, u64), Fail> {
+    waiting: u16,
+) -> Result<(usize, u64), Fail> {
     let mut coming = Vec::new(alloc);
     let mut times = Vec::new(alloc);
     times.push(0)?;
     for number in 0..200u16 {
-        coming.push(due(1 + u32::from(number.saturating_sub(3)) * 10, number))?;
+        coming.push(due(1 + u32::from(number.saturating_sub(waiting)) * 10, number))?;
         times.push(10 + u32::from(number) * 10)?;
     }
     let readings = readings(alloc, &times)?;
-    let mut port = port(alloc, holds, coming, readings)?;
-    let mut passed_on = Vec::new(alloc);
+    let mut port = port(alloc, coming, readings)?;
+    let mut passed_on = 0usize;
     for _ in 0..200u32 {
-        if let Some(number) = next(&mut port)? {
-            passed_on.push(number)?;
+        if next(&mut port)?.is_some() {
+            passed_on = passed_on.saturating_add(1);
         }
     }
     Ok((passed_on, port.stale()))
@@ -109,14 +106,10 @@ fn passed_on_in_overload<A: Allocator + Copy>(
 
 #[test]
 fn overload_is_answered_where_the_queue_is_taken_out_in_time(rt: HostRuntime) -> Result<(), Fail> {
-    // The fourth take back began 50 ms before, and nothing in the queue came before it.
-    let (passed_on, stale) = passed_on_in_overload(rt.alloc(), 4)?;
-    assert_eq!(rt; passed_on.len(), 200);
-    assert_eq!(rt; stale, 0);
-    // The queue was seen empty at 0 ms, and never later; the 25th datagram is in hand at 250 ms.
-    let (passed_on, stale) = passed_on_in_overload(rt.alloc(), 1_000)?;
-    assert_eq!(rt; passed_on.len(), 24);
-    assert_eq!(rt; stale, 176);
+    // The queue is never seen empty. Three datagrams that a look finds are taken out 30 ms later.
+    assert_eq!(rt; passed_on_in_overload(rt.alloc(), 3)?, (200, 0));
+    // Thirty are taken out 300 ms later. Nothing had come at 0 ms; the 25th datagram is in hand at 250 ms.
+    assert_eq!(rt; passed_on_in_overload(rt.alloc(), 30)?, (24, 176));
     Ok(())
 }
 
@@ -131,7 +124,7 @@ fn sparse_datagrams_are_answered(rt: HostRuntime) -> Result<(), Fail> {
         times.push(wait * 100)?;
     }
     let readings = readings(rt.alloc(), &times)?;
-    let mut port = port(rt.alloc(), 256, coming, readings)?;
+    let mut port = port(rt.alloc(), coming, readings)?;
     let mut passed_on = Vec::new(rt.alloc());
     for _ in 0..230u32 {
         if let Some(number) = next(&mut port)? {

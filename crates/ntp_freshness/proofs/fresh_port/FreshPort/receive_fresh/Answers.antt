@@ -1,29 +1,27 @@
 use Rattle.std.proofs.Common.{rules, ◌∙◌, None, Some, Ok, Err, arith}
 use Rattle.ntp_freshness.specs.declared.fresh_port.Next.TheVariants.{Nothing, Fault, Fresh, Stale}
-use Rattle.ntp_freshness.specs.Watch.{holds_of, longest_of}
+use Rattle.ntp_freshness.specs.Watch.{longest_of}
 use Rattle.ntp_freshness.proofs.Dropping.{Drops-none, Drops-more, Drops-end, Drops-out, TakesNext-along}
 use Rattle.ntp_freshness.proofs.fresh_port.FreshPort.receive_fresh.Goals as goal
 
 pub loop-init : goal.loop-init
 loop-init g c = record {
   failures = search rules;
-  holds = search rules;
   longest = search rules;
-  drops = λ history stands. Drops-none _ _ _ _ _ _ history (omega arith) stands;
+  drops = λ history stands. Drops-none _ _ _ _ _ history (omega arith) stands;
 }
 
 pub loop-preserved : goal.loop-preserved
 loop-preserved g c = record {
   failures = search rules;
-  holds = c.in-Stale.ensures.holds ∙ c.loop.invariant.holds;
   longest = c.in-Stale.ensures.longest ∙ c.loop.invariant.longest;
   drops = λ history stands.
       let drops = c.loop.invariant.drops history stands in
-      let takes = TakesNext-along (holds_of c.loop.self.watch) (holds_of c.args.self.now.watch) (longest_of c.loop.self.watch)
+      let takes = TakesNext-along (longest_of c.loop.self.watch)
       (longest_of c.args.self.now.watch) c.loop.self.reading c.take_next.new.self.reading c.loop.self.stale c.take_next.new.self.stale
       (g.P.QueuedPort.history c.loop.self.port) (g.P.QueuedPort.history c.take_next.new.self.port) c.take_next.new.self.watch drops.after
-      Stale c.loop.invariant.holds c.loop.invariant.longest (c.in-Stale.ensures.next drops.after drops.stands) in
-      Drops-more (holds_of c.args.self.now.watch) (longest_of c.args.self.now.watch) c.args.self.now.reading c.loop.self.reading
+      Stale c.loop.invariant.longest (c.in-Stale.ensures.next drops.after drops.stands) in
+      Drops-more (longest_of c.args.self.now.watch) c.args.self.now.reading c.loop.self.reading
       c.take_next.new.self.reading c.args.self.now.stale c.loop.self.stale c.take_next.new.self.stale (g.P.QueuedPort.history c.args.self.now.port)
       (g.P.QueuedPort.history c.loop.self.port) (g.P.QueuedPort.history c.take_next.new.self.port) c.loop.self.watch c.take_next.new.self.watch
       history drops takes;
@@ -32,11 +30,11 @@ loop-preserved g c = record {
 pub returns-in-Nothing-clause-fresh : goal.returns-in-Nothing-clause-fresh
 returns-in-Nothing-clause-fresh g c = λ history stands.
     let drops = c.loop.invariant.drops history stands in
-    let takes = TakesNext-along (holds_of c.loop.self.watch) (holds_of c.args.self.now.watch) (longest_of c.loop.self.watch)
+    let takes = TakesNext-along (longest_of c.loop.self.watch)
     (longest_of c.args.self.now.watch) c.loop.self.reading c.take_next.new.self.reading c.loop.self.stale c.take_next.new.self.stale
     (g.P.QueuedPort.history c.loop.self.port) (g.P.QueuedPort.history c.take_next.new.self.port) c.take_next.new.self.watch drops.after
-    Nothing c.loop.invariant.holds c.loop.invariant.longest (c.in-Nothing.ensures.next drops.after drops.stands) in
-    Drops-end (holds_of c.args.self.now.watch) (longest_of c.args.self.now.watch) c.args.self.now.reading c.loop.self.reading
+    Nothing c.loop.invariant.longest (c.in-Nothing.ensures.next drops.after drops.stands) in
+    Drops-end (longest_of c.args.self.now.watch) c.args.self.now.reading c.loop.self.reading
     c.take_next.new.self.reading c.args.self.now.stale c.loop.self.stale c.take_next.new.self.stale (g.P.QueuedPort.history c.args.self.now.port)
     (g.P.QueuedPort.history c.loop.self.port) (g.P.QueuedPort.history c.take_next.new.self.port) c.loop.self.watch c.take_next.new.self.watch
     history Nothing None drops takes takes.comes_to.0 takes.comes_to.1
@@ -44,11 +42,11 @@ returns-in-Nothing-clause-fresh g c = λ history stands.
 pub returns-in-Fault-clause-fresh : goal.returns-in-Fault-clause-fresh
 returns-in-Fault-clause-fresh g c = λ history stands.
     let drops = c.loop.invariant.drops history stands in
-    let takes = TakesNext-along (holds_of c.loop.self.watch) (holds_of c.args.self.now.watch) (longest_of c.loop.self.watch)
+    let takes = TakesNext-along (longest_of c.loop.self.watch)
     (longest_of c.args.self.now.watch) c.loop.self.reading c.take_next.new.self.reading c.loop.self.stale c.take_next.new.self.stale
     (g.P.QueuedPort.history c.loop.self.port) (g.P.QueuedPort.history c.take_next.new.self.port) c.take_next.new.self.watch drops.after
-    (Fault c.in-Fault.fault) c.loop.invariant.holds c.loop.invariant.longest (c.in-Fault.ensures.next drops.after drops.stands) in
-    Drops-end (holds_of c.args.self.now.watch) (longest_of c.args.self.now.watch) c.args.self.now.reading c.loop.self.reading
+    (Fault c.in-Fault.fault) c.loop.invariant.longest (c.in-Fault.ensures.next drops.after drops.stands) in
+    Drops-end (longest_of c.args.self.now.watch) c.args.self.now.reading c.loop.self.reading
     c.take_next.new.self.reading c.args.self.now.stale c.loop.self.stale c.take_next.new.self.stale (g.P.QueuedPort.history c.args.self.now.port)
     (g.P.QueuedPort.history c.loop.self.port) (g.P.QueuedPort.history c.take_next.new.self.port) c.loop.self.watch c.take_next.new.self.watch
     history (Fault c.in-Fault.fault) (Some (Err c.in-Fault.fault)) drops takes takes.comes_to.0 takes.comes_to.1
@@ -56,16 +54,16 @@ returns-in-Fault-clause-fresh g c = λ history stands.
 pub returns-in-Fresh-clause-fresh : goal.returns-in-Fresh-clause-fresh
 returns-in-Fresh-clause-fresh g c = λ history stands.
     let drops = c.loop.invariant.drops history stands in
-    let takes = TakesNext-along (holds_of c.loop.self.watch) (holds_of c.args.self.now.watch) (longest_of c.loop.self.watch)
+    let takes = TakesNext-along (longest_of c.loop.self.watch)
     (longest_of c.args.self.now.watch) c.loop.self.reading c.take_next.new.self.reading c.loop.self.stale c.take_next.new.self.stale
     (g.P.QueuedPort.history c.loop.self.port) (g.P.QueuedPort.history c.take_next.new.self.port) c.take_next.new.self.watch drops.after
-    (Fresh c.in-Fresh.arrival) c.loop.invariant.holds c.loop.invariant.longest (c.in-Fresh.ensures.next drops.after drops.stands) in
-    Drops-end (holds_of c.args.self.now.watch) (longest_of c.args.self.now.watch) c.args.self.now.reading c.loop.self.reading
+    (Fresh c.in-Fresh.arrival) c.loop.invariant.longest (c.in-Fresh.ensures.next drops.after drops.stands) in
+    Drops-end (longest_of c.args.self.now.watch) c.args.self.now.reading c.loop.self.reading
     c.take_next.new.self.reading c.args.self.now.stale c.loop.self.stale c.take_next.new.self.stale (g.P.QueuedPort.history c.args.self.now.port)
     (g.P.QueuedPort.history c.loop.self.port) (g.P.QueuedPort.history c.take_next.new.self.port) c.loop.self.watch c.take_next.new.self.watch
     history (Fresh c.in-Fresh.arrival) (Some (Ok c.in-Fresh.arrival)) drops takes takes.comes_to.0 takes.comes_to.1
 
 pub returns-clause-fresh : goal.returns-clause-fresh
-returns-clause-fresh g c = λ history stands. Drops-out (holds_of c.args.self.now.watch) (longest_of c.args.self.now.watch)
+returns-clause-fresh g c = λ history stands. Drops-out (longest_of c.args.self.now.watch)
     c.args.self.now.reading c.loop.self.reading c.args.self.now.stale c.loop.self.stale (g.P.QueuedPort.history c.args.self.now.port)
     (g.P.QueuedPort.history c.loop.self.port) c.loop.self.watch history (c.loop.invariant.drops history stands)

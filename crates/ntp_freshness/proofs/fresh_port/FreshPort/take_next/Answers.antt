@@ -1,9 +1,9 @@
-use Rattle.std.proofs.Common.{◌≡◌, ◌≤◌, ◌∷◌, ◌++◌, None, Some, Ok, Err, true, false, refl, sym, ap, ◌∙◌, arith}
-use Rattle.ntp_freshness.specs.declared.queue_event.QueueEvent.TheVariants.{Empty, Taken, Read}
-use Rattle.ntp_freshness.specs.Watch.{holds_of, longest_of}
+use Rattle.std.proofs.Common.{inl, ◌≡◌, ◌≤◌, ◌∷◌, ◌++◌, None, Some, Ok, Err, true, false, refl, sym, ap, ◌∙◌, arith}
+use Rattle.ntp_freshness.specs.declared.queue_event.QueueEvent.TheVariants.{Held, Taken, Read}
+use Rattle.ntp_freshness.specs.Watch.{longest_of}
 use Rattle.ntp_freshness.specs.Fresh.{counted_on}
 use Rattle.ntp_freshness.proofs.Seeing.{seen-in_take}
-use Rattle.ntp_freshness.proofs.Keeping.{StandsFor-Empty, StandsFor-Taken, StandsFor-Read, MayBeAnswered-along}
+use Rattle.ntp_freshness.proofs.Keeping.{StandsFor-Held, StandsFor-Taken, StandsFor-Read, MayBeAnswered-along}
 use Rattle.ntp_freshness.proofs.fresh_port.FreshPort.take_next.Goals as goal
 
 pub returns-in_default-clause-next : goal.returns-in_default-clause-next
@@ -14,14 +14,15 @@ returns-in_default-clause-next g c = λ history stands.
     let now = c.max-self.result in
     let later : before ≤ now = omega (arith, c.max-self.ensures) in
     record {
-      after = Read now ∷ (Empty before ∷ known);
-      stands = StandsFor-Read c.saw_empty.new.self before now (Empty before ∷ known) later
-          (StandsFor-Empty c.look.new.self.watch c.saw_empty.new.self before known look.stands (c.saw_empty.ensures.watches known look.stands.watches));
+      after = Read now ∷ (Held 0 before ∷ known);
+      stands = StandsFor-Read c.saw.new.self before now (Held 0 before ∷ known) later
+          (StandsFor-Held c.look.new.self.watch c.saw.new.self before 0 known look.stands
+          (c.saw.ensures.watches known (inl refl) look.stands.watches));
       seen = seen-in_take c.args.self.now.reading before now c.ticks.result (g.P.QueuedPort.history c.args.self.now.port)
           (g.P.QueuedPort.history c.look.new.self.port) (g.P.QueuedPort.history c.take_in_time-received.new.self)
           (g.P.QueuedPort.history c.ticks.new.self) None None history known look.seen refl
           c.in_default.ensures.history c.max-self.ensures c.ticks.ensures.history;
-      comes_to = ((Read now ∷ (Empty before ∷ look.events), look.quiet, refl), c.look.ensures.stale);
+      comes_to = ((Read now ∷ (Held 0 before ∷ look.events), look.quiet, refl), c.look.ensures.stale);
     }
 
 pub returns-in-Err-clause-next : goal.returns-in-Err-clause-next
@@ -54,13 +55,13 @@ returns-then-is_fresh-clause-next g c = λ history stands.
     let outer : c.take_in_time-received.result ≡ Some c.in-Some.received = c.in-Some.is in
     let inner : c.in-Some.received ≡ Ok c.in-Ok.arrival = c.in-Ok.is in
     let is : c.take_in_time-received.result ≡ Some (Ok c.in-Ok.arrival) = outer ∙ ap Some inner in
-    let may = MayBeAnswered-along (holds_of c.look.new.self.watch) (holds_of c.args.self.now.watch) (longest_of c.look.new.self.watch)
-    (longest_of c.args.self.now.watch) known now c.look.ensures.holds c.look.ensures.longest
+    let may = MayBeAnswered-along (longest_of c.look.new.self.watch)
+    (longest_of c.args.self.now.watch) known now c.look.ensures.longest
     (c.is_fresh-is_fresh.ensures.fresh known look.stands.watches c.if-is_fresh.true) in
     record {
       after = Read now ∷ (Taken before ∷ known);
       stands = StandsFor-Read c.took.new.self before now (Taken before ∷ known) later
-          (StandsFor-Taken c.look.new.self.watch c.took.new.self before known look.stands (c.took.ensures.watches known look.stands.watches));
+          (StandsFor-Taken c.look.new.self.watch c.took.new.self before known look.stands (c.took.ensures.watches known before look.stands.watches));
       seen = seen-in_take c.args.self.now.reading before now c.ticks.result (g.P.QueuedPort.history c.args.self.now.port)
           (g.P.QueuedPort.history c.look.new.self.port) (g.P.QueuedPort.history c.take_in_time-received.new.self)
           (g.P.QueuedPort.history c.ticks.new.self) c.take_in_time-received.result (Some (Ok c.in-Ok.arrival)) history known look.seen is
@@ -81,7 +82,7 @@ returns-else-is_fresh-clause-next g c = λ history stands.
     record {
       after = Read now ∷ (Taken before ∷ known);
       stands = StandsFor-Read c.took.new.self before now (Taken before ∷ known) later
-          (StandsFor-Taken c.look.new.self.watch c.took.new.self before known look.stands (c.took.ensures.watches known look.stands.watches));
+          (StandsFor-Taken c.look.new.self.watch c.took.new.self before known look.stands (c.took.ensures.watches known before look.stands.watches));
       seen = seen-in_take c.args.self.now.reading before now c.ticks.result (g.P.QueuedPort.history c.args.self.now.port)
           (g.P.QueuedPort.history c.look.new.self.port) (g.P.QueuedPort.history c.take_in_time-received.new.self)
           (g.P.QueuedPort.history c.ticks.new.self) c.take_in_time-received.result (Some (Ok c.in-Ok.arrival)) history known look.seen is
@@ -90,8 +91,8 @@ returns-else-is_fresh-clause-next g c = λ history stands.
         (
           record { seen = look.events; quiet = look.quiet; at = before; now = now },
           (λ may. let fresh : c.is_fresh-is_fresh.result ≡ true = c.is_fresh-is_fresh.ensures.stale known look.stands.watches look.stands.ordered
-              (MayBeAnswered-along (holds_of c.args.self.now.watch) (holds_of c.look.new.self.watch) (longest_of c.args.self.now.watch)
-              (longest_of c.look.new.self.watch) known now (sym c.look.ensures.holds) (sym c.look.ensures.longest) may) in
+              (MayBeAnswered-along (longest_of c.args.self.now.watch)
+              (longest_of c.look.new.self.watch) known now (sym c.look.ensures.longest) may) in
               let clash : true ≡ false = cc in absurd (cc)),
           refl,
         ),

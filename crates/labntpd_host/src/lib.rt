@@ -2,16 +2,16 @@
 //! says what the host answers.
 #![tactic(auto)]
 
-mod drops;
 mod followed_clock;
+mod kernel_queue;
 mod log;
 mod queued_udp;
 mod socket;
 mod whole_file;
 
-pub use drops::kernel_drops;
 pub use followed_clock::{ClockSource, FollowedClock};
+pub use kernel_queue::{QueueState, queue_state};
 pub use log::{Log, has_standard_streams};
-pub use queued_udp::{HostClocks, QueuedUdp};
+pub use queued_udp::{BoundAt, HostClocks, QueuedUdp};
 pub use socket::{bound, inherited, receive_buffer, set_receive_buffer};
 pub use whole_file::replace_file;

@@ -1,15 +1,18 @@
 //! A port over a UDP socket whose queue can be asked.
 
 ghost use Rattle.std.specs.Prelude.{◌≡◌};
+ghost use Rattle.ntp_service_udp.specs.Failures.{failures_of};
 
+use crate::kernel_queue::{most_datagrams, queue_state};
 use libc::net::{POLLIN, poll};
 use libc::types::pollfd;
 use ntp_freshness::QueuedPort;
 use ntp_register::Address;
 use ntp_service::{Arrival, Port, PortFault, TimedPort, UdpPort};
-use ntp_time::Moment;
+use ntp_time::{Moment, Stamp};
 use std::cell::Cell;
-use std::net::UdpSocket;
+use std::fs::Files;
+use std::net::{SocketAddrV4, UdpSocket};
 use std::os::fd::AsRawFd;
 use std::time::Clock;
 
@@ -51,27 +54,55 @@ impl HostClocks {
     }
 }
 
+/// What is known of a bound socket.
+#[derive(Clone, Copy)]
+pub struct BoundAt {
+    /// Its own address.
+    pub local: SocketAddrV4,
+    /// The size of its receive buffer, in octets as the kernel counts.
+    pub buffer: u32,
+}
+
 /// The calls of a port over one bound UDP socket, which tell of its queue too.
 #[derive(Drop)]
-pub struct QueuedUdp<'a, C: Clock + Copy + Drop> {
+pub struct QueuedUdp<'a, C: Clock + Copy + Drop, R: Files> {
     port: UdpPort<C>,
     descriptor: i32,
     clock: C,
     clocks: &'a HostClocks,
+    files: &'a R,
+    bound: BoundAt,
+    // Room for the kernel's list of sockets.
+    room: Vec<u8>,
+    // What the host's clock showed when it was last asked before a reply was sent.
+    shown: Option<Moment>,
+    // Whether a reply was sent since then, and nothing was received.
+    has_sent: bool,
 }
 
-impl<'a, C: Clock + Copy + Drop> QueuedUdp<'a, C> {
-    ghost use Rattle.labntpd_host.specs.Failures.{failures_of};
-
-    /// A port over a bound socket, with the longest wait that the socket's time limit gives.
-    pub fn new(socket: UdpSocket, clock: C, clocks: &'a HostClocks) -> QueuedUdp<'a, C>
-        ensures { failures_of result ≡ 0 }
+impl<'a, C: Clock + Copy + Drop, R: Files> QueuedUdp<'a, C, R> {
+    /// A port over a bound socket, with the longest wait that the socket's time limit gives. `room` is for what the kernel tells of its
+    /// queue.
+    pub fn new(
+        socket: UdpSocket,
+        bound: BoundAt,
+        clock: C,
+        clocks: &'a HostClocks,
+        files: &'a R,
+        room: Vec<u8>,
+    ) -> QueuedUdp<'a, C, R>
+        ensures { failures_of result.port ≡ 0 }
     {
         QueuedUdp {
             descriptor: socket.as_raw_fd(),
             port: UdpPort::new(socket, clock),
             clock,
             clocks,
+            files,
+            bound,
+            room,
+            shown: None,
+            has_sent: false,
         }
     }
 
@@ -80,6 +111,17 @@ impl<'a, C: Clock + Copy + Drop> QueuedUdp<'a, C> {
         let mut waits = [readable(self.descriptor), readable(expected)];
         // Where the call failed, the port waits as it always does.
         poll(&mut waits, LONGEST_WAIT) < 0 || waits[0].revents != 0
+    }
+}
+
+// The middle of two moments of one era, where the second is not the earlier one; else the second.
+fn middle(first: Option<Moment>, second: Moment) -> Moment {
+    match first {
+        Some(first) if first <= second && first.era == second.era => Moment {
+            era: second.era,
+            stamp: Stamp(second.stamp.0 - (second.stamp.0.saturating_sub(first.stamp.0)) / 2),
+        },
+        _ => second,
     }
 }
 
@@ -92,21 +134,30 @@ fn readable(descriptor: i32) -> pollfd {
     }
 }
 
-impl<'a, C: Clock + Copy + Drop> Port for QueuedUdp<'a, C> {
-    ghost use Rattle.labntpd_host.specs.Failures.{failures_of};
-
-    ghost failure_count = { failures_of };
+impl<'a, C: Clock + Copy + Drop, R: Files> Port for QueuedUdp<'a, C, R> {
+    ghost failure_count = { λ queued. failures_of queued.port };
 
     fn receive(&mut self, datagram: &mut [u8; 1025]) -> Result<Arrival, PortFault> {
+        self.has_sent = false;
         self.port.receive(datagram)
     }
 
+    /// What the host's clock shows. Just after a reply was sent it gives the middle between what the clock showed before it and what
+    /// it shows now, which is nearer to the departure than either.
     fn now(&mut self) -> Moment {
-        self.port.now()
+        let now = self.port.now();
+        if self.has_sent {
+            self.has_sent = false;
+            return middle(self.shown, now);
+        }
+        self.shown = Some(now);
+        now
     }
 
     fn send(&mut self, address: Address, port: u16, reply: &[u8]) -> Result<(), PortFault> {
-        self.port.send(address, port, reply)
+        let sent = self.port.send(address, port, reply);
+        self.has_sent = sent.is_ok();
+        sent
     }
 
     fn failures(&self) -> u64 {
@@ -114,8 +165,10 @@ impl<'a, C: Clock + Copy + Drop> Port for QueuedUdp<'a, C> {
     }
 }
 
-impl<'a, C: Clock + Copy + Drop> TimedPort for QueuedUdp<'a, C> {
+impl<'a, C: Clock + Copy + Drop, R: Files> TimedPort for QueuedUdp<'a, C, R> {
     fn receive_in_time(&mut self, datagram: &mut [u8; 1025]) -> Option<Result<Arrival, PortFault>> {
+        // After a reply that tells no time nobody asks for its departure.
+        self.has_sent = false;
         let expected = self.clocks.expected.get();
         if expected >= 0 && !self.has_come(expected) {
             return None;
@@ -124,9 +177,17 @@ impl<'a, C: Clock + Copy + Drop> TimedPort for QueuedUdp<'a, C> {
     }
 }
 
-impl<'a, C: Clock + Copy + Drop> QueuedPort for QueuedUdp<'a, C> {
+impl<'a, C: Clock + Copy + Drop, R: Files> QueuedPort for QueuedUdp<'a, C, R> {
     fn ticks(&mut self) -> u64 {
         self.clocks.read(&self.clock)
+    }
+
+    fn most_held(&mut self) -> u64 {
+        match queue_state(self.files, self.bound.local, &mut self.room) {
+            Some(state) => most_datagrams(state.used),
+            // The kernel takes in one more where the buffer is not yet over full.
+            None => most_datagrams(self.bound.buffer).saturating_add(1),
+        }
     }
 
     fn is_empty(&mut self) -> bool {

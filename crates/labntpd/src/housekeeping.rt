@@ -1,9 +1,10 @@
 //! What the daemon does beside serving: statistics and its log.
 
+use crate::files::CommandsFault;
 use crate::serving::Daemon;
 use labntpd_configuration::Configuration;
 use labntpd_configuration::command_line::VERSION;
-use labntpd_host::{ClockSource, HostClocks, Log, kernel_drops, replace_file};
+use labntpd_host::{ClockSource, HostClocks, Log, queue_state, replace_file};
 use ntp_reports::{Ask, ClockGauges, Gauges, Kind, LineAllowance, write_statistics};
 use ntp_server::Reporter;
 use ntp_service::moment_now;
@@ -25,10 +26,10 @@ const TOTALS_PERIOD: u64 = 3_600;
 /// The leap indicator of an unsynchronised clock (RFC 5905, 7.3).
 const UNSYNCHRONISED_LEAP: u8 = 3;
 
-/// How much room the statistics have, and the kernel's list of sockets, in octets.
+/// How much room the statistics have, and a part of the kernel's list of sockets, in octets.
 const STATISTICS_ROOM: usize = 16_384;
 
-const SOCKETS_ROOM: usize = 65_536;
+pub(crate) const SOCKETS_ROOM: usize = 65_536;
 
 /// What is known of a daemon when it begins to serve.
 #[derive(Clone, Copy)]
@@ -50,7 +51,7 @@ pub struct Begun {
 struct Told {
     is_synchronised: Option<bool>,
     stale: u64,
-    has_commands: bool,
+    commands: Option<CommandsFault>,
     has_answers: bool,
     has_statistics: bool,
 }
@@ -111,7 +112,7 @@ impl<'a> Housekeeping<'a> {
             told: Told {
                 is_synchronised: None,
                 stale: 0,
-                has_commands: true,
+                commands: None,
                 has_answers: true,
                 has_statistics: true,
             },
@@ -195,39 +196,33 @@ impl<'a> Housekeeping<'a> {
 
     // Logs that the commands file or the answers file fails from now on, or does no longer.
     fn tell_files(&mut self, server: &Daemon<'_>) {
-        let has_commands = server.commands.inner().is_read();
-        if has_commands != self.told.has_commands {
-            self.told.has_commands = has_commands;
-            self.tell_file("commands", has_commands);
+        let fault = server.commands.inner().fault(server.applied);
+        if fault != self.told.commands {
+            self.told.commands = fault;
+            self.tell_file("commands", fault.is_none(), commands_word(fault));
         }
         let has_answers = !server.observer.inner.first.has_failed();
         if has_answers != self.told.has_answers {
             self.told.has_answers = has_answers;
-            self.tell_file("answers", has_answers);
+            self.tell_file("answers", has_answers, written_word(has_answers));
         }
     }
 
     // Logs and counts that a file fails from now on, or logs that it does no longer.
-    fn tell_file(&mut self, name: &str, is_well: bool) {
+    fn tell_file(&mut self, name: &str, is_well: bool, how: &str) {
         if !is_well {
             self.unreadable = self.unreadable.saturating_add(1);
         }
-        if !self.may_say() {
-            return;
+        if self.may_say() {
+            let _ = write!(self.log.begin(), "{name} file: {how}");
+            self.log.end();
         }
-        let how = if is_well {
-            "is read and written again"
-        } else {
-            "cannot be read or written"
-        };
-        let _ = write!(self.log.begin(), "{name} file: {how}");
-        self.log.end();
     }
 
     // Writes the statistics, where there is a file for them.
     fn write_statistics(&mut self, server: &Daemon<'_>, clock: ClockGauges) {
-        if let Some(drops) = kernel_drops(self.rt, self.begun.local, &mut self.sockets) {
-            self.drops = drops;
+        if let Some(state) = queue_state(self.rt, self.begun.local, &mut self.sockets) {
+            self.drops = state.drops;
         }
         let Some((path, beside)) = &self.statistics else {
             return;
@@ -248,7 +243,7 @@ impl<'a> Housekeeping<'a> {
             && replace_file(self.rt, beside.as_str(), path, &self.text).is_ok();
         if is_written != self.told.has_statistics {
             self.told.has_statistics = is_written;
-            self.tell_file("statistics", is_written);
+            self.tell_file("statistics", is_written, written_word(is_written));
         }
     }
 
@@ -298,6 +293,27 @@ impl<'a, 'b> Reporter<Daemon<'b>> for Housekeeping<'a> {
             .saturating_mul(SECOND_NANOS)
             .saturating_add(started);
         self.each_second(server, ticks);
+    }
+}
+
+// What is told of a commands file.
+fn commands_word(fault: Option<CommandsFault>) -> &'static str {
+    match fault {
+        None => "is read again",
+        Some(CommandsFault::Unreadable) => "cannot be read",
+        Some(CommandsFault::TooLong) => "has more than 1,048,576 octets; no line is carried out",
+        Some(CommandsFault::NotUtf8) => "is not UTF-8; no line is carried out",
+        Some(CommandsFault::LostLines) =>
+            "has fewer lines than were applied; no line is carried out",
+    }
+}
+
+// What is told of a file that is written.
+fn written_word(is_well: bool) -> &'static str {
+    if is_well {
+        "is written again"
+    } else {
+        "cannot be written"
     }
 }
 

@@ -1,21 +1,20 @@
 //! Customers are served, day and night.
-ghost use Rattle.std.specs.Prelude.{◌≡◌, IfOk};
+ghost use Rattle.std.specs.Prelude.{◌≡◌};
 
 use crate::command_log::CommandLog;
-use crate::files::Answering;
-use crate::housekeeping::{Begun, Housekeeping};
+use crate::files::{Answering, InspectedFile};
+use crate::housekeeping::{Begun, Housekeeping, SOCKETS_ROOM};
 use crate::starting::Prepared;
 use labntp_status::{DONE, IO_FAILED, memory_status, write_status};
 use labntpd_configuration::{ClockSource as ConfiguredClock, Configuration, Listen};
 use labntpd_host::{
-    ClockSource, FollowedClock, HostClocks, Log, QueuedUdp, bound, has_standard_streams, inherited,
-    receive_buffer, set_receive_buffer,
+    BoundAt, ClockSource, FollowedClock, HostClocks, Log, QueuedUdp, bound, has_standard_streams,
+    inherited, receive_buffer, set_receive_buffer,
 };
-use ntp_admin::NoMemory;
 use ntp_clock::Follower;
-use ntp_files::{CommandsFile, EachMillisecond};
+use ntp_files::EachMillisecond;
 use ntp_freshness::{FreshPort, QueueWatch};
-use ntp_operating::{Loaded, MOST_FILE_OCTETS};
+use ntp_operating::Loaded;
 use ntp_reports::{AnswerLines, Both, Counting, Counts};
 use ntp_server::Server;
 use std::alloc::Global;
@@ -29,14 +28,10 @@ use std::{env, process};
 /// written while nobody asks (profile).
 const LONGEST_WAIT: u64 = 100;
 
-/// How many octets of a receive buffer a queued datagram takes at least, as Linux counts them: 576 for what it keeps of each
-/// datagram, and its headers (profile).
-const LEAST_QUEUED_OCTETS: u32 = 640;
-
 /// A server of the daemon.
 pub type Daemon<'a> = Server<
-    FreshPort<QueuedUdp<'a, &'a HostRuntime>>,
-    EachMillisecond<CommandsFile<'a, HostRuntime>>,
+    FreshPort<QueuedUdp<'a, &'a HostRuntime, HostRuntime>>,
+    EachMillisecond<InspectedFile<'a, HostRuntime>>,
     ClockSource<'a, &'a HostRuntime>,
     Counting<Both<Answering<File>, CommandLog<'a, Stderr>>>,
     Global,
@@ -93,17 +88,14 @@ fn serve(
     let Ok(mut housekeeping) = Housekeeping::new(rt, alloc, clocks, &configuration, begun) else {
         return Err(memory_status(&mut rt.stderr()));
     };
-    let Ok(port) = opened.port(rt, alloc, clocks, configuration.longest_wait) else {
+    let Ok(room) = Vec::with_capacity(alloc, SOCKETS_ROOM) else {
         return Err(memory_status(&mut rt.stderr()));
     };
+    let port = opened.port(rt, clocks, configuration.longest_wait, room);
     let Loaded { service, .. } = loaded;
     let mut server: Daemon<'_> = Server {
         port,
-        commands: EachMillisecond::new(CommandsFile::new(
-            rt,
-            &configuration.commands,
-            MOST_FILE_OCTETS as u32,
-        )),
+        commands: EachMillisecond::new(InspectedFile::new(rt, &configuration.commands)),
         applied: 0,
         reference: source,
         observer,
@@ -222,18 +214,24 @@ impl Opened {
     fn port<'a>(
         self,
         rt: &'a HostRuntime,
-        alloc: Global,
         clocks: &'a HostClocks,
         longest_wait: u64,
-    ) -> Result<FreshPort<QueuedUdp<'a, &'a HostRuntime>>, NoMemory>
-        ensures { IfOk result (λ port. port.failures ≡ 0) }
+        room: Vec<u8>,
+    ) -> FreshPort<QueuedUdp<'a, &'a HostRuntime, HostRuntime>>
+        ensures { result.failures ≡ 0 }
     {
-        let holds = self.buffer / LEAST_QUEUED_OCTETS + 1;
-        let mut watch = QueueWatch::new(alloc, holds as usize, longest_wait)?;
+        let mut watch = QueueWatch::new(longest_wait);
         if let Some(empty) = self.empty {
-            watch.saw_empty(empty);
+            watch.saw(0, empty);
         }
-        Ok(FreshPort::new(QueuedUdp::new(self.socket, rt, clocks), watch))
+        let bound = BoundAt {
+            local: self.local,
+            buffer: self.buffer,
+        };
+        FreshPort::new(
+            QueuedUdp::new(self.socket, bound, rt, clocks, rt, room),
+            watch,
+        )
     }
 }
 

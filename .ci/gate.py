@@ -4,10 +4,11 @@
     .ci/run                         from the top or elsewhere
     GATE_MINUTES=20 .ci/run         takes up no must-fail edit later than 20 minutes after the start, in place of 140
 
-1. Every proof from nothing, every test and every program.
-2. The must-fail edits, first those of the crates that changed last (.ci/edits.py), until the minutes are over. What was not tried is
+1. What docs/ say of the sources that is counted: `tests/belief --check` and `tests/crates --check`, a case each.
+2. Every proof from nothing, every test and every program.
+3. The must-fail edits, first those of the crates that changed last (.ci/edits.py), until the minutes are over. What was not tried is
    named, crate by crate. Processors that no proof takes begin with them earlier.
-3. tests/program and tests/clients over labntp, and tests/daemon over labntpd, as they were built. Where chronyd or ntpdig is not on
+4. tests/program and tests/clients over labntp, and tests/daemon over labntpd, as they were built. Where chronyd or ntpdig is not on
    the path, Debian's packages are fetched into a directory that is removed again; nothing is installed.
 
 The last line is `N passed, M failed`, or `N passed, M failed, K skipped` where K edits and cases were not tried. Status 0 only where
@@ -36,14 +37,16 @@ from processes import end_all
 from toolchain import toolchain
 
 TOP = os.path.dirname(os.path.dirname(os.path.realpath(__file__)))
+# What compares pages with the sources, and how many seconds each may take.
+COMPARED, COMPARE_LIMIT = ("belief", "crates"), 60
 # Which program is judged by which tests.
 JUDGED = {"program": "labntp", "clients": "labntp", "daemon": "labntpd"}
 MINUTES = float(os.environ.get("GATE_MINUTES") or 140)
 # How many seconds the tests of a program may take, and the fetching of the clients.
-LIMITS = {"program": 300, "clients": 900, "daemon": 900}
+LIMITS = {"program": 300, "clients": 900, "daemon": 1200}
 FETCH_LIMIT = 120
-# A busy host may hold up a process for longer than these tests allow: where a case fails, all are made once more.
-MADE_TWICE = {"daemon"}
+# A busy host may hold up a process for longer than these tests allow: a case that fails is made again.
+OPTIONS = {"daemon": ["--tries", "3"]}
 PACKAGES = ("chrony", "ntpsec-ntpdig", "python3-ntp")
 # What prctl takes: a process gets the orphans of what it started; a process is ended with the one that started it.
 PR_SET_PDEATHSIG, PR_SET_CHILD_SUBREAPER = 1, 36
@@ -179,11 +182,8 @@ def cases(name, environment=None):
     """Runs tests/NAME over its program and returns how many of its cases passed, failed and were passed over."""
     print(f"== tests/{name}", flush=True)
     seconds, program = LIMITS[name], JUDGED[name]
-    words = [f"{TOP}/tests/{name}", f"{TOP}/crates/{program}/out/{program}"]
+    words = [f"{TOP}/tests/{name}", *OPTIONS.get(name, []), f"{TOP}/crates/{program}/out/{program}"]
     lines, status = run_limited(words, seconds, environment)
-    if name in MADE_TWICE and status == 1:
-        print(f"== tests/{name}, once more: the second run counts", flush=True)
-        lines, status = run_limited(words, seconds, environment)
     passed, failed, over = (sum(it.startswith(word) for it in lines) for word in ("ok ", "FAILED ", "passed over "))
     if status is None:
         print(f"tests/{name} had not ended after {seconds} seconds", flush=True)
@@ -191,6 +191,15 @@ def cases(name, environment=None):
         print(f"tests/{name} ended with status {status}", flush=True)
     is_odd = status is None or status and not failed or passed + failed == 0
     return passed, failed + bool(is_odd), over
+
+
+def compared(name):
+    """Whether tests/NAME finds the pages to be what it would write."""
+    print(f"== tests/{name} --check", flush=True)
+    _, status = run_limited([f"{TOP}/tests/{name}", "--check"], COMPARE_LIMIT)
+    if status is None:
+        print(f"tests/{name} had not ended after {COMPARE_LIMIT} seconds", flush=True)
+    return status == 0
 
 
 def answers(words, environment):
@@ -246,10 +255,11 @@ def clients():
 
 def gate(rt, begun):
     """The whole gate, and its status."""
+    pages = [compared(name) for name in COMPARED]
     it = Gate(rt, begun)
     status = rt.ci()
     passed, failed = it.said.counts or (0, 1)
-    skipped = 0
+    passed, failed, skipped = passed + sum(pages), failed + pages.count(False), 0
     for name, left, among in it.not_tried:
         print(f"not tried: {name} {left} of {among} edits", flush=True)
         skipped += left

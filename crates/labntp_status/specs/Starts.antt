@@ -5,8 +5,8 @@ use Rattle.ntp_register.specs.declared.refusal.Refusal.TheVariants as refusal
 use Rattle.ntp_admin.specs.declared.line_fault.LineFault.TheVariants as line_fault
 use Rattle.ntp_register_file.specs.declared.fault.RegisterFault.{RegisterFault}
 use Rattle.ntp_register_file.specs.declared.fault.RegisterFault.TheVariants as register_fault
-use Rattle.ntp_operating.specs.declared.loading.LoadFault.{LoadFault}
-use Rattle.ntp_operating.specs.declared.loading.LoadFault.TheVariants as load_fault
+use Rattle.ntp_customer_files.specs.declared.loading.LoadFault.{LoadFault}
+use Rattle.ntp_customer_files.specs.declared.loading.LoadFault.TheVariants as load_fault
 
 -- the status for a fault of a register file: 4 for want of memory, else 1 (profile)
 abbrev pub register_status : RegisterFault → ℕ

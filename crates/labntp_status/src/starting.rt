@@ -4,7 +4,7 @@ ghost use Rattle.labntp_status.specs.Starts.{load_status, register_status};
 
 use crate::status::{IO_FAILED, MEMORY_OUT, TEXT_FAULTY, memory_status};
 use ntp_admin::{LineFault, refusal_word};
-use ntp_operating::{LoadFault, fault_word};
+use ntp_customer_files::{LoadFault, fault_word};
 use ntp_register::Refusal;
 use ntp_register_file::RegisterFault;
 use std::io::Write;

@@ -6,7 +6,7 @@ ghost use Rattle.ntp_service.specs.Watched.{inner_of, has_failed, read_count, Wr
 ghost use Rattle.labntp_status.specs.Ends.{Ends, status_of};
 
 use ntp_admin::LineFault;
-use ntp_operating::fault_word;
+use ntp_customer_files::fault_word;
 use ntp_service::{ReplayFault, ReplayFaultKind, Watched, replay};
 use std::alloc::Allocator;
 use std::io::{self, ErrorKind, Read, Write};

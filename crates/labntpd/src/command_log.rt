@@ -3,7 +3,7 @@
 use labntpd_host::{HostClocks, Log};
 use ntp_admin::{Command, refusal_word};
 use ntp_observer::{LineOutcome, Observer, TurnOutcome};
-use ntp_operating::fault_word;
+use ntp_customer_files::fault_word;
 use ntp_register::Address;
 use ntp_reports::{Ask, LineAllowance};
 use std::io::Write;

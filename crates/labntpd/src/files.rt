@@ -2,7 +2,7 @@
 
 use ntp_files::CommandsFile;
 use ntp_observer::{LineOutcome, Observer, TurnOutcome};
-use ntp_operating::MOST_FILE_OCTETS;
+use ntp_customer_files::MOST_FILE_OCTETS;
 use ntp_reports::AnswerLines;
 use ntp_server::CommandsSource;
 use ntp_time::Moment;

@@ -6,7 +6,7 @@ use labntpd_configuration::{
 };
 use ntp_clock::{ClockLimits, Follower};
 use ntp_files::read_file;
-use ntp_operating::{LoadFault, Loaded, MOST_FILE_OCTETS, load_register};
+use ntp_customer_files::{LoadFault, Loaded, MOST_FILE_OCTETS, load_register};
 use ntp_register_file::{RegisterFault, read_register};
 use ntp_time::Short;
 use sha2::{Digest, Sha256};

@@ -6,7 +6,7 @@ ghost use Rattle.ntp_reports.specs.AnswerText.{answer_line};
 
 use ntp_admin::refusal_word;
 use ntp_observer::{LineOutcome, Observer, TurnOutcome};
-use ntp_operating::fault_word;
+use ntp_customer_files::fault_word;
 use std::io::{self, Write};
 
 /// Writes a line for each line of commands: `N done`, `N refused WORD` or `N faulty WORD`, where N counts the file's lines

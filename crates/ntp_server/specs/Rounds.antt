@@ -12,7 +12,7 @@ use Rattle.ntp_service_run.specs.Headline.{StandsFor, Tells}
 use Rattle.ntp_service_serve.specs.Port.{Told}
 use Rattle.ntp_service_serve.specs.Made.{Made, events_in, outcomes_in, has_arrived, has_departed, is_unfailing, turn_outcome}
 use Rattle.ntp_service_serve.specs.Serving.{Follows, sent_of, count_of}
-use Rattle.ntp_operating.specs.CommandsFile.{TakenLine, AreDue, lines_taken, line_events, line_outcomes, line_observations}
+use Rattle.ntp_customer_files.specs.CommandsFile.{TakenLine, AreDue, lines_taken, line_events, line_outcomes, line_observations}
 use Rattle.ntp_server.specs.declared.server.Totals.{Totals}
 use Rattle.ntp_server.specs.Sources.{Coming, Gives}
 

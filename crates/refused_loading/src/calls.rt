@@ -2,7 +2,7 @@
 
 use crate::judging::Judged;
 use ntp_admin::{Command, LineFault, parse_command, words};
-use ntp_operating::{LoadFault, Loaded, load_register};
+use ntp_customer_files::{LoadFault, Loaded, load_register};
 use ntp_register::Refusal;
 use ntp_register_file::{RegisterFault, read_reference, read_register};
 use std::alloc::Global;

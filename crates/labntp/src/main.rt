@@ -5,8 +5,7 @@
 mod loopback;
 mod serving;
 
-use labntp_status::{replay_status, unread_status, usage_status};
-use labntp_words::{Job, job};
+use labntp_command_line::{Job, job, replay_status, unread_status, usage_status};
 use loopback::loopback_status;
 use ntp_service::Watched;
 use serving::serve_status;

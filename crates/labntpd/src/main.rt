@@ -8,7 +8,7 @@ mod serving;
 mod starting;
 
 use clap::error::ErrorKind;
-use labntp_status::{DONE, memory_status, unread_status, write_status};
+use labntp_command_line::{DONE, memory_status, unread_status, write_status};
 use labntpd_configuration::command_line::{Asked, parse};
 use serving::serve_status;
 use starting::prepare;

@@ -5,7 +5,7 @@ use crate::command_log::CommandLog;
 use crate::files::{Answering, InspectedFile};
 use crate::housekeeping::{Begun, Housekeeping, SOCKETS_ROOM};
 use crate::starting::Prepared;
-use labntp_status::{DONE, IO_FAILED, memory_status, write_status};
+use labntp_command_line::{DONE, IO_FAILED, memory_status, write_status};
 use labntpd_configuration::{ClockSource as ConfiguredClock, Configuration, Listen};
 use labntpd_host::{
     BoundAt, ClockSource, FollowedClock, HostClocks, Log, QueuedUdp, bound, has_standard_streams,

@@ -1,6 +1,6 @@
 //! What a server begins with, read from its files.
 
-use labntp_status::{IO_FAILED, TEXT_FAULTY, load_status, memory_status};
+use labntp_command_line::{IO_FAILED, TEXT_FAULTY, load_status, memory_status};
 use labntpd_configuration::{
     ClockDaemon, ClockSource, Configuration, ConfigurationFault, key_in_file, read_configuration,
 };

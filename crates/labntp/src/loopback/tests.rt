@@ -1,5 +1,5 @@
 use super::*;
-use labntp_status::{IO_FAILED, MEMORY_OUT};
+use labntp_command_line::{IO_FAILED, MEMORY_OUT};
 use refusing::{Broken, Refusing};
 
 #[test]

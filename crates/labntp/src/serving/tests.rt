@@ -2,7 +2,7 @@ ghost use Rattle.std.specs.Prelude.{◌≡◌, IfOk};
 ghost use Rattle.ntp_service.specs.Failures.{failures_of};
 
 use super::*;
-use labntp_status::{IO_FAILED, TEXT_FAULTY};
+use labntp_command_line::{IO_FAILED, TEXT_FAULTY};
 use ntp_client::{Client, Taken};
 use ntp_mac::{Algorithm, Key};
 use ntp_service::moment_now;

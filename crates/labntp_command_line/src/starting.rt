@@ -1,6 +1,6 @@
 //! What a server ends with that could not begin.
 ghost use Rattle.std.specs.Prelude.{◌≡◌};
-ghost use Rattle.labntp_status.specs.Starts.{load_status, register_status};
+ghost use Rattle.labntp_command_line.specs.Starts.{load_status, register_status};
 
 use crate::status::{IO_FAILED, MEMORY_OUT, TEXT_FAULTY, memory_status};
 use ntp_admin::{LineFault, refusal_word};

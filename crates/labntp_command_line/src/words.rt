@@ -1,7 +1,7 @@
 //! The words of the command line.
 ghost use Rattle.std.specs.Prelude.{◌≡◌, ◌≢◌, ℕ, List, [], ◌∷◌, map, string_bytes, IfSome, OnSome, IsNone, MatchOption};
-ghost use Rattle.labntp_words.specs.Asks.{Asks, AsksToServe, AsksToLoop};
-ghost use Rattle.labntp_words.specs.declared.jobs.Serving.{Serving};
+ghost use Rattle.labntp_command_line.specs.Asks.{Asks, AsksToServe, AsksToLoop};
+ghost use Rattle.labntp_command_line.specs.declared.jobs.Serving.{Serving};
 
 use crate::jobs::{Job, Serving};
 use ntp_admin::words::{decimal, number};

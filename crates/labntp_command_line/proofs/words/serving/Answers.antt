@@ -1,5 +1,5 @@
 use Rattle.std.proofs.Common.{refl, ap, sym, ◌∙◌, drop}
-use Rattle.labntp_words.proofs.words.serving.Goals as goal
+use Rattle.labntp_command_line.proofs.words.serving.Goals as goal
 
 pub returns-in_err-register-clause-none : goal.returns-in_err-register-clause-none
 returns-in_err-register-clause-none c = λ none serving asked. c.in_err-register.ensures.none refl _ _ asked.spelled

@@ -3,11 +3,11 @@ use Rattle.std.specs.Prelude.{◌≡◌, ◌⊎◌, ℕ, List}
 use Rattle.ntp_register.specs.Registry.{Registry}
 use Rattle.ntp_admin.specs.declared.line_fault.LineFault.{LineFault}
 use Rattle.ntp_admin.specs.declared.line_fault.LineFault.TheVariants as line_fault
-use Rattle.ntp_service.specs.faults.ReplayFault.{ReplayFault}
-use Rattle.ntp_service.specs.faults.ReplayFaultKind.{ReplayFaultKind}
-use Rattle.ntp_service.specs.faults.ReplayFaultKind.TheVariants.{Line, Read, Write, NoMemory}
-use Rattle.ntp_service.specs.Script.{lines_of}
-use Rattle.ntp_service.specs.Replay.{Replays, StopsAt}
+use Rattle.ntp_service_replay.specs.declared.faults.ReplayFault.{ReplayFault}
+use Rattle.ntp_service_replay.specs.declared.faults.ReplayFaultKind.{ReplayFaultKind}
+use Rattle.ntp_service_replay.specs.declared.faults.ReplayFaultKind.TheVariants.{Line, Read, Write, NoMemory}
+use Rattle.ntp_service_replay.specs.Script.{lines_of}
+use Rattle.ntp_service_replay.specs.Replay.{Replays, StopsAt}
 
 -- the status for the fault of a line: 1, and 4 for want of memory (profile)
 abbrev pub line_status : LineFault → ℕ

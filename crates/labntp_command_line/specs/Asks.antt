@@ -1,9 +1,9 @@
 -- What the words of a command line ask for.
 use Rattle.std.specs.Prelude.{◌≡◌, ℕ, List, [], ◌∷◌, codes, Some}
 use Rattle.ntp_admin.specs.Words.{decimal_in, number_in}
-use Rattle.labntp_words.specs.declared.jobs.Job.{Job}
-use Rattle.labntp_words.specs.declared.jobs.Job.TheVariants.{Replay, Serve, Loopback}
-use Rattle.labntp_words.specs.declared.jobs.Serving.{Serving}
+use Rattle.labntp_command_line.specs.declared.jobs.Job.{Job}
+use Rattle.labntp_command_line.specs.declared.jobs.Job.TheVariants.{Replay, Serve, Loopback}
+use Rattle.labntp_command_line.specs.declared.jobs.Serving.{Serving}
 
 -- the words behind `serve`: the port is from 1 to 65,535, the turns from 1 to 1,000,000 (profile)
 pub record AsksToServe (words : List (List ℕ)) (serving : Serving) : Type 0 where

@@ -1,7 +1,7 @@
 use Rattle.std.proofs.Common.{rules, refl, ap, sym, ◌∙◌, subst, drop}
-use Rattle.labntp_words.specs.Asks.{AsksToServe, AsksToLoop}
-use Rattle.labntp_words.specs.declared.jobs.Job.TheVariants.{Replay, Serve, Loopback}
-use Rattle.labntp_words.proofs.words.job.Goals as goal
+use Rattle.labntp_command_line.specs.Asks.{AsksToServe, AsksToLoop}
+use Rattle.labntp_command_line.specs.declared.jobs.Job.TheVariants.{Replay, Serve, Loopback}
+use Rattle.labntp_command_line.proofs.words.job.Goals as goal
 
 pub returns-in_err-serving-in-serve-clause-none : goal.returns-in_err-serving-in-serve-clause-none
 returns-in_err-serving-in-serve-clause-none c none Replay asked = search rules

@@ -1,13 +1,13 @@
 //! What a run ends with: its status, and the line that tells a fault.
 ghost use Rattle.std.specs.Prelude.{◌≡◌, ◌⊎◌, ◌≢◌, ℕ, List, true, false, IfSome};
 ghost use Rattle.std.specs.IoError.{error_kind};
-ghost use Rattle.ntp_service.specs.Replay.{most_reads};
-ghost use Rattle.ntp_service.specs.Watched.{inner_of, has_failed, read_count, Wrote};
-ghost use Rattle.labntp_status.specs.Ends.{Ends, status_of};
+ghost use Rattle.ntp_service_replay.specs.Replay.{most_reads};
+ghost use Rattle.ntp_service_replay.specs.Watched.{inner_of, has_failed, read_count, Wrote};
+ghost use Rattle.labntp_command_line.specs.Ends.{Ends, status_of};
 
 use ntp_admin::LineFault;
 use ntp_customer_files::fault_word;
-use ntp_service::{ReplayFault, ReplayFaultKind, Watched, replay};
+use ntp_service_replay::{ReplayFault, ReplayFaultKind, Watched, replay};
 use std::alloc::Allocator;
 use std::io::{self, ErrorKind, Read, Write};
 

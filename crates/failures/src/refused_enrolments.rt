@@ -3,8 +3,8 @@
 use crate::exchange::{CUSTOMER, moment, reference};
 use crate::refused::Refused;
 use ntp_admin::Command;
-use ntp_mac::{Algorithm, Key};
 use ntp_customer_files::commands_step;
+use ntp_mac::{Algorithm, Key};
 use ntp_register::{Address, Refusal, Register};
 use ntp_reply::{Answer, Reason};
 use ntp_service::Service;

@@ -3,8 +3,8 @@ ghost use Rattle.std.specs.Prelude.{◌≡◌};
 ghost use Rattle.ntp_service.specs.Failures.{failures_of};
 
 use labntp_command_line::{DONE, Serving, load_status, socket_status, write_status};
-use ntp_files::{CommandsFile, read_file};
 use ntp_customer_files::{FaultLines, LoadFault, Loaded, MOST_FILE_OCTETS, load_register};
+use ntp_files::{CommandsFile, read_file};
 use ntp_register_file::RegisterFault;
 use ntp_server::{FixedReference, Server, Totals};
 use ntp_service::UdpPort;

@@ -5,8 +5,8 @@ ghost use Rattle.ntp_service_replay.specs.Replay.{most_reads};
 ghost use Rattle.ntp_service_replay.specs.Watched.{inner_of, has_failed, read_count, Wrote};
 ghost use Rattle.labntp_command_line.specs.Ends.{Ends, status_of};
 
-use ntp_admin::LineFault;
 use ntp_customer_files::fault_word;
+use ntp_events::LineFault;
 use ntp_service_replay::{ReplayFault, ReplayFaultKind, Watched, replay};
 use std::alloc::Allocator;
 use std::io::{self, ErrorKind, Read, Write};

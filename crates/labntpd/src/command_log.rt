@@ -1,9 +1,9 @@
 //! What is logged of the lines of commands.
 
 use labntpd_host::{HostClocks, Log};
-use ntp_admin::{Command, refusal_word};
-use ntp_observer::{LineOutcome, Observer, TurnOutcome};
+use ntp_admin::refusal_word;
 use ntp_customer_files::fault_word;
+use ntp_events::{Command, LineOutcome, Observer, TurnOutcome};
 use ntp_register::Address;
 use ntp_reports::{Ask, LineAllowance};
 use std::io::Write;

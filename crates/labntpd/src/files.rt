@@ -1,8 +1,8 @@
 //! The commands file, of which it is kept what is wrong with it, and the answers file, which a configuration may leave out.
 
-use ntp_files::CommandsFile;
-use ntp_observer::{LineOutcome, Observer, TurnOutcome};
 use ntp_customer_files::MOST_FILE_OCTETS;
+use ntp_events::{LineOutcome, Observer, TurnOutcome};
+use ntp_files::CommandsFile;
 use ntp_reports::AnswerLines;
 use ntp_server::CommandsSource;
 use ntp_time::Moment;

@@ -12,9 +12,9 @@ use labntpd_host::{
     inherited, receive_buffer, set_receive_buffer,
 };
 use ntp_clock::Follower;
+use ntp_customer_files::Loaded;
 use ntp_files::EachMillisecond;
 use ntp_freshness::{FreshPort, QueueWatch};
-use ntp_customer_files::Loaded;
 use ntp_reports::{AnswerLines, Both, Counting, Counts};
 use ntp_server::Server;
 use std::alloc::Global;

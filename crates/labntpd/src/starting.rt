@@ -5,8 +5,8 @@ use labntpd_configuration::{
     ClockDaemon, ClockSource, Configuration, ConfigurationFault, key_in_file, read_configuration,
 };
 use ntp_clock::{ClockLimits, Follower};
-use ntp_files::read_file;
 use ntp_customer_files::{LoadFault, Loaded, MOST_FILE_OCTETS, load_register};
+use ntp_files::read_file;
 use ntp_register_file::{RegisterFault, read_register};
 use ntp_time::Short;
 use sha2::{Digest, Sha256};

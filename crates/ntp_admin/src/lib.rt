@@ -1,21 +1,11 @@
-//! Events, commands and outcomes, and the texts that stand for them.
+//! The texts that stand for events, commands and outcomes.
 #![tactic(auto)]
 
-mod command;
-mod event;
-mod line_fault;
-mod octets;
-mod outcome;
 mod parts;
 mod printing;
 mod reading;
 pub mod words;
 
-pub use command::Command;
-pub use event::Event;
-pub use line_fault::LineFault;
-pub use ntp_slots::NoMemory;
-pub use octets::Octets;
-pub use outcome::Outcome;
+pub use ntp_events::{Command, Event, LineFault, NoMemory, Octets, Outcome};
 pub use printing::{print_answer, refusal_word};
-pub use reading::{parse_command, parse_event};
+pub use reading::{is_passed_over, parse_command, parse_event};

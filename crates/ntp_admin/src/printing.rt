@@ -3,7 +3,7 @@ ghost use Rattle.std.specs.Prelude.{◌≡◌, ◌++◌, IfOk, codes, string_byt
 ghost use Rattle.hex.specs.Hex.{encode_lower};
 ghost use Rattle.ntp_admin.specs.Answers.{malformed_text, reason_text, answer_text, stamp_text, refusal_text, text_of};
 
-use crate::{NoMemory, Outcome};
+use ntp_events::{NoMemory, Outcome};
 use ntp_mac::Reply;
 use ntp_register::Refusal;
 use ntp_reply::{Answer, Reason};

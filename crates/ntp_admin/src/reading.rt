@@ -1,11 +1,22 @@
 //! Lines to commands and events.
 ghost use Rattle.std.specs.Prelude.{◌≡◌, ◌≢◌, ◌⊎◌, IfOk, IfErr, ◌∷◌, Err, true};
 ghost use Rattle.ntp_admin.specs.Words.{words};
-ghost use Rattle.ntp_admin.specs.Spells.{enrol_in, revoke_in, budget_in, rollover_in, retire_in, command_in, datagram_in, departed_in, event_in, is_datagram, SpellsCommand, HasCommandFault, Spells, HasFault};
+ghost use Rattle.ntp_admin.specs.Spells.{is_passed_over, enrol_in, revoke_in, budget_in, rollover_in, retire_in, command_in, datagram_in, departed_in, event_in, is_datagram, SpellsCommand, HasCommandFault, Spells, HasFault};
 
 use crate::parts::Parts;
-use crate::{Command, Event, LineFault, words};
+use crate::words;
+use ntp_events::{Command, Event, LineFault};
 use std::alloc::Allocator;
+
+/// Whether a line is no event and no command: it is empty, or begins with `#` (profile).
+pub fn is_passed_over(line: &[u8]) -> bool
+    ensures { result ≡ is_passed_over line.now }
+{
+    match line {
+        [] => true,
+        [first, ..] => *first == b'#',
+    }
+}
 
 /// The command that a line says. A line is words with one space between each two, in one of these forms:
 ///

@@ -6,8 +6,8 @@ ghost use Rattle.std.specs.Option.{option_map};
 ghost use Rattle.ntp_admin.specs.Words.{is_decimal, decimal_in, address_in, number_in, algorithm_in, key_in, octets_in, short_of, stamp_of, stamp_in, moment_in, reference_in};
 
 use crate::parts::Parts;
-use crate::{LineFault, Octets};
 use hex::{FromHex, FromHexError};
+use ntp_events::{LineFault, Octets};
 use ntp_mac::{Algorithm, Key, MOST_KEY_OCTETS};
 use ntp_register::Address;
 use ntp_reply::Reference;

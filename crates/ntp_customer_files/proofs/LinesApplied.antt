@@ -5,20 +5,19 @@ use Rattle.std.proofs.lemmas.List.{length-append, length-map, length-drop, drop-
 use Rattle.ntp_register.specs.declared.refusal.Refusal.{Refusal}
 use Rattle.ntp_register.specs.Registry.{Registry}
 use Rattle.ntp_admin.specs.Words.{words}
-use Rattle.ntp_admin.specs.Spells.{command_in}
-use Rattle.ntp_admin.specs.declared.command.Command.{Command}
-use Rattle.ntp_admin.specs.declared.event.Event.{Event}
-use Rattle.ntp_admin.specs.declared.event.Event.TheVariants as event
-use Rattle.ntp_admin.specs.declared.line_fault.LineFault.{LineFault}
-use Rattle.ntp_observer.specs.declared.outcomes.LineOutcome.{LineOutcome}
-use Rattle.ntp_observer.specs.declared.outcomes.LineOutcome.TheVariants.{Faulty}
-use Rattle.ntp_observer.specs.declared.outcomes.Observation.{Observation}
-use Rattle.ntp_observer.specs.declared.outcomes.Observation.TheVariants.{Line}
-use Rattle.ntp_observer.specs.Sees.{Sees}
-use Rattle.ntp_observer.proofs.Seen.{Sees-nil}
+use Rattle.ntp_admin.specs.Spells.{command_in, is_passed_over}
+use Rattle.ntp_events.specs.declared.command.Command.{Command}
+use Rattle.ntp_events.specs.declared.event.Event.{Event}
+use Rattle.ntp_events.specs.declared.event.Event.TheVariants as event
+use Rattle.ntp_events.specs.declared.line_fault.LineFault.{LineFault}
+use Rattle.ntp_events.specs.declared.observation.LineOutcome.{LineOutcome}
+use Rattle.ntp_events.specs.declared.observation.LineOutcome.TheVariants.{Faulty}
+use Rattle.ntp_events.specs.declared.observation.Observation.{Observation}
+use Rattle.ntp_events.specs.declared.observation.Observation.TheVariants.{Line}
+use Rattle.ntp_events.specs.Sees.{Sees}
+use Rattle.ntp_events.proofs.Seen.{Sees-nil}
 use Rattle.ntp_service_run.specs.Headline.{StandsFor, TellsOne, command_outcome}
 use Rattle.ntp_service_run.proofs.Runs.{Tells-nil, Tells-one}
-use Rattle.ntp_service_replay.specs.Script.{is_passed_over}
 use Rattle.ntp_customer_files.specs.FileText.{IsText}
 use Rattle.ntp_customer_files.specs.CommandsFile.{complete_lines, reading_of, TakenLine, carried_out, observed_read, CarriesOutDue}
 use Rattle.ntp_customer_files.specs.Applying.{ComesTo, AppliesLine, Applies}

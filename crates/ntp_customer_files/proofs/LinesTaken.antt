@@ -2,10 +2,10 @@
 use Rattle.std.proofs.Common.{◌≡◌, ℕ, ◌+◌, List, [], ◌∷◌, ◌++◌, length, Option, arith, sym, ap, ◌∙◌, subst, append_assoc, append-nil}
 use Rattle.std.proofs.lemmas.Grind.{flat_map-append}
 use Rattle.ntp_register.specs.Registry.{Registry}
-use Rattle.ntp_admin.specs.declared.event.Event.{Event}
-use Rattle.ntp_observer.specs.declared.outcomes.Observation.{Observation}
-use Rattle.ntp_observer.specs.Sees.{Sees}
-use Rattle.ntp_observer.proofs.Seen.{Sees-nil, Sees-append}
+use Rattle.ntp_events.specs.declared.event.Event.{Event}
+use Rattle.ntp_events.specs.declared.observation.Observation.{Observation}
+use Rattle.ntp_events.specs.Sees.{Sees}
+use Rattle.ntp_events.proofs.Seen.{Sees-nil, Sees-append}
 use Rattle.ntp_service_run.specs.Headline.{StandsFor, Tells}
 use Rattle.ntp_service_run.proofs.Runs.{Tells-nil, Tells-append}
 use Rattle.ntp_customer_files.specs.CommandsFile.{reading_of, TakenLine, events_read, outcomes_read, observed_read, line_events, line_outcomes, line_observations, CarriesOut}

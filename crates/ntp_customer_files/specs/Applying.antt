@@ -2,13 +2,13 @@
 use Rattle.std.specs.Prelude.{◌≡◌, ℕ, max, List, [], ◌∷◌, length, drop, Option, Some, Result}
 use Rattle.ntp_register.specs.declared.refusal.Refusal.{Refusal}
 use Rattle.ntp_register.specs.Registry.{Registry}
-use Rattle.ntp_admin.specs.declared.command.Command.{Command}
-use Rattle.ntp_admin.specs.declared.event.Event.{Event}
-use Rattle.ntp_admin.specs.declared.line_fault.LineFault.{LineFault}
-use Rattle.ntp_observer.specs.declared.outcomes.LineOutcome.{LineOutcome}
-use Rattle.ntp_observer.specs.declared.outcomes.Observation.{Observation}
-use Rattle.ntp_observer.specs.declared.outcomes.Observation.TheVariants.{Line}
-use Rattle.ntp_observer.specs.Sees.{Sees}
+use Rattle.ntp_events.specs.declared.command.Command.{Command}
+use Rattle.ntp_events.specs.declared.event.Event.{Event}
+use Rattle.ntp_events.specs.declared.line_fault.LineFault.{LineFault}
+use Rattle.ntp_events.specs.declared.observation.LineOutcome.{LineOutcome}
+use Rattle.ntp_events.specs.declared.observation.Observation.{Observation}
+use Rattle.ntp_events.specs.declared.observation.Observation.TheVariants.{Line}
+use Rattle.ntp_events.specs.Sees.{Sees}
 use Rattle.ntp_service_run.specs.Headline.{StandsFor, Tells}
 use Rattle.ntp_customer_files.specs.CommandsFile.{complete_lines, reading_of, TakenLine, events_read, outcomes_read, observed_read, lines_taken, CarriesOut}
 

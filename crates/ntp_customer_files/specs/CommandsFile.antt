@@ -4,21 +4,20 @@ use Rattle.std.specs.Fmt.{decimal}
 use Rattle.ntp_register.specs.declared.refusal.Refusal.{Refusal}
 use Rattle.ntp_register.specs.Registry.{Registry}
 use Rattle.ntp_admin.specs.Words.{words, parts}
-use Rattle.ntp_admin.specs.Spells.{command_in}
+use Rattle.ntp_admin.specs.Spells.{command_in, is_passed_over}
 use Rattle.ntp_admin.specs.Answers.{refusal_text, line_feed}
-use Rattle.ntp_admin.specs.declared.command.Command.{Command}
-use Rattle.ntp_admin.specs.declared.event.Event.{Event}
-use Rattle.ntp_admin.specs.declared.event.Event.TheVariants as event
-use Rattle.ntp_admin.specs.declared.line_fault.LineFault.{LineFault}
-use Rattle.ntp_admin.specs.declared.line_fault.LineFault.TheVariants as line_fault
-use Rattle.ntp_admin.specs.declared.outcome.Outcome.{Outcome}
-use Rattle.ntp_observer.specs.declared.outcomes.LineOutcome.{LineOutcome}
-use Rattle.ntp_observer.specs.declared.outcomes.LineOutcome.TheVariants.{Done, Refused, Faulty}
-use Rattle.ntp_observer.specs.declared.outcomes.Observation.{Observation}
-use Rattle.ntp_observer.specs.declared.outcomes.Observation.TheVariants.{Line}
-use Rattle.ntp_observer.specs.Sees.{Sees}
+use Rattle.ntp_events.specs.declared.command.Command.{Command}
+use Rattle.ntp_events.specs.declared.event.Event.{Event}
+use Rattle.ntp_events.specs.declared.event.Event.TheVariants as event
+use Rattle.ntp_events.specs.declared.line_fault.LineFault.{LineFault}
+use Rattle.ntp_events.specs.declared.line_fault.LineFault.TheVariants as line_fault
+use Rattle.ntp_events.specs.declared.outcome.Outcome.{Outcome}
+use Rattle.ntp_events.specs.declared.observation.LineOutcome.{LineOutcome}
+use Rattle.ntp_events.specs.declared.observation.LineOutcome.TheVariants.{Done, Refused, Faulty}
+use Rattle.ntp_events.specs.declared.observation.Observation.{Observation}
+use Rattle.ntp_events.specs.declared.observation.Observation.TheVariants.{Line}
+use Rattle.ntp_events.specs.Sees.{Sees}
 use Rattle.ntp_service_run.specs.Headline.{StandsFor, Tells, command_outcome}
-use Rattle.ntp_service_replay.specs.Script.{is_passed_over}
 use Rattle.ntp_customer_files.specs.FileText.{IsText}
 
 -- all but the last

@@ -7,11 +7,11 @@ use Rattle.ntp_reply.specs.Reference.{ReferenceState}
 use Rattle.ntp_register_file.specs.RegisterFile.{state_in, register_in}
 use Rattle.ntp_register_file.specs.declared.fault.RegisterFault.{RegisterFault}
 use Rattle.ntp_register_file.specs.declared.fault.RegisterFault.TheVariants.{NoMemory}
-use Rattle.ntp_admin.specs.declared.command.Command.{Command}
-use Rattle.ntp_admin.specs.declared.event.Event.{Event}
-use Rattle.ntp_admin.specs.declared.event.Event.TheVariants as event
-use Rattle.ntp_admin.specs.declared.outcome.Outcome.{Outcome}
-use Rattle.ntp_admin.specs.declared.outcome.Outcome.TheVariants as outcome
+use Rattle.ntp_events.specs.declared.command.Command.{Command}
+use Rattle.ntp_events.specs.declared.event.Event.{Event}
+use Rattle.ntp_events.specs.declared.event.Event.TheVariants as event
+use Rattle.ntp_events.specs.declared.outcome.Outcome.{Outcome}
+use Rattle.ntp_events.specs.declared.outcome.Outcome.TheVariants as outcome
 use Rattle.ntp_service_run.specs.Headline.{Tells, TellsOne}
 use Rattle.ntp_customer_files.specs.declared.loading.LoadFault.{LoadFault}
 use Rattle.ntp_customer_files.specs.declared.loading.LoadFault.TheVariants as load_fault

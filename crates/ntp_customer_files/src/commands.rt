@@ -2,15 +2,14 @@
 ghost use Rattle.std.specs.Prelude.{◌≡◌, None, false, length, drop};
 ghost use Rattle.ntp_admin.specs.Words.{words};
 ghost use Rattle.ntp_admin.specs.Spells.{command_in};
-ghost use Rattle.ntp_service_replay.specs.Script.{is_passed_over};
 ghost use Rattle.ntp_customer_files.specs.FileText.{IsText};
 ghost use Rattle.ntp_customer_files.specs.CommandsFile.{complete_lines, carried_out, CarriesOutDue};
 ghost use Rattle.ntp_customer_files.specs.Applying.{AppliesText, Applies, AppliesLine, ComesTo};
 
 use crate::fault_lines::FaultLines;
 use crate::file_text::text_of;
-use ntp_admin::parse_command;
-use ntp_observer::{LineOutcome, Observer};
+use ntp_admin::{is_passed_over, parse_command};
+use ntp_events::{LineOutcome, Observer};
 use ntp_register::Refusal;
 use ntp_service_run::Service;
 use std::alloc::Allocator;
@@ -103,7 +102,7 @@ fn apply_line<A: Allocator + Copy, O: Observer>(
 )
     ensures { AppliesLine A number line.now service.old service.new (O.seen observer.old) (O.seen observer.new) }
 {
-    if !is_passed_over(line) {
+    if !is_passed_over(line.as_bytes()) {
         let outcome = carry_out(service, line, observer);
         observer.line(number, outcome);
     }
@@ -135,11 +134,4 @@ fn outcome_of(answer: Result<(), Refusal>) -> LineOutcome
         Ok(()) => LineOutcome::Done,
         Err(refusal) => LineOutcome::Refused(refusal),
     }
-}
-
-// Whether a line is no command.
-fn is_passed_over(line: &str) -> bool
-    ensures { result ≡ is_passed_over line.now }
-{
-    line.is_empty() || line.starts_with('#')
 }

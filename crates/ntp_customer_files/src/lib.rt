@@ -1,4 +1,4 @@
-//! What a program that serves needs: a register file loaded, and the commands file applied.
+//! The files that say who is a customer: a register file loaded, a commands file applied.
 #![tactic(auto)]
 
 mod commands;

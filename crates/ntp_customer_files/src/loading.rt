@@ -4,7 +4,7 @@ ghost use Rattle.ntp_customer_files.specs.FileText.{IsText};
 ghost use Rattle.ntp_customer_files.specs.Loading.{Loads, LoadFails, Enrols, IsRefusedAt};
 
 use crate::file_text::text_of;
-use ntp_admin::Command;
+use ntp_events::Command;
 use ntp_register::Refusal;
 use ntp_register_file::{RegisterFault, read_reference, read_register};
 use ntp_reply::Reference;

@@ -5,8 +5,8 @@ use crate::{
     FaultLines, LoadFault, Loaded, MOST_FILE_OCTETS, apply_commands, commands_step, fault_word,
     load_register,
 };
-use ntp_admin::{LineFault, parse_command};
-use ntp_observer::{LineOutcome, Observer, TurnOutcome};
+use ntp_admin::parse_command;
+use ntp_events::{LineFault, LineOutcome, Observer, TurnOutcome};
 use ntp_register::Refusal;
 use ntp_register_file::RegisterFault;
 use ntp_service_run::Service;

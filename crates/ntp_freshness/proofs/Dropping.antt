@@ -1,6 +1,6 @@
 -- A history that goes on with datagrams that are dropped, and what is passed on in the end.
 use Rattle.std.proofs.Common.{◌≡◌, ℕ, ◌-◌, ◌^◌, ◌≤◌, List, [], ◌∷◌, ◌++◌, Option, None, Result, refl, subst, ◌∙◌, arith}
-use Rattle.ntp_observer.specs.declared.outcomes.Arrival.{Arrival}
+use Rattle.ntp_events.specs.declared.observation.Arrival.{Arrival}
 use Rattle.ntp_service_serve.specs.declared.port.PortFault.{PortFault}
 use Rattle.ntp_freshness.specs.declared.queue_event.QueueEvent.{QueueEvent}
 use Rattle.ntp_freshness.specs.declared.queue_watch.QueueWatch.{QueueWatch}

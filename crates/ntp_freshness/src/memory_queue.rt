@@ -5,7 +5,7 @@ ghost use Rattle.ntp_freshness.specs.Queue.{last_reading};
 
 use crate::queue_event::QueueEvent;
 use crate::queued_port::QueuedPort;
-use ntp_admin::NoMemory;
+use ntp_events::NoMemory;
 use ntp_register::Address;
 use ntp_service_serve::{Arrival, Port, PortFault, TimedPort};
 use ntp_time::{Moment, Stamp};

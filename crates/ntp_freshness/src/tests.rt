@@ -2,7 +2,7 @@
 //! reckoned by hand, in milliseconds.
 
 use crate::{Due, FreshPort, MemoryQueue, QueueWatch};
-use ntp_observer::Arrival;
+use ntp_events::Arrival;
 use ntp_register::Address;
 use ntp_service_serve::{Port, TimedPort};
 use ntp_time::{Moment, Stamp};

@@ -2,10 +2,9 @@
 ghost use Rattle.std.specs.Prelude.{◌≡◌, ◌+◌, ◌-◌, ◌≤◌, ◌<◌, ◌^◌, IfOk};
 ghost use Rattle.ntp_service.specs.Failures.{failures_of};
 
-use ntp_admin::Command;
 use ntp_client::{Client, Taken};
+use ntp_events::{Command, Sending, TurnOutcome};
 use ntp_mac::{Algorithm, Key};
-use ntp_observer::{Sending, TurnOutcome};
 use ntp_register::Address;
 use ntp_reply::Reference;
 use ntp_service::{Service, TimedPort, UdpPort, answer_received, moment_now};

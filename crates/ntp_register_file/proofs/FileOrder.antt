@@ -3,7 +3,7 @@ use Rattle.std.proofs.Common.{◌≡◌, ℕ, ◌+◌, ◌<◌, List, [], ◌∷
 use Rattle.toml.specs.View.{view, items_view}
 use Rattle.toml.proofs.Views.{items_view-drop}
 use Rattle.toml.specs.declared.value.Value.{Value}
-use Rattle.ntp_admin.specs.declared.command.Command.{Command}
+use Rattle.ntp_events.specs.declared.command.Command.{Command}
 use Rattle.ntp_register_file.specs.declared.fault.RegisterFault.{RegisterFault}
 use Rattle.ntp_register_file.specs.RegisterFile.{◌>>=◌, customer_in, customers_in}
 

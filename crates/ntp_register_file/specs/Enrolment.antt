@@ -4,10 +4,10 @@ use Rattle.std.specs.Option.{ok_or}
 use Rattle.std.specs.declared.num.NonZeroU16.{NonZeroU16}
 use Rattle.ntp_admin.specs.Words.{non_zero, address_in, algorithm_in, key_in}
 use Rattle.ntp_admin.specs.Spells.{◌>>=◌}
-use Rattle.ntp_admin.specs.declared.command.Command.{Command}
-use Rattle.ntp_admin.specs.declared.command.Command.TheVariants as command
-use Rattle.ntp_admin.specs.declared.line_fault.LineFault.{LineFault}
-use Rattle.ntp_admin.specs.declared.line_fault.LineFault.TheVariants as fault
+use Rattle.ntp_events.specs.declared.command.Command.{Command}
+use Rattle.ntp_events.specs.declared.command.Command.TheVariants as command
+use Rattle.ntp_events.specs.declared.line_fault.LineFault.{LineFault}
+use Rattle.ntp_events.specs.declared.line_fault.LineFault.TheVariants as fault
 use Rattle.ntp_register_file.specs.Form.{Entry}
 
 -- a key number or a budget: from 1 to 65,535 (profile)

@@ -4,8 +4,8 @@ use Rattle.std.specs.Option.{ok_or}
 use Rattle.toml.specs.Data.{Data, Items, no_items, item}
 use Rattle.toml.specs.Parse.{parse_document}
 use Rattle.ntp_admin.specs.Words.{reference_in}
-use Rattle.ntp_admin.specs.declared.command.Command.{Command}
-use Rattle.ntp_admin.specs.declared.line_fault.LineFault.{LineFault}
+use Rattle.ntp_events.specs.declared.command.Command.{Command}
+use Rattle.ntp_events.specs.declared.line_fault.LineFault.{LineFault}
 use Rattle.ntp_reply.specs.Reference.{ReferenceState}
 use Rattle.ntp_register_file.specs.Form.{Top, top_of, entry_of}
 use Rattle.ntp_register_file.specs.Enrolment.{enrolment_of}

@@ -6,7 +6,8 @@ ghost use Rattle.ntp_register_file.specs.RegisterFile.{customer_in, customers_in
 
 use crate::RegisterFault;
 use crate::form::{Entry, entry_of};
-use ntp_admin::{Command, LineFault, words};
+use ntp_admin::words;
+use ntp_events::{Command, LineFault};
 use std::alloc::Global;
 use std::num::NonZero;
 use toml::Value;

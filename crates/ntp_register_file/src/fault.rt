@@ -1,6 +1,6 @@
 //! What is wrong with a register file.
 
-use ntp_admin::LineFault;
+use ntp_events::LineFault;
 
 /// The first thing that is wrong with a register file (profile): with its text, with its top level, then with its
 /// customers in file order, of each its form and then its values; where the reference state is asked for, with its

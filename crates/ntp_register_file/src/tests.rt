@@ -1,7 +1,7 @@
 //! Register files of every form, with the answers that the format and TOML's standard give.
 
 use crate::{RegisterFault, read_reference, read_register};
-use ntp_admin::{Command, LineFault};
+use ntp_events::{Command, LineFault};
 use ntp_mac::{Algorithm, Key};
 use ntp_register::Address;
 use ntp_reply::Reference;

@@ -4,11 +4,11 @@ use Rattle.std.specs.Prelude.{min, count_by, flat_map}
 use Rattle.std.proofs.lemmas.Grind.{flat_map-append}
 use Rattle.std.proofs.lemmas.List.Sums.{sum_by-append}
 use Rattle.ntp_reply.specs.declared.answers.Answer.{Answer}
-use Rattle.ntp_observer.specs.declared.outcomes.Arrival.{Arrival}
-use Rattle.ntp_observer.specs.declared.outcomes.Observation.{Observation}
-use Rattle.ntp_observer.specs.declared.outcomes.Observation.TheVariants.{Turn}
-use Rattle.ntp_observer.specs.declared.outcomes.Sending.{Sending}
-use Rattle.ntp_observer.specs.declared.outcomes.TurnOutcome.TheVariants.{Answered}
+use Rattle.ntp_events.specs.declared.observation.Arrival.{Arrival}
+use Rattle.ntp_events.specs.declared.observation.Observation.{Observation}
+use Rattle.ntp_events.specs.declared.observation.Observation.TheVariants.{Turn}
+use Rattle.ntp_events.specs.declared.observation.Sending.{Sending}
+use Rattle.ntp_events.specs.declared.observation.TurnOutcome.TheVariants.{Answered}
 use Rattle.ntp_reports.specs.declared.kind.Kind.{Kind}
 use Rattle.ntp_reports.specs.declared.counts.Counts.{Counts}
 use Rattle.ntp_reports.specs.Kinds.{is_kind, kinds_of, answer_kind, sending_kinds}

@@ -9,14 +9,14 @@ use Rattle.ntp_reply.specs.declared.answers.Answer.{Answer}
 use Rattle.ntp_reply.specs.declared.answers.Answer.TheVariants as answer
 use Rattle.ntp_reply.specs.declared.answers.Reason.{Reason}
 use Rattle.ntp_reply.specs.declared.answers.Reason.TheVariants as reason
-use Rattle.ntp_observer.specs.declared.outcomes.LineOutcome.{LineOutcome}
-use Rattle.ntp_observer.specs.declared.outcomes.LineOutcome.TheVariants as line
-use Rattle.ntp_observer.specs.declared.outcomes.Observation.{Observation}
-use Rattle.ntp_observer.specs.declared.outcomes.Observation.TheVariants.{Line, Turn}
-use Rattle.ntp_observer.specs.declared.outcomes.Sending.{Sending}
-use Rattle.ntp_observer.specs.declared.outcomes.Sending.TheVariants as sending
-use Rattle.ntp_observer.specs.declared.outcomes.TurnOutcome.{TurnOutcome}
-use Rattle.ntp_observer.specs.declared.outcomes.TurnOutcome.TheVariants.{NothingReceived, Answered}
+use Rattle.ntp_events.specs.declared.observation.LineOutcome.{LineOutcome}
+use Rattle.ntp_events.specs.declared.observation.LineOutcome.TheVariants as line
+use Rattle.ntp_events.specs.declared.observation.Observation.{Observation}
+use Rattle.ntp_events.specs.declared.observation.Observation.TheVariants.{Line, Turn}
+use Rattle.ntp_events.specs.declared.observation.Sending.{Sending}
+use Rattle.ntp_events.specs.declared.observation.Sending.TheVariants as sending
+use Rattle.ntp_events.specs.declared.observation.TurnOutcome.{TurnOutcome}
+use Rattle.ntp_events.specs.declared.observation.TurnOutcome.TheVariants.{NothingReceived, Answered}
 use Rattle.ntp_reports.specs.contracts.kind.Kind.{the_type}
 use Rattle.ntp_reports.specs.declared.kind.Kind.{Kind}
 use Rattle.ntp_reports.specs.declared.kind.Kind.TheVariants as kind

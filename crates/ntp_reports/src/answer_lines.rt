@@ -5,8 +5,8 @@ ghost use Rattle.std.specs.Io.KnownBytes.{Appends};
 ghost use Rattle.ntp_reports.specs.AnswerText.{answer_line};
 
 use ntp_admin::refusal_word;
-use ntp_observer::{LineOutcome, Observer, TurnOutcome};
 use ntp_customer_files::fault_word;
+use ntp_events::{LineOutcome, Observer, TurnOutcome};
 use std::io::{self, Write};
 
 /// Writes a line for each line of commands: `N done`, `N refused WORD` or `N faulty WORD`, where N counts the file's lines

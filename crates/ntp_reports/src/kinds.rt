@@ -4,7 +4,7 @@ ghost use Rattle.ntp_reports.specs.Kinds.{answer_kind, silence_kind, malformed_k
 
 use crate::kind::Kind;
 use crate::stamps::tells_departure;
-use ntp_observer::LineOutcome;
+use ntp_events::LineOutcome;
 use ntp_register::Refusal;
 use ntp_reply::{Answer, Reason};
 use ntp_tail::Malformed;

@@ -4,9 +4,8 @@ use crate::{
     AnswerLines, Ask, Both, ClockGauges, Counting, Counts, Gauges, Kind, LineAllowance,
     write_statistics,
 };
-use ntp_admin::LineFault;
+use ntp_events::{Arrival, LineFault, LineOutcome, Observer, Sending, TurnOutcome};
 use ntp_mac::Reply;
-use ntp_observer::{Arrival, LineOutcome, Observer, Sending, TurnOutcome};
 use ntp_register::{Address, Refusal};
 use ntp_reply::{Answer, Reason};
 use ntp_tail::Malformed;

@@ -5,9 +5,9 @@ use Rattle.std.proofs.lemmas.List.Elements.{All-push}
 use Rattle.std.proofs.lemmas.Grind.{flat_map-append}
 use Rattle.ntp_time.specs.declared.moment.Moment.{Moment}
 use Rattle.ntp_register.specs.Registry.{Registry}
-use Rattle.ntp_observer.specs.declared.outcomes.Observation.{Observation}
-use Rattle.ntp_observer.specs.Sees.{Sees}
-use Rattle.ntp_observer.proofs.Seen.{Sees-nil, Sees-append}
+use Rattle.ntp_events.specs.declared.observation.Observation.{Observation}
+use Rattle.ntp_events.specs.Sees.{Sees}
+use Rattle.ntp_events.proofs.Seen.{Sees-nil, Sees-append}
 use Rattle.ntp_service_run.specs.Headline.{Tells}
 use Rattle.ntp_service_run.proofs.Runs.{Tells-nil, Tells-append}
 use Rattle.ntp_service_serve.specs.Sequence.{firsts}

@@ -3,13 +3,13 @@ use Rattle.std.specs.Prelude.{◌≡◌, ℕ, ◌+◌, Bool, true, false, Option
 use Rattle.ntp_time.specs.declared.moment.Moment.{Moment}
 use Rattle.ntp_reply_packets.specs.Reference.{ReferenceState}
 use Rattle.ntp_register.specs.Registry.{Registry}
-use Rattle.ntp_admin.specs.declared.event.Event.{Event}
-use Rattle.ntp_observer.specs.declared.outcomes.Observation.{Observation}
-use Rattle.ntp_observer.specs.declared.outcomes.Sending.{Sending}
-use Rattle.ntp_observer.specs.declared.outcomes.Sending.TheVariants.{NoReply, NotSent, Sent, Noted, NotNoted}
-use Rattle.ntp_observer.specs.declared.outcomes.TurnOutcome.{TurnOutcome}
-use Rattle.ntp_observer.specs.declared.outcomes.TurnOutcome.TheVariants.{NothingReceived, Answered}
-use Rattle.ntp_observer.specs.Sees.{Sees}
+use Rattle.ntp_events.specs.declared.event.Event.{Event}
+use Rattle.ntp_events.specs.declared.observation.Observation.{Observation}
+use Rattle.ntp_events.specs.declared.observation.Sending.{Sending}
+use Rattle.ntp_events.specs.declared.observation.Sending.TheVariants.{NoReply, NotSent, Sent, Noted, NotNoted}
+use Rattle.ntp_events.specs.declared.observation.TurnOutcome.{TurnOutcome}
+use Rattle.ntp_events.specs.declared.observation.TurnOutcome.TheVariants.{NothingReceived, Answered}
+use Rattle.ntp_events.specs.Sees.{Sees}
 use Rattle.ntp_service_run.specs.Headline.{StandsFor, Tells}
 use Rattle.ntp_service_serve.specs.Port.{Told}
 use Rattle.ntp_service_serve.specs.Made.{is_unfailing, turn_outcome}

@@ -1,10 +1,9 @@
 //! The parts of a server in memory.
 ghost use Rattle.std.specs.Prelude.{◌≡◌, ◌≤◌, ◌<◌, ◌++◌, Some, None, false, [], ◌∷◌, map, option_map, vec_len, vec_capacity, IfOk, if◌then◌else◌};
-ghost use Rattle.ntp_observer.specs.declared.outcomes.Observation.{Observation};
+ghost use Rattle.ntp_events.specs.declared.observation.Observation.{Observation};
 
 use crate::sources::{CommandsSource, ReferenceSource};
-use ntp_admin::NoMemory;
-use ntp_observer::{LineOutcome, Observation, Observer, TurnOutcome};
+use ntp_events::{LineOutcome, NoMemory, Observation, Observer, TurnOutcome};
 use ntp_reply::Reference;
 use ntp_time::Moment;
 use std::alloc::{Allocator, Global};
@@ -95,7 +94,7 @@ pub struct MemoryObserver<A: Allocator = Global> {
 
 impl<A: Allocator> MemoryObserver<A> {
     ghost use Rattle.ntp_server.specs.Memory.{seen_by, HasRoom};
-    ghost use Rattle.ntp_observer.specs.Sees.{Sees};
+    ghost use Rattle.ntp_events.specs.Sees.{Sees};
 
     /// One that has seen nothing. The room is taken from `alloc` here, so that no call of it takes memory: `NoMemory` only where
     /// it was refused.

@@ -7,8 +7,8 @@ ghost use Rattle.ntp_server.specs.Steps.{LooksOnce, Waits, MakesRound, arrivals_
 
 use crate::reporter::{NoReports, Reporter};
 use crate::sources::{CommandsSource, ReferenceSource};
-use ntp_observer::{Arrival, Observer, Sending, TurnOutcome};
 use ntp_customer_files::apply_commands;
+use ntp_events::{Arrival, Observer, Sending, TurnOutcome};
 use ntp_service_run::Service;
 use ntp_service_serve::{PortFault, TimedPort, answer_received};
 use ntp_time::Moment;

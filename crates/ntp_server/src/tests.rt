@@ -8,9 +8,8 @@ use crate::{
     FixedReference, MemoryCommands, MemoryObserver, MemoryStates, ReferenceSource, Reporter,
     Server, Totals,
 };
-use ntp_admin::Octets;
+use ntp_events::{Arrival, LineOutcome, Observation, Octets, Sending, TurnOutcome};
 use ntp_mac::Reply;
-use ntp_observer::{Arrival, LineOutcome, Observation, Sending, TurnOutcome};
 use ntp_register::Address;
 use ntp_reply::{Answer, Reason, Reference};
 use ntp_service_run::Service;

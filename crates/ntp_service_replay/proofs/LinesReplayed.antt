@@ -5,14 +5,14 @@ use Rattle.std.specs.List.{AllZip}
 use Rattle.std.proofs.lemmas.List.{flat_map_more}
 use Rattle.std.proofs.lemmas.List.Elements.{All-nil, All-cons, All-append, filter-append}
 use Rattle.ntp_register.specs.Registry.{Registry}
-use Rattle.ntp_admin.specs.declared.event.Event.{Event}
-use Rattle.ntp_admin.specs.declared.outcome.Outcome.{Outcome}
-use Rattle.ntp_admin.specs.Spells.{Spells}
+use Rattle.ntp_events.specs.declared.event.Event.{Event}
+use Rattle.ntp_events.specs.declared.outcome.Outcome.{Outcome}
+use Rattle.ntp_admin.specs.Spells.{is_passed_over, Spells}
 use Rattle.ntp_admin.specs.Answers.{text_of}
 use Rattle.ntp_service_replay.specs.declared.faults.ReplayFaultKind.{ReplayFaultKind}
 use Rattle.ntp_service_replay.specs.declared.faults.ReplayFaultKind.TheVariants.{Line, Read, Write, NoMemory, LineLong, NotUtf8}
 use Rattle.ntp_service_run.specs.Headline.{StandsFor, Tells, TellsOne, kept}
-use Rattle.ntp_service_replay.specs.Script.{IsReadable, is_passed_over, event_lines}
+use Rattle.ntp_service_replay.specs.Script.{IsReadable, event_lines}
 use Rattle.ntp_service_replay.specs.Replay.{Replays, Causes}
 use Rattle.ntp_service_replay.specs.Lines.{CutsShort}
 use Rattle.ntp_service_replay.specs.Engine.{Answers, Halts}

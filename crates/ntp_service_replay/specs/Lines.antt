@@ -1,10 +1,10 @@
 -- What becomes of one line. No public clause cites this.
 use Rattle.std.specs.Prelude.{◌≡◌, ℕ, Bool, true, false, Option, Some, None, List, [], ◌++◌}
-use Rattle.ntp_admin.specs.declared.event.Event.{Event}
-use Rattle.ntp_admin.specs.Spells.{Spells}
+use Rattle.ntp_events.specs.declared.event.Event.{Event}
+use Rattle.ntp_admin.specs.Spells.{is_passed_over, Spells}
 use Rattle.ntp_service_replay.specs.declared.faults.ReplayFaultKind.{ReplayFaultKind}
 use Rattle.ntp_service_replay.specs.declared.faults.ReplayFaultKind.TheVariants.{Line, Read, Write, NoMemory, LineLong, NotUtf8}
-use Rattle.ntp_service_replay.specs.Script.{IsReadable, is_passed_over}
+use Rattle.ntp_service_replay.specs.Script.{IsReadable}
 
 -- a line that is readable is passed over, or spells an event
 abbrev pub Judges : {A : Type 0} → List ℕ → Option (Event A) → Type 0

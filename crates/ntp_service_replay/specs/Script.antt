@@ -1,5 +1,6 @@
 -- The text of a script: its lines, and which of them are events.
 use Rattle.std.specs.Prelude.{ℕ, ◌≤◌, ◌==◌, Bool, true, not, List, [], ◌∷◌, length, filter, if◌then◌else◌, IsUtf8}
+use Rattle.ntp_admin.specs.Spells.{is_passed_over}
 
 -- how many octets a line has at most, without its line feed (profile)
 abbrev pub most_line_octets : ℕ
@@ -19,11 +20,6 @@ lines_of (x ∷ xs) = if x == 10 then [] ∷ lines_of xs else begin_line x (line
 pub record IsReadable (line : List ℕ) : Type 0 where
   pub within : length line ≤ most_line_octets
   pub text : IsUtf8 line
-
--- whether a line is no event: it is empty, or begins with `#` (profile)
-abbrev pub is_passed_over : List ℕ → Bool
-is_passed_over [] = true
-is_passed_over (x ∷ xs) = x == 35
 
 -- the lines that are events
 abbrev pub event_lines : List (List ℕ) → List (List ℕ)

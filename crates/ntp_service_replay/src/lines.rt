@@ -1,27 +1,18 @@
 //! One line of a script, and one answer line.
 ghost use Rattle.std.specs.Prelude.{◌≡◌, ℕ, ◌≤◌, Bool, List, [], ◌∷◌, length, OnOk, IfOk, IfErr};
-ghost use Rattle.ntp_admin.specs.declared.event.Event.{Event};
+ghost use Rattle.ntp_events.specs.declared.event.Event.{Event};
 ghost use Rattle.ntp_admin.specs.Answers.{text_of};
-ghost use Rattle.ntp_service_replay.specs.Script.{most_line_octets, is_passed_over};
+ghost use Rattle.ntp_service_replay.specs.Script.{most_line_octets};
 ghost use Rattle.ntp_service_replay.specs.Replay.{Causes};
 ghost use Rattle.ntp_service_replay.specs.Lines.{Judges, CutsShort, IsPastReading};
 ghost use Rattle.ntp_service_replay.specs.Watched.{has_failed, Wrote};
 
 use crate::faults::ReplayFaultKind;
 use crate::watch::Watched;
-use ntp_admin::{Event, Outcome, parse_event, print_answer};
+use ntp_admin::{is_passed_over, parse_event, print_answer};
+use ntp_events::{Event, Outcome};
 use std::alloc::Allocator;
 use std::io::Write;
-
-// Whether a line is no event.
-fn is_passed_over(line: &[u8]) -> bool
-    ensures { result ≡ is_passed_over line.now }
-{
-    match line {
-        [] => true,
-        [first, ..] => *first == b'#',
-    }
-}
 
 // The event that a line spells, or none where the line is passed over.
 pub(crate) fn judge<A: Allocator + Copy>(

@@ -9,10 +9,10 @@ use Rattle.ntp_reply.specs.Life.{Life, enrolment_in, recent_in}
 use Rattle.ntp_reply.specs.Kind.{kind_of}
 use Rattle.ntp_reply.specs.Replies.{occasion_of}
 use Rattle.ntp_reply.proofs.ApartExchanges.{AreSaved-none, AreSaved-after_kind, AreSaved-after_departure}
-use Rattle.ntp_admin.specs.declared.command.Command.{Command}
-use Rattle.ntp_admin.specs.declared.command.Command.TheVariants.{Enrol, Revoke, Budget, Rollover, Retire}
-use Rattle.ntp_admin.specs.declared.event.Event.{Event}
-use Rattle.ntp_admin.specs.declared.event.Event.TheVariants as event
+use Rattle.ntp_events.specs.declared.command.Command.{Command}
+use Rattle.ntp_events.specs.declared.command.Command.TheVariants.{Enrol, Revoke, Budget, Rollover, Retire}
+use Rattle.ntp_events.specs.declared.event.Event.{Event}
+use Rattle.ntp_events.specs.declared.event.Event.TheVariants as event
 use Rattle.ntp_service_run.specs.Model.{numbered, refusal_of, after_done, after, life_after, life_of}
 use Rattle.ntp_service_run.proofs.Lives.{by_life}
 

@@ -14,11 +14,11 @@ use Rattle.ntp_register.specs.Refusals.{enrol_refusal, change_refusal, is_foreig
 use Rattle.ntp_register.specs.Registry.{Registry, Agrees, customer_at, terms_at, is_enrolled_at, holder_of, with_customer, with_holder, after_enrol, after_revoke, after_budget, after_rollover, after_retire}
 use Rattle.ntp_register.proofs.Lookups.{customer_at-with_customer, customer_at-with_customer-other}
 use Rattle.ntp_reply.specs.Life.{Life, enrolment_in}
-use Rattle.ntp_admin.specs.declared.command.Command.{Command}
-use Rattle.ntp_admin.specs.declared.command.Command.TheVariants.{Enrol, Revoke, Budget, Rollover, Retire}
-use Rattle.ntp_admin.specs.declared.event.Event.{Event}
-use Rattle.ntp_admin.specs.declared.event.Event.TheVariants as event
-use Rattle.ntp_admin.specs.declared.outcome.Outcome.TheVariants.{Done, Refused}
+use Rattle.ntp_events.specs.declared.command.Command.{Command}
+use Rattle.ntp_events.specs.declared.command.Command.TheVariants.{Enrol, Revoke, Budget, Rollover, Retire}
+use Rattle.ntp_events.specs.declared.event.Event.{Event}
+use Rattle.ntp_events.specs.declared.event.Event.TheVariants as event
+use Rattle.ntp_events.specs.declared.outcome.Outcome.TheVariants.{Done, Refused}
 use Rattle.ntp_service_run.specs.Events.{address_of_command, own}
 use Rattle.ntp_service_run.specs.Model.{numbered, refusal_of, after_done, life_of}
 use Rattle.ntp_service_run.specs.Headline.{StandsFor, TellsOne, IsTaken, number_asked, command_outcome}

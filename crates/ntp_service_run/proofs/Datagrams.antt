@@ -7,8 +7,8 @@ use Rattle.ntp_customer.specs.Past.{Past, short}
 use Rattle.ntp_register.specs.Registry.{Registry, Agrees, customer_at, with_customer}
 use Rattle.ntp_register.proofs.Lookups.{customer_at-with_customer, customer_at-with_customer-other, with_customer-present}
 use Rattle.ntp_reply.specs.Life.{Life}
-use Rattle.ntp_admin.specs.declared.event.Event.{Event}
-use Rattle.ntp_admin.specs.declared.outcome.Outcome.{Outcome}
+use Rattle.ntp_events.specs.declared.event.Event.{Event}
+use Rattle.ntp_events.specs.declared.outcome.Outcome.{Outcome}
 use Rattle.ntp_service_run.specs.Events.{address_of, own}
 use Rattle.ntp_service_run.specs.Model.{life_of, after, answer_to, departure_outcome}
 use Rattle.ntp_service_run.specs.Headline.{StandsFor, TellsOne, IsTaken, is_struck}

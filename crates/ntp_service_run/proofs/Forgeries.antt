@@ -14,12 +14,12 @@ use Rattle.ntp_reply.specs.declared.answers.Answer.{Answer}
 use Rattle.ntp_reply.specs.Kind.{Kind, Signed, kind_of}
 use Rattle.ntp_reply.specs.Verdict.{after_signed, kind_answer, after_kind}
 use Rattle.ntp_reply_packets.specs.declared.occasion.Occasion.{Occasion}
-use Rattle.ntp_admin.specs.declared.command.Command.{Command}
-use Rattle.ntp_admin.specs.declared.command.Command.TheVariants.{Enrol}
-use Rattle.ntp_admin.specs.declared.event.Event.{Event}
-use Rattle.ntp_admin.specs.declared.event.Event.TheVariants as event
-use Rattle.ntp_admin.specs.declared.outcome.Outcome.{Outcome}
-use Rattle.ntp_admin.specs.declared.outcome.Outcome.TheVariants as outcome
+use Rattle.ntp_events.specs.declared.command.Command.{Command}
+use Rattle.ntp_events.specs.declared.command.Command.TheVariants.{Enrol}
+use Rattle.ntp_events.specs.declared.event.Event.{Event}
+use Rattle.ntp_events.specs.declared.event.Event.TheVariants as event
+use Rattle.ntp_events.specs.declared.outcome.Outcome.{Outcome}
+use Rattle.ntp_events.specs.declared.outcome.Outcome.TheVariants as outcome
 use Rattle.ntp_service_run.specs.Events.{own}
 use Rattle.ntp_service_run.specs.Model.{answer_to, after_done, after_command, after, life_after, life_of, says_after, says}
 use Rattle.ntp_service_run.specs.Headline.{Tells, TellsOne, kept, last}

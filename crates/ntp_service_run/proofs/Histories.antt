@@ -13,8 +13,8 @@ use Rattle.ntp_register.proofs.AddressLaws.{address_eq_equiv, address_eq-ties, a
 use Rattle.ntp_register.proofs.Agreement.{agrees-empty}
 use Rattle.ntp_customer.specs.Past.{short}
 use Rattle.ntp_reply.specs.Life.{Life}
-use Rattle.ntp_admin.specs.declared.event.Event.{Event}
-use Rattle.ntp_admin.specs.declared.outcome.Outcome.{Outcome}
+use Rattle.ntp_events.specs.declared.event.Event.{Event}
+use Rattle.ntp_events.specs.declared.outcome.Outcome.{Outcome}
 use Rattle.ntp_service_run.specs.Events.{address_of, names, own}
 use Rattle.ntp_service_run.specs.Model.{answer_to, after, life_after, life_of}
 use Rattle.ntp_service_run.specs.Headline.{StandsFor, TellsOne, IsTaken, is_struck}

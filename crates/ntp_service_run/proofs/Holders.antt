@@ -11,10 +11,10 @@ use Rattle.ntp_register.specs.Registry.{Registry, terms_at, numbers_at, holder_o
 use Rattle.ntp_register.proofs.Agreement.{one-holder}
 use Rattle.ntp_register.proofs.Lookups.{numbers_held}
 use Rattle.ntp_reply.specs.Life.{Life, enrolment_in}
-use Rattle.ntp_admin.specs.declared.command.Command.{Command}
-use Rattle.ntp_admin.specs.declared.command.Command.TheVariants.{Enrol, Rollover}
-use Rattle.ntp_admin.specs.declared.event.Event.{Event}
-use Rattle.ntp_admin.specs.declared.event.Event.TheVariants as event
+use Rattle.ntp_events.specs.declared.command.Command.{Command}
+use Rattle.ntp_events.specs.declared.command.Command.TheVariants.{Enrol, Rollover}
+use Rattle.ntp_events.specs.declared.event.Event.{Event}
+use Rattle.ntp_events.specs.declared.event.Event.TheVariants as event
 use Rattle.ntp_service_run.specs.Events.{address_of_command, own}
 use Rattle.ntp_service_run.specs.Model.{refusal_of, life_of}
 use Rattle.ntp_service_run.specs.Headline.{StandsFor, IsEnrolledWith, IsTaken, number_asked}

@@ -8,8 +8,8 @@ use Rattle.ntp_customer.specs.Past.{Past, short}
 use Rattle.ntp_customer.proofs.Pasts.{by_past}
 use Rattle.ntp_register.specs.declared.refusal.Refusal.{Refusal}
 use Rattle.ntp_reply.specs.Life.{Life, enrolment_in}
-use Rattle.ntp_admin.specs.declared.command.Command.{Command}
-use Rattle.ntp_admin.specs.declared.outcome.Outcome.TheVariants.{Done, Refused}
+use Rattle.ntp_events.specs.declared.command.Command.{Command}
+use Rattle.ntp_events.specs.declared.outcome.Outcome.TheVariants.{Done, Refused}
 use Rattle.ntp_service_run.specs.Model.{refusal_of, command_answer, after_done, after_command}
 
 -- a life is that of an address that was never enrolled, of one that is not enrolled now, or of one that is

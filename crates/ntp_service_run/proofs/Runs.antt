@@ -7,8 +7,8 @@ use Rattle.ntp_register.specs.Address.{address_eq}
 use Rattle.ntp_register.specs.Registry.{Registry}
 use Rattle.ntp_register.proofs.AddressLaws.{address_eq_equiv, same_or_other_address}
 use Rattle.ntp_reply.specs.Life.{Life}
-use Rattle.ntp_admin.specs.declared.event.Event.{Event}
-use Rattle.ntp_admin.specs.declared.outcome.Outcome.{Outcome}
+use Rattle.ntp_events.specs.declared.event.Event.{Event}
+use Rattle.ntp_events.specs.declared.outcome.Outcome.{Outcome}
 use Rattle.ntp_service_run.specs.Events.{address_of, names, own}
 use Rattle.ntp_service_run.specs.Model.{answer_to, after, life_after, life_of, says_after, says}
 use Rattle.ntp_service_run.specs.Headline.{StandsFor, Tells, TellsOne, IsAnswered, AreAnswered, is_struck, kept, told, last}

@@ -9,10 +9,10 @@ use Rattle.ntp_register.specs.Registry.{Registry}
 use Rattle.ntp_reply.specs.Life.{Life}
 use Rattle.ntp_reply.specs.Replies.{occasion_of}
 use Rattle.ntp_reply.specs.Verdict.{refusals_sent}
-use Rattle.ntp_admin.specs.declared.event.Event.{Event}
-use Rattle.ntp_admin.specs.declared.event.Event.TheVariants as event
-use Rattle.ntp_admin.specs.declared.outcome.Outcome.{Outcome}
-use Rattle.ntp_admin.specs.declared.outcome.Outcome.TheVariants as outcome
+use Rattle.ntp_events.specs.declared.event.Event.{Event}
+use Rattle.ntp_events.specs.declared.event.Event.TheVariants as event
+use Rattle.ntp_events.specs.declared.outcome.Outcome.{Outcome}
+use Rattle.ntp_events.specs.declared.outcome.Outcome.TheVariants as outcome
 use Rattle.ntp_service_run.specs.Events.{own}
 use Rattle.ntp_service_run.specs.Model.{answer_to, after, life_after, life_of, says_after}
 use Rattle.ntp_service_run.specs.Headline.{Tells, kept}

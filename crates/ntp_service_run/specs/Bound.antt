@@ -6,10 +6,10 @@ use Rattle.ntp_register.specs.declared.address.Address.{Address}
 use Rattle.ntp_reply.specs.Life.{Life, enrolment_in}
 use Rattle.ntp_reply.specs.Verdict.{refusals_sent}
 use Rattle.ntp_reply.specs.declared.answers.Answer.TheVariants as answer
-use Rattle.ntp_admin.specs.declared.event.Event.{Event}
-use Rattle.ntp_admin.specs.declared.event.Event.TheVariants as event
-use Rattle.ntp_admin.specs.declared.outcome.Outcome.{Outcome}
-use Rattle.ntp_admin.specs.declared.outcome.Outcome.TheVariants as outcome
+use Rattle.ntp_events.specs.declared.event.Event.{Event}
+use Rattle.ntp_events.specs.declared.event.Event.TheVariants as event
+use Rattle.ntp_events.specs.declared.outcome.Outcome.{Outcome}
+use Rattle.ntp_events.specs.declared.outcome.Outcome.TheVariants as outcome
 use Rattle.ntp_service_run.specs.Events.{own}
 use Rattle.ntp_service_run.specs.Model.{life_after, life_of}
 use Rattle.ntp_service_run.specs.Headline.{kept, told}

@@ -5,9 +5,9 @@ use Rattle.ntp_register.specs.declared.address.Address.{Address}
 use Rattle.ntp_customer.specs.Customer.{with_refusals}
 use Rattle.ntp_reply.specs.Life.{Life}
 use Rattle.ntp_reply.specs.Kind.{Kind, Signed, kind_of}
-use Rattle.ntp_admin.specs.declared.event.Event.{Event}
-use Rattle.ntp_admin.specs.declared.event.Event.TheVariants as event
-use Rattle.ntp_admin.specs.declared.outcome.Outcome.{Outcome}
+use Rattle.ntp_events.specs.declared.event.Event.{Event}
+use Rattle.ntp_events.specs.declared.event.Event.TheVariants as event
+use Rattle.ntp_events.specs.declared.outcome.Outcome.{Outcome}
 use Rattle.ntp_service_run.specs.Events.{own}
 use Rattle.ntp_service_run.specs.Model.{after, life_of, says_after, says}
 use Rattle.ntp_service_run.specs.Headline.{kept, told, last}

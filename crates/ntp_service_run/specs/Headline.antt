@@ -10,12 +10,12 @@ use Rattle.ntp_register.specs.Registry.{Registry, Agrees, customer_at}
 use Rattle.ntp_customer.specs.Customer.{numbers_in}
 use Rattle.ntp_customer.specs.Past.{short}
 use Rattle.ntp_reply.specs.Life.{Life, enrolment_in}
-use Rattle.ntp_admin.specs.declared.command.Command.{Command}
-use Rattle.ntp_admin.specs.declared.command.Command.TheVariants.{Enrol, Rollover}
-use Rattle.ntp_admin.specs.declared.event.Event.{Event}
-use Rattle.ntp_admin.specs.declared.event.Event.TheVariants as event
-use Rattle.ntp_admin.specs.declared.outcome.Outcome.{Outcome}
-use Rattle.ntp_admin.specs.declared.outcome.Outcome.TheVariants as outcome
+use Rattle.ntp_events.specs.declared.command.Command.{Command}
+use Rattle.ntp_events.specs.declared.command.Command.TheVariants.{Enrol, Rollover}
+use Rattle.ntp_events.specs.declared.event.Event.{Event}
+use Rattle.ntp_events.specs.declared.event.Event.TheVariants as event
+use Rattle.ntp_events.specs.declared.outcome.Outcome.{Outcome}
+use Rattle.ntp_events.specs.declared.outcome.Outcome.TheVariants as outcome
 use Rattle.ntp_service_run.specs.Events.{address_of, address_of_command, names, own}
 use Rattle.ntp_service_run.specs.Model.{refusal_of, life_of, says, answer_to}
 

@@ -2,15 +2,15 @@
 ghost use Rattle.std.specs.Prelude.{◌≡◌, List, IfOk, OnErr};
 ghost use Rattle.ntp_register.specs.Registry.{Registry};
 ghost use Rattle.ntp_register.specs.declared.address.Address.{Address};
-ghost use Rattle.ntp_admin.specs.declared.event.Event.{Event};
-ghost use Rattle.ntp_admin.specs.declared.outcome.Outcome.{Outcome};
+ghost use Rattle.ntp_events.specs.declared.event.Event.{Event};
+ghost use Rattle.ntp_events.specs.declared.outcome.Outcome.{Outcome};
 ghost use Rattle.ntp_service_run.specs.Events.{own};
 ghost use Rattle.ntp_service_run.specs.Headline.{StandsFor, Tells, kept, told};
 ghost use Rattle.ntp_service_run.specs.Forgery.{TellsWithoutForgeries};
 ghost use Rattle.ntp_service_run.specs.Bound.{TellsFew};
 
 use crate::Service;
-use ntp_admin::{Event, NoMemory, Outcome};
+use ntp_events::{Event, NoMemory, Outcome};
 use std::alloc::Allocator;
 
 impl<A: Allocator + Copy> Service<A> {

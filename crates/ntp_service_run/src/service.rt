@@ -3,13 +3,13 @@ ghost use Rattle.std.specs.Prelude.{◌≡◌, ◌↔◌, ◌≤◌, List, [], l
 ghost use Rattle.std.specs.Bool.{OnFalse};
 ghost use Rattle.ntp_register.specs.Registry.{customer_at};
 ghost use Rattle.ntp_reply.specs.Verdict.{reply_length};
-ghost use Rattle.ntp_admin.specs.declared.event.Event.{Event};
+ghost use Rattle.ntp_events.specs.declared.event.Event.{Event};
 ghost use Rattle.ntp_service_run.specs.Events.{own};
 ghost use Rattle.ntp_service_run.specs.Model.{departure_outcome, life_of, answer_to};
 ghost use Rattle.ntp_service_run.specs.Headline.{StandsFor, TellsOne, IsTaken, command_outcome};
 ghost use Rattle.ntp_service_run.specs.Forgery.{is_genuine, genuine};
 
-use ntp_admin::{Command, Event, Outcome};
+use ntp_events::{Command, Event, Outcome};
 use ntp_register::{Address, Refusal, Register};
 use ntp_reply::{Answer, Reason, Reference, answer_octets, depart};
 use ntp_time::{Moment, Stamp};

@@ -6,9 +6,9 @@ use Rattle.ntp_register.specs.Registry.{Registry}
 use Rattle.ntp_reply_packets.specs.Reference.{ReferenceState}
 use Rattle.ntp_reply.specs.declared.answers.Answer.{Answer}
 use Rattle.ntp_reply.specs.declared.answers.Answer.TheVariants as answer
-use Rattle.ntp_observer.specs.declared.outcomes.Arrival.{Arrival}
-use Rattle.ntp_observer.specs.declared.outcomes.TurnOutcome.{TurnOutcome}
-use Rattle.ntp_observer.specs.declared.outcomes.TurnOutcome.TheVariants.{NothingReceived, Answered}
+use Rattle.ntp_events.specs.declared.observation.Arrival.{Arrival}
+use Rattle.ntp_events.specs.declared.observation.TurnOutcome.{TurnOutcome}
+use Rattle.ntp_events.specs.declared.observation.TurnOutcome.TheVariants.{NothingReceived, Answered}
 use Rattle.ntp_service_run.specs.Headline.{Tells}
 use Rattle.ntp_service_run.proofs.Runs.{Tells-nil, Tells-append}
 use Rattle.ntp_service_serve.specs.declared.port.PortFault.{PortFault}

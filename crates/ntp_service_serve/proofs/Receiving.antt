@@ -5,7 +5,7 @@ use Rattle.std.proofs.lemmas.Bool.Decides.{eqb_tells}
 use Rattle.std.proofs.lemmas.Option.{slice_get_read}
 use Rattle.std.specs.Prelude.{option_map, slice_get}
 use Rattle.ntp_service_serve.specs.declared.turn.Turn.{Turn}
-use Rattle.ntp_observer.specs.declared.outcomes.Arrival.{Arrival}
+use Rattle.ntp_events.specs.declared.observation.Arrival.{Arrival}
 use Rattle.ntp_service_serve.specs.declared.port.PortFault.{PortFault}
 use Rattle.ntp_service_serve.specs.Port.{Told, begun, Arrives, Receives}
 use Rattle.ntp_service_serve.specs.Memory.{turn_told, incoming_told}

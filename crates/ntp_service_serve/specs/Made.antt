@@ -6,15 +6,15 @@ use Rattle.ntp_register.specs.declared.address.Address.{Address}
 use Rattle.ntp_reply_packets.specs.Reference.{ReferenceState}
 use Rattle.ntp_reply.specs.declared.answers.Answer.{Answer}
 use Rattle.ntp_reply.specs.declared.answers.Answer.TheVariants as answer
-use Rattle.ntp_observer.specs.declared.outcomes.Arrival.{Arrival}
-use Rattle.ntp_observer.specs.declared.outcomes.Sending.{Sending}
-use Rattle.ntp_observer.specs.declared.outcomes.Sending.TheVariants.{NoReply, NotSent, Sent as WasSent, Noted, NotNoted}
-use Rattle.ntp_observer.specs.declared.outcomes.TurnOutcome.{TurnOutcome}
-use Rattle.ntp_observer.specs.declared.outcomes.TurnOutcome.TheVariants.{NothingReceived, Answered}
-use Rattle.ntp_admin.specs.declared.event.Event.{Event}
-use Rattle.ntp_admin.specs.declared.event.Event.TheVariants as event
-use Rattle.ntp_admin.specs.declared.outcome.Outcome.{Outcome}
-use Rattle.ntp_admin.specs.declared.outcome.Outcome.TheVariants as outcome
+use Rattle.ntp_events.specs.declared.observation.Arrival.{Arrival}
+use Rattle.ntp_events.specs.declared.observation.Sending.{Sending}
+use Rattle.ntp_events.specs.declared.observation.Sending.TheVariants.{NoReply, NotSent, Sent as WasSent, Noted, NotNoted}
+use Rattle.ntp_events.specs.declared.observation.TurnOutcome.{TurnOutcome}
+use Rattle.ntp_events.specs.declared.observation.TurnOutcome.TheVariants.{NothingReceived, Answered}
+use Rattle.ntp_events.specs.declared.event.Event.{Event}
+use Rattle.ntp_events.specs.declared.event.Event.TheVariants as event
+use Rattle.ntp_events.specs.declared.outcome.Outcome.{Outcome}
+use Rattle.ntp_events.specs.declared.outcome.Outcome.TheVariants as outcome
 use Rattle.ntp_service_run.specs.Model.{departure_outcome}
 use Rattle.ntp_service_serve.specs.declared.memory_port.Sent.{Sent}
 use Rattle.ntp_service_serve.specs.Port.{IncomingValue, TurnValue, transmit_of, departure_of, received}

@@ -3,11 +3,11 @@ use Rattle.std.specs.Prelude.{◌≡◌, ℕ, ◌+◌, Bool, false, true, not, �
 use Rattle.ntp_time.specs.declared.moment.Moment.{Moment}
 use Rattle.ntp_register.specs.Registry.{Registry}
 use Rattle.ntp_reply.specs.declared.answers.Answer.{Answer}
-use Rattle.ntp_observer.specs.declared.outcomes.Sending.{Sending}
-use Rattle.ntp_observer.specs.declared.outcomes.Sending.TheVariants.{NoReply, NotSent, Noted}
-use Rattle.ntp_observer.specs.declared.outcomes.TurnOutcome.{TurnOutcome}
-use Rattle.ntp_observer.specs.declared.outcomes.TurnOutcome.TheVariants.{NothingReceived, Answered}
-use Rattle.ntp_admin.specs.declared.event.Event.{Event}
+use Rattle.ntp_events.specs.declared.observation.Sending.{Sending}
+use Rattle.ntp_events.specs.declared.observation.Sending.TheVariants.{NoReply, NotSent, Noted}
+use Rattle.ntp_events.specs.declared.observation.TurnOutcome.{TurnOutcome}
+use Rattle.ntp_events.specs.declared.observation.TurnOutcome.TheVariants.{NothingReceived, Answered}
+use Rattle.ntp_events.specs.declared.event.Event.{Event}
 use Rattle.ntp_service_run.specs.Model.{departure_outcome}
 use Rattle.ntp_service_run.specs.Headline.{StandsFor, Tells}
 use Rattle.ntp_service_serve.specs.declared.serving.Served.{Served}

@@ -3,10 +3,10 @@ use Rattle.std.specs.Prelude.{◌≡◌, ℕ, ◌+◌, Bool, Option, None, Some,
 use Rattle.std.specs.Result.{result_ok}
 use Rattle.ntp_register.specs.Registry.{Registry}
 use Rattle.ntp_reply_packets.specs.Reference.{ReferenceState}
-use Rattle.ntp_observer.specs.declared.outcomes.Arrival.{Arrival}
-use Rattle.ntp_observer.specs.declared.outcomes.TurnOutcome.{TurnOutcome}
-use Rattle.ntp_admin.specs.declared.event.Event.{Event}
-use Rattle.ntp_admin.specs.declared.outcome.Outcome.{Outcome}
+use Rattle.ntp_events.specs.declared.observation.Arrival.{Arrival}
+use Rattle.ntp_events.specs.declared.observation.TurnOutcome.{TurnOutcome}
+use Rattle.ntp_events.specs.declared.event.Event.{Event}
+use Rattle.ntp_events.specs.declared.outcome.Outcome.{Outcome}
 use Rattle.ntp_service_run.specs.Headline.{StandsFor, Tells}
 use Rattle.ntp_service_serve.specs.declared.memory_port.Sent.{Sent}
 use Rattle.ntp_service_serve.specs.declared.port.PortFault.{PortFault}

@@ -7,7 +7,7 @@ mod serving;
 mod turn;
 
 pub use memory_port::{MemoryPort, Sent};
-pub use ntp_observer::Arrival;
+pub use ntp_events::Arrival;
 pub use port::{Port, PortFault, TimedPort};
 pub use serving::{Served, answer_received, serve};
 pub use turn::{Incoming, Turn};

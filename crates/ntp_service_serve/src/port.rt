@@ -3,7 +3,7 @@ ghost use Rattle.std.specs.Prelude.{◌≡◌, ℕ, ◌+◌, ◌-◌, ◌≤◌,
 ghost use Rattle.std.specs.Option.{option_map_or};
 ghost use Rattle.ntp_service_serve.specs.Port.{Told, most_datagram_octets, ReceiveTells, NowTells, SendTells};
 
-use ntp_observer::Arrival;
+use ntp_events::Arrival;
 use ntp_register::Address;
 use ntp_time::Moment;
 

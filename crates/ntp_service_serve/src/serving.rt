@@ -7,8 +7,8 @@ ghost use Rattle.ntp_service_serve.specs.Serving.{ServeMakes, TurnMakes};
 ghost use Rattle.ntp_service_serve.specs.Sending.{IsInTurn, SendingMakes, counted};
 
 use crate::port::{MOST_DATAGRAM_OCTETS, Port, PortFault};
+use ntp_events::{Arrival, Sending, TurnOutcome};
 use ntp_mac::Reply;
-use ntp_observer::{Arrival, Sending, TurnOutcome};
 use ntp_reply::{Answer, Reference};
 use ntp_service_run::Service;
 use ntp_time::Stamp;

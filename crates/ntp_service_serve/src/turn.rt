@@ -1,6 +1,6 @@
 //! What a port in memory is told.
 
-use ntp_admin::Octets;
+use ntp_events::Octets;
 use ntp_register::Address;
 use ntp_time::Moment;
 use std::alloc::{Allocator, Global};

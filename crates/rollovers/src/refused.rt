@@ -3,8 +3,8 @@
 ghost use Rattle.std.specs.Prelude.{◌<◌};
 
 use ntp_admin::Command;
-use ntp_mac::{Algorithm, Key};
 use ntp_customer_files::commands_step;
+use ntp_mac::{Algorithm, Key};
 use ntp_register::{Address, Refusal, Register};
 use ntp_service::Service;
 use refusing::Refusing;

@@ -1,7 +1,7 @@
 //! What no contract says: that good lines are answered, and that only what is wrong is a fault.
 use super::*;
 use crate::faulty::Faulty;
-use ntp_admin::LineFault;
+use ntp_events::LineFault;
 use std::alloc::Global;
 use std::io::ErrorKind;
 use std::test::Fail;

@@ -1,4 +1,4 @@
-use Rattle.ntp_admin.specs.declared.command.Command.TheVariants.{Revoke, Budget, Rollover, Retire}
+use Rattle.ntp_events.specs.declared.command.Command.TheVariants.{Revoke, Budget, Rollover, Retire}
 use Rattle.ntp_service_run.proofs.Commands.{Does, told-of, enrol-does, change-refused, change-done}
 use Rattle.ntp_service_run.proofs.service.Service.command.Goals as goal
 

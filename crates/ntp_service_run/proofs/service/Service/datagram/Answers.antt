@@ -1,6 +1,6 @@
 use Rattle.std.proofs.Common.{Some, refl, sym, ap}
 use Rattle.ntp_register.proofs.Agreement.{agrees-with_customer}
-use Rattle.ntp_admin.specs.declared.outcome.Outcome.TheVariants.{Datagram}
+use Rattle.ntp_events.specs.declared.outcome.Outcome.TheVariants.{Datagram}
 use Rattle.ntp_service_run.proofs.Datagrams.{unregistered-tells, customer-tells}
 use Rattle.ntp_service_run.proofs.Forgeries.{answered-alone}
 use Rattle.ntp_service_run.proofs.service.Service.datagram.Goals as goal

@@ -1,6 +1,6 @@
 use Rattle.std.proofs.Common.{List, take, ◌≤◌, ◌≡◌, length}
 use Rattle.std.specs.Prelude.{vec_len, vec_capacity}
-use Rattle.ntp_admin.specs.declared.event.Event.{Event}
+use Rattle.ntp_events.specs.declared.event.Event.{Event}
 use Rattle.ntp_service_run.specs.Headline.{StandsFor}
 use Rattle.ntp_service_run.proofs.Runs.{Goes}
 use Rattle.ntp_service_run.proofs.service.Service.run.Given as goal

@@ -1,7 +1,7 @@
 -- What an observer saw, one thing after another.
 use Rattle.std.proofs.Common.{◌≡◌, Option, Some, None, List, [], ◌++◌, refl, sym, append_assoc, append-nil}
-use Rattle.ntp_observer.specs.declared.outcomes.Observation.{Observation}
-use Rattle.ntp_observer.specs.Sees.{Sees}
+use Rattle.ntp_events.specs.declared.observation.Observation.{Observation}
+use Rattle.ntp_events.specs.Sees.{Sees}
 
 -- nothing was seen
 pub Sees-nil : (t : Option (List Observation)) → Sees t t []

@@ -1,6 +1,6 @@
 //! What comes of the lines of commands and of the turns of a server.
 
-use ntp_admin::LineFault;
+use crate::LineFault;
 use ntp_register::{Address, Refusal};
 use ntp_reply::Answer;
 use ntp_time::Moment;

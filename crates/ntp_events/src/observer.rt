@@ -1,10 +1,9 @@
 //! Who is told what a server does.
 ghost use Rattle.std.specs.Prelude.{◌≡◌, Option, None, List, [], ◌∷◌};
-ghost use Rattle.ntp_observer.specs.Sees.{Sees};
-ghost use Rattle.ntp_observer.specs.declared.outcomes.Observation.{Observation};
+ghost use Rattle.ntp_events.specs.Sees.{Sees};
+ghost use Rattle.ntp_events.specs.declared.observation.Observation.{Observation};
 
-use crate::outcomes::{LineOutcome, TurnOutcome};
-use ntp_admin::Command;
+use crate::{Command, LineOutcome, TurnOutcome};
 
 /// Who is told of each line of commands and of each turn, as it is done (profile).
 ///

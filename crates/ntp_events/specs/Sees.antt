@@ -1,6 +1,6 @@
 -- What an observer saw.
 use Rattle.std.specs.Prelude.{◌≡◌, Option, None, Some, List, ◌++◌}
-use Rattle.ntp_observer.specs.declared.outcomes.Observation.{Observation}
+use Rattle.ntp_events.specs.declared.observation.Observation.{Observation}
 
 -- an observer that tells what it has seen saw these after what it had seen before; one that tells it no longer, or never did, tells
 -- nothing of them (profile)

@@ -9,7 +9,7 @@ use ntp_mac::{Algorithm, Key, digest};
 use ntp_register::Address;
 use ntp_reply::{Answer, Reference};
 use ntp_service::Service;
-use ntp_tail::read_request;
+use ntp_request::read_request;
 use ntp_time::{Moment, Short, Stamp};
 use std::alloc::Global;
 use std::num::NonZero;

@@ -4,8 +4,8 @@ use Rattle.std.specs.Fmt.{decimal}
 use Rattle.std.specs.Int.{w64, to_be_bytes}
 use Rattle.hex.specs.Hex.{encode_lower}
 use Rattle.ntp_time.specs.declared.stamp.Stamp.{Stamp}
-use Rattle.ntp_tail.specs.declared.malformed.Malformed.{Malformed}
-use Rattle.ntp_tail.specs.declared.malformed.Malformed.TheVariants as malformed
+use Rattle.ntp_request.specs.declared.malformed.Malformed.{Malformed}
+use Rattle.ntp_request.specs.declared.malformed.Malformed.TheVariants as malformed
 use Rattle.ntp_register.specs.declared.refusal.Refusal.{Refusal}
 use Rattle.ntp_register.specs.declared.refusal.Refusal.TheVariants as refusal
 use Rattle.ntp_reply.specs.declared.answers.Answer.{Answer}

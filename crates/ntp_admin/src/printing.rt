@@ -7,7 +7,7 @@ use ntp_events::{NoMemory, Outcome};
 use ntp_mac::Reply;
 use ntp_register::Refusal;
 use ntp_reply::{Answer, Reason};
-use ntp_tail::Malformed;
+use ntp_request::Malformed;
 use ntp_time::Stamp;
 use std::alloc::{AllocError, Allocator};
 

@@ -3,9 +3,9 @@ use Rattle.std.specs.Prelude.{ℕ, List, [], ◌∷◌, Bool, ◌==◌, ◌&&◌
 use Rattle.std.specs.Cmp.Lexicographic.{pointwise}
 use Rattle.ntp_time.specs.declared.moment.Moment.{Moment}
 use Rattle.ntp_packet.specs.Header.{HeaderFields}
-use Rattle.ntp_tail.specs.Tail.{TailValue, NoTail, BareTail, Md5Tail, Sha1Tail}
-use Rattle.ntp_tail.specs.Request.{RequestValue}
-use Rattle.ntp_tail.specs.declared.malformed.Malformed.{Malformed}
+use Rattle.ntp_request.specs.Tail.{TailValue, NoTail, BareTail, Md5Tail, Sha1Tail}
+use Rattle.ntp_request.specs.Request.{RequestValue}
+use Rattle.ntp_request.specs.declared.malformed.Malformed.{Malformed}
 use Rattle.ntp_mac.specs.Key.{SymmetricKey}
 use Rattle.ntp_mac.specs.Reading.{reading_of}
 use Rattle.ntp_mac.specs.Signed.{is_signed}

@@ -12,7 +12,7 @@ use crate::pairing::exchange_of;
 use crate::query::{query_header, transmit_of};
 use crate::{Distrust, Sample, Taken};
 use ntp_mac::{Key, Reply, seal};
-use ntp_tail::{Request, read_request};
+use ntp_request::{Request, read_request};
 use ntp_time::Moment;
 use std::marker::Model;
 

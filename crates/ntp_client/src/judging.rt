@@ -8,7 +8,7 @@ use crate::query::VERSION;
 use crate::{Distrust, Sample, Taken};
 use ntp_mac::{Key, verifies};
 use ntp_packet::Header;
-use ntp_tail::{Request, Tail};
+use ntp_request::{Request, Tail};
 use ntp_time::Moment;
 
 /// The mode of a packet from a server (RFC 5905, 7.3).

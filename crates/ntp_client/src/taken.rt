@@ -1,7 +1,7 @@
 //! What a client takes octets for.
 
 use crate::Sample;
-use ntp_tail::Malformed;
+use ntp_request::Malformed;
 
 /// What a client takes octets for that arrive.
 #[derive(Clone, Copy, Debug, PartialEq, Eq)]

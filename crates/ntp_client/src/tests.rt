@@ -4,7 +4,7 @@ ghost use Rattle.std.specs.Prelude.{◌≤◌};
 
 use crate::{Client, Distrust, Sample, Taken};
 use ntp_mac::{Algorithm, Key};
-use ntp_tail::Malformed;
+use ntp_request::Malformed;
 use ntp_time::{Moment, Stamp};
 use std::process::Abort;
 use std::test::Fail;

@@ -3,8 +3,8 @@ use Rattle.std.specs.Prelude.{ℕ, ℤ, ◌+ℤ◌, Option, Some, None, Result, 
 use Rattle.ntp_time.specs.declared.moment.Moment.{Moment}
 use Rattle.ntp_time.specs.Difference.{difference}
 use Rattle.ntp_packet.specs.Header.{HeaderFields}
-use Rattle.ntp_tail.specs.Request.{RequestValue}
-use Rattle.ntp_tail.specs.declared.malformed.Malformed.{Malformed}
+use Rattle.ntp_request.specs.Request.{RequestValue}
+use Rattle.ntp_request.specs.declared.malformed.Malformed.{Malformed}
 use Rattle.ntp_mac.specs.Key.{SymmetricKey}
 use Rattle.ntp_client.specs.State.{ClientState, new_client}
 use Rattle.ntp_client.specs.declared.sample.Sample.{Sample}

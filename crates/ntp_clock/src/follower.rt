@@ -1,6 +1,6 @@
 //! A follower of the host's clock daemon.
 ghost use Rattle.std.specs.Prelude.{◌≡◌, ◌<◌, Some, option_copied, option_map};
-ghost use Rattle.ntp_tail.specs.Request.{RequestValue, IsRequest};
+ghost use Rattle.ntp_request.specs.Request.{RequestValue, IsRequest};
 ghost use Rattle.ntp_mac.specs.Reading.{reading_of};
 ghost use Rattle.ntp_mac.specs.Signed.{IsSigned};
 ghost use Rattle.ntp_client.specs.Query.{query_octets, next_query, after_query};
@@ -15,7 +15,7 @@ use crate::{ClockAnswer, ClockLimits, state_in_force};
 use ntp_client::{Client, Distrust, Outgoing, Sample, Taken};
 use ntp_mac::Key;
 use ntp_reply_packets::Reference;
-use ntp_tail::read_request;
+use ntp_request::read_request;
 use ntp_time::Moment;
 use std::marker::Model;
 

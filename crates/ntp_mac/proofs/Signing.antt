@@ -2,9 +2,9 @@
 use Rattle.std.proofs.Common.{◌≡◌, ℕ, List, Bool, true, false, ◌==◌, ◌&&◌, ap, sym, ◌∙◌, refl, nat_eq, eqb-true, eq-eqb}
 use Rattle.std.specs.Prelude.{◌↔◌, IsTrue}
 use Rattle.std.specs.Cmp.Lexicographic.{pointwise, bytes_decides}
-use Rattle.ntp_tail.specs.Tail.{TailValue}
-use Rattle.ntp_tail.specs.Tail.TailValue.{NoTail, BareTail, Md5Tail, Sha1Tail}
-use Rattle.ntp_tail.specs.Request.{RequestValue}
+use Rattle.ntp_request.specs.Tail.{TailValue}
+use Rattle.ntp_request.specs.Tail.TailValue.{NoTail, BareTail, Md5Tail, Sha1Tail}
+use Rattle.ntp_request.specs.Request.{RequestValue}
 use Rattle.ntp_mac.specs.declared.digests.Digest.{Digest}
 use Rattle.ntp_mac.specs.declared.digests.Digest.TheVariants.{Md5, Sha1}
 use Rattle.ntp_mac.specs.Key.{SymmetricKey}

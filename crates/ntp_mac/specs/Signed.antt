@@ -1,9 +1,9 @@
 -- That a request is signed.
 use Rattle.std.specs.Prelude.{◌≡◌, ℕ, Bool, false, ◌&&◌, ◌==◌, nat_eq}
 use Rattle.std.specs.Cmp.Lexicographic.{pointwise}
-use Rattle.ntp_tail.specs.Tail.{TailValue}
-use Rattle.ntp_tail.specs.Tail.TailValue.{Md5Tail, Sha1Tail}
-use Rattle.ntp_tail.specs.Request.{RequestValue}
+use Rattle.ntp_request.specs.Tail.{TailValue}
+use Rattle.ntp_request.specs.Tail.TailValue.{Md5Tail, Sha1Tail}
+use Rattle.ntp_request.specs.Request.{RequestValue}
 use Rattle.ntp_mac.specs.Key.{SymmetricKey}
 use Rattle.ntp_mac.specs.Digest.{digest_of}
 use Rattle.ntp_mac.specs.declared.digests.Digest.{Digest}

@@ -1,7 +1,7 @@
 //! What holds of the definitions, whatever code meets them.
 ghost use Rattle.std.specs.Prelude.{◌≡◌, ℕ, ◌<◌, List, All, Result};
-ghost use Rattle.ntp_tail.specs.Request.{RequestValue};
-ghost use Rattle.ntp_tail.specs.declared.malformed.Malformed.{Malformed};
+ghost use Rattle.ntp_request.specs.Request.{RequestValue};
+ghost use Rattle.ntp_request.specs.declared.malformed.Malformed.{Malformed};
 ghost use Rattle.ntp_mac.specs.Reading.{Reads, reading_of};
 
 /// Octets are what they are read as, and nothing else. This is a law, and does nothing when it is called.

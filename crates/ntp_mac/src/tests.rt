@@ -2,7 +2,7 @@
 
 use crate::{Algorithm, Digest, Key, KeyFault, Reply, add_nak, digest, seal, verifies};
 use ntp_packet::read_header;
-use ntp_tail::read_request;
+use ntp_request::read_request;
 use std::test::Fail;
 
 // The header of a time reply.

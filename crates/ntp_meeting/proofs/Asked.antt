@@ -2,7 +2,7 @@
 use Rattle.std.proofs.Common.{◌≡◌, ℕ, ◌^◌, ◌<◌, Some, IfSome, refl, ap, ◌∙◌}
 use Rattle.ntp_time.specs.declared.moment.Moment.{Moment}
 use Rattle.ntp_packet.specs.Header.{HeaderFields, header_octets}
-use Rattle.ntp_tail.specs.Request.{RequestValue}
+use Rattle.ntp_request.specs.Request.{RequestValue}
 use Rattle.ntp_mac.specs.Key.{SymmetricKey}
 use Rattle.ntp_mac.specs.Digest.{digest_of}
 use Rattle.ntp_mac.specs.Reading.{reading_of}

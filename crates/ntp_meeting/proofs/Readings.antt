@@ -4,10 +4,10 @@ use Rattle.std.specs.Int.{w32, to_be_bytes}
 use Rattle.std.proofs.lemmas.List.Elements.{All-append}
 use Rattle.ntp_packet.specs.Header.{HeaderFields, IsHeader, header_octets}
 use Rattle.ntp_packet.proofs.Readings.{length-header_octets}
-use Rattle.ntp_tail.specs.Tail.{TailValue, NoTail, BareTail, tail_octets, IsTail}
-use Rattle.ntp_tail.specs.Request.{RequestValue, IsRequest, signed_octets}
-use Rattle.ntp_tail.proofs.Octets.{AreOctets-all}
-use Rattle.ntp_tail.proofs.Tails.{length-tail}
+use Rattle.ntp_request.specs.Tail.{TailValue, NoTail, BareTail, tail_octets, IsTail}
+use Rattle.ntp_request.specs.Request.{RequestValue, IsRequest, signed_octets}
+use Rattle.ntp_request.proofs.Octets.{AreOctets-all}
+use Rattle.ntp_request.proofs.Tails.{length-tail}
 use Rattle.ntp_mac.specs.Key.{SymmetricKey}
 use Rattle.ntp_mac.specs.Digest.{hash, digest_of, digest_octets}
 use Rattle.ntp_mac.specs.Mac.{mac_of, nak_octets}

@@ -2,8 +2,8 @@
 use Rattle.std.proofs.Common.{◌≡◌, ℕ, Bool, true, false, ◌==◌, List, Option, Some, None, Ok, refl}
 use Rattle.std.specs.Prelude.{if◌then◌else◌}
 use Rattle.ntp_packet.specs.Header.{HeaderFields}
-use Rattle.ntp_tail.specs.Tail.{TailValue, NoTail, BareTail, Md5Tail, Sha1Tail}
-use Rattle.ntp_tail.specs.Request.{RequestValue}
+use Rattle.ntp_request.specs.Tail.{TailValue, NoTail, BareTail, Md5Tail, Sha1Tail}
+use Rattle.ntp_request.specs.Request.{RequestValue}
 use Rattle.ntp_mac.specs.Reading.{reading_of}
 use Rattle.ntp_mac.specs.Signed.{is_signed}
 use Rattle.ntp_customer.specs.declared.numbered_key.NumberedKey.{NumberedKey}

@@ -1,8 +1,8 @@
 -- How many octets requests and replies have.
 use Rattle.std.proofs.Common.{◌≡◌, ℕ, ◌+◌, ◌≤◌, List, length, ap, ◌∙◌, subst, arith}
-use Rattle.ntp_tail.specs.Tail.{TailValue, Md5Tail, Sha1Tail, tail_octets, IsTail}
-use Rattle.ntp_tail.specs.Request.{RequestValue, IsReading}
-use Rattle.ntp_tail.proofs.Headers.{length-signed}
+use Rattle.ntp_request.specs.Tail.{TailValue, Md5Tail, Sha1Tail, tail_octets, IsTail}
+use Rattle.ntp_request.specs.Request.{RequestValue, IsReading}
+use Rattle.ntp_request.proofs.Headers.{length-signed}
 use Rattle.ntp_mac.specs.Key.{SymmetricKey}
 use Rattle.ntp_mac.specs.Digest.{digest_length, hash}
 use Rattle.ntp_mac.specs.Signed.{IsSigned, mac_tail}

@@ -1,9 +1,9 @@
 -- What a datagram is to the address from which it came.
 use Rattle.std.specs.Prelude.{ℕ, List, ◌==◌, ◌||◌, if◌then◌else◌, Option, Some, None, Result, Ok, Err}
 use Rattle.ntp_packet.specs.Header.{HeaderFields}
-use Rattle.ntp_tail.specs.Tail.{TailValue, NoTail, BareTail, Md5Tail, Sha1Tail}
-use Rattle.ntp_tail.specs.Request.{RequestValue}
-use Rattle.ntp_tail.specs.declared.malformed.Malformed.{Malformed}
+use Rattle.ntp_request.specs.Tail.{TailValue, NoTail, BareTail, Md5Tail, Sha1Tail}
+use Rattle.ntp_request.specs.Request.{RequestValue}
+use Rattle.ntp_request.specs.declared.malformed.Malformed.{Malformed}
 use Rattle.ntp_mac.specs.Key.{SymmetricKey}
 use Rattle.ntp_mac.specs.Reading.{reading_of}
 use Rattle.ntp_mac.specs.Signed.{is_signed}

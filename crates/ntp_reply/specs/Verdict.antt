@@ -3,8 +3,8 @@ use Rattle.std.specs.Prelude.{ℕ, List, Some, None, option_map, length, ◌+◌
 use Rattle.ntp_time.specs.Moment.{window_of}
 use Rattle.ntp_budget.specs.Tally.{count_in}
 use Rattle.ntp_packet.specs.Header.{HeaderFields}
-use Rattle.ntp_tail.specs.Tail.{tail_octets}
-use Rattle.ntp_tail.specs.Request.{RequestValue}
+use Rattle.ntp_request.specs.Tail.{tail_octets}
+use Rattle.ntp_request.specs.Request.{RequestValue}
 use Rattle.ntp_mac.specs.Key.{SymmetricKey}
 use Rattle.ntp_slots.specs.declared.slot.Slot.{Slot}
 use Rattle.ntp_customer.specs.Customer.{budget_of}

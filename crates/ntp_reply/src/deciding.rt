@@ -1,6 +1,6 @@
 //! The decision, in its order.
 ghost use Rattle.std.specs.Prelude.{◌≡◌, ◌≤◌, ◌||◌, ◌==◌, length, IsSome, IfSome};
-ghost use Rattle.ntp_tail.specs.Tail.{tail_octets};
+ghost use Rattle.ntp_request.specs.Tail.{tail_octets};
 ghost use Rattle.ntp_customer.specs.Customer.{enrolment_at, held_in, numbers_of};
 ghost use Rattle.ntp_customer.specs.Past.{Past, short};
 ghost use Rattle.ntp_reply.specs.Kind.{mac_kind, packet_kind, kind_of};
@@ -13,7 +13,7 @@ use crate::{Answer, Reason, Reference};
 use ntp_customer::Customer;
 use ntp_mac::verifies;
 use ntp_reply_packets::Occasion;
-use ntp_tail::{Request, Tail, read_request};
+use ntp_request::{Request, Tail, read_request};
 use ntp_time::Moment;
 use std::alloc::Allocator;
 

@@ -1,8 +1,8 @@
 -- What an observation is counted as.
 use Rattle.std.specs.Prelude.{ℕ, Bool, ◌==◌, List, [], ◌∷◌, if◌then◌else◌}
 use denote.Enum.Declared.{tag_of}
-use Rattle.ntp_tail.specs.declared.malformed.Malformed.{Malformed}
-use Rattle.ntp_tail.specs.declared.malformed.Malformed.TheVariants as malformed
+use Rattle.ntp_request.specs.declared.malformed.Malformed.{Malformed}
+use Rattle.ntp_request.specs.declared.malformed.Malformed.TheVariants as malformed
 use Rattle.ntp_register.specs.declared.refusal.Refusal.{Refusal}
 use Rattle.ntp_register.specs.declared.refusal.Refusal.TheVariants as refusal
 use Rattle.ntp_reply.specs.declared.answers.Answer.{Answer}

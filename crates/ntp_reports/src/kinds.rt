@@ -7,7 +7,7 @@ use crate::stamps::tells_departure;
 use ntp_events::LineOutcome;
 use ntp_register::Refusal;
 use ntp_reply::{Answer, Reason};
-use ntp_tail::Malformed;
+use ntp_request::Malformed;
 
 // What an answer is counted as.
 pub(crate) fn answer_kind(answer: &Answer) -> Kind

@@ -8,7 +8,7 @@ use ntp_events::{Arrival, LineFault, LineOutcome, Observer, Sending, TurnOutcome
 use ntp_mac::Reply;
 use ntp_register::{Address, Refusal};
 use ntp_reply::{Answer, Reason};
-use ntp_tail::Malformed;
+use ntp_request::Malformed;
 use ntp_time::{Moment, Short, Stamp};
 use refusing::{Broken, Refusing};
 use std::test::Fail;

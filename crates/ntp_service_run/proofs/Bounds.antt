@@ -9,8 +9,8 @@ use Rattle.ntp_budget.proofs.Tallies.{count_in-append}
 use Rattle.ntp_packet.specs.Header.{HeaderFields}
 use Rattle.ntp_mac.specs.Key.{SymmetricKey}
 use Rattle.ntp_mac.specs.Reading.{reading_of}
-use Rattle.ntp_tail.specs.Request.{RequestValue}
-use Rattle.ntp_tail.specs.declared.malformed.Malformed.{Malformed}
+use Rattle.ntp_request.specs.Request.{RequestValue}
+use Rattle.ntp_request.specs.declared.malformed.Malformed.{Malformed}
 use Rattle.ntp_customer.specs.Customer.{Enrolment, AccountOf, enrolment_at, is_enrolled}
 use Rattle.ntp_customer.specs.Past.{Past, with_refusal}
 use Rattle.ntp_customer.proofs.Pasts.{by_past}

@@ -1,6 +1,6 @@
 use Rattle.std.proofs.Common.{◌≡◌, Err, Some, sym, ◌∙◌, arith}
 use Rattle.ntp_mac.proofs.ReadAs.{answers-so}
-use Rattle.ntp_tail.proofs.Octets.{AreOctets}
+use Rattle.ntp_request.proofs.Octets.{AreOctets}
 use Rattle.ntp_client.specs.State.{IsClient}
 use Rattle.ntp_client.proofs.Samples.{taken-sample}
 use Rattle.ntp_client.proofs.Takings.{read-taken, read-after}

@@ -1,4 +1,0 @@
-use Rattle.ntp_tail.proofs.plain.+is_place.Given as goal
-
-abbrev pub decreases-is_place : goal.decreases-is_place
-decreases-is_place l = l.place

@@ -138,20 +138,42 @@ IsFresh-fresh s avoid small =
       | inr none ↦ absurd (some-free s avoid small none)
     ]
 
--- where length avoid + 1 stamps from s on are not free, the next one is fresh
-pub last-is-fresh : (s : Stamp) (avoid : List Stamp) (r : Stamp) (n : ℕ) → length avoid < 2 ^ 63 → n ≡ length avoid + 1 → r ≡ later s n
-    → ((j : ℕ) → j < n → ¬ (is_free avoid (later s j) ≡ true)) → IsFresh s avoid r
-last-is-fresh s avoid r n small all reached taken = record {
+-- the first free one of the stamps from s on is fresh
+pub first-is-fresh : (s : Stamp) (avoid : List Stamp) (r : Stamp) (n : ℕ) → length avoid < 2 ^ 63 → r ≡ later s n
+    → ((j : ℕ) → j < n → ¬ (is_free avoid (later s j) ≡ true)) → is_free avoid r ≡ true → IsFresh s avoid r
+first-is-fresh s avoid r n small reached passed free = record {
   steps = n;
-  few = omega arith;
+  few = elim (cases_lt n (length avoid + 2)) [
+    | inl few ↦ omega arith
+    | inr many ↦ absurd (some-free s avoid small (λ k below. false_from_ne_true _ (passed k (omega arith))))
+  ];
   reached = reached;
-  free = rw reached (true_from_ne_false _ (λ last. some-free s avoid small (λ k below.
-      elim (cases_lt k n) [
-        | inl before ↦ false_from_ne_true _ (taken k before)
-        | inr past ↦ let at : k ≡ n = omega arith in rw at last
-      ])));
-  least = taken;
+  free = free;
+  least = passed;
 }
+
+-- where length avoid + 1 stamps from s on are not free, or more, the next one is fresh
+pub last-is-fresh : (s : Stamp) (avoid : List Stamp) (r : Stamp) (n : ℕ) → length avoid < 2 ^ 63 → length avoid + 1 ≤ n → r ≡ later s n
+    → ((j : ℕ) → j < n → ¬ (is_free avoid (later s j) ≡ true)) → IsFresh s avoid r
+last-is-fresh s avoid r n small all reached passed =
+    first-is-fresh s avoid r n small reached passed (rw reached (true_from_ne_false _ (λ last. some-free s avoid small (λ k below.
+    elim (cases_lt k n) [
+      | inl before ↦ false_from_ne_true _ (passed k before)
+      | inr past ↦ let at : k ≡ n = omega arith in rw at last
+    ]))))
+
+-- a stamp is free where it is not 0, and a test that tells says that it is not taken
+pub free-from_test : (taken : List Stamp) (s : Stamp) (r : Bool) → r ≡ list_any (λ a. eqb a.0 s.0) taken → s.0 ≢ 0 → r ≡ false
+    → is_free taken s ≡ true
+unfolding is_free
+free-from_test taken s r tells known free = rw (ne_eqb s.0 0 known, sym tells, free) refl
+
+-- and not where it says that it is
+pub taken-from_test : (taken : List Stamp) (s : Stamp) (r : Bool) → r ≡ list_any (λ a. eqb a.0 s.0) taken → r ≡ true
+    → is_free taken s ≡ true → ⊥
+unfolding is_free
+taken-from_test taken s r tells found free =
+    both_ways (list_any (λ a. eqb a.0 s.0) taken) (not-true _ (and_parts (not (eqb s.0 0)) _ free).1) (sym tells ∙ found)
 
 -- a free stamp is not 0
 pub free-nonzero : (avoid : List Stamp) (r : Stamp) → is_free avoid r ≡ true → r.0 ≢ 0

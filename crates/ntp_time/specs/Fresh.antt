@@ -23,3 +23,7 @@ pub record IsFresh (s : Stamp) (avoid : List Stamp) (r : Stamp) : Type 0 where
   pub reached : r ≡ later s steps
   pub free : IsTrue (is_free avoid r)
   pub least : (j : ℕ) → j < steps → ¬ IsTrue (is_free avoid (later s j))
+
+-- whether a test says of each stamp of 64 bits whether it is in the list
+abbrev pub TellsTaken : (Stamp → Bool → Type 0) → List Stamp → Type 0
+TellsTaken says taken = (s : Stamp) (r : Bool) → s.0 < 2 ^ 64 → says s r → r ≡ list_any (λ a. a.0 == s.0) taken

@@ -1,6 +1,6 @@
 //! Stamps that differ from others that are in use.
-ghost use Rattle.std.specs.Prelude.{◌≡◌};
-ghost use Rattle.ntp_time.specs.Fresh.{fresh, is_free, IsFresh};
+ghost use Rattle.std.specs.Prelude.{◌≡◌, ◌<◌, ◌≤◌, ◌^◌, List, length};
+ghost use Rattle.ntp_time.specs.Fresh.{fresh, IsFresh, TellsTaken};
 
 use crate::Stamp;
 
@@ -11,24 +11,26 @@ pub fn fresh(s: Stamp, avoid: &[Stamp]) -> Stamp
     ensures value { result ≡ fresh s avoid.now }
     ensures least { IsFresh s avoid.now result }
 {
+    first_free(s, avoid.len(), |stamp| avoid.contains(&stamp))
+}
+
+/// The first of `s`, `s + 1`, `s + 2`, .. modulo 2^64 that is not 0, which means an unknown time, and is not
+/// taken, as `is_taken` says; at most `most_taken` stamps are.
+pub fn first_free<F: Fn(Stamp) -> bool>(s: Stamp, most_taken: usize, is_taken: F) -> Stamp
+    requires callable { F.IsAlwaysCallable is_taken }
+    requires few { most_taken < 2 ^ 63 }
+    ensures { (taken : List Stamp) → TellsTaken (F.post is_taken) taken → length taken ≤ most_taken
+        → IsFresh s taken result }
+{
     let mut candidate = s;
-    // 0 and the stamps to avoid are at most `avoid.len() + 1` stamps: where as many candidates are not
-    // free, the next one is.
-    for _step in 0..avoid.len() + 1 {
-        if is_free(candidate, avoid) {
+    // With 0, at most `most_taken + 1` stamps are not free: where as many candidates are not, the next one is.
+    for _step in 0..most_taken + 1 {
+        if candidate.0 != 0 && !is_taken(candidate) {
             return candidate;
         }
         candidate = Stamp(candidate.0.wrapping_add(1));
     }
     candidate
-}
-
-/// Whether the stamp is not 0, which means an unknown time, and is not in `avoid`.
-#[tactic(auto, unfolding(crate::specs::Fresh::is_free))]
-fn is_free(s: Stamp, avoid: &[Stamp]) -> bool
-    ensures { result ≡ is_free avoid.now s }
-{
-    s.0 != 0 && !avoid.contains(&s)
 }
 
 #[cfg(test)]

@@ -10,6 +10,6 @@ mod moment;
 mod stamp;
 
 pub use differences::{difference, near};
-pub use free_stamp::fresh;
+pub use free_stamp::{first_free, fresh};
 pub use moment::{Moment, TimeFault};
 pub use stamp::{Short, Stamp};

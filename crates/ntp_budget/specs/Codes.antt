@@ -1,4 +1,4 @@
--- How a tally is stored, as a model's value has to be. Contracts cite none of this.
+-- Not to be believed: for proofs. How a tally is stored, as a model's value has to be.
 use Rattle.std.specs.Prelude.{ℕ, refl}
 use Rattle.std.specs.Coded.{Coded, code_by, coded×, coded_option, coded_ℕ}
 use Rattle.ntp_budget.specs.Tally.{Tallied, Tally}

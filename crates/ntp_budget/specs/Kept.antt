@@ -1,4 +1,4 @@
--- The tally that the fields of a window say.
+-- Not to be believed: for proofs. The tally that the fields of a window say.
 use Rattle.std.specs.Prelude.{Option, option_map}
 use Rattle.ntp_budget.specs.declared.window.Counted.{Counted}
 use Rattle.ntp_budget.specs.Tally.{Tally}

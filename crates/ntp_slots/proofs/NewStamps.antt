@@ -1,24 +1,12 @@
 -- A stamp is looked for among saved ones without a list of them.
-use Rattle.std.proofs.Common.{◌≡◌, ◌==◌, Bool, true, false, not, ◌&&◌, ◌||◌, List, [], ◌∷◌, ◌++◌, refl, sym, ap, ◌∙◌}
+use Rattle.std.proofs.Common.{◌≡◌, ◌*◌, ◌≤◌, Bool, true, false, ◌||◌, List, [], ◌∷◌, ◌++◌, length, refl, sym, ap, ◌∙◌, ◌==◌, arith}
 use Rattle.std.specs.List.{list_any}
-use Rattle.std.proofs.lemmas.Bool.{and_right}
+use Rattle.std.proofs.Math.Bool.{or-false}
+use Rattle.std.proofs.lemmas.List.{length-map, length-append}
 use Rattle.std.proofs.lemmas.List.Folds.{list_any-append}
 use Rattle.ntp_time.specs.declared.stamp.Stamp.{Stamp}
-use Rattle.ntp_time.specs.Fresh.{is_free}
 use Rattle.ntp_slots.specs.declared.slot.Slot.{Slot}
-use Rattle.ntp_slots.specs.Exchanges.{receives, transmits, all_stamps}
-
-and_true : (b : Bool) → (b && true) ≡ b
-and_true true = refl
-and_true false = refl
-
-or_true : (b : Bool) → (b || true) ≡ true
-or_true true = refl
-or_true false = refl
-
-or_false : (b : Bool) → (b || false) ≡ b
-or_false true = refl
-or_false false = refl
+use Rattle.ntp_slots.specs.Exchanges.{most_slots, receives, transmits, all_stamps, is_received_at, AreSaved}
 
 -- four tests, of which two change places
 changed : (a b c d : Bool) → ((a || b) || (c || d)) ≡ (a || (c || (b || d)))
@@ -40,23 +28,28 @@ pub any-receives : (p : Stamp → Bool) (xs : List Slot) → list_any (λ x. p x
 any-receives p [] = refl
 any-receives p (x ∷ xs) = ap (λ b. p x.receive || b) (any-receives p xs)
 
--- where a stamp is to be avoided it is not free, and else it is where it is not 0
-pub free-avoided : (avoid : List Stamp) (s : Stamp) → list_any (λ a. a.0 == s.0) avoid ≡ true → false ≡ is_free avoid s
-unfolding is_free
-free-avoided avoid s found = rw found (sym (and_right (not (s.0 == 0)) false refl))
+-- exchanges that are saved have at most so many receive stamps, and so many stamps
+pub few-receives : (xs : List Slot) → AreSaved xs → length (receives xs) ≤ most_slots
+few-receives xs are = omega (arith, are.few, length-map xs (λ x. x.receive))
 
-pub free-else : (avoid : List Stamp) (s : Stamp) → list_any (λ a. a.0 == s.0) avoid ≡ false → not (s.0 == 0) ≡ is_free avoid s
-unfolding is_free
-free-else avoid s none = rw none (sym (and_true (not (s.0 == 0))))
+pub few-stamps : (xs : List Slot) → AreSaved xs → length (all_stamps xs) ≤ 2 * most_slots
+few-stamps xs are = omega (arith, few-receives xs are, are.few, length-append (receives xs) (transmits xs), length-map xs (λ x. x.transmit))
 
--- with one more to be avoided
-pub any-last : (avoid : List Stamp) (r s : Stamp) → (r.0 == s.0) ≡ true → list_any (λ a. a.0 == s.0) (avoid ++ r ∷ []) ≡ true
-any-last avoid r s same =
-    list_any-append (λ a. a.0 == s.0) avoid (r ∷ []) ∙ rw same (or_true (list_any (λ a. a.0 == s.0) avoid))
+-- a test of both pieces of the exchanges, older and newer, for a stamp of either kind
+pub either-of_pieces : (older newer xs : List Slot) (s : Stamp) → older ++ newer ≡ xs
+    → (list_any (λ x. (x.receive.0 == s.0) || (x.transmit.0 == s.0)) older || list_any (λ x. (x.receive.0 == s.0) || (x.transmit.0 == s.0)) newer)
+    ≡ list_any (λ a. a.0 == s.0) (all_stamps xs)
+either-of_pieces older newer xs s pieces =
+    sym (list_any-append (λ x. (x.receive.0 == s.0) || (x.transmit.0 == s.0)) older newer)
+    ∙ ap (list_any (λ x. (x.receive.0 == s.0) || (x.transmit.0 == s.0))) pieces
+    ∙ any-all_stamps (λ a. a.0 == s.0) xs
 
-pub free-of_another : (avoid : List Stamp) (r s : Stamp) → (r.0 == s.0) ≡ false → is_free avoid s ≡ is_free (avoid ++ r ∷ []) s
-unfolding is_free
-free-of_another avoid r s other =
-    let same : list_any (λ a. a.0 == s.0) (avoid ++ r ∷ []) ≡ list_any (λ a. a.0 == s.0) avoid =
-    list_any-append (λ a. a.0 == s.0) avoid (r ∷ []) ∙ rw other (or_false (list_any (λ a. a.0 == s.0) avoid)) in
-    rw same refl
+-- and for a receive stamp
+pub received-of_pieces : (older newer xs : List Slot) (s : Stamp) → older ++ newer ≡ xs
+    → (list_any (is_received_at s) older || list_any (is_received_at s) newer) ≡ list_any (λ a. a.0 == s.0) (receives xs)
+received-of_pieces older newer xs s pieces =
+    sym (list_any-append (is_received_at s) older newer) ∙ ap (list_any (is_received_at s)) pieces ∙ any-receives (λ a. a.0 == s.0) xs
+
+-- with one more
+pub received-or_last : (avoid : List Stamp) (r s : Stamp) → (list_any (λ a. a.0 == s.0) avoid || (r.0 == s.0)) ≡ list_any (λ a. a.0 == s.0) (avoid ++ r ∷ [])
+received-or_last avoid r s = sym (list_any-append (λ a. a.0 == s.0) avoid (r ∷ []) ∙ ap (λ b. list_any (λ a. a.0 == s.0) avoid || b) (or-false (r.0 == s.0)))

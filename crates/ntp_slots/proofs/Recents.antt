@@ -6,7 +6,7 @@ use Rattle.ntp_slots.specs.declared.slot.Slot.{Slot}
 use Rattle.ntp_time.specs.declared.stamp.Stamp.{Stamp}
 use Rattle.ntp_time.specs.declared.moment.Moment.{Moment}
 use Rattle.ntp_time.specs.Fresh.{fresh}
-use Rattle.ntp_slots.specs.Exchanges.{most_slots, recent, with_recent, receives, spent, departed}
+use Rattle.ntp_slots.specs.Exchanges.{most_slots, recent, with_recent, receives, spent, with_departure}
 use Rattle.ntp_slots.proofs.Changes.{length-with_unused}
 
 -- the last n members
@@ -75,8 +75,8 @@ pub length-spent : (xs : List Slot) (receive : Stamp) → length (spent xs recei
 unfolding spent
 length-spent xs receive = length-with_unused receive (λ x. record x { used = true }) xs
 
-pub length-departed : (xs : List Slot) (receive : Stamp) (m : Moment) → length (departed xs receive m) ≡ length xs
-unfolding departed
+pub length-departed : (xs : List Slot) (receive : Stamp) (m : Moment) → length (with_departure xs receive m) ≡ length xs
+unfolding with_departure
 length-departed xs receive m = length-with_unused receive (λ x. record x { transmit = fresh m.stamp (receives xs) }) xs
 
 -- so where a recent one is spent, the recent ones of the whole are those with it spent
@@ -85,5 +85,5 @@ recent-spent xs receive = recent-with_recent xs (spent (recent xs) receive) (len
 
 -- and where one departs, those with it departed
 pub recent-departed : (xs : List Slot) (receive : Stamp) (m : Moment)
-    → recent (with_recent xs (departed (recent xs) receive m)) ≡ departed (recent xs) receive m
-recent-departed xs receive m = recent-with_recent xs (departed (recent xs) receive m) (length-departed (recent xs) receive m)
+    → recent (with_recent xs (with_departure (recent xs) receive m)) ≡ with_departure (recent xs) receive m
+recent-departed xs receive m = recent-with_recent xs (with_departure (recent xs) receive m) (length-departed (recent xs) receive m)

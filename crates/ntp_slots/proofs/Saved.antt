@@ -11,7 +11,7 @@ use Rattle.ntp_time.specs.declared.moment.Moment.{Moment}
 use Rattle.ntp_time.specs.Fresh.{is_free, fresh, IsFresh}
 use Rattle.ntp_time.proofs.Freshness.{free-nonzero, free-apart, free-from_apart, IsFresh-fresh}
 use Rattle.ntp_slots.specs.declared.slot.Slot.{Slot}
-use Rattle.ntp_slots.specs.Exchanges.{most_slots, recent, new_exchange, receives, transmits, all_stamps, AreSaved, is_received_at, is_unused_at, exchange_at, unused_at, unless_used, with_unused, spent, departed}
+use Rattle.ntp_slots.specs.Exchanges.{most_slots, recent, new_exchange, receives, transmits, all_stamps, AreSaved, is_received_at, is_unused_at, exchange_at, unused_at, unless_used, with_unused, spent, with_departure}
 use Rattle.ntp_slots.proofs.Changes.{find-member, length-with_unused, receives-with_unused}
 
 -- exchanges as they are saved, however many
@@ -135,8 +135,8 @@ unfolding spent
 AreSaved-spent xs receive are = AreSaved-with_unused xs receive (λ x. record x { used = true }) are (λ x. refl) (λ x free. free)
 
 -- where one departs
-pub AreSaved-departed : (xs : List Slot) (receive : Stamp) (m : Moment) → AreSaved xs → AreSaved (departed xs receive m)
-unfolding departed
+pub AreSaved-departed : (xs : List Slot) (receive : Stamp) (m : Moment) → AreSaved xs → AreSaved (with_departure xs receive m)
+unfolding with_departure
 AreSaved-departed xs receive m are =
     let small : length (receives xs) < 2 ^ 63 = omega (arith, length-map xs (λ x. x.receive), are.few) in
     let is : IsFresh m.stamp (receives xs) (fresh m.stamp (receives xs)) = IsFresh-fresh m.stamp (receives xs) small in

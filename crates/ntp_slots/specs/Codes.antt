@@ -1,4 +1,4 @@
--- How exchanges are stored, as a model's value has to be. Contracts cite none of this.
+-- Not to be believed: for proofs. How exchanges are stored, as a model's value has to be.
 use Rattle.std.specs.Prelude.{ℕ, Bool, List, refl}
 use Rattle.std.specs.Coded.{Coded, code_by, coded×, coded_list, coded_bool, coded_ℕ}
 use Rattle.ntp_time.specs.declared.stamp.Stamp.{Stamp}

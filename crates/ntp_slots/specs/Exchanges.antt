@@ -70,5 +70,5 @@ unfoldable pub spent : List Slot → Stamp → List Slot
 spent xs receive = with_unused xs receive (λ x. record x { used = true })
 
 -- with its transmit stamp that of the departure, or the first after it that is neither 0 nor a receive stamp (profile, after RFC 9769)
-unfoldable pub departed : List Slot → Stamp → Moment → List Slot
-departed xs receive m = with_unused xs receive (λ x. record x { transmit = fresh m.stamp (receives xs) })
+unfoldable pub with_departure : List Slot → Stamp → Moment → List Slot
+with_departure xs receive m = with_unused xs receive (λ x. record x { transmit = fresh m.stamp (receives xs) })

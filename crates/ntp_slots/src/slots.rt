@@ -2,21 +2,16 @@
 ghost use Rattle.std.specs.Prelude.{◌≡◌, [], ◌∷◌, ◌++◌, IfOk, IsNone, IsTrue, is_some, option_and_then, position};
 ghost use Rattle.std.specs.Bool.{OnFalse};
 ghost use Rattle.ntp_time.specs.Fresh.{is_free};
-ghost use Rattle.ntp_slots.specs.Exchanges.{AreSaved, recent, new_exchange, receives, all_stamps, exchange_at, unused_at, unless_used, is_unused_at, spent, departed};
+ghost use Rattle.ntp_slots.specs.Exchanges.{AreSaved, recent, new_exchange, receives, all_stamps, exchange_at, unused_at, unless_used, is_unused_at, spent, with_departure};
 
 use crate::{NoMemory, Slot};
-use arrayvec::ArrayVec;
 use circular_buffer::HeapCircularBuffer;
 use ntp_time::{Moment, Stamp};
 use std::alloc::{Allocator, Global};
 use std::marker::Model;
 
 /// How many exchanges are saved (profile).
-const MOST_SLOTS: usize = 8;
-
-/// The room of a list of stamps: for both stamps of each exchange that is saved, and for one more, since who saves a new
-/// exchange puts its receive stamp behind the saved ones.
-const MOST_STAMPS: usize = 2 * MOST_SLOTS + 1;
+pub(crate) const MOST_SLOTS: usize = 8;
 
 /// The last exchanges of a customer, or all where there are fewer than are saved (profile). Contracts see
 /// them as a list, oldest first.
@@ -60,7 +55,8 @@ impl<A: Allocator> Slots<A> {
 
     // The exchanges, oldest first, in the two pieces in which the ring holds them.
     pub(crate) fn saved(&self) -> (&[Slot], &[Slot])
-        ensures { result.0.now ++ result.1.now ≡ self.now }
+        ensures pieces { result.0.now ++ result.1.now ≡ self.now }
+        ensures saved { AreSaved self.now }
     {
         self.exchanges.as_slices()
     }
@@ -73,30 +69,6 @@ impl<A: Allocator> Slots<A> {
     {
         let (older, newer) = self.exchanges.as_slices();
         exchange_in(older, receive).or(exchange_in(newer, receive))
-    }
-
-    /// The receive stamps, oldest first, in units of 2^-32 seconds.
-    pub fn receive_stamps(&self) -> ArrayVec<Stamp, MOST_STAMPS>
-        ensures stamps { result.items ≡ receives self.now }
-        ensures saved { AreSaved self.now }
-    {
-        let mut stamps = ArrayVec::new();
-        for slot in &self.exchanges {
-            stamps.push(slot.receive);
-        }
-        stamps
-    }
-
-    /// The receive stamps, then the transmit stamps, each oldest first, in units of 2^-32 seconds.
-    pub fn all_stamps(&self) -> ArrayVec<Stamp, MOST_STAMPS>
-        ensures stamps { result.items ≡ all_stamps self.now }
-        ensures saved { AreSaved self.now }
-    {
-        let mut stamps = self.receive_stamps();
-        for slot in &self.exchanges {
-            stamps.push(slot.transmit);
-        }
-        stamps
     }
 
     /// Marks the unused exchange with this receive stamp as used (profile, after RFC 9769). Where there is
@@ -146,7 +118,7 @@ impl<A: Allocator> Slots<A> {
     /// after RFC 9769). Where there is none, the answer is `false` and nothing changes.
     pub fn depart(&mut self, receive: Stamp, moment: Moment) -> bool
         ensures found { result ≡ is_some (unused_at self.old receive) }
-        ensures departed { self.new ≡ departed self.old receive moment }
+        ensures departed { self.new ≡ with_departure self.old receive moment }
         ensures unchanged { OnFalse result (self.new ≡ self.old) }
         ensures saved { AreSaved self.new }
     {

@@ -3,13 +3,13 @@ use Rattle.std.specs.Prelude.{is_some, find, position, slice_get}
 use Rattle.std.specs.Option.{option_copied_mut}
 use Rattle.ntp_time.specs.Fresh.{fresh}
 use Rattle.ntp_slots.specs.declared.slot.Slot.{Slot}
-use Rattle.ntp_slots.specs.Exchanges.{AreSaved, is_unused_at, receives, with_unused, departed}
+use Rattle.ntp_slots.specs.Exchanges.{AreSaved, is_unused_at, receives, with_unused, with_departure}
 use Rattle.ntp_slots.proofs.Changes.{find-at_position, find-from_no_position, written-at_place, unchanged-from_none}
 use Rattle.ntp_slots.proofs.Saved.{AreSaved-departed}
 use Rattle.ntp_slots.proofs.slots.Slots.depart.Goals as goal
 
 pub returns-clause-departed : goal.returns-clause-departed
-unfolding departed
+unfolding with_departure
 returns-clause-departed g c =
     let xs : List Slot = c.self.inside.exchanges.items in
     let at : position (is_unused_at c.args.receive) xs ≡ Some c.in-Some.departed = cc in
@@ -18,7 +18,7 @@ returns-clause-departed g c =
     written-at_place c.args.receive (λ x. record x { transmit = c.new_departure-transmit.result }) xs c.in-Some.departed c.unwrap.result.now
     c.self.invariant.1.distinct at there
     ∙ ap (λ t. with_unused xs c.args.receive (λ x. record x { transmit = t })) left
-    ∙ ap (λ ys. departed ys c.args.receive c.args.moment) c.self.view_is
+    ∙ ap (λ ys. with_departure ys c.args.receive c.args.moment) c.self.view_is
 
 pub invariant_of-self : goal.invariant_of-self
 invariant_of-self g c =
@@ -42,7 +42,7 @@ returns-in_default-clause-found g c =
     sym (ap is_some (find-from_no_position (is_unused_at c.args.receive) c.args.self.now at))
 
 pub returns-in_default-clause-departed : goal.returns-in_default-clause-departed
-unfolding departed
+unfolding with_departure
 returns-in_default-clause-departed g c =
     let at : position (is_unused_at c.args.receive) c.args.self.now ≡ None = cc in
     sym (unchanged-from_none c.args.receive

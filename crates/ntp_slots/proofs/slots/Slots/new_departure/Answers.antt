@@ -1,8 +1,11 @@
-use Rattle.std.proofs.Common.{sym, arith}
-use Rattle.ntp_time.proofs.Freshness.{fresh-itself}
+use Rattle.std.proofs.Common.{rules, arith, ◌∙◌}
+use Rattle.ntp_time.proofs.Freshness.{fresh-from_IsFresh}
 use Rattle.ntp_slots.specs.Exchanges.{receives}
+use Rattle.ntp_slots.proofs.NewStamps.{few-receives, received-of_pieces}
 use Rattle.ntp_slots.proofs.slots.Slots.new_departure.Goals as goal
 
-pub returns-then-is_unreceived : goal.returns-then-is_unreceived
-returns-then-is_unreceived g c =
-    sym (fresh-itself c.args.stamp (receives c.args.self.now) (omega arith) (sym c.if-is_unreceived.ensures))
+pub returns : goal.returns
+returns g c =
+    fresh-from_IsFresh _ _ _ (c.first_free.ensures (receives c.args.self.now)
+    (λ s r fits told. search rules ∙ received-of_pieces c.saved.result.0.now c.saved.result.1.now c.args.self.now s c.saved.ensures.pieces)
+    (omega (arith, few-receives c.args.self.now c.saved.ensures.saved)))

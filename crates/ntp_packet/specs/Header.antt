@@ -1,5 +1,5 @@
 -- The header of a packet, and its octets.
-use Rattle.std.specs.Prelude.{◌≡◌, ℕ, ℤ, ◌+◌, ◌*◌, ◌^◌, ◌<◌, List, [], ◌∷◌, ◌++◌, length, All, FitsSigned}
+use Rattle.std.specs.Prelude.{◌≡◌, ℕ, ℤ, pos, ◌+◌, ◌*◌, ◌^◌, ◌<◌, List, [], ◌∷◌, ◌++◌, length, All, FitsSigned}
 use Rattle.std.specs.Int.{w8, w32, w64, cast_unsigned, to_be_bytes}
 use Rattle.ntp_time.specs.declared.stamp.Stamp.{Stamp}
 use Rattle.ntp_time.specs.declared.stamp.Short.{Short}
@@ -23,6 +23,32 @@ pub record HeaderFields : Type 0 where
   pub origin : Stamp
   pub receive : Stamp
   pub transmit : Stamp
+
+-- the stamp of unknown time (RFC 5905, 6)
+abbrev pub no_stamp : Stamp
+no_stamp = record { 0 = 0 }
+
+-- no delay and no dispersion (RFC 5905, 6)
+abbrev pub no_short : Short
+no_short = record { 0 = 0 }
+
+-- the header of a version and a mode, of which all else is 0 (profile)
+abbrev pub blank_header : ℕ → ℕ → HeaderFields
+blank_header version mode = record {
+  leap = 0;
+  version = version;
+  mode = mode;
+  stratum = 0;
+  poll = pos 0;
+  precision = pos 0;
+  root_delay = no_short;
+  root_dispersion = no_short;
+  reference_id = 0 ∷ 0 ∷ 0 ∷ 0 ∷ [];
+  reference = no_stamp;
+  origin = no_stamp;
+  receive = no_stamp;
+  transmit = no_stamp;
+}
 
 -- the first four octets: leap, version and mode in one, and signed numbers in two's complement (RFC 5905, 7.3)
 abbrev pub first_octets : HeaderFields → List ℕ

@@ -1,5 +1,6 @@
-//! The fields of a header, and a reader for each.
+//! The fields of a header, a reader for each, and headers whose fields are set by name.
 ghost use Rattle.std.specs.Prelude.{◌≡◌, ◌≤◌, length};
+ghost use Rattle.ntp_packet.specs.Header.{blank_header};
 
 use ntp_time::{Short, Stamp};
 use std::marker::Model;
@@ -117,6 +118,83 @@ impl Header {
             receive,
             transmit,
         }
+    }
+
+    /// A header of a version and a mode, with three bits each (RFC 5905, 7.3). All else is 0, so that a
+    /// packet of few fields is made by naming just these.
+    pub fn blank(version: u8, mode: u8) -> Header
+        requires version_fits { version ≤ 7 }
+        requires mode_fits { mode ≤ 7 }
+        ensures { result ≡ blank_header version mode }
+    {
+        Header {
+            leap: 0,
+            version,
+            mode,
+            stratum: 0,
+            poll: 0,
+            precision: 0,
+            root_delay: Short(0),
+            root_dispersion: Short(0),
+            reference_id: [0; 4],
+            reference: Stamp(0),
+            origin: Stamp(0),
+            receive: Stamp(0),
+            transmit: Stamp(0),
+        }
+    }
+
+    /// This header with another leap indicator, of two bits: 3 is unsynchronised (RFC 5905, 7.3).
+    #[must_use]
+    pub fn with_leap(self, leap: u8) -> Header
+        requires leap_fits { leap ≤ 3 }
+        ensures { result ≡ record self { leap = leap } }
+    {
+        Header { leap, ..self }
+    }
+
+    /// This header with another longest time between messages, as the binary logarithm of seconds
+    /// (RFC 5905, 7.3).
+    #[must_use]
+    pub fn with_poll(self, poll: i8) -> Header
+        ensures { result ≡ record self { poll = poll } }
+    {
+        Header { poll, ..self }
+    }
+
+    /// This header with another reference identifier, which in a kiss is its code (RFC 5905, 7.3 and 7.4).
+    #[must_use]
+    pub fn with_reference_id(self, reference_id: [u8; 4]) -> Header
+        ensures { result ≡ record self { reference_id = reference_id } }
+    {
+        Header {
+            reference_id,
+            ..self
+        }
+    }
+
+    /// This header with another origin stamp, in units of 2^-32 seconds (RFC 5905, 6 and 7.3).
+    #[must_use]
+    pub fn with_origin(self, origin: Stamp) -> Header
+        ensures { result ≡ record self { origin = origin } }
+    {
+        Header { origin, ..self }
+    }
+
+    /// This header with another receive stamp, in units of 2^-32 seconds (RFC 5905, 6 and 7.3).
+    #[must_use]
+    pub fn with_receive(self, receive: Stamp) -> Header
+        ensures { result ≡ record self { receive = receive } }
+    {
+        Header { receive, ..self }
+    }
+
+    /// This header with another transmit stamp, in units of 2^-32 seconds (RFC 5905, 6 and 7.3).
+    #[must_use]
+    pub fn with_transmit(self, transmit: Stamp) -> Header
+        ensures { result ≡ record self { transmit = transmit } }
+    {
+        Header { transmit, ..self }
     }
 
     /// The leap indicator: 0 no warning, 1 the last minute has 61 seconds, 2 it has 59, 3 unsynchronised.

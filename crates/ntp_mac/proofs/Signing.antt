@@ -3,13 +3,13 @@ use Rattle.std.proofs.Common.{◌≡◌, ℕ, List, Bool, true, false, ◌==◌,
 use Rattle.std.specs.Prelude.{◌↔◌, IsTrue}
 use Rattle.std.specs.Cmp.Lexicographic.{pointwise, bytes_decides}
 use Rattle.ntp_request.specs.Tail.{TailValue}
-use Rattle.ntp_request.specs.Tail.TailValue.{NoTail, BareTail, Md5Tail, Sha1Tail}
+use Rattle.ntp_request.specs.Tail.TailValue.{NoTail, BareTail, MacTail}
 use Rattle.ntp_request.specs.Request.{RequestValue}
-use Rattle.ntp_mac.specs.declared.digests.Digest.{Digest}
-use Rattle.ntp_mac.specs.declared.digests.Digest.TheVariants.{Md5, Sha1}
+use Rattle.ntp_request.specs.declared.digests.Digest.{Digest}
+use Rattle.ntp_request.specs.declared.digests.Digest.TheVariants.{Md5, Sha1}
 use Rattle.ntp_mac.specs.Key.{SymmetricKey}
 use Rattle.ntp_mac.specs.Digest.{digest_of}
-use Rattle.ntp_mac.specs.Signed.{mac_tail, IsSigned, is_mac, is_signed}
+use Rattle.ntp_mac.specs.Signed.{IsSigned, is_mac, is_signed}
 
 both-hold : (a b : Bool) → IsTrue (a && b) → IsTrue a × IsTrue b
 both-hold true b h = (refl, h)
@@ -27,16 +27,16 @@ passes : (found number : ℕ) (octets digest : List ℕ) → found ≡ number �
 passes found number octets digest n d = rw (eq-eqb found number n, (bytes_decides octets digest).1 d) refl
 
 -- a tail passes the comparison exactly where it is the MAC
-is-mac : (tail : TailValue) (number : ℕ) (digest : Digest) → IsTrue (is_mac tail number digest) ↔ (tail ≡ mac_tail number digest)
+is-mac : (tail : TailValue) (number : ℕ) (digest : Digest) → IsTrue (is_mac tail number digest) ↔ (tail ≡ MacTail number digest)
 is-mac NoTail number (Md5 digest) = (λ h. absurd (cc), λ e. absurd (cc))
 is-mac NoTail number (Sha1 digest) = (λ h. absurd (cc), λ e. absurd (cc))
 is-mac (BareTail found) number (Md5 digest) = (λ h. absurd (cc), λ e. absurd (cc))
 is-mac (BareTail found) number (Sha1 digest) = (λ h. absurd (cc), λ e. absurd (cc))
-is-mac (Md5Tail found octets) number (Md5 digest) =
+is-mac (MacTail found (Md5 octets)) number (Md5 digest) =
     (λ h. let same = same-mac found number octets digest h in cc, λ e. passes found number octets digest (cc) (cc))
-is-mac (Md5Tail found octets) number (Sha1 digest) = (λ h. absurd (cc), λ e. absurd (cc))
-is-mac (Sha1Tail found octets) number (Md5 digest) = (λ h. absurd (cc), λ e. absurd (cc))
-is-mac (Sha1Tail found octets) number (Sha1 digest) =
+is-mac (MacTail found (Md5 octets)) number (Sha1 digest) = (λ h. absurd (cc), λ e. absurd (cc))
+is-mac (MacTail found (Sha1 octets)) number (Md5 digest) = (λ h. absurd (cc), λ e. absurd (cc))
+is-mac (MacTail found (Sha1 octets)) number (Sha1 digest) =
     (λ h. let same = same-mac found number octets digest h in cc, λ e. passes found number octets digest (cc) (cc))
 
 -- a request passes the comparison exactly where it is signed

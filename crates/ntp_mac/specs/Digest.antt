@@ -5,8 +5,8 @@ use Rattle.sha1.specs.Sha1.{sha1}
 use Rattle.ntp_mac.specs.Key.{SymmetricKey}
 use Rattle.ntp_mac.specs.declared.key.Algorithm.{Algorithm}
 use Rattle.ntp_mac.specs.declared.key.Algorithm.TheVariants as algorithm
-use Rattle.ntp_mac.specs.declared.digests.Digest.{Digest}
-use Rattle.ntp_mac.specs.declared.digests.Digest.TheVariants.{Md5, Sha1}
+use Rattle.ntp_request.specs.declared.digests.Digest.{Digest}
+use Rattle.ntp_request.specs.declared.digests.Digest.TheVariants.{Md5, Sha1}
 
 -- the hash of a message (MD5: RFC 1321; SHA-1: FIPS 180-4)
 abbrev pub hash : Algorithm → List ℕ → Digest
@@ -16,11 +16,6 @@ hash algorithm.Sha1 message = Sha1 (sha1 message)
 -- the digest of octets under a key: the hash of the key's octets followed by them (RFC 5905, 7.3; with SHA-1: profile)
 abbrev pub digest_of : SymmetricKey → List ℕ → Digest
 digest_of key octets = hash key.algorithm (key.octets ++ octets)
-
--- the octets of a digest (RFC 1321; FIPS 180-4)
-abbrev pub digest_octets : Digest → List ℕ
-digest_octets (Md5 octets) = octets
-digest_octets (Sha1 octets) = octets
 
 -- how many octets a digest has (RFC 1321; FIPS 180-4)
 abbrev pub digest_length : Algorithm → ℕ

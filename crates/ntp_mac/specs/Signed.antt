@@ -2,27 +2,22 @@
 use Rattle.std.specs.Prelude.{◌≡◌, ℕ, Bool, false, ◌&&◌, ◌==◌, nat_eq}
 use Rattle.std.specs.Cmp.Lexicographic.{pointwise}
 use Rattle.ntp_request.specs.Tail.{TailValue}
-use Rattle.ntp_request.specs.Tail.TailValue.{Md5Tail, Sha1Tail}
+use Rattle.ntp_request.specs.Tail.TailValue.{MacTail}
 use Rattle.ntp_request.specs.Request.{RequestValue}
 use Rattle.ntp_mac.specs.Key.{SymmetricKey}
 use Rattle.ntp_mac.specs.Digest.{digest_of}
-use Rattle.ntp_mac.specs.declared.digests.Digest.{Digest}
-use Rattle.ntp_mac.specs.declared.digests.Digest.TheVariants.{Md5, Sha1}
-
--- a key number and a digest, in the tail of the digest's algorithm (RFC 5905, 7.3; with SHA-1: profile)
-abbrev pub mac_tail : ℕ → Digest → TailValue
-mac_tail number (Md5 octets) = Md5Tail number octets
-mac_tail number (Sha1 octets) = Sha1Tail number octets
+use Rattle.ntp_request.specs.declared.digests.Digest.{Digest}
+use Rattle.ntp_request.specs.declared.digests.Digest.TheVariants.{Md5, Sha1}
 
 -- a request is signed under a key with a key number: its tail is of the key's algorithm and has that number, and
 -- its digest is the hash of the key's octets followed by the header and the fields (RFC 5905, 7.3; with SHA-1: profile)
 unfoldable pub IsSigned : SymmetricKey → ℕ → RequestValue → Type 0
-IsSigned key number request = request.tail ≡ mac_tail number (digest_of key request.signed)
+IsSigned key number request = request.tail ≡ MacTail number (digest_of key request.signed)
 
 -- whether a tail has this key number and this whole digest, in the form of its algorithm (RFC 5905, 7.3; with SHA-1: profile)
 abbrev pub is_mac : TailValue → ℕ → Digest → Bool
-is_mac (Md5Tail found octets) number (Md5 digest) = (found == number) && pointwise nat_eq octets digest
-is_mac (Sha1Tail found octets) number (Sha1 digest) = (found == number) && pointwise nat_eq octets digest
+is_mac (MacTail found (Md5 octets)) number (Md5 digest) = (found == number) && pointwise nat_eq octets digest
+is_mac (MacTail found (Sha1 octets)) number (Sha1 digest) = (found == number) && pointwise nat_eq octets digest
 is_mac _ number digest = false
 
 -- whether a request is signed under a key with a key number (RFC 5905, 7.3; with SHA-1: profile)

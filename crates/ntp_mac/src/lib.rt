@@ -2,7 +2,6 @@
 //! are MD5's (RFC 1321) and, by profile, SHA-1's (FIPS 180-4).
 #![tactic(auto)]
 
-mod digests;
 mod hashing;
 mod key;
 mod laws;
@@ -11,9 +10,9 @@ mod reply;
 mod tests;
 mod verifying;
 
-pub use digests::Digest;
 pub use hashing::digest;
 pub use key::{Algorithm, Key, KeyFault, MOST_KEY_OCTETS};
 pub use laws::octets_are_what_they_are_read_as;
+pub use ntp_request::Digest;
 pub use reply::{Reply, add_nak, seal};
 pub use verifying::verifies;

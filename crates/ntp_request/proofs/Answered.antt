@@ -6,7 +6,8 @@ use Rattle.std.proofs.lemmas.Bool.{cases_lt, cases_eq}
 use Rattle.std.proofs.lemmas.Nat.{be_bytes_4}
 use Rattle.std.proofs.lemmas.List.{length-append, length-take, length-drop, nil_from_length}
 use Rattle.ntp_request.specs.Field.{written_length}
-use Rattle.ntp_request.specs.Tail.{TailValue, NoTail, BareTail, Md5Tail, Sha1Tail, tail_octets, IsTail}
+use Rattle.ntp_request.specs.declared.digests.Digest.TheVariants.{Md5, Sha1}
+use Rattle.ntp_request.specs.Tail.{TailValue, NoTail, BareTail, MacTail, tail_octets, IsTail}
 use Rattle.ntp_request.specs.Request.{RequestValue, IsRequest, request_of, signed_octets}
 use Rattle.ntp_request.specs.Faults.{Stands, IsFieldShort, IsFieldUnaligned, IsFieldPastEnd, IsNoTail, Fails}
 use Rattle.ntp_request.specs.OneAnswer.{HasOneReading, HasOneFault}
@@ -52,7 +53,7 @@ module _ (rest : List ℕ) (are : AreOctets rest) where
   md5-there : length rest ≡ 20 → TailThere rest
   unfolding tail_octets
   md5-there e = record {
-    tail = Md5Tail number (drop 4 rest);
+    tail = MacTail number (Md5 (drop 4 rest));
     is = (number-fits, omega (arith, length-drop 4 rest));
     spelled = number-and-digest rest (to_be_bytes w32 number) (drop 4 rest) (number-octets (omega arith)) refl;
   }
@@ -60,7 +61,7 @@ module _ (rest : List ℕ) (are : AreOctets rest) where
   sha1-there : length rest ≡ 24 → TailThere rest
   unfolding tail_octets
   sha1-there e = record {
-    tail = Sha1Tail number (drop 4 rest);
+    tail = MacTail number (Sha1 (drop 4 rest));
     is = (number-fits, omega (arith, length-drop 4 rest));
     spelled = number-and-digest rest (to_be_bytes w32 number) (drop 4 rest) (number-octets (omega arith)) refl;
   }

@@ -4,7 +4,8 @@ use Rattle.std.proofs.lemmas.Bool.{cond-true, cond-false, lt-ltb, le-ltb, le-leb
 use Rattle.std.proofs.lemmas.List.{length-append}
 use Rattle.ntp_packet.specs.Header.{HeaderFields}
 use Rattle.ntp_request.specs.Field.{Field, written_length}
-use Rattle.ntp_request.specs.Tail.{TailValue, NoTail, BareTail, Md5Tail, Sha1Tail, tail_octets, IsTail}
+use Rattle.ntp_request.specs.declared.digests.Digest.TheVariants.{Md5, Sha1}
+use Rattle.ntp_request.specs.Tail.{TailValue, NoTail, BareTail, MacTail, tail_octets, IsTail}
 use Rattle.ntp_request.specs.Request.{RequestValue, IsRequest}
 use Rattle.ntp_request.specs.Faults.{Stands, FailsAt, IsFieldShort, IsFieldUnaligned, IsFieldPastEnd, IsNoTail, Fails}
 use Rattle.ntp_request.specs.declared.malformed.Malformed.{Malformed}
@@ -71,8 +72,8 @@ no-tail : (t : TailValue) → IsTail t → IsNoTail (tail_octets t) → ⊥
 unfolding tail_octets
 no-tail NoTail is not-one = not-one.1 refl
 no-tail (BareTail number) is not-one = not-one.2 refl
-no-tail (Md5Tail number digest) is not-one = not-one.3 (let len = is.1 in omega arith)
-no-tail (Sha1Tail number digest) is not-one = not-one.4 (let len = is.1 in omega arith)
+no-tail (MacTail number (Md5 digest)) is not-one = not-one.3 (let len = is.1 in omega arith)
+no-tail (MacTail number (Sha1 digest)) is not-one = not-one.4 (let len = is.1 in omega arith)
 
 no-longer-tail : (rest : List ℕ) → 24 < length rest → (t : TailValue) → IsTail t → tail_octets t ≡ rest → ⊥
 no-longer-tail rest more t is e = let most = length-tail t is in omega (arith, ap length e)

@@ -1,7 +1,7 @@
 use Rattle.std.proofs.Common.{arith, rules}
 use Rattle.ntp_request.specs.Faults.{IsFieldShort, IsFieldUnaligned, IsFieldPastEnd}
 use Rattle.ntp_request.proofs.Places.{fails_at}
-use Rattle.ntp_request.proofs.reading.field_length.Goals as goal
+use Rattle.ntp_request.proofs.splitting.field_length.Goals as goal
 
 pub returns-then-length-lt-LEAST_FIELD_OCTETS-clause-fault : goal.returns-then-length-lt-LEAST_FIELD_OCTETS-clause-fault
 returns-then-length-lt-LEAST_FIELD_OCTETS-clause-fault c = λ octets fits s.

@@ -3,7 +3,7 @@ use Rattle.std.specs.Int.{w32, to_be_bytes}
 use Rattle.std.proofs.lemmas.List.{nil_from_length, take_rest}
 use Rattle.ntp_request.specs.Tail.{tail_octets}
 use Rattle.ntp_request.proofs.Tails.{number-alone, number-and-digest}
-use Rattle.ntp_request.proofs.reading.read_tail.Goals as goal
+use Rattle.ntp_request.proofs.splitting.read_tail.Goals as goal
 
 pub returns-in-0-clause-found : goal.returns-in-0-clause-found
 unfolding tail_octets

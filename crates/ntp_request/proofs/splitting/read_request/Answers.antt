@@ -9,8 +9,8 @@ use Rattle.ntp_request.specs.declared.malformed.Malformed.TheVariants.{Short, Re
 use Rattle.ntp_request.proofs.Places.{Stands-first, fails_at}
 use Rattle.ntp_request.proofs.Found.{place-behind, fields-behind, is-request}
 use Rattle.ntp_request.proofs.Unique.{one-reading, one-fault, no-fault}
-use Rattle.ntp_request.proofs.reading.read_request.Goals as goal
-use Rattle.ntp_request.proofs.reading.read_request.Goals.{After-new-fields, In_default-read_tail}
+use Rattle.ntp_request.proofs.splitting.read_request.Goals as goal
+use Rattle.ntp_request.proofs.splitting.read_request.Goals.{After-new-fields, In_default-read_tail}
 
 pub returns-in_default-clause-only : goal.returns-in_default-clause-only
 returns-in_default-clause-only c = λ r is. absurd (no-fault c.args.octets.now r Short is (c.in_default.ensures.none.0 refl))

@@ -1,7 +1,7 @@
 use Rattle.std.proofs.Common.{arith}
 use Rattle.std.proofs.lemmas.List.{take_rest}
 use Rattle.ntp_request.proofs.Places.{Stands-on}
-use Rattle.ntp_request.proofs.reading.tail_place.Goals as goal
+use Rattle.ntp_request.proofs.splitting.tail_place.Goals as goal
 
 pub loop-at-preserved : goal.loop-at-preserved
 loop-at-preserved c =

@@ -1,6 +1,6 @@
 //! What a digest algorithm gives.
 ghost use Rattle.std.specs.Prelude.{◌≡◌};
-ghost use Rattle.ntp_mac.specs.Digest.{digest_octets};
+ghost use Rattle.ntp_request.specs.Tail.{digest_octets};
 
 /// A digest: 16 octets of MD5 (RFC 1321) or 20 of SHA-1 (FIPS 180-4).
 #[derive(Clone, Copy, Debug, PartialEq, Eq)]
@@ -12,8 +12,8 @@ pub enum Digest {
 }
 
 impl Digest {
-    // The octets of the digest.
-    pub(crate) fn octets(&self) -> &[u8]
+    /// The octets of the digest.
+    pub fn octets(&self) -> &[u8]
         ensures { result.now ≡ digest_octets self.now }
     {
         match self {

@@ -1,4 +1,4 @@
--- How the values of a customer's model are stored, as a model's value has to be. Nothing else cites this.
+-- Not to be believed: for proofs. How the values of a customer's model are stored, as a model's value has to be.
 use Rattle.std.specs.Prelude.{◌≡◌, ℕ, Bool, true, false, List, Option, refl}
 use Rattle.std.specs.Coded.{Coded, code_by, coded×, coded_list, coded_option, coded_bool, coded_ℕ}
 use Rattle.ntp_budget.specs.Tally.{Tally}

@@ -70,13 +70,9 @@ abbrev pub CustomerState : Type 0
 CustomerState = CustomerOf Tally
 
 module _ {C : Type 0} where
-  -- an account at its enrolment, where this is the count of nothing: nothing is saved yet (profile)
-  abbrev pub account_from : C → Enrolment → AccountOf C
-  account_from nothing e = record { enrolment = e; queries = nothing; exchanges = [] }
-
-  -- a customer at its enrolment, where this is the count of nothing (profile)
+  -- a customer at its enrolment, where this is the count of nothing: nothing is saved yet (profile)
   abbrev pub customer_from : C → Enrolment → CustomerOf C
-  customer_from nothing e = record { account = Some (account_from nothing e); refusals = nothing }
+  customer_from nothing e = record { account = Some (record { enrolment = e; queries = nothing; exchanges = [] }); refusals = nothing }
 
   -- a customer after it is revoked: its refusals stay counted (profile)
   abbrev pub revoked : CustomerOf C → CustomerOf C
@@ -102,17 +98,9 @@ module _ {C : Type 0} where
   abbrev pub exchanges_of : CustomerOf C → List Slot
   exchanges_of c = option_map_or (λ a. a.exchanges) c.account []
 
-  -- an account with this enrolment (profile)
-  abbrev pub with_enrolment : AccountOf C → Enrolment → AccountOf C
-  with_enrolment a e = record a { enrolment = e }
-
   -- an account with this count of signed queries (profile)
   abbrev pub with_queries : AccountOf C → C → AccountOf C
   with_queries a queries = record a { queries = queries }
-
-  -- an account with these exchanges (profile)
-  abbrev pub saving : AccountOf C → List Slot → AccountOf C
-  saving a exchanges = record a { exchanges = exchanges }
 
   -- a customer with this count of refusals (profile)
   abbrev pub with_refusals : CustomerOf C → C → CustomerOf C
@@ -124,11 +112,11 @@ module _ {C : Type 0} where
 
   -- a customer with these exchanges, if it is enrolled (profile)
   abbrev pub with_saved : CustomerOf C → List Slot → CustomerOf C
-  with_saved c exchanges = changing (λ a. saving a exchanges) c
+  with_saved c exchanges = changing (λ a. record a { exchanges = exchanges }) c
 
   -- a customer with its enrolment changed, if it is enrolled; all counts and exchanges stay (profile)
   abbrev pub with_terms : (Enrolment → Enrolment) → CustomerOf C → CustomerOf C
-  with_terms change c = changing (λ a. with_enrolment a (change a.enrolment)) c
+  with_terms change c = changing (λ a. record a { enrolment = change a.enrolment }) c
 
   -- a customer with this budget, with one key more, and without the key of a number (profile)
   abbrev pub rebudgeted : CustomerOf C → ℕ → CustomerOf C
@@ -140,10 +128,7 @@ module _ {C : Type 0} where
   abbrev pub retired : CustomerOf C → ℕ → CustomerOf C
   retired c number = with_terms (λ e. without_key e number) c
 
--- an account and a customer as the code keeps them at an enrolment: nothing is counted yet, and nothing saved (profile)
-abbrev pub new_account : Enrolment → Account
-new_account e = account_from (tally []) e
-
+-- a customer as the code keeps it at its enrolment: nothing is counted yet, and nothing saved (profile)
 abbrev pub new_customer : Enrolment → CustomerState
 new_customer e = customer_from (tally []) e
 

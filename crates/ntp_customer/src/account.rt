@@ -3,7 +3,7 @@ ghost use Rattle.std.specs.Prelude.{◌≡◌, ◌↔◌, ◌<◌, ℕ, None, So
 ghost use Rattle.std.specs.Borrow.{sem};
 ghost use Rattle.std.specs.Option.{option_to_list};
 ghost use Rattle.ntp_budget.specs.Tally.{capped_count, tally};
-ghost use Rattle.ntp_customer.specs.Customer.{most_keys, enrolment_of, numbers_in, older_in, held_in, with_budget, with_key, without_key, with_enrolment, new_account, with_queries, IsAccount};
+ghost use Rattle.ntp_customer.specs.Customer.{most_keys, enrolment_of, numbers_in, older_in, held_in, with_budget, with_key, without_key, with_queries, IsAccount};
 
 use crate::NumberedKey;
 use ntp_budget::Window;
@@ -54,7 +54,7 @@ impl<A: Allocator> Account<A> {
         requires number_given { 0 < key.number }
         requires budget_given { 0 < budget }
         requires empty { slots ≡ [] }
-        ensures { result ≡ new_account (enrolment_of key budget) }
+        ensures { result ≡ record { enrolment = enrolment_of key budget; queries = tally []; exchanges = [] } }
     {
         Account {
             older: key,
@@ -126,7 +126,7 @@ impl<A: Allocator> Account<A> {
         requires number_given { 0 < key.number }
         requires new { held_in self.old.enrolment key.number ≡ None }
         requires room { length self.old.enrolment.keys < most_keys }
-        ensures { self.new ≡ with_enrolment self.old (with_key self.old.enrolment key) }
+        ensures { self.new ≡ record self.old { enrolment = with_key self.old.enrolment key } }
     {
         self.newer = Some(key);
     }
@@ -134,7 +134,7 @@ impl<A: Allocator> Account<A> {
     // Takes the key of a number away, where one is left without it.
     pub(crate) fn retire(&mut self, number: u16)
         requires { 1 < length self.old.enrolment.keys }
-        ensures { self.new ≡ with_enrolment self.old (without_key self.old.enrolment number) }
+        ensures { self.new ≡ record self.old { enrolment = without_key self.old.enrolment number } }
     {
         let Some(newer) = self.newer else {
             return;
@@ -158,7 +158,7 @@ impl<A: Allocator> Account<A> {
     // Another budget; all else stays.
     pub(crate) fn set_budget(&mut self, budget: u16)
         requires { 0 < budget }
-        ensures { self.new ≡ with_enrolment self.old (with_budget self.old.enrolment budget) }
+        ensures { self.new ≡ record self.old { enrolment = with_budget self.old.enrolment budget } }
     {
         self.budget = budget;
     }

@@ -1,4 +1,4 @@
--- How the values of the register's model are stored, as a model's value has to be. Nothing else cites this.
+-- Not to be believed: for proofs. How the values of the register's model are stored, as a model's value has to be.
 use Rattle.std.specs.Prelude.{ℕ, List, refl}
 use Rattle.std.specs.Ordering.{nat_cmp}
 use Rattle.std.specs.Coded.{Coded, code_by, coded×, coded_list, coded_ℕ}

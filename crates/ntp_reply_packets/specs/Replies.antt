@@ -1,12 +1,12 @@
 -- The octets of the replies.
-use Rattle.std.specs.Prelude.{◌≢◌, ℕ, pos, List, [], ◌∷◌, ◌++◌, ◌==◌, if◌then◌else◌, Option, Some, None}
+use Rattle.std.specs.Prelude.{◌≢◌, ℕ, List, [], ◌∷◌, ◌++◌, ◌==◌, if◌then◌else◌, Option, Some, None}
 use Rattle.ntp_time.specs.declared.stamp.Stamp.{Stamp}
-use Rattle.ntp_time.specs.declared.stamp.Short.{Short}
 use Rattle.ntp_time.specs.declared.moment.Moment.{Moment}
 use Rattle.ntp_time.specs.Fresh.{fresh}
 use Rattle.ntp_slots.specs.declared.slot.Slot.{Slot}
 use Rattle.ntp_slots.specs.Exchanges.{receives, all_stamps}
-use Rattle.ntp_packet.specs.Header.{HeaderFields, header_octets}
+use Rattle.ntp_packet.specs.Header.{HeaderFields, blank_header, header_octets}
+use Rattle.ntp_packet.specs.Kiss.{rate_code, deny_code}
 use Rattle.ntp_mac.specs.Key.{SymmetricKey}
 use Rattle.ntp_mac.specs.Mac.{mac_of, nak_octets}
 use Rattle.ntp_reply_packets.specs.Reference.{ReferenceState}
@@ -62,18 +62,10 @@ abbrev pub time_fields : Occasion → HeaderFields → Option Slot → NewStamps
 time_fields o request None stamps = basic_fields o request stamps
 time_fields o request (Some matched) stamps = reply_fields o.reference request request.receive stamps.receive matched.transmit
 
--- the kiss codes (RFC 5905, 7.4)
+-- the code of a kiss (RFC 5905, 7.4)
 abbrev pub kiss_code : Kiss → List ℕ
-kiss_code Rate = 82 ∷ 65 ∷ 84 ∷ 69 ∷ []
-kiss_code Deny = 68 ∷ 69 ∷ 78 ∷ 89 ∷ []
-
--- the stamp of unknown time (RFC 5905, 6)
-abbrev pub no_stamp : Stamp
-no_stamp = record { 0 = 0 }
-
--- no delay and no dispersion (profile)
-abbrev pub no_short : Short
-no_short = record { 0 = 0 }
+kiss_code Rate = rate_code
+kiss_code Deny = deny_code
 
 -- the transmit stamp of a kiss: the request's, but never 0, so that no client takes it for none (profile)
 abbrev pub kiss_transmit : Stamp → Stamp
@@ -81,19 +73,11 @@ kiss_transmit transmit = if transmit.0 == 0 then record { 0 = 1 } else transmit
 
 -- the header of a kiss-o'-death (RFC 5905, 7.4; the fields that it leaves open: profile)
 abbrev pub kiss_fields : Kiss → HeaderFields → HeaderFields
-kiss_fields kiss request = record {
+kiss_fields kiss request = record (blank_header request.version 4) {
   leap = 3;
-  version = request.version;
-  mode = 4;
-  stratum = 0;
   poll = request.poll;
-  precision = pos 0;
-  root_delay = no_short;
-  root_dispersion = no_short;
   reference_id = kiss_code kiss;
-  reference = no_stamp;
   origin = request.transmit;
-  receive = no_stamp;
   transmit = kiss_transmit request.transmit;
 }
 

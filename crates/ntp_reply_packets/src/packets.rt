@@ -3,9 +3,9 @@ ghost use Rattle.std.specs.Prelude.{◌≡◌};
 ghost use Rattle.ntp_reply_packets.specs.Replies.{reply_fields, basic_fields, time_fields, kiss_fields, kiss_code, kiss_transmit, shown_stratum, shown_id};
 
 use crate::{Kiss, NewStamps, Occasion, Reference};
-use ntp_packet::Header;
+use ntp_packet::{DENY_CODE, Header, RATE_CODE};
 use ntp_slots::Slot;
-use ntp_time::{Short, Stamp};
+use ntp_time::Stamp;
 
 /// The mode of a packet from a server (RFC 5905, 7.3).
 const SERVER_MODE: u8 = 4;
@@ -103,24 +103,13 @@ fn shown_id(reference: &Reference) -> [u8; 4]
 pub fn kiss_fields(kiss: Kiss, request: &Header) -> Header
     ensures { result ≡ kiss_fields kiss request.now }
 {
-    let version = request.version();
-    let poll = request.poll();
     let origin = request.transmit();
-    Header::new(
-        UNSYNCHRONISED_LEAP,
-        version,
-        SERVER_MODE,
-        0,
-        poll,
-        0,
-        Short(0),
-        Short(0),
-        kiss_code(kiss),
-        Stamp(0),
-        origin,
-        Stamp(0),
-        kiss_transmit(origin),
-    )
+    Header::blank(request.version(), SERVER_MODE)
+        .with_leap(UNSYNCHRONISED_LEAP)
+        .with_poll(request.poll())
+        .with_reference_id(kiss_code(kiss))
+        .with_origin(origin)
+        .with_transmit(kiss_transmit(origin))
 }
 
 // The kiss code (RFC 5905, 7.4).
@@ -128,8 +117,8 @@ fn kiss_code(kiss: Kiss) -> [u8; 4]
     ensures { result ≡ kiss_code kiss }
 {
     match kiss {
-        Kiss::Rate => *b"RATE",
-        Kiss::Deny => *b"DENY",
+        Kiss::Rate => RATE_CODE,
+        Kiss::Deny => DENY_CODE,
     }
 }
 

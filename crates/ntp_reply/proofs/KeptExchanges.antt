@@ -5,7 +5,7 @@ use Rattle.ntp_time.specs.declared.stamp.Stamp.{Stamp}
 use Rattle.ntp_time.specs.declared.moment.Moment.{Moment}
 use Rattle.ntp_packet.specs.Header.{HeaderFields}
 use Rattle.ntp_slots.specs.declared.slot.Slot.{Slot}
-use Rattle.ntp_slots.specs.Exchanges.{recent, with_recent, new_exchange, unused_at, spent, departed}
+use Rattle.ntp_slots.specs.Exchanges.{recent, with_recent, new_exchange, unused_at, spent, with_departure}
 use Rattle.ntp_slots.proofs.Recents.{recent-all, recent-append, recent-with_recent, recent-departed, length-spent}
 use Rattle.ntp_customer.specs.Customer.{Enrolment, CustomerState, new_customer, customer_from, enrolment_at, is_enrolled, exchanges_of, with_saved}
 use Rattle.ntp_customer.specs.Past.{Past, with_query, short}
@@ -83,7 +83,7 @@ short-after_time past o request =
 
 -- and after a departure
 short-after_departure : (past : Past) (receive : Stamp) (m : Moment)
-    → with_saved (short past) (departed (recent_of past) receive m) ≡ short (after_departure past receive m)
+    → with_saved (short past) (with_departure (recent_of past) receive m) ≡ short (after_departure past receive m)
 short-after_departure past receive m =
     ap (with_saved (short past)) (sym (recent-departed (exchanges_of past) receive m)) ∙ kept-changed past _
 
@@ -98,11 +98,11 @@ kept-after_time past c o request xs saved stamps kept some lent new is =
     before ∙ short-after_time past o request
 
 pub kept-after_departure : (past : Past) (c : CustomerState) (receive : Stamp) (m : Moment) (xs saved : List Slot)
-    → short past ≡ c → IsSome (enrolment_at c) → IfSome c.account (λ a. xs ≡ a.exchanges) → saved ≡ departed xs receive m
+    → short past ≡ c → IsSome (enrolment_at c) → IfSome c.account (λ a. xs ≡ a.exchanges) → saved ≡ with_departure xs receive m
     → with_saved c saved ≡ short (after_departure past receive m)
 kept-after_departure past c receive m xs saved kept some lent is =
     let recents = lent-recent past c xs kept some lent in
-    let before : with_saved c saved ≡ with_saved (short past) (departed (recent_of past) receive m) = rw (is, recents, ← kept) refl in
+    let before : with_saved c saved ≡ with_saved (short past) (with_departure (recent_of past) receive m) = rw (is, recents, ← kept) refl in
     before ∙ short-after_departure past receive m
 
 -- pasts of which the same is kept have the same recent exchanges, and the same is kept of them afterwards
@@ -119,6 +119,6 @@ module _ (one other : Past) (same : short one ≡ short other) where
       × (short (after_departure one receive m) ≡ short (after_departure other receive m))
   departure-alike receive m = (
     λ i. is_some (unused_at (recent-alike i) receive),
-    sym (short-after_departure one receive m) ∙ (λ i. with_saved (same i) (departed (recent-alike i) receive m))
+    sym (short-after_departure one receive m) ∙ (λ i. with_saved (same i) (with_departure (recent-alike i) receive m))
         ∙ short-after_departure other receive m,
   )

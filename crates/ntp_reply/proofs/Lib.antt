@@ -1,4 +1,5 @@
 mod Lengths
+mod Answering
 pub mod KeptExchanges
 pub mod ApartExchanges
 pub mod ShortPasts

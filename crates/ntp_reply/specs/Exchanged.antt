@@ -4,7 +4,7 @@ use Rattle.ntp_time.specs.declared.stamp.Stamp.{Stamp}
 use Rattle.ntp_time.specs.declared.moment.Moment.{Moment}
 use Rattle.ntp_packet.specs.Header.{HeaderFields}
 use Rattle.ntp_slots.specs.declared.slot.Slot.{Slot}
-use Rattle.ntp_slots.specs.Exchanges.{with_recent, new_exchange, unused_at, spent, departed}
+use Rattle.ntp_slots.specs.Exchanges.{with_recent, new_exchange, unused_at, spent, with_departure}
 use Rattle.ntp_reply_packets.specs.declared.occasion.Occasion.{Occasion}
 use Rattle.ntp_reply_packets.specs.declared.occasion.NewStamps.{NewStamps}
 use Rattle.ntp_reply_packets.specs.Replies.{new_stamps}
@@ -37,4 +37,4 @@ is_noted past receive = is_some (unused_at (recent_of past) receive)
 
 -- the past after a departure: that exchange has its transmit stamp (profile, after RFC 9769)
 abbrev pub after_departure : Past → Stamp → Moment → Past
-after_departure past receive m = with_saved past (with_recent (exchanges_of past) (departed (recent_of past) receive m))
+after_departure past receive m = with_saved past (with_recent (exchanges_of past) (with_departure (recent_of past) receive m))

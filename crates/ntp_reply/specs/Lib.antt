@@ -4,3 +4,4 @@ pub mod Life
 pub mod Kind
 pub mod Exchanged
 pub mod Verdict
+pub mod Answered

@@ -1,14 +1,14 @@
 //! The decision, in its order.
-ghost use Rattle.std.specs.Prelude.{◌≡◌, ◌≤◌, ◌||◌, ◌==◌, length, IsSome, IfSome};
-ghost use Rattle.ntp_request.specs.Tail.{tail_octets};
-ghost use Rattle.ntp_customer.specs.Customer.{enrolment_at, held_in, numbers_of};
+ghost use Rattle.std.specs.Prelude.{◌≡◌, ◌≤◌, ◌||◌, ◌==◌, length, IsSome};
+ghost use Rattle.ntp_customer.specs.Customer.{enrolment_at, numbers_of};
 ghost use Rattle.ntp_customer.specs.Past.{Past, short};
-ghost use Rattle.ntp_reply.specs.Kind.{mac_kind, packet_kind, kind_of};
+ghost use Rattle.ntp_reply.specs.Kind.{client_kind, octets_kind, kind_of};
 ghost use Rattle.ntp_reply_packets.specs.Replies.{occasion_of};
 ghost use Rattle.ntp_reply.specs.Verdict.{kind_answer, after_kind, reply_length, request_length};
+ghost use Rattle.ntp_reply.specs.Answered.{Answers, HasMac};
 
 use crate::refusing::{deny, nak};
-use crate::serving::serve_signed;
+use crate::signed_queries::serve_signed;
 use crate::{Answer, Reason, Reference};
 use ntp_customer::Customer;
 use ntp_mac::verifies;
@@ -60,10 +60,10 @@ pub fn answer<A: Allocator + Copy>(
     reference: &Reference,
 ) -> Answer
     ensures answer { (past : Past) → short past ≡ customer.old
-        → result ≡ kind_answer past (occasion_of receipt transmit reference.now) (packet_kind (enrolment_at past) request.now) }
+        → result ≡ kind_answer past (occasion_of receipt transmit reference.now) (octets_kind (enrolment_at past) (Ok request.now)) }
     ensures after { (past : Past) → short past ≡ customer.old
         → customer.new
-        ≡ short (after_kind past (occasion_of receipt transmit reference.now) (packet_kind (enrolment_at past) request.now)) }
+        ≡ short (after_kind past (occasion_of receipt transmit reference.now) (octets_kind (enrolment_at past) (Ok request.now))) }
     ensures numbers { numbers_of customer.new ≡ numbers_of customer.old }
     ensures no_longer { reply_length result ≤ request_length request.now }
 {
@@ -106,13 +106,9 @@ fn answer_mac<A: Allocator + Copy>(
     occasion: &Occasion,
 ) -> Answer
     requires enrolled { IsSome (enrolment_at customer.old) }
-    requires mac { 20 ≤ length (tail_octets request.now.tail) }
-    ensures answer { (past : Past) → short past ≡ customer.old → IfSome (enrolment_at customer.old)
-        (λ e. result ≡ kind_answer past occasion.now (mac_kind (held_in e number) request.now)) }
-    ensures after { (past : Past) → short past ≡ customer.old → IfSome (enrolment_at customer.old)
-        (λ e. customer.new ≡ short (after_kind past occasion.now (mac_kind (held_in e number) request.now))) }
-    ensures numbers { numbers_of customer.new ≡ numbers_of customer.old }
-    ensures no_longer { reply_length result ≤ request_length request.now }
+    requires mac { HasMac number request.now.tail }
+    ensures { Answers occasion.now (client_kind request.now (enrolment_at customer.old) request.now.tail) (request_length request.now)
+        customer.old customer.new result }
 {
     let Some(found) = customer.held(number) else {
         return nak(customer, &request.header, occasion);

@@ -8,7 +8,7 @@ mod departing;
 mod exchanging;
 mod laws;
 mod refusing;
-mod serving;
+mod signed_queries;
 
 pub use answers::{Answer, Reason};
 pub use deciding::{answer, answer_octets};

@@ -1,10 +1,11 @@
 //! Refusals: each is counted, and few of a window are sent.
-ghost use Rattle.std.specs.Prelude.{◌≡◌, ◌≤◌, IsSome, nat_lt};
+ghost use Rattle.std.specs.Prelude.{◌≡◌, IsSome, nat_lt};
 ghost use Rattle.ntp_budget.specs.Tally.{count_in};
-ghost use Rattle.ntp_customer.specs.Customer.{enrolment_at, numbers_of};
+ghost use Rattle.ntp_customer.specs.Customer.{enrolment_at};
 ghost use Rattle.ntp_customer.specs.Past.{Past, with_refusal, short};
 ghost use Rattle.ntp_reply.specs.Kind.{RefusedByDeny, RefusedByNak};
-ghost use Rattle.ntp_reply.specs.Verdict.{kind_answer, after_kind, refusals_sent, reply_length};
+ghost use Rattle.ntp_reply.specs.Verdict.{refusals_sent};
+ghost use Rattle.ntp_reply.specs.Answered.{Answers};
 
 use crate::exchanging::new_stamps;
 use crate::{Answer, Reason};
@@ -33,12 +34,7 @@ pub(crate) fn deny<A: Allocator + Copy>(
     request: &Header,
     occasion: &Occasion,
 ) -> Answer
-    ensures answer { (past : Past) → short past ≡ customer.old
-        → result ≡ kind_answer past occasion.now (RefusedByDeny request.now) }
-    ensures after { (past : Past) → short past ≡ customer.old
-        → customer.new ≡ short (after_kind past occasion.now (RefusedByDeny request.now)) }
-    ensures numbers { numbers_of customer.new ≡ numbers_of customer.old }
-    ensures octets { reply_length result ≤ 48 }
+    ensures { Answers occasion.now (RefusedByDeny request.now) 48 customer.old customer.new result }
 {
     if !refuse(customer, occasion.receipt.window()) {
         return Answer::Silent(Reason::Muted);
@@ -53,12 +49,7 @@ pub(crate) fn nak<A: Allocator + Copy>(
     occasion: &Occasion,
 ) -> Answer
     requires { IsSome (enrolment_at customer.old) }
-    ensures answer { (past : Past) → short past ≡ customer.old
-        → result ≡ kind_answer past occasion.now (RefusedByNak request.now) }
-    ensures after { (past : Past) → short past ≡ customer.old
-        → customer.new ≡ short (after_kind past occasion.now (RefusedByNak request.now)) }
-    ensures numbers { numbers_of customer.new ≡ numbers_of customer.old }
-    ensures octets { reply_length result ≤ 52 }
+    ensures { Answers occasion.now (RefusedByNak request.now) 52 customer.old customer.new result }
 {
     if !refuse(customer, occasion.receipt.window()) {
         return Answer::Silent(Reason::Muted);

@@ -1,6 +1,6 @@
 use Rattle.std.proofs.Common.{rules}
 use Rattle.ntp_reply.proofs.KeptExchanges.{lent-recent, kept-after_time}
-use Rattle.ntp_reply.proofs.serving.time.Goals as goal
+use Rattle.ntp_reply.proofs.signed_queries.time.Goals as goal
 
 pub returns-clause-answer : goal.returns-clause-answer
 returns-clause-answer g c = λ past kept.

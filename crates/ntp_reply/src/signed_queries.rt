@@ -1,13 +1,14 @@
 //! Signed queries: each is counted, and as many of a window as the budget get the time.
-ghost use Rattle.std.specs.Prelude.{◌≡◌, ◌≤◌, ◌+◌, IsSome};
+ghost use Rattle.std.specs.Prelude.{◌≡◌, ◌+◌, IsSome};
 ghost use Rattle.ntp_mac.specs.Digest.{digest_length};
-ghost use Rattle.ntp_customer.specs.Customer.{enrolment_at, numbers_of};
+ghost use Rattle.ntp_customer.specs.Customer.{enrolment_at};
 ghost use Rattle.ntp_customer.specs.Past.{Past, short};
 ghost use Rattle.ntp_reply.specs.Life.{recent_of};
 ghost use Rattle.ntp_reply.specs.Exchanged.{after_time};
 ghost use Rattle.ntp_reply.specs.Kind.{Signed};
 ghost use Rattle.ntp_reply_packets.specs.Replies.{rate_octets};
-ghost use Rattle.ntp_reply.specs.Verdict.{kind_answer, after_kind, timed, reply_length};
+ghost use Rattle.ntp_reply.specs.Verdict.{timed, reply_length};
+ghost use Rattle.ntp_reply.specs.Answered.{Answers};
 
 use crate::exchanging::exchange;
 use crate::{Answer, Reason};
@@ -25,12 +26,8 @@ pub(crate) fn serve_signed<A: Allocator + Copy>(
     occasion: &Occasion,
 ) -> Answer
     requires { IsSome (enrolment_at customer.old) }
-    ensures answer { (past : Past) → short past ≡ customer.old
-        → result ≡ kind_answer past occasion.now (Signed held.now.key held.now.number request.now) }
-    ensures after { (past : Past) → short past ≡ customer.old
-        → customer.new ≡ short (after_kind past occasion.now (Signed held.now.key held.now.number request.now)) }
-    ensures numbers { numbers_of customer.new ≡ numbers_of customer.old }
-    ensures octets { reply_length result ≤ 52 + digest_length held.now.key.algorithm }
+    ensures { Answers occasion.now (Signed held.now.key held.now.number request.now) (52 + digest_length held.now.key.algorithm)
+        customer.old customer.new result }
 {
     let budget = u32::from(customer.budget());
     let count = customer.charge_signed(occasion.receipt.window());

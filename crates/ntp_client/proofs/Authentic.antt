@@ -4,12 +4,13 @@ use Rattle.std.specs.Prelude.{if◌then◌else◌, nat_lt}
 use Rattle.std.proofs.lemmas.Bool.{ne_eqb}
 use Rattle.std.proofs.lemmas.Bool.Decides.{nat_tests}
 use Rattle.ntp_packet.specs.Header.{HeaderFields}
+use Rattle.ntp_packet.specs.Kiss.{rate_code}
 use Rattle.ntp_client.specs.declared.pairing.Pairing.{Pairing}
 use Rattle.ntp_client.specs.declared.sample.Sample.{Sample}
 use Rattle.ntp_client.specs.declared.taken.Taken.TheVariants as taken
 use Rattle.ntp_client.specs.declared.taken.Distrust.TheVariants as distrust
 use Rattle.ntp_client.specs.Sample.{IsTimeReply}
-use Rattle.ntp_client.specs.Taking.{is_kiss, is_unsynchronised, lacks_stamp, rate_code, authentic_taken}
+use Rattle.ntp_client.specs.Taking.{is_kiss, is_unsynchronised, lacks_stamp, authentic_taken}
 
 -- no refusal and no kiss is left
 none-applies : (kiss unsynchronised lacking : Bool) (x s : Sample)

@@ -1,18 +1,16 @@
 -- Octets are taken for a sample exactly where they give one.
 use Rattle.std.proofs.Common.{◌≡◌, ◌≢◌, ℕ, Bool, true, false, ◌==◌, List, Option, Some, None, Result, Ok, Err, ◌⊎◌, inl, inr, refl, sym, ap, ◌∙◌}
-use Rattle.std.specs.Prelude.{◌↔◌, if◌then◌else◌}
+use Rattle.std.specs.Prelude.{if◌then◌else◌}
 use Rattle.std.proofs.lemmas.Bool.{eqb-true, eq-eqb}
 use Rattle.ntp_time.specs.declared.moment.Moment.{Moment}
-use Rattle.ntp_request.specs.Tail.{TailValue, NoTail, BareTail, Md5Tail, Sha1Tail}
+use Rattle.ntp_packet.specs.Kiss.{deny_code}
+use Rattle.ntp_request.specs.Tail.{TailValue, NoTail, BareTail, MacTail}
 use Rattle.ntp_request.specs.Request.{RequestValue}
 use Rattle.ntp_request.specs.declared.malformed.Malformed.{Malformed}
 use Rattle.ntp_request.proofs.Octets.{AreOctets}
 use Rattle.ntp_mac.specs.Key.{SymmetricKey}
-use Rattle.ntp_mac.specs.Digest.{digest_of}
 use Rattle.ntp_mac.specs.Reading.{Reads, reading_of}
-use Rattle.ntp_mac.specs.Signed.{IsSigned, is_signed, mac_tail}
-use Rattle.ntp_mac.specs.declared.digests.Digest.{Digest}
-use Rattle.ntp_mac.specs.declared.digests.Digest.TheVariants.{Md5, Sha1}
+use Rattle.ntp_mac.specs.Signed.{IsSigned, is_signed}
 use Rattle.ntp_mac.proofs.ReadAs.{Reads-reading_of, only-reading_of}
 use Rattle.ntp_mac.proofs.Signing.{is-signed}
 use Rattle.ntp_client.specs.declared.exchange.Outstanding.{Outstanding}
@@ -25,7 +23,7 @@ use Rattle.ntp_client.specs.declared.taken.Distrust.TheVariants as distrust
 use Rattle.ntp_client.specs.State.{ClientState, IsClient}
 use Rattle.ntp_client.specs.Pairing.{pairing_of, sample_of}
 use Rattle.ntp_client.specs.Sample.{IsTimeReply, IsBasic, IsInterleaved, IsSample}
-use Rattle.ntp_client.specs.Taking.{is_kiss, deny_code, authentic_taken, mac_taken, tail_taken, paired_taken, packet_taken, reading_taken, asked_taken, taken_for}
+use Rattle.ntp_client.specs.Taking.{is_kiss, authentic_taken, mac_taken, tail_taken, paired_taken, packet_taken, reading_taken, asked_taken, taken_for}
 use Rattle.ntp_client.proofs.Pairings.{sample-pairs, basic-pairing, interleaved-pairing}
 use Rattle.ntp_client.proofs.Authentic.{authentic-sample, time-taken}
 
@@ -51,8 +49,7 @@ module _ (key : SymmetricKey) (number : ℕ) where
       → (is_signed key number r ≡ true) × (authentic_taken p r.header x ≡ taken.Sample s)
   tail-sample p r x s NoTail is = absurd (no-sample (is_kiss deny_code r.header p) taken.Deny s (λ e. absurd (cc)) is)
   tail-sample p r x s (BareTail found) is = absurd (no-sample _ taken.Nak s (λ e. absurd (cc)) is)
-  tail-sample p r x s (Md5Tail found digest) is = mac-sample p r x s is
-  tail-sample p r x s (Sha1Tail found digest) is = mac-sample p r x s is
+  tail-sample p r x s (MacTail found digest) is = mac-sample p r x s is
 
   -- a packet is taken for a sample only where it is a signed time reply of a pairing
   packet-sample : (q : Outstanding) (r : RequestValue) (at : Moment) (s : Sample) → packet_taken key number q r at ≡ taken.Sample s
@@ -86,11 +83,7 @@ module _ (key : SymmetricKey) (number : ℕ) where
       → tail_taken key number p r x r.tail ≡ authentic_taken p r.header x
   unfolding IsSigned
   signed-taken p r x signed =
-      go (digest_of key r.signed) r.tail signed ∙ rw ((is-signed key number r).1 signed) refl
-    where
-      go : (d : Digest) (tail : TailValue) → tail ≡ mac_tail number d → tail_taken key number p r x tail ≡ mac_taken key number p r x
-      go (Md5 octets) tail is = ap (tail_taken key number p r x) is
-      go (Sha1 octets) tail is = ap (tail_taken key number p r x) is
+      ap (tail_taken key number p r x) signed ∙ rw ((is-signed key number r).1 signed) refl
 
   -- a signed time reply of a pairing is taken for its sample
   sample-packet : (q : Outstanding) (r : RequestValue) (at : Moment) (p : Pairing) → IsTimeReply r.header → IsSigned key number r
@@ -101,10 +94,10 @@ module _ (key : SymmetricKey) (number : ℕ) where
       (ap (paired_taken key number q r at) found ∙ signed-taken p r (sample_of q p r.header at) signed
       ∙ time-taken p r.header (sample_of q p r.header at) time)
 
--- octets are taken for a sample exactly where they give the client one
-pub taken-sample : (c : ClientState) (octets : List ℕ) (at : Moment) (s : Sample) → IsClient c → AreOctets octets
-    → (taken_for c octets at ≡ taken.Sample s) ↔ IsSample c octets at s
-taken-sample c octets at s client are = (λ is. asked c.outstanding refl is, given)
+-- octets that are taken for a sample give the client that one
+pub sample-given : (c : ClientState) (octets : List ℕ) (at : Moment) (s : Sample) → AreOctets octets
+    → taken_for c octets at ≡ taken.Sample s → IsSample c octets at s
+sample-given c octets at s are is = asked c.outstanding refl is
   where
     reading : (q : Outstanding) → c.outstanding ≡ Some q → (a : Result RequestValue Malformed) → Reads octets a
         → reading_taken c.key c.number q at a ≡ taken.Sample s → IsSample c octets at s
@@ -125,6 +118,14 @@ taken-sample c octets at s client are = (λ is. asked c.outstanding refl is, giv
     asked None there is = absurd (cc)
     asked (Some q) there is = reading q there (reading_of octets) (Reads-reading_of octets are) is
 
+-- and a client takes octets for the sample that they give it
+pub given-taken : (c : ClientState) (octets : List ℕ) (at : Moment) (s : Sample) → IsClient c → AreOctets octets
+    → IsSample c octets at s → taken_for c octets at ≡ taken.Sample s
+given-taken c octets at s client are is =
+    let read = only-reading_of octets (Ok is.reply) are is.reads in
+    ap (λ o. asked_taken c.key c.number o octets at) is.outstanding ∙ ap (reading_taken c.key c.number is.asked at) (sym read)
+    ∙ paired is.asked is.reply is.outstanding is.time is.signed is.pairs
+  where
     paired : (q : Outstanding) (r : RequestValue) → c.outstanding ≡ Some q → IsTimeReply r.header → IsSigned c.key c.number r
         → IsBasic q r.header at s ⊎ IsInterleaved q r.header s
         → packet_taken c.key c.number q r at ≡ taken.Sample s
@@ -134,9 +135,3 @@ taken-sample c octets at s client are = (λ is. asked c.outstanding refl is, giv
         sample-packet c.key c.number q r at (Interleaved i.earlier) time signed
         (interleaved-pairing q i.earlier r.header.origin i.carried ((client.outstanding q there).apart i.earlier i.carried) i.origin)
         ∙ ap taken.Sample (sym i.stamps)
-
-    given : IsSample c octets at s → taken_for c octets at ≡ taken.Sample s
-    given is =
-        let read = only-reading_of octets (Ok is.reply) are is.reads in
-        ap (λ o. asked_taken c.key c.number o octets at) is.outstanding ∙ ap (reading_taken c.key c.number is.asked at) (sym read)
-        ∙ paired is.asked is.reply is.outstanding is.time is.signed is.pairs

@@ -1,23 +1,14 @@
 -- The request of a client.
 use Rattle.std.specs.Prelude.{ℕ, pos, Option, Some, None, List, [], ◌∷◌, ◌++◌}
 use Rattle.ntp_time.specs.declared.stamp.Stamp.{Stamp}
-use Rattle.ntp_time.specs.declared.stamp.Short.{Short}
 use Rattle.ntp_time.specs.declared.moment.Moment.{Moment}
 use Rattle.ntp_time.specs.Fresh.{fresh}
-use Rattle.ntp_packet.specs.Header.{HeaderFields, header_octets}
+use Rattle.ntp_packet.specs.Header.{HeaderFields, no_stamp, blank_header, header_octets}
 use Rattle.ntp_mac.specs.Key.{SymmetricKey}
 use Rattle.ntp_mac.specs.Mac.{mac_of}
 use Rattle.ntp_client.specs.declared.exchange.Exchange.{Exchange}
 use Rattle.ntp_client.specs.declared.exchange.Outstanding.{Outstanding}
 use Rattle.ntp_client.specs.State.{ClientState}
-
--- the stamp of unknown time (RFC 5905, 6)
-abbrev pub no_stamp : Stamp
-no_stamp = record { 0 = 0 }
-
--- no delay and no dispersion (RFC 5905, 6)
-abbrev pub no_short : Short
-no_short = record { 0 = 0 }
 
 -- the origin stamp of a request: the receive stamp of the earlier exchange's reply, if there is one (RFC 9769, 2; profile)
 abbrev pub origin_of : Option Exchange → Stamp
@@ -36,21 +27,8 @@ transmit_of (Some earlier) now = fresh now.stamp (earlier.arrival ∷ [])
 
 -- the header of a request: a client's, of version 4, with the stamps; its poll is 6, all else 0 (RFC 5905, 7.3; profile)
 abbrev pub query_fields : Outstanding → HeaderFields
-query_fields q = record {
-  leap = 0;
-  version = 4;
-  mode = 3;
-  stratum = 0;
-  poll = pos 6;
-  precision = pos 0;
-  root_delay = no_short;
-  root_dispersion = no_short;
-  reference_id = 0 ∷ 0 ∷ 0 ∷ 0 ∷ [];
-  reference = no_stamp;
-  origin = origin_of q.earlier;
-  receive = receive_of q.earlier;
-  transmit = q.transmit;
-}
+query_fields q =
+    record (blank_header 4 3) { poll = pos 6; origin = origin_of q.earlier; receive = receive_of q.earlier; transmit = q.transmit }
 
 -- the octets of a request: the header, and its MAC (RFC 5905, 7.3)
 abbrev pub query_octets : SymmetricKey → ℕ → Outstanding → List ℕ

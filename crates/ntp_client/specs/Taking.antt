@@ -1,9 +1,10 @@
 -- What a client makes of octets that arrive.
-use Rattle.std.specs.Prelude.{ℕ, List, [], ◌∷◌, Bool, ◌==◌, ◌&&◌, ◌||◌, nat_eq, nat_lt, if◌then◌else◌, Option, Some, None, Result, Ok, Err}
+use Rattle.std.specs.Prelude.{ℕ, List, Bool, ◌==◌, ◌&&◌, ◌||◌, nat_eq, nat_lt, if◌then◌else◌, Option, Some, None, Result, Ok, Err}
 use Rattle.std.specs.Cmp.Lexicographic.{pointwise}
 use Rattle.ntp_time.specs.declared.moment.Moment.{Moment}
 use Rattle.ntp_packet.specs.Header.{HeaderFields}
-use Rattle.ntp_request.specs.Tail.{TailValue, NoTail, BareTail, Md5Tail, Sha1Tail}
+use Rattle.ntp_packet.specs.Kiss.{rate_code, deny_code}
+use Rattle.ntp_request.specs.Tail.{TailValue, NoTail, BareTail, MacTail}
 use Rattle.ntp_request.specs.Request.{RequestValue}
 use Rattle.ntp_request.specs.declared.malformed.Malformed.{Malformed}
 use Rattle.ntp_mac.specs.Key.{SymmetricKey}
@@ -18,13 +19,6 @@ use Rattle.ntp_client.specs.declared.taken.Taken.TheVariants as taken
 use Rattle.ntp_client.specs.declared.taken.Distrust.TheVariants as distrust
 use Rattle.ntp_client.specs.State.{ClientState}
 use Rattle.ntp_client.specs.Pairing.{pairing_of, is_basic, exchange_of, sample_of}
-
--- the kiss codes that a client knows (RFC 5905, 7.4)
-abbrev pub rate_code : List ℕ
-rate_code = 82 ∷ 65 ∷ 84 ∷ 69 ∷ []
-
-abbrev pub deny_code : List ℕ
-deny_code = 68 ∷ 69 ∷ 78 ∷ 89 ∷ []
 
 -- whether a reply is a kiss-o'-death of this code, to this request (RFC 5905, 7.4; to this request: profile)
 abbrev pub is_kiss : List ℕ → HeaderFields → Pairing → Bool
@@ -56,8 +50,7 @@ abbrev pub tail_taken : SymmetricKey → ℕ → Pairing → RequestValue → Sa
 tail_taken key number pairing r sample NoTail = if is_kiss deny_code r.header pairing then taken.Deny else taken.Refused distrust.Unsigned
 tail_taken key number pairing r sample (BareTail found) =
     if (found == 0) && is_basic pairing then taken.Nak else taken.Refused distrust.Unsigned
-tail_taken key number pairing r sample (Md5Tail found digest) = mac_taken key number pairing r sample
-tail_taken key number pairing r sample (Sha1Tail found digest) = mac_taken key number pairing r sample
+tail_taken key number pairing r sample (MacTail found digest) = mac_taken key number pairing r sample
 
 -- what a server's reply is taken for, by its pairing (profile)
 abbrev pub paired_taken : SymmetricKey → ℕ → Outstanding → RequestValue → Moment → Option Pairing → Taken

@@ -1,8 +1,7 @@
 //! A client, with its request and what it takes for a reply.
-ghost use Rattle.std.specs.Prelude.{◌≡◌, ◌↔◌, ◌<◌, Some};
+ghost use Rattle.std.specs.Prelude.{◌≡◌, ◌<◌, Some};
 ghost use Rattle.ntp_client.specs.State.{new_client, IsClient};
 ghost use Rattle.ntp_client.specs.Query.{query_octets, next_query, after_query};
-ghost use Rattle.ntp_client.specs.Sample.{IsSample};
 ghost use Rattle.ntp_client.specs.Pairing.{exchange_of};
 ghost use Rattle.ntp_client.specs.Taking.{packet_taken, taken_for, after_exchange, after_taken};
 
@@ -10,7 +9,7 @@ use crate::exchange::{Exchange, Outstanding};
 use crate::judging::judge;
 use crate::pairing::exchange_of;
 use crate::query::{query_header, transmit_of};
-use crate::{Distrust, Sample, Taken};
+use crate::{Distrust, Taken};
 use ntp_mac::{Key, Reply, seal};
 use ntp_request::{Request, read_request};
 use ntp_time::Moment;
@@ -88,7 +87,6 @@ impl Client {
     #[must_use]
     pub fn take(&mut self, octets: &[u8], at: Moment) -> Taken
         ensures first { result ≡ taken_for self.old octets.now at }
-        ensures sample { (s : Sample) → (result ≡ Taken.Sample s) ↔ IsSample self.old octets.now at s }
         ensures after { self.new ≡ after_taken self.old octets.now at result }
         ensures client { IsClient self.new }
     {

@@ -7,7 +7,7 @@ use crate::pairing::{Pairing, is_basic, pairing_of, sample_of};
 use crate::query::VERSION;
 use crate::{Distrust, Sample, Taken};
 use ntp_mac::{Key, verifies};
-use ntp_packet::Header;
+use ntp_packet::{DENY_CODE, Header, RATE_CODE};
 use ntp_request::{Request, Tail};
 use ntp_time::Moment;
 
@@ -19,12 +19,6 @@ const UNSYNCHRONISED_LEAP: u8 = 3;
 
 /// The highest stratum of a synchronised clock (RFC 5905, 7.3).
 const HIGHEST_STRATUM: u8 = 15;
-
-/// The kiss code of a server that is asked too often (RFC 5905, 7.4).
-const RATE: [u8; 4] = *b"RATE";
-
-/// The kiss code of a server that refuses to serve (RFC 5905, 7.4).
-const DENY: [u8; 4] = *b"DENY";
 
 // What a packet is taken for that arrives at a moment, while a request waits. The first case that applies
 // decides.
@@ -61,7 +55,7 @@ fn judge_tail(
     ensures { result ≡ tail_taken key.now number pairing reply.now sample reply.now.tail }
 {
     match reply.tail {
-        Tail::Absent if is_kiss(&reply.header, DENY, pairing) => Taken::Deny,
+        Tail::Absent if is_kiss(&reply.header, DENY_CODE, pairing) => Taken::Deny,
         Tail::Bare(0) if is_basic(pairing) => Taken::Nak,
         Tail::Absent | Tail::Bare(_) => Taken::Refused(Distrust::Unsigned),
         Tail::Md5 { .. } | Tail::Sha1 { .. } => judge_mac(key, number, pairing, reply, sample),
@@ -83,7 +77,7 @@ fn judge_mac(key: &Key, number: u16, pairing: Pairing, reply: &Request<'_>, samp
 fn judge_authentic(pairing: Pairing, reply: &Header, sample: Sample) -> Taken
     ensures { result ≡ authentic_taken pairing reply.now sample }
 {
-    if is_kiss(reply, RATE, pairing) {
+    if is_kiss(reply, RATE_CODE, pairing) {
         Taken::Rate
     } else if is_unsynchronised(reply) {
         Taken::Refused(Distrust::Unsynchronised)

@@ -5,6 +5,7 @@
 mod client;
 mod exchange;
 mod judging;
+mod laws;
 mod pairing;
 mod query;
 mod sample;
@@ -13,5 +14,6 @@ mod taken;
 mod tests;
 
 pub use client::{Client, Outgoing};
+pub use laws::a_sample_is_an_authentic_answer;
 pub use sample::Sample;
 pub use taken::{Distrust, Taken};

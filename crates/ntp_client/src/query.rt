@@ -4,7 +4,7 @@ ghost use Rattle.ntp_client.specs.Query.{origin_of, receive_of, transmit_of, que
 
 use crate::exchange::{Exchange, Outstanding};
 use ntp_packet::Header;
-use ntp_time::{Moment, Short, Stamp, fresh};
+use ntp_time::{Moment, Stamp, fresh};
 
 /// The version of NTP (RFC 5905, 7.3).
 pub(crate) const VERSION: u8 = 4;
@@ -19,21 +19,11 @@ const POLL: i8 = 6;
 pub(crate) fn query_header(asked: Outstanding) -> Header
     ensures { result ≡ query_fields asked }
 {
-    Header::new(
-        0,
-        VERSION,
-        CLIENT_MODE,
-        0,
-        POLL,
-        0,
-        Short(0),
-        Short(0),
-        [0; 4],
-        Stamp(0),
-        origin_of(asked.earlier),
-        receive_of(asked.earlier),
-        asked.transmit,
-    )
+    Header::blank(VERSION, CLIENT_MODE)
+        .with_poll(POLL)
+        .with_origin(origin_of(asked.earlier))
+        .with_receive(receive_of(asked.earlier))
+        .with_transmit(asked.transmit)
 }
 
 // The origin stamp of a request that carries an exchange, or none.

@@ -1,8 +1,6 @@
 use Rattle.std.proofs.Common.{◌≡◌, Err, Some, sym, ◌∙◌, arith}
 use Rattle.ntp_mac.proofs.ReadAs.{answers-so}
 use Rattle.ntp_request.proofs.Octets.{AreOctets}
-use Rattle.ntp_client.specs.State.{IsClient}
-use Rattle.ntp_client.proofs.Samples.{taken-sample}
 use Rattle.ntp_client.proofs.Takings.{read-taken, read-after}
 use Rattle.ntp_client.proofs.client.Client.take.Goals as goal
 
@@ -12,12 +10,6 @@ returns-in-Ok-clause-first c =
     let is = answers-so c.args.octets.now c.read_request.result are c.read_request.ensures.only c.read_request.ensures.exact in
     let there : c.args.self.now.outstanding ≡ Some c.in-Some.asked = rw (← c.self.view_is) c.in-Some.is in
     c.take_reply.ensures.first ∙ read-taken c.args.self.now c.in-Some.asked c.args.octets.now c.args.at _ there (sym c.in-Ok.is ∙ is)
-
-pub returns-in-Ok-clause-sample : goal.returns-in-Ok-clause-sample
-returns-in-Ok-clause-sample c = λ s.
-    let client : IsClient c.args.self.now = rw (← c.self.view_is) c.self.invariant in
-    rw (returns-in-Ok-clause-first c)
-    (taken-sample c.args.self.now c.args.octets.now c.args.at s client (λ i. omega (arith, c.type_inv.octets i)))
 
 pub returns-in-Ok-clause-after : goal.returns-in-Ok-clause-after
 returns-in-Ok-clause-after c =

@@ -2,7 +2,8 @@
 use Rattle.std.proofs.Common.{◌≡◌, ◌≢◌, ℕ, Bool, true, false, ◌==◌, List, Option, Some, None, Result, Ok, Err, refl}
 use Rattle.std.specs.Prelude.{◌&&◌, if◌then◌else◌}
 use Rattle.ntp_time.specs.declared.moment.Moment.{Moment}
-use Rattle.ntp_request.specs.Tail.{TailValue, NoTail, BareTail, Md5Tail, Sha1Tail}
+use Rattle.ntp_packet.specs.Kiss.{deny_code}
+use Rattle.ntp_request.specs.Tail.{TailValue, NoTail, BareTail, MacTail}
 use Rattle.ntp_request.specs.Request.{RequestValue, IsRequest}
 use Rattle.ntp_request.specs.declared.malformed.Malformed.{Malformed}
 use Rattle.ntp_request.proofs.Octets.{AreOctets}
@@ -19,7 +20,7 @@ use Rattle.ntp_client.specs.declared.taken.Taken.TheVariants as taken
 use Rattle.ntp_client.specs.declared.taken.Distrust.TheVariants as distrust
 use Rattle.ntp_client.specs.State.{ClientState}
 use Rattle.ntp_client.specs.Pairing.{pairing_of, is_basic, sample_of}
-use Rattle.ntp_client.specs.Taking.{is_kiss, deny_code, authentic_taken, mac_taken, tail_taken, paired_taken, packet_taken, reading_taken, asked_taken, taken_for}
+use Rattle.ntp_client.specs.Taking.{is_kiss, authentic_taken, mac_taken, tail_taken, paired_taken, packet_taken, reading_taken, asked_taken, taken_for}
 
 -- what a client takes an authentic reply of an unsynchronised clock for
 abbrev unsynchronised : Taken
@@ -43,8 +44,7 @@ module _ (key : SymmetricKey) (number : ℕ) where
       → is_signed key number r ≡ true
   tail-signed p r x NoTail is = absurd (no-mac (is_kiss deny_code r.header p) taken.Deny (λ e. absurd (cc)) is)
   tail-signed p r x (BareTail found) is = absurd (no-mac ((found == 0) && is_basic p) taken.Nak (λ e. absurd (cc)) is)
-  tail-signed p r x (Md5Tail found digest) is = mac-signed p r x is
-  tail-signed p r x (Sha1Tail found digest) is = mac-signed p r x is
+  tail-signed p r x (MacTail found digest) is = mac-signed p r x is
 
   paired-signed : (q : Outstanding) (r : RequestValue) (at : Moment) (o : Option Pairing)
       → paired_taken key number q r at o ≡ unsynchronised → is_signed key number r ≡ true

@@ -3,7 +3,7 @@ use Rattle.std.specs.Prelude.{ℕ, pos, neg_ℤ, ◌+◌, ◌-◌, ◌*◌, ◌^
 use Rattle.std.specs.Int.{div_ceil}
 use Rattle.ntp_time.specs.declared.moment.Moment.{Moment}
 use Rattle.ntp_time.specs.Difference.{difference}
-use Rattle.ntp_client.specs.Query.{no_short, no_stamp}
+use Rattle.ntp_packet.specs.Header.{no_short, no_stamp}
 use Rattle.ntp_reply_packets.specs.Reference.{ReferenceState, reference_of}
 use Rattle.ntp_clock.specs.declared.answer.ClockAnswer.{ClockAnswer}
 use Rattle.ntp_clock.specs.declared.limits.ClockLimits.{ClockLimits}

@@ -1,9 +1,10 @@
-use Rattle.std.proofs.Common.{◌≡◌, Ok, refl, sym, ap, ◌∙◌, arith}
+use Rattle.std.proofs.Common.{◌≡◌, Ok, sym, ap, ◌∙◌, arith}
 use Rattle.ntp_request.proofs.Octets.{AreOctets}
 use Rattle.ntp_mac.specs.Reading.{reading_of}
 use Rattle.ntp_mac.proofs.ReadAs.{only-reading_of}
 use Rattle.ntp_client.specs.declared.taken.Taken.TheVariants as taken
 use Rattle.ntp_client.specs.declared.taken.Distrust.TheVariants as distrust
+use Rattle.ntp_client.proofs.Samples.{sample-given}
 use Rattle.ntp_clock.specs.Learning.{answer_read, learned_after}
 use Rattle.ntp_clock.proofs.AuthenticAnswers.{unsynchronised-signed}
 use Rattle.ntp_clock.proofs.follower.Follower.take.Goals as goal
@@ -12,7 +13,8 @@ use Rattle.ntp_clock.proofs.follower.Follower.take.Goals as goal
 pub returns-in-Sample-clause-learned : goal.returns-in-Sample-clause-learned
 returns-in-Sample-clause-learned c =
     let are : AreOctets c.args.octets.now = λ i. omega (arith, c.type_inv.octets i) in
-    let is = (c.in-Sample.ensures.sample c.in-Sample.sample).0 refl in
+    let is = sample-given c.self.inside.client c.args.octets.now c.args.clock c.in-Sample.sample are
+    (sym c.take-taken.ensures.first ∙ c.in-Sample.is) in
     let read = only-reading_of c.args.octets.now (Ok is.reply) are is.reads in
     let reading = reading_of c.args.octets.now in
     c.learn-self-inside.ensures is.reply is.reads is.time
@@ -22,7 +24,9 @@ returns-in-Sample-clause-learned c =
 -- that reply is signed
 pub returns-in-Sample-clause-forged : goal.returns-in-Sample-clause-forged
 returns-in-Sample-clause-forged c = λ none.
-    let is = (c.in-Sample.ensures.sample c.in-Sample.sample).0 refl in
+    let are : AreOctets c.args.octets.now = λ i. omega (arith, c.type_inv.octets i) in
+    let is = sample-given c.self.inside.client c.args.octets.now c.args.clock c.in-Sample.sample are
+    (sym c.take-taken.ensures.first ∙ c.in-Sample.is) in
     absurd (none is.reply is.reads (rw (← c.self.view_is) is.signed))
 
 -- and so is one of an unsynchronised clock

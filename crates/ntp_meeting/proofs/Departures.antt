@@ -6,7 +6,7 @@ use Rattle.ntp_time.specs.declared.stamp.Stamp.{Stamp}
 use Rattle.ntp_time.specs.declared.moment.Moment.{Moment}
 use Rattle.ntp_time.specs.Fresh.{fresh}
 use Rattle.ntp_slots.specs.declared.slot.Slot.{Slot}
-use Rattle.ntp_slots.specs.Exchanges.{recent, receives, is_unused_at, unused_at, with_unused, departed}
+use Rattle.ntp_slots.specs.Exchanges.{recent, receives, is_unused_at, unused_at, with_unused, with_departure}
 use Rattle.ntp_slots.proofs.Recents.{recent-departed}
 use Rattle.ntp_reply.specs.Life.{recent_of}
 use Rattle.ntp_customer.specs.Past.{Past}
@@ -29,8 +29,8 @@ change-found receive change keeps (y ∷ ys) x found =
 
 -- after its departure it is found with the departure's stamp
 departed-found : (xs : List Slot) (receive : Stamp) (m : Moment) (x : Slot) → unused_at xs receive ≡ Some x
-    → unused_at (departed xs receive m) receive ≡ Some (record x { transmit = fresh m.stamp (receives xs) })
-unfolding departed
+    → unused_at (with_departure xs receive m) receive ≡ Some (record x { transmit = fresh m.stamp (receives xs) })
+unfolding with_departure
 departed-found xs receive m x found =
     change-found receive (λ y. record y { transmit = fresh m.stamp (receives xs) }) (λ y. refl) xs x found
 

@@ -1,20 +1,17 @@
 -- A header and a tail are read as those.
 use Rattle.std.proofs.Common.{◌≡◌, ℕ, ◌^◌, ◌<◌, List, [], ◌++◌, Ok, refl, sym, ap, subst, ◌∙◌, append-nil, arith}
-use Rattle.std.specs.Int.{w32, to_be_bytes}
 use Rattle.std.proofs.lemmas.List.Elements.{All-append}
 use Rattle.ntp_packet.specs.Header.{HeaderFields, IsHeader, header_octets}
 use Rattle.ntp_packet.proofs.Readings.{length-header_octets}
-use Rattle.ntp_request.specs.Tail.{TailValue, NoTail, BareTail, tail_octets, IsTail}
+use Rattle.ntp_request.specs.Tail.{TailValue, NoTail, BareTail, MacTail, tail_octets, IsTail}
 use Rattle.ntp_request.specs.Request.{RequestValue, IsRequest, signed_octets}
 use Rattle.ntp_request.proofs.Octets.{AreOctets-all}
 use Rattle.ntp_request.proofs.Tails.{length-tail}
 use Rattle.ntp_mac.specs.Key.{SymmetricKey}
-use Rattle.ntp_mac.specs.Digest.{hash, digest_of, digest_octets}
+use Rattle.ntp_mac.specs.Digest.{hash, digest_of}
 use Rattle.ntp_mac.specs.Mac.{mac_of, nak_octets}
 use Rattle.ntp_mac.specs.Reading.{reading_of}
-use Rattle.ntp_mac.specs.Signed.{IsSigned, mac_tail}
-use Rattle.ntp_mac.specs.declared.digests.Digest.{Digest}
-use Rattle.ntp_mac.specs.declared.digests.Digest.TheVariants as digest
+use Rattle.ntp_mac.specs.Signed.{IsSigned}
 use Rattle.ntp_mac.specs.declared.key.Algorithm.{Algorithm}
 use Rattle.ntp_mac.specs.declared.key.Algorithm.TheVariants.{Md5, Sha1}
 use Rattle.ntp_mac.proofs.ReadAs.{only-reading_of}
@@ -61,17 +58,12 @@ read-nak h is =
 
 -- the packet of a header that is sealed under a key with its number
 abbrev pub sealed_packet : SymmetricKey → ℕ → HeaderFields → RequestValue
-sealed_packet key number h = packet h (mac_tail number (digest_of key (header_octets h)))
+sealed_packet key number h = packet h (MacTail number (digest_of key (header_octets h)))
 
-tail_octets-mac_tail : (number : ℕ) (d : Digest) → tail_octets (mac_tail number d) ≡ to_be_bytes w32 number ++ digest_octets d
-unfolding tail_octets
-tail_octets-mac_tail number (digest.Md5 octets) = refl
-tail_octets-mac_tail number (digest.Sha1 octets) = refl
-
-IsTail-mac_tail : (number : ℕ) (algorithm : Algorithm) (message : List ℕ) → number < 2 ^ 32
-    → IsTail (mac_tail number (hash algorithm message))
-IsTail-mac_tail number Md5 message fits = (fits, length-md5 message)
-IsTail-mac_tail number Sha1 message fits = (fits, length-sha1 message)
+IsTail-mac : (number : ℕ) (algorithm : Algorithm) (message : List ℕ) → number < 2 ^ 32
+    → IsTail (MacTail number (hash algorithm message))
+IsTail-mac number Md5 message fits = (fits, length-md5 message)
+IsTail-mac number Sha1 message fits = (fits, length-sha1 message)
 
 -- it is signed so
 pub signed-sealed : (key : SymmetricKey) (number : ℕ) (h : HeaderFields) → IsSigned key number (sealed_packet key number h)
@@ -81,12 +73,8 @@ signed-sealed key number h = refl
 -- and its octets are read as it
 pub read-sealed : (key : SymmetricKey) (number : ℕ) (h : HeaderFields) → IsHeader h → number < 2 ^ 32
     → reading_of (header_octets h ++ mac_of key number (header_octets h)) ≡ Ok (sealed_packet key number h)
-unfolding mac_of
+unfolding mac_of tail_octets
 read-sealed key number h is fits =
-    let digest : Digest = digest_of key (header_octets h) in
-    let same : to_be_bytes w32 number ++ digest_octets digest ≡ tail_octets (mac_tail number digest) =
-    sym (tail_octets-mac_tail number digest) in
-    ap (λ mac. reading_of (header_octets h ++ mac)) same
-    ∙ read-packet h (mac_tail number digest) is (IsTail-mac_tail number key.algorithm (key.octets ++ header_octets h) fits)
-    (subst (λ mac. Octets (header_octets h ++ mac)) same
-    (All-append (λ octet. octet < 256) (header_octets h) _ (Octets-header h is) (Octets-mac key number (header_octets h))))
+    read-packet h (MacTail number (digest_of key (header_octets h))) is
+    (IsTail-mac number key.algorithm (key.octets ++ header_octets h) fits)
+    (All-append (λ octet. octet < 256) (header_octets h) _ (Octets-header h is) (Octets-mac key number (header_octets h)))

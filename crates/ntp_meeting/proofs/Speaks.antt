@@ -1,8 +1,9 @@
 -- Which header the kind of a datagram speaks of.
-use Rattle.std.proofs.Common.{◌≡◌, ℕ, Bool, true, false, ◌==◌, List, Option, Some, None, Ok, refl}
-use Rattle.std.specs.Prelude.{if◌then◌else◌}
+use Rattle.std.proofs.Common.{◌≡◌, ℕ, Bool, true, false, ◌==◌, ◌||◌, List, Option, Some, None, Ok, refl}
+use Rattle.std.specs.Prelude.{if◌then◌else◌, not}
+use Rattle.std.specs.Option.{option_map_or}
 use Rattle.ntp_packet.specs.Header.{HeaderFields}
-use Rattle.ntp_request.specs.Tail.{TailValue, NoTail, BareTail, Md5Tail, Sha1Tail}
+use Rattle.ntp_request.specs.Tail.{TailValue, NoTail, BareTail, MacTail}
 use Rattle.ntp_request.specs.Request.{RequestValue}
 use Rattle.ntp_mac.specs.Reading.{reading_of}
 use Rattle.ntp_mac.specs.Signed.{is_signed}
@@ -10,7 +11,7 @@ use Rattle.ntp_customer.specs.declared.numbered_key.NumberedKey.{NumberedKey}
 use Rattle.ntp_customer.specs.Customer.{Enrolment, held_in, enrolment_at}
 use Rattle.ntp_customer.specs.Past.{Past}
 use Rattle.ntp_reply.specs.Kind.{Kind, PassedOver, RefusedByDeny, RefusedByNak, Signed}
-use Rattle.ntp_reply.specs.Kind.{mac_kind, tail_kind, client_kind, packet_kind, kind_of}
+use Rattle.ntp_reply.specs.Kind.{client_kind, octets_kind, kind_of}
 use Rattle.ntp_reply.specs.declared.answers.Reason.TheVariants as reason
 
 -- a kind speaks of this header, if of one
@@ -26,26 +27,24 @@ either-speaks : (h : HeaderFields) (test : Bool) (one other : Kind) → SpeaksOf
 either-speaks h true one other a b = a
 either-speaks h false one other a b = b
 
-mac-speaks : (held : Option NumberedKey) (r : RequestValue) → SpeaksOf r.header (mac_kind held r)
+mac-speaks : (found : Option NumberedKey) (r : RequestValue)
+    → SpeaksOf r.header (option_map_or (λ k. if is_signed k.key k.number r then Signed k.key k.number r.header else RefusedByNak r.header)
+    found (RefusedByNak r.header))
 mac-speaks None r = refl
 mac-speaks (Some k) r =
     either-speaks r.header (is_signed k.key k.number r) (Signed k.key k.number r.header) (RefusedByNak r.header) refl refl
 
-tail-speaks : (e : Enrolment) (r : RequestValue) (tail : TailValue) → SpeaksOf r.header (tail_kind e r tail)
-tail-speaks e r NoTail = refl
-tail-speaks e r (BareTail number) = tt
-tail-speaks e r (Md5Tail number digest) = mac-speaks (held_in e number) r
-tail-speaks e r (Sha1Tail number digest) = mac-speaks (held_in e number) r
-
-client-speaks : (x : Option Enrolment) (r : RequestValue) → SpeaksOf r.header (client_kind x r)
-client-speaks None r = refl
-client-speaks (Some e) r = tail-speaks e r r.tail
+client-speaks : (r : RequestValue) (x : Option Enrolment) (tail : TailValue) → SpeaksOf r.header (client_kind r x tail)
+client-speaks r None tail = refl
+client-speaks r (Some e) NoTail = refl
+client-speaks r (Some e) (BareTail number) = tt
+client-speaks r (Some e) (MacTail number digest) = mac-speaks (held_in e number) r
 
 -- the kind of a packet speaks of its header
-packet-speaks : (x : Option Enrolment) (r : RequestValue) → SpeaksOf r.header (packet_kind x r)
+packet-speaks : (x : Option Enrolment) (r : RequestValue) → SpeaksOf r.header (octets_kind x (Ok r))
 packet-speaks x r =
-    either-speaks r.header _ _ (PassedOver reason.Version)
-    (either-speaks r.header (r.header.mode == 3) (client_kind x r) (PassedOver reason.Mode) (client-speaks x r) tt) tt
+    either-speaks r.header (not ((r.header.version == 3) || (r.header.version == 4))) (PassedOver reason.Version) _ tt
+    (either-speaks r.header (not (r.header.mode == 3)) (PassedOver reason.Mode) (client_kind r x r.tail) tt (client-speaks r x r.tail))
 
 -- and so the kind of a datagram that is read as it
 pub kind-speaks : (past : Past) (octets : List ℕ) (r : RequestValue) → reading_of octets ≡ Ok r → SpeaksOf r.header (kind_of past octets)

@@ -1,4 +1,5 @@
-//! What holds of the definitions of both sides, whatever code meets them.
+//! What holds of the definitions of both sides, whatever code meets them. Each function is a law: a call of
+//! it does nothing.
 ghost use Rattle.std.specs.Prelude.{◌≡◌, ◌≢◌, ◌^◌, ◌<◌, [], true, false, Some, None, IfSome, List, ℕ};
 ghost use Rattle.std.specs.Option.{option_and_then};
 ghost use Rattle.ntp_time.specs.declared.stamp.Stamp.{Stamp};
@@ -31,8 +32,6 @@ use ntp_reply::Answer;
 ///   number and the stamps that it sends of an earlier exchange have theirs, as those of each client of the code have.
 /// - `signed`: while a request waits, its octets are a signed query, with the header that the client made.
 /// - `served`: so it is answered with the time, while the budget has room.
-///
-/// This is a law, and does nothing when it is called.
 pub fn a_request_is_a_signed_query()
     ensures waits { (c : ClientState) (now : Moment) → c.number < 2 ^ 32
         → IfSome c.sampled (λ e. (e.receive.0 < 2 ^ 64) × (e.arrival.0 < 2 ^ 64)) → Waits (after_query c now) (next_query c now) }
@@ -56,7 +55,7 @@ pub fn a_request_is_a_signed_query()
 ///
 /// For a sample, the request waits, the client's key is shared with the server, the server's reference state has the
 /// widths of a packet, and its clock is synchronised. In `interleaved` moreover the exchanges are such as an account
-/// keeps, and the stamp that was saved has 64 bits. This is a law, and does nothing when it is called.
+/// keeps, and the stamp that was saved has 64 bits.
 pub fn a_time_reply_is_a_sample()
     ensures asked { (q : Outstanding) (saved : List Slot) → IsOutstanding q → AreSaved saved
         → matched saved (query_fields q) ≡ option_and_then (λ e. unused_at saved e.receive) q.earlier }
@@ -93,8 +92,6 @@ pub fn a_time_reply_is_a_sample()
 ///   receipt, and the reply's arrival. Asked is what gives a sample there, but that the clock is synchronised.
 /// - `saved`: the server finds the exchange by its receipt, unused, with the new transmit stamp.
 /// - `departed`: an exchange that it finds it also finds after a report of its departure, with the stamp of that.
-///
-/// This is a law, and does nothing when it is called.
 pub fn the_next_request_asks_about_the_exchange()
     ensures carried { (c : ClientState) (q : Outstanding) (past : Past) (o : Occasion) (reply : List ℕ) (saved : Stamp) (at : Moment)
         (s : Sample) → Waits c q → SharesKey past c → FitsPacket o.reference
@@ -125,7 +122,7 @@ pub fn the_next_request_asks_about_the_exchange()
 /// - `unsynchronised`: a time reply of a server whose clock is not synchronised is refused for that. Asked is else what
 ///   `a_time_reply_is_a_sample` asks.
 ///
-/// Nothing else is asked of the life of the address. This is a law, and does nothing when it is called.
+/// Nothing else is asked of the life of the address.
 pub fn other_replies_are_taken_for_what_they_are()
     ensures rate { (c : ClientState) (q : Outstanding) (past : Past) (o : Occasion) (reply : List ℕ) (at : Moment)
         → Waits c q → SharesKey past c → verdict (Some past) o (request_octets c q) ≡ Answer.Rate reply

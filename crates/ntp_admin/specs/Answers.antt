@@ -62,9 +62,9 @@ abbrev pub line_feed : List ℕ
 line_feed = 10 ∷ []
 
 -- the line of an outcome (profile)
-unfoldable pub text_of : Outcome → List ℕ
-text_of (outcome.Datagram answer) = answer_text answer ++ line_feed
-text_of outcome.Noted = codes "noted" ++ line_feed
-text_of outcome.NotNoted = codes "not-noted" ++ line_feed
-text_of outcome.Done = codes "done" ++ line_feed
-text_of (outcome.Refused why) = codes "refused " ++ refusal_text why ++ line_feed
+unfoldable pub outcome_text : Outcome → List ℕ
+outcome_text (outcome.Datagram answer) = answer_text answer ++ line_feed
+outcome_text outcome.Noted = codes "noted" ++ line_feed
+outcome_text outcome.NotNoted = codes "not-noted" ++ line_feed
+outcome_text outcome.Done = codes "done" ++ line_feed
+outcome_text (outcome.Refused why) = codes "refused " ++ refusal_text why ++ line_feed

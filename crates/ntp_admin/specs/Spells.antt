@@ -40,12 +40,12 @@ revoke_in (address ∷ []) = do
 revoke_in other = Err fault.Count
 
 -- the words behind `budget` (profile)
-abbrev pub budget_in : List (List ℕ) → Result Command LineFault
-budget_in (address ∷ budget ∷ []) = do
+abbrev pub new_budget_in : List (List ℕ) → Result Command LineFault
+new_budget_in (address ∷ budget ∷ []) = do
   a ← ok_or (address_in address) fault.Address
   b ← ok_or (number_in budget) fault.Budget
   Ok (command.Budget a b)
-budget_in other = Err fault.Count
+new_budget_in other = Err fault.Count
 
 -- the words behind `rollover` (profile)
 abbrev pub rollover_in : List (List ℕ) → Result Command LineFault
@@ -71,7 +71,7 @@ command_in [] = Err fault.Word
 command_in (first ∷ others) =
     if bytes_eq first (codes "enrol") then enrol_in others
     else if bytes_eq first (codes "revoke") then revoke_in others
-    else if bytes_eq first (codes "budget") then budget_in others
+    else if bytes_eq first (codes "budget") then new_budget_in others
     else if bytes_eq first (codes "rollover") then rollover_in others
     else if bytes_eq first (codes "retire") then retire_in others
     else Err fault.Word
@@ -124,5 +124,5 @@ abbrev pub Spells : {A : Type 0} → List ℕ → Event A → Type 0
 Spells line e = event_in (words line) ≡ Ok e
 
 -- the first fault of a line that should be an event in memory of this allocator, which makes no difference (profile)
-abbrev pub HasFault : Type 0 → List ℕ → LineFault → Type 0
-HasFault A line f = event_in {A = A} (words line) ≡ Err f
+abbrev pub HasLineFault : Type 0 → List ℕ → LineFault → Type 0
+HasLineFault A line f = event_in {A = A} (words line) ≡ Err f

@@ -1,7 +1,7 @@
 //! Outcomes to lines.
 ghost use Rattle.std.specs.Prelude.{◌≡◌, ◌++◌, IfOk, codes, string_bytes};
 ghost use Rattle.hex.specs.Hex.{encode_lower};
-ghost use Rattle.ntp_admin.specs.Answers.{malformed_text, reason_text, answer_text, stamp_text, refusal_text, text_of};
+ghost use Rattle.ntp_admin.specs.Answers.{malformed_text, reason_text, answer_text, stamp_text, refusal_text, outcome_text};
 
 use ntp_events::{NoMemory, Outcome};
 use ntp_mac::Reply;
@@ -13,9 +13,9 @@ use std::alloc::{AllocError, Allocator};
 
 /// The line that is printed for an outcome, with its line feed. Its words are separated by one space,
 /// stamps and octets are in lower-case hexadecimal, and places in decimal.
-#[tactic(auto, unfolding(crate::specs::Answers::text_of))]
+#[tactic(auto, unfolding(crate::specs::Answers::outcome_text))]
 pub fn print_answer<A: Allocator + Copy>(alloc: A, outcome: &Outcome) -> Result<String<A>, NoMemory>
-    ensures { IfOk result (λ text. string_bytes text ≡ text_of outcome.now) }
+    ensures { IfOk result (λ text. string_bytes text ≡ outcome_text outcome.now) }
 {
     let line = match outcome {
         Outcome::Datagram(answer) => {

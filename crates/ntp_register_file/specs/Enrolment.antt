@@ -16,8 +16,8 @@ number_of (pos n) = if nat_le n 65535 then non_zero n else None
 number_of (negsuc n) = None
 
 -- the enrolment of a customer, its texts as the words of a line, or the first fault in this order (profile)
-abbrev pub enrolment_of : Entry → Result Command LineFault
-enrolment_of entry = do
+abbrev pub enrolment_command : Entry → Result Command LineFault
+enrolment_command entry = do
   a ← ok_or (address_in entry.address) fault.Address
   n ← ok_or (number_of entry.number) fault.Number
   h ← ok_or (algorithm_in entry.algorithm) fault.Algorithm

@@ -8,7 +8,7 @@ use Rattle.ntp_events.specs.declared.command.Command.{Command}
 use Rattle.ntp_events.specs.declared.line_fault.LineFault.{LineFault}
 use Rattle.ntp_reply.specs.Reference.{ReferenceState}
 use Rattle.ntp_register_file.specs.Form.{Top, top_of, entry_of}
-use Rattle.ntp_register_file.specs.Enrolment.{enrolment_of}
+use Rattle.ntp_register_file.specs.Enrolment.{enrolment_command}
 use Rattle.ntp_register_file.specs.declared.fault.RegisterFault.{RegisterFault}
 use Rattle.ntp_register_file.specs.declared.fault.RegisterFault.TheVariants as fault
 
@@ -33,7 +33,7 @@ at_place place (Err why) = Err (fault.Entry place why)
 abbrev pub customer_in : ℕ → Data → Result Command RegisterFault
 customer_in place customer = do
   entry ← ok_or (entry_of customer) fault.Shape
-  at_place place (enrolment_of entry)
+  at_place place (enrolment_command entry)
 
 -- the customers from a place on, in file order (profile)
 abbrev pub customers_in : ℕ → Items → Result (List Command) RegisterFault

@@ -1,7 +1,7 @@
 //! Customers to commands.
 ghost use Rattle.std.specs.Prelude.{◌≡◌, ◌⊎◌, IfOk, IfErr};
 ghost use Rattle.toml.specs.View.{view, items_view};
-ghost use Rattle.ntp_register_file.specs.Enrolment.{number_of, enrolment_of};
+ghost use Rattle.ntp_register_file.specs.Enrolment.{number_of, enrolment_command};
 ghost use Rattle.ntp_register_file.specs.RegisterFile.{customer_in, customers_in};
 
 use crate::RegisterFault;
@@ -43,7 +43,7 @@ fn customer_in(place: u64, customer: &Value) -> Result<Command, RegisterFault>
 
 // The enrolment that an entry orders.
 fn enrolment_of(entry: &Entry<'_>) -> Result<Command, LineFault>
-    ensures { result ≡ enrolment_of entry.now }
+    ensures { result ≡ enrolment_command entry.now }
 {
     let address = words::address(entry.address).ok_or(LineFault::Address)?;
     let number = number_of(entry.number).ok_or(LineFault::Number)?;

@@ -4,9 +4,9 @@
 mod customers;
 mod fault;
 mod form;
-mod reading;
+mod register_reader;
 #[cfg(test)]
 mod tests;
 
 pub use fault::RegisterFault;
-pub use reading::{read_reference, read_register};
+pub use register_reader::{read_reference, read_register};

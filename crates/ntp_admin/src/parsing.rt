@@ -1,7 +1,7 @@
 //! Lines to commands and events.
 ghost use Rattle.std.specs.Prelude.{◌≡◌, ◌≢◌, ◌⊎◌, IfOk, IfErr, ◌∷◌, Err, true};
 ghost use Rattle.ntp_admin.specs.Words.{words};
-ghost use Rattle.ntp_admin.specs.Spells.{is_passed_over, enrol_in, revoke_in, budget_in, rollover_in, retire_in, command_in, datagram_in, departed_in, event_in, is_datagram, SpellsCommand, HasCommandFault, Spells, HasFault};
+ghost use Rattle.ntp_admin.specs.Spells.{is_passed_over, enrol_in, revoke_in, new_budget_in, rollover_in, retire_in, command_in, datagram_in, departed_in, event_in, is_datagram, SpellsCommand, HasCommandFault, Spells, HasLineFault};
 
 use crate::parts::Parts;
 use crate::words;
@@ -52,7 +52,7 @@ pub fn parse_command(line: &str) -> Result<Command, LineFault>
 #[tactic(auto, unfolding(crate::specs::Spells::event_in, crate::specs::Spells::command_in))]
 pub fn parse_event<A: Allocator + Copy>(alloc: A, line: &str) -> Result<Event<A>, LineFault>
     ensures only { IfOk result (λ event. Spells line.now event) }
-    ensures fault { IfErr result (λ fault. (fault ≡ LineFault.NoMemory) ⊎ HasFault A line.now fault) }
+    ensures fault { IfErr result (λ fault. (fault ≡ LineFault.NoMemory) ⊎ HasLineFault A line.now fault) }
     ensures command { (c : Command) → SpellsCommand line.now c → result ≡ Ok (Event.Command c) }
     ensures memory { result ≡ Err LineFault.NoMemory → is_datagram (words line.now) ≡ true }
 {
@@ -118,7 +118,7 @@ fn revocation(mut words: Parts<'_>) -> Result<Command, LineFault>
 
 // What stands behind `budget`.
 fn new_budget(mut words: Parts<'_>) -> Result<Command, LineFault>
-    ensures command { result ≡ budget_in words.entry }
+    ensures command { result ≡ new_budget_in words.entry }
     ensures memory { result ≢ Err LineFault.NoMemory }
 {
     let address = words.word()?;

@@ -16,7 +16,7 @@ use Rattle.ntp_customer.specs.Past.{Past, with_refusal}
 use Rattle.ntp_customer.proofs.Pasts.{by_past}
 use Rattle.ntp_reply.specs.Life.{Life, enrolment_in}
 use Rattle.ntp_reply.specs.Replies.{deny_octets, basic_fields, crypto_nak_octets}
-use Rattle.ntp_reply.specs.Kind.{Kind, PassedOver, RefusedByDeny, RefusedByNak, Signed, packet_kind, octets_kind, kind_of}
+use Rattle.ntp_reply.specs.Kind.{Kind, PassedOver, RefusedByDeny, RefusedByNak, Signed, octets_kind, kind_of}
 use Rattle.ntp_reply.specs.Exchanged.{stamps_of, after_departure}
 use Rattle.ntp_reply.specs.Verdict.{window_at, refused, refusals_sent, signed_answer, after_signed, kind_answer, after_kind, verdict, after_datagram}
 use Rattle.ntp_reply.specs.declared.answers.Answer.{Answer}
@@ -89,7 +89,7 @@ spends-kind past o (Signed key number h) signed =
     past (signed refl)
 
 -- who is not enrolled has no signed query
-unsigned : (r : RequestValue) → is_signed_query (packet_kind None r) ≡ false
+unsigned : (r : RequestValue) → is_signed_query (octets_kind None (Ok r)) ≡ false
 unsigned r = grind arith
 
 signed-enrolled : (e : Option Enrolment) (read : Result RequestValue Malformed) → is_signed_query (octets_kind e read) ≡ true

@@ -19,10 +19,10 @@ use Rattle.ntp_events.specs.declared.command.Command.TheVariants.{Enrol, Revoke,
 use Rattle.ntp_events.specs.declared.event.Event.{Event}
 use Rattle.ntp_events.specs.declared.event.Event.TheVariants as event
 use Rattle.ntp_events.specs.declared.outcome.Outcome.TheVariants.{Done, Refused}
-use Rattle.ntp_service_run.specs.Events.{address_of_command, own}
+use Rattle.ntp_service_run.specs.Events.{address_of, own}
 use Rattle.ntp_service_run.specs.Model.{numbered, refusal_of, after_done, life_of}
-use Rattle.ntp_service_run.specs.Headline.{StandsFor, TellsOne, IsTaken, number_asked, command_outcome}
-use Rattle.ntp_service_run.proofs.Lives.{undone}
+use Rattle.ntp_service_run.specs.Headline.{StandsFor, TellsOne, IsTaken, command_outcome}
+use Rattle.ntp_service_run.proofs.Lives.{undone, address_of_command, number_of_command, address-is, number-is}
 use Rattle.ntp_service_run.proofs.KeptLives.{kept_after, kept-done}
 use Rattle.ntp_service_run.proofs.Histories.{stands-step, stands-same, tells-one}
 use Rattle.ntp_service_run.proofs.Holders.{taken-so, terms-are}
@@ -85,8 +85,8 @@ own-refusal other = by_terms _ refl (λ e. refl)
 -- done, and one that asks for one may be refused for that number, or for want of memory
 pub record Does (r s : Registry) (c : Command) (result : Result (Unit {0}) Refusal) : Type 0 where
   pub refused : (refusal : Refusal) → cause r c ≡ Some refusal → result ≡ Err refusal
-  pub plain : cause r c ≡ None → MatchOption (number_asked c) (result ≡ Ok tt) (λ n. IfErr result (λ e. is_foreign e ≡ true))
-  pub taken : IfSome (number_asked c) (λ n. (result ≡ Err KeyTaken) ↔ ((cause r c ≡ None) × IsSome (holder_of r n)))
+  pub plain : cause r c ≡ None → MatchOption (number_of_command c) (result ≡ Ok tt) (λ n. IfErr result (λ e. is_foreign e ≡ true))
+  pub taken : IfSome (number_of_command c) (λ n. (result ≡ Err KeyTaken) ↔ ((cause r c ≡ None) × IsSome (holder_of r n)))
   pub ok : OnOk result (s ≡ after_order r c)
   pub err : OnErr result (s ≡ r)
   pub agrees : Agrees s
@@ -96,27 +96,34 @@ module _ {A : Type 0} (r s : Registry) (c : Command) (history : List (Event A)) 
   order = event.Command c
 
   abbrev address : Address
-  address = address_of_command c
+  address = address_of order
 
   abbrev life : Life
   life = life_of (own address history)
 
   cause-is : (o : Option Refusal) → cause r c ≡ o → refusal_of (enrolment_in life) c ≡ o
-  cause-is o is = ap (λ t. refusal_of t c) (sym (terms-are r history stands address)) ∙ is
+  cause-is o is = ap (λ t. refusal_of t c) (sym (terms-are r history stands address))
+      ∙ ap (λ a. refusal_of (terms_at r a) c) (address-is A c) ∙ is
+
+  -- and done, where nothing refuses it
+  answer-is : (o : Option Refusal) → cause r c ≡ o → option_map_or Refused (refusal_of (enrolment_in life) c) Done ≡ option_map_or Refused o Done
+  answer-is o is = ap (λ o. option_map_or Refused o Done) (cause-is o is)
 
   -- it is refused for what the address has
   refused-tells : (refusal : Refusal) → cause r c ≡ Some refusal → s ≡ r → TellsOne history order (Refused refusal) s
   refused-tells refusal is same =
-      let refused = cause-is (Some refusal) is in
-      tells-one history order (Refused refusal) s (ap (λ o. option_map_or is_foreign o false) (sym is) ∙ own-refusal c (terms_at r address))
-      (ap (λ o. option_map_or Refused o Done) (sym refused)) (λ taken. cc)
+      let refused = answer-is (Some refusal) is in
+      tells-one history order (Refused refusal) s
+      (ap (λ o. option_map_or is_foreign o false) (sym is) ∙ own-refusal c (terms_at r (address_of_command c)))
+      (sym refused) (λ taken. let done : Refused refusal ≡ Done = sym refused ∙ taken.1.1 in cc)
       (subst (λ x. StandsFor x (history ++ order ∷ [])) (sym same) (stands-same r history order stands (undone c life (λ done. cc))))
 
   -- it is done
   done-tells : cause r c ≡ None → (IsTaken history order → ⊥) → s ≡ after_order r c → Agrees s → TellsOne history order Done s
   done-tells free untaken ok agrees =
       let plain = sym (cause-is None free) in
-      let written = order-writes r c in
+      let written : Writes r (after_order r c) address (kept_after (customer_at r address) c) =
+      subst (λ a. Writes r (after_order r c) a (kept_after (customer_at r a) c)) (sym (address-is A c)) (order-writes r c) in
       tells-one history order Done s refl (ap (λ o. option_map_or Refused o Done) plain) untaken
       (stands-step r s history order stands
       (ap (λ x. customer_at x address) ok ∙ written.here ∙ ap (λ o. kept_after o c) (stands.entries address) ∙ kept-done c life
@@ -125,16 +132,16 @@ module _ {A : Type 0} (r s : Registry) (c : Command) (history : List (Event A)) 
       agrees)
 
   -- it asks for a number, and is done, or refused for that number or for want of memory
-  asked-tells : (n : ℕ) → number_asked c ≡ Some n → cause r c ≡ None → (result : Result (Unit {0}) Refusal)
+  asked-tells : (n : ℕ) → number_of_command c ≡ Some n → cause r c ≡ None → (result : Result (Unit {0}) Refusal)
       → IfErr result (λ e. is_foreign e ≡ true) → (result ≡ Err KeyTaken) ↔ IsTaken history order
       → OnOk result (s ≡ after_order r c) → OnErr result (s ≡ r) → Agrees s → TellsOne history order (command_outcome result) s
   asked-tells n asked free (Ok done) foreign taken ok err agrees =
       done-tells free (λ h. let e = taken.1 h in cc) ok agrees
   asked-tells n asked free (Err refusal) foreign taken ok err agrees = record {
-    answered = record {
-      as_model = λ e. absurd (true≢false (sym foreign ∙ e));
+    as_model = λ e. absurd (true≢false (sym foreign ∙ e));
+    cause = record {
       taken = (λ h. taken.0 cc, λ h. let e = taken.1 h in cc);
-      memory = λ h. (n, (asked, cause-is None free));
+      memory = λ h. (n, (number-is A c ∙ asked, answer-is None free));
     };
     stands = subst (λ (b : Bool). StandsFor s (if b then history else history ++ order ∷ [])) (sym foreign)
         (subst (λ x. StandsFor x history) (sym err) stands);
@@ -143,22 +150,22 @@ module _ {A : Type 0} (r s : Registry) (c : Command) (history : List (Event A)) 
   does-tells : (result : Result (Unit {0}) Refusal) → Does r s c result → TellsOne history order (command_outcome result) s
   does-tells result d = by_cause (cause r c) refl
     where
-      by_number : cause r c ≡ None → (o : Option ℕ) → number_asked c ≡ o → TellsOne history order (command_outcome result) s
+      by_number : cause r c ≡ None → (o : Option ℕ) → number_of_command c ≡ o → TellsOne history order (command_outcome result) s
       by_number free None none =
           let done : result ≡ Ok tt =
           subst (λ o. MatchOption o (result ≡ Ok tt) (λ n. IfErr result (λ e. is_foreign e ≡ true))) none (d.plain free) in
           subst (λ x. TellsOne history order (command_outcome x) s) (sym done)
-          (done-tells free (λ h. cc) (subst (λ x. OnOk x (s ≡ after_order r c)) done d.ok) d.agrees)
+          (done-tells free (λ h. let asked = sym (h.1.0) ∙ number-is A c ∙ none in cc) (subst (λ x. OnOk x (s ≡ after_order r c)) done d.ok) d.agrees)
       by_number free (Some n) some =
           let foreign : IfErr result (λ e. is_foreign e ≡ true) =
           subst (λ o. MatchOption o (result ≡ Ok tt) (λ n. IfErr result (λ e. is_foreign e ≡ true))) some (d.plain free) in
           let taken : (result ≡ Err KeyTaken) ↔ ((cause r c ≡ None) × IsSome (holder_of r n)) =
           subst (λ o. IfSome o (λ n. (result ≡ Err KeyTaken) ↔ ((cause r c ≡ None) × IsSome (holder_of r n)))) some d.taken in
-          let held = taken-so r history stands c n some free in
+          let held = taken-so r history stands c n (number-is A c ∙ some) (cause-is None free) in
           asked-tells n some free result foreign (λ h. held.0 (taken.0 h).1, λ h. taken.1 (free, held.1 h)) d.ok d.err d.agrees
 
       by_cause : (o : Option Refusal) → cause r c ≡ o → TellsOne history order (command_outcome result) s
-      by_cause None free = by_number free (number_asked c) refl
+      by_cause None free = by_number free (number_of_command c) refl
       by_cause (Some refusal) is =
           let e = d.refused refusal is in
           subst (λ x. TellsOne history order (command_outcome x) s) (sym e)
@@ -178,7 +185,7 @@ pub told-of : {A : Type 0} (r s : Registry) (c : Command) (result : Result (Unit
 told-of r s c result d = record {
   tells = λ history stands. does-tells r s c history stands result d;
   taken = λ history stands.
-      let t = (does-tells r s c history stands result d).answered.taken in
+      let t = (does-tells r s c history stands result d).cause.taken in
       (λ h. t.0 (ap command_outcome h), λ h. told-refusal result KeyTaken (t.1 h));
 }
 

@@ -1,6 +1,7 @@
 -- One datagram, or one departure, by what the register has at its address.
 use Rattle.std.proofs.Common.{◌≡◌, Bool, true, false, Some, None, option_map, List, refl, sym, ap, ◌∙◌}
 use Rattle.std.specs.Bool.{OnFalse}
+use Rattle.std.proofs.lemmas.Option.{none-some}
 use Rattle.ntp_register.specs.declared.address.Address.{Address}
 use Rattle.ntp_customer.specs.Customer.{CustomerState}
 use Rattle.ntp_customer.specs.Past.{Past, short}
@@ -11,19 +12,23 @@ use Rattle.ntp_events.specs.declared.event.Event.{Event}
 use Rattle.ntp_events.specs.declared.outcome.Outcome.{Outcome}
 use Rattle.ntp_service_run.specs.Events.{address_of, own}
 use Rattle.ntp_service_run.specs.Model.{life_of, after, answer_to, departure_outcome}
-use Rattle.ntp_service_run.specs.Headline.{StandsFor, TellsOne, IsTaken, is_struck}
+use Rattle.ntp_service_run.specs.Headline.{StandsFor, TellsOne, IsTaken, is_struck, number_asked}
 use Rattle.ntp_service_run.proofs.Lives.{by_kept, never-enrolled}
 use Rattle.ntp_service_run.proofs.Histories.{stands-step, stands-same, tells-one}
 
 module _ {A : Type 0} (r : Registry) (history : List (Event A)) (e : Event A) (stands : StandsFor r history)
-    (free : IsTaken history e → ⊥) (o : Outcome) (plain : is_struck o ≡ false) where
+    (none : number_asked e ≡ None) (o : Outcome) (plain : is_struck o ≡ false) where
   abbrev life : Life
   life = life_of (own (address_of e) history)
 
+  -- it asks for no number
+  free : IsTaken history e → ⊥
+  free h = none-some h.0 (sym none ∙ h.1.0)
+
   -- the register has nothing
   pub unregistered-tells : customer_at r (address_of e) ≡ None → o ≡ answer_to None e → after None e ≡ None → TellsOne history e o r
-  unregistered-tells none is stays =
-      let never = never-enrolled life (sym (stands.entries (address_of e)) ∙ none) in
+  unregistered-tells nothing is stays =
+      let never = never-enrolled life (sym (stands.entries (address_of e)) ∙ nothing) in
       tells-one history e o r plain (is ∙ ap (λ l. answer_to l e) (sym never)) free
       (stands-same r history e stands (ap (λ l. after l e) never ∙ stays ∙ sym never))
 

@@ -1,6 +1,5 @@
 -- Forged datagrams change no answer to a genuine event.
-use Rattle.std.proofs.Common.{◌≡◌, ℕ, ◌-◌, true, false, Some, None, List, [], ◌∷◌, ◌++◌, length, refl, sym, ap, ◌∙◌, true≢false, arith}
-use Rattle.std.proofs.lemmas.List.{drop_at, length-append}
+use Rattle.std.proofs.Common.{◌≡◌, ℕ, true, false, Some, None, List, [], ◌∷◌, zip, refl, sym, ap, ◌∙◌, true≢false, arith}
 use Rattle.ntp_time.specs.declared.moment.Moment.{Moment}
 use Rattle.ntp_packet.specs.Header.{HeaderFields}
 use Rattle.ntp_register.specs.declared.address.Address.{Address}
@@ -21,11 +20,10 @@ use Rattle.ntp_events.specs.declared.event.Event.TheVariants as event
 use Rattle.ntp_events.specs.declared.outcome.Outcome.{Outcome}
 use Rattle.ntp_events.specs.declared.outcome.Outcome.TheVariants as outcome
 use Rattle.ntp_service_run.specs.Events.{own}
-use Rattle.ntp_service_run.specs.Model.{answer_to, after_done, after_command, after, life_after, life_of, says_after, says}
-use Rattle.ntp_service_run.specs.Headline.{Tells, TellsOne, kept, last}
-use Rattle.ntp_service_run.specs.Forgery.{is_signed_query, is_genuine, genuine_after, genuine, at_genuine, genuine_answers_after, genuine_answers, without_refusals, TellsWithoutForgeries}
-use Rattle.ntp_service_run.proofs.Histories.{own-append}
-use Rattle.ntp_service_run.proofs.Runs.{says-last}
+use Rattle.ntp_service_run.specs.Model.{answer_to, after_done, after, life_after, life_of, says_after}
+use Rattle.ntp_service_run.specs.Headline.{Tells, TellsOne, kept}
+use Rattle.ntp_service_run.specs.Forgery.{is_signed_query, is_genuine, genuine, at_genuine, without_refusals, TellsWithoutForgeries}
+use Rattle.ntp_service_run.proofs.Lives.{after_command}
 
 -- ---- one datagram
 -- a signed query is answered alike with no refusals counted
@@ -102,8 +100,8 @@ module _ {A : Type 0} where
 
   -- the genuine events alone are answered as among all, and leave the same life but for refusals
   abbrev Alone : Life → Life → List (Event A) → Type 0
-  Alone one other events = (says_after one (genuine_after other events) ≡ genuine_answers_after other events)
-      × (without_refusals (life_after one (genuine_after other events)) ≡ without_refusals (life_after other events))
+  Alone one other events = (says_after one (at_genuine other events events) ≡ at_genuine other events (says_after other events))
+      × (without_refusals (life_after one (at_genuine other events events)) ≡ without_refusals (life_after other events))
 
   alone : (one other : Life) (events : List (Event A)) → without_refusals one ≡ without_refusals other → Alone one other events
   alone one other [] same = (refl, same)
@@ -117,7 +115,7 @@ module _ {A : Type 0} where
       )
 
   -- ---- the laws
-  pub genuine-says : (events : List (Event A)) → says (genuine events) ≡ genuine_answers events
+  pub genuine-says : (events : List (Event A)) → says_after None (genuine events) ≡ at_genuine None events (says_after None events)
   genuine-says events = (alone None None events refl).0
 
   pub genuine-life : (events : List (Event A)) → without_refusals (life_of (genuine events)) ≡ without_refusals (life_of events)
@@ -132,36 +130,12 @@ module _ {A : Type 0} where
   answered-alone history address receipt transmit reference octets a s t is =
       let lived = own address history in
       let query = event.Datagram address receipt transmit reference octets in
-      t.answered.as_model refl ∙ sym (alike-answer (life_of (genuine lived)) (life_of lived) query (genuine-life lived) is)
+      t.as_model refl ∙ sym (alike-answer (life_of (genuine lived)) (life_of lived) query (genuine-life lived) is)
 
   -- ---- a run
-  answers-append : (life : Life) (xs ys : List (Event A))
-      → genuine_answers_after life (xs ++ ys) ≡ genuine_answers_after life xs ++ genuine_answers_after (life_after life xs) ys
-  answers-append life [] ys = refl
-  answers-append life (x ∷ xs) ys = grind (arith, answers-append (after life x) xs ys)
-
-  length-answers : (life : Life) (xs : List (Event A)) → length (genuine_answers_after life xs) ≡ length (genuine_after life xs)
-  length-answers life [] = refl
-  length-answers life (x ∷ xs) = grind (arith, length-answers (after life x) xs)
-
-  -- the last answers, as many as genuine events came last
-  genuine-last : (a : Address) (history events : List (Event A))
-      → last (length (genuine_after (life_of (own a history)) (own a events))) (says (genuine (own a (history ++ events))))
-      ≡ genuine_answers_after (life_of (own a history)) (own a events)
-  genuine-last a history events =
-      let count = length (genuine_after (life_of (own a history)) (own a events)) in
-      let before = genuine_answers (own a history) in
-      let behind = genuine_answers_after (life_of (own a history)) (own a events) in
-      let whole : says (genuine (own a (history ++ events))) ≡ before ++ behind = genuine-says (own a (history ++ events))
-      ∙ ap genuine_answers (own-append a history events) ∙ answers-append None (own a history) (own a events) in
-      let left : length (before ++ behind) - count ≡ length before =
-      omega (arith, length-append before behind, length-answers (life_of (own a history)) (own a events)) in
-      ap (last count) whole ∙ drop_at before behind (length (before ++ behind) - count) (sym left)
-
   pub without-forgeries : (history events : List (Event A)) (outcomes : List Outcome) (s : Registry) → Tells history events outcomes s
       → TellsWithoutForgeries history events outcomes
   without-forgeries history events outcomes s t = λ a.
-      let mine = own a (kept events outcomes) in
-      let life = life_of (own a history) in
-      ap (at_genuine life mine) (t.told a ∙ says-last a history (kept events outcomes))
-      ∙ sym (genuine-last a history (kept events outcomes))
+      let past = own a history in
+      let now = own a (kept (zip events outcomes)) in
+      ap (at_genuine (life_of past) now) (t.told a) ∙ sym (alone (life_of (genuine past)) (life_of past) now (genuine-life past)).0

@@ -78,8 +78,8 @@ module _ {A : Type 0} where
       → o ≡ answer_to (life_of (own (address_of e) history)) e → (IsTaken history e → ⊥) → StandsFor s (history ++ e ∷ [])
       → TellsOne history e o s
   tells-one history e o s plain is free stands = record {
-    answered = record {
-      as_model = λ h. is;
+    as_model = λ h. is;
+    cause = record {
       taken = (λ h. absurd (true≢false (ap is_struck (sym h) ∙ plain)), λ h. absurd (free h));
       memory = λ h. absurd (true≢false (ap is_struck (sym h) ∙ plain));
     };

@@ -15,10 +15,11 @@ use Rattle.ntp_events.specs.declared.command.Command.{Command}
 use Rattle.ntp_events.specs.declared.command.Command.TheVariants.{Enrol, Rollover}
 use Rattle.ntp_events.specs.declared.event.Event.{Event}
 use Rattle.ntp_events.specs.declared.event.Event.TheVariants as event
-use Rattle.ntp_service_run.specs.Events.{address_of_command, own}
+use Rattle.ntp_events.specs.declared.outcome.Outcome.TheVariants.{Done, Refused}
+use Rattle.ntp_service_run.specs.Events.{address_of, own}
 use Rattle.ntp_service_run.specs.Model.{refusal_of, life_of}
 use Rattle.ntp_service_run.specs.Headline.{StandsFor, IsEnrolledWith, IsTaken, number_asked}
-use Rattle.ntp_service_run.proofs.Lives.{by_life, enrolment-kept}
+use Rattle.ntp_service_run.proofs.Lives.{by_life, enrolment-kept, number_of_command, number-is}
 
 -- the numbers are kept
 numbers-kept : (life : Life) → numbers_held (option_map short life) ≡ option_map_or numbers_in (enrolment_in life) []
@@ -35,7 +36,7 @@ held-number (k ∷ keys) n (zero, within, is) = grind (arith, nat_tests)
 held-number (k ∷ keys) n (suc i, within, is) = let later = held-number keys n (i, omega arith, is) in grind (arith, nat_tests)
 
 -- who asks for a number, and is not refused, does not hold it
-asked-free : (c : Command) (terms : Option Enrolment) (n : ℕ) → number_asked c ≡ Some n → refusal_of terms c ≡ None
+asked-free : (c : Command) (terms : Option Enrolment) (n : ℕ) → number_of_command c ≡ Some n → refusal_of terms c ≡ None
     → Contains (option_map_or numbers_in terms []) n → ⊥
 asked-free (Enrol address number key budget) None n asked plain is = omega (arith, is.1)
 asked-free (Enrol address number key budget) (Some e) n asked plain is = cc
@@ -51,33 +52,34 @@ module _ {A : Type 0} (r : Registry) (history : List (Event A)) (stands : Stands
   numbers-are : (a : Address) → numbers_at r a ≡ option_map_or numbers_in (enrolment_in (life_of (own a history))) []
   numbers-are a = ap numbers_held (stands.entries a) ∙ numbers-kept (life_of (own a history))
 
-  holds : (a : Address) (number : ℕ) → IsEnrolledWith (life_of (own a history)) number → Contains (numbers_at r a) number
+  holds : (a : Address) (number : ℕ) → IsEnrolledWith history a number → Contains (numbers_at r a) number
   holds a number is = subst (λ l. Contains l number) (sym (numbers-are a)) is
 
   -- no two addresses are enrolled with one number
-  pub one-enrolled : (one two : Address) (number : ℕ) → IsEnrolledWith (life_of (own one history)) number
-      → IsEnrolledWith (life_of (own two history)) number → one ≡ two
+  pub one-enrolled : (one two : Address) (number : ℕ) → IsEnrolledWith history one number → IsEnrolledWith history two number → one ≡ two
   one-enrolled one two number first second = one-holder r one two number stands.agrees (holds one number first) (holds two number second)
 
   -- the register has a holder of the number that a command asks for exactly where another address is enrolled with it
-  pub taken-so : (c : Command) (n : ℕ) → number_asked c ≡ Some n → refusal_of (terms_at r (address_of_command c)) c ≡ None
+  pub taken-so : (c : Command) (n : ℕ) → number_asked {A = A} (event.Command c) ≡ Some n
+      → refusal_of (enrolment_in (life_of (own (address_of {A = A} (event.Command c)) history))) c ≡ None
       → IsSome (holder_of r n) ↔ IsTaken history (event.Command c)
-  taken-so c n asked free = (there, back)
+  taken-so c n asked plain = (there, back)
     where
-      plain : refusal_of (enrolment_in (life_of (own (address_of_command c) history))) c ≡ None
-      plain = ap (λ t. refusal_of t c) (sym (terms-are (address_of_command c))) ∙ free
+      address : Address
+      address = address_of {A = A} (event.Command c)
 
       there : IsSome (holder_of r n) → IsTaken history (event.Command c)
       there h =
           let holder = the-some (holder_of r n) h in
-          let held : IsEnrolledWith (life_of (own holder.0 history)) n =
+          let held : IsEnrolledWith history holder.0 n =
           subst (λ l. Contains l n) (numbers-are holder.0) (stands.agrees.enrolled holder.0 n holder.1) in
-          let other : holder.0 ≢ address_of_command c = λ same.
-          asked-free c (enrolment_in (life_of (own (address_of_command c) history))) n asked plain
-          (subst (λ a. IsEnrolledWith (life_of (own a history)) n) same held) in
-          (n, (asked, plain), (holder.0, other, held))
+          let other : holder.0 ≢ address = λ same.
+          asked-free c (enrolment_in (life_of (own address history))) n (sym (number-is A c) ∙ asked) plain
+          (subst (λ a. IsEnrolledWith history a n) same held) in
+          (n, (asked, ap (λ o. option_map_or Refused o Done) plain), holder.0, other, held)
 
       back : IsTaken history (event.Command c) → IsSome (holder_of r n)
       back h =
+          let other_asked = h.1.0 in
           let same : h.0 ≡ n = cc in
-          subst (λ m. IsSome (holder_of r m)) same (subst IsSome (sym (stands.agrees.held h.2.0 h.0 (holds h.2.0 h.0 h.2.2))) refl)
+          subst (λ m. IsSome (holder_of r m)) same (subst IsSome (sym (stands.agrees.held h.2 h.0 (holds h.2 h.0 h.4))) refl)

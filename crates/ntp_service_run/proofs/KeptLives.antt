@@ -17,8 +17,8 @@ use Rattle.ntp_events.specs.declared.event.Event.{Event}
 use Rattle.ntp_events.specs.declared.event.Event.TheVariants as event
 use Rattle.ntp_events.specs.declared.outcome.Outcome.{Outcome}
 use Rattle.ntp_events.specs.declared.outcome.Outcome.TheVariants as outcome
-use Rattle.ntp_service_run.specs.Model.{numbered, refusal_of, command_answer, after_done, after_command, departure_outcome, answer_to, after}
-use Rattle.ntp_service_run.proofs.Lives.{by_life, enrolment-kept}
+use Rattle.ntp_service_run.specs.Model.{numbered, refusal_of, after_done, departure_outcome, answer_to, after}
+use Rattle.ntp_service_run.proofs.Lives.{by_life, enrolment-kept, command_answer, after_command}
 
 -- what is kept after a command that is done, by what was kept
 abbrev pub kept_after : Option CustomerState → Command → Option CustomerState

@@ -17,7 +17,6 @@ use Rattle.ntp_service_run.specs.Events.{own}
 use Rattle.ntp_service_run.specs.Model.{answer_to, after, life_after, life_of, says_after}
 use Rattle.ntp_service_run.specs.Headline.{Tells, kept}
 use Rattle.ntp_service_run.specs.Bound.{is_query_reply, is_refusal_reply, receipt_window, is_received_in, IsUnbroken, replies_in, most_query_replies, HasFewReplies, RepliesAreFew, TellsFew}
-use Rattle.ntp_service_run.proofs.Runs.{says-last}
 use Rattle.ntp_service_run.proofs.Bounds.{queries_left, refusals_left, one_if, Spends, spends-datagram, same-counts, same-most, left-at-most}
 
 -- ---- lists
@@ -144,7 +143,7 @@ module _ {A : Type 0} where
   pub tells-few : (history events : List (Event A)) (outcomes : List Outcome) (s : Registry) → Tells history events outcomes s
       → TellsFew history events outcomes
   tells-few history events outcomes s t = λ a.
-      let mine = own a (kept events outcomes) in
+      let mine = own a (kept (zip events outcomes)) in
       let life = life_of (own a history) in
-      subst (λ answers. RepliesAreFew life mine answers) (sym (t.told a ∙ says-last a history (kept events outcomes)))
+      subst (λ answers. RepliesAreFew life mine answers) (sym (t.told a))
       (few-replies life mine)

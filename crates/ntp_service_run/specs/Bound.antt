@@ -12,7 +12,7 @@ use Rattle.ntp_events.specs.declared.outcome.Outcome.{Outcome}
 use Rattle.ntp_events.specs.declared.outcome.Outcome.TheVariants as outcome
 use Rattle.ntp_service_run.specs.Events.{own}
 use Rattle.ntp_service_run.specs.Model.{life_after, life_of}
-use Rattle.ntp_service_run.specs.Headline.{kept, told}
+use Rattle.ntp_service_run.specs.Headline.{kept, told_to}
 
 -- whether an outcome is a reply to a signed query: the time, or RATE (profile)
 abbrev pub is_query_reply : Outcome → Bool
@@ -64,4 +64,4 @@ RepliesAreFew {A} life events outcomes =
 -- to each address replies are few: at its own events, of those with these outcomes that are not struck out, after a history (profile)
 abbrev pub TellsFew : {A : Type 0} → List (Event A) → List (Event A) → List Outcome → Type 0
 TellsFew history events outcomes = (address : Address)
-    → RepliesAreFew (life_of (own address history)) (own address (kept events outcomes)) (told address events outcomes)
+    → RepliesAreFew (life_of (own address history)) (own address (kept (zip events outcomes))) (told_to address (zip events outcomes))

@@ -2,24 +2,19 @@
 use Rattle.std.specs.Prelude.{Bool, List, filter}
 use Rattle.ntp_register.specs.declared.address.Address.{Address}
 use Rattle.ntp_register.specs.Address.{address_eq}
-use Rattle.ntp_events.specs.declared.command.Command.{Command}
 use Rattle.ntp_events.specs.declared.command.Command.TheVariants.{Enrol, Revoke, Budget, Rollover, Retire}
 use Rattle.ntp_events.specs.declared.event.Event.{Event}
 use Rattle.ntp_events.specs.declared.event.Event.TheVariants as event
-
--- the address that a command names (profile)
-abbrev pub address_of_command : Command → Address
-address_of_command (Enrol address number key budget) = address
-address_of_command (Revoke address) = address
-address_of_command (Budget address budget) = address
-address_of_command (Rollover address number key) = address
-address_of_command (Retire address number) = address
 
 -- the address that an event names (profile)
 abbrev pub address_of : {A : Type 0} → Event A → Address
 address_of (event.Datagram address receipt transmit reference octets) = address
 address_of (event.Departed address receive m) = address
-address_of (event.Command command) = address_of_command command
+address_of (event.Command (Enrol address number key budget)) = address
+address_of (event.Command (Revoke address)) = address
+address_of (event.Command (Budget address budget)) = address
+address_of (event.Command (Rollover address number key)) = address
+address_of (event.Command (Retire address number)) = address
 
 -- whether an event names an address (profile)
 abbrev pub names : {A : Type 0} → Address → Event A → Bool

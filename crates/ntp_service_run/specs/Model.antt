@@ -1,5 +1,5 @@
 -- The model of one customer: what the events of one address are answered. There is no table and no neighbour in it.
-use Rattle.std.specs.Prelude.{Bool, false, List, [], ◌∷◌, if◌then◌else◌, Option, Some, None, is_some, option_map}
+use Rattle.std.specs.Prelude.{Bool, false, List, [], fold, scan, if◌then◌else◌, Option, Some, None, is_some, option_map}
 use Rattle.std.specs.Option.{option_map_or}
 use Rattle.std.specs.Int.NonZero.{non_zero_u16_get}
 use Rattle.std.specs.declared.num.NonZeroU16.{NonZeroU16}
@@ -26,14 +26,9 @@ numbered number key = record { number = non_zero_u16_get number; key = key }
 -- why a command is refused, if it is, by the enrolment that its address has, if it has one (profile)
 abbrev pub refusal_of : Option Enrolment → Command → Option Refusal
 refusal_of terms (Enrol address number key budget) = enrol_refusal terms
-refusal_of terms (Revoke address) = change_refusal terms
-refusal_of terms (Budget address budget) = change_refusal terms
 refusal_of terms (Rollover address number key) = rollover_refusal terms (non_zero_u16_get number)
 refusal_of terms (Retire address number) = retire_refusal terms (non_zero_u16_get number)
-
--- the answer to a command (profile)
-abbrev pub command_answer : Life → Command → Outcome
-command_answer life command = option_map_or outcome.Refused (refusal_of (enrolment_in life) command) outcome.Done
+refusal_of terms other = change_refusal terms
 
 -- the life after a command that is done (profile)
 abbrev pub after_done : Life → Command → Life
@@ -44,31 +39,26 @@ after_done life (Budget address budget) = option_map (λ past. rebudgeted past (
 after_done life (Rollover address number key) = option_map (λ past. rolled_over past (numbered number key)) life
 after_done life (Retire address number) = option_map (λ past. retired past (non_zero_u16_get number)) life
 
--- the life after a command: one that is refused changes nothing (profile)
-abbrev pub after_command : Life → Command → Life
-after_command life command = if is_some (refusal_of (enrolment_in life) command) then life else after_done life command
-
 -- the outcome of a report of a departure, which was noted or not (profile)
 abbrev pub departure_outcome : Bool → Outcome
 departure_outcome noted = if noted then outcome.Noted else outcome.NotNoted
 
--- the answer to an event (profile)
+-- the answer to an event: a command is refused, if there is a cause, and else done (profile)
 abbrev pub answer_to : {A : Type 0} → Life → Event A → Outcome
 answer_to life (event.Datagram address receipt transmit reference octets) =
     outcome.Datagram (verdict life (occasion_of receipt transmit reference) octets)
 answer_to life (event.Departed address receive m) = departure_outcome (option_map_or (λ past. is_noted past receive) life false)
-answer_to life (event.Command command) = command_answer life command
+answer_to life (event.Command command) = option_map_or outcome.Refused (refusal_of (enrolment_in life) command) outcome.Done
 
--- the life after an event (profile)
+-- the life after an event: a command that is refused changes nothing (profile)
 abbrev pub after : {A : Type 0} → Life → Event A → Life
 after life (event.Datagram address receipt transmit reference octets) = after_datagram life (occasion_of receipt transmit reference) octets
 after life (event.Departed address receive m) = option_map (λ past. after_departure past receive m) life
-after life (event.Command command) = after_command life command
+after life (event.Command command) = if is_some (refusal_of (enrolment_in life) command) then life else after_done life command
 
 -- the life after events, from a life on (profile)
 abbrev pub life_after : {A : Type 0} → Life → List (Event A) → Life
-life_after life [] = life
-life_after life (e ∷ events) = life_after (after life e) events
+life_after life events = fold after life events
 
 -- the life that events leave (profile)
 abbrev pub life_of : {A : Type 0} → List (Event A) → Life
@@ -76,9 +66,4 @@ life_of events = life_after None events
 
 -- what events are answered, from a life on: each in the life that the events before it left (profile)
 abbrev pub says_after : {A : Type 0} → Life → List (Event A) → List Outcome
-says_after life [] = []
-says_after life (e ∷ events) = answer_to life e ∷ says_after (after life e) events
-
--- what events are answered (profile)
-abbrev pub says : {A : Type 0} → List (Event A) → List Outcome
-says events = says_after None events
+says_after life events = scan after answer_to life events

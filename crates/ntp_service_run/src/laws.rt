@@ -1,5 +1,6 @@
-//! What holds of the definitions, whatever code meets them.
-ghost use Rattle.std.specs.Prelude.{◌≡◌, ℕ, ◌<◌, option_map, IfSome, List, ◌++◌};
+//! What holds of the definitions, whatever code meets them. Each function is a law: a call of it does
+//! nothing.
+ghost use Rattle.std.specs.Prelude.{◌≡◌, ℕ, ◌<◌, None, option_map, IfSome, List, zip};
 ghost use Rattle.ntp_budget.specs.Tally.{most_counted};
 ghost use Rattle.ntp_packet.specs.Header.{HeaderFields};
 ghost use Rattle.ntp_slots.specs.Exchanges.{AreSaved};
@@ -14,48 +15,46 @@ ghost use Rattle.ntp_reply.specs.Exchanged.{matched};
 ghost use Rattle.ntp_events.specs.declared.event.Event.{Event};
 ghost use Rattle.ntp_events.specs.declared.outcome.Outcome.{Outcome};
 ghost use Rattle.ntp_service_run.specs.Events.{own};
-ghost use Rattle.ntp_service_run.specs.Model.{life_of, answer_to, after, says_after, says};
-ghost use Rattle.ntp_service_run.specs.Headline.{StandsFor, Tells, IsEnrolledWith, kept, told};
-ghost use Rattle.ntp_service_run.specs.Forgery.{genuine, genuine_answers, without_refusals};
+ghost use Rattle.ntp_service_run.specs.Model.{life_of, answer_to, after, says_after};
+ghost use Rattle.ntp_service_run.specs.Headline.{StandsFor, Tells, IsEnrolledWith, kept, told_to};
+ghost use Rattle.ntp_service_run.specs.Forgery.{at_genuine, genuine, without_refusals};
 ghost use Rattle.ntp_service_run.specs.Bound.{RepliesAreFew};
 
 use std::alloc::Allocator;
 
 /// What is kept of a life tells all of it: lives of which the same is kept answer each event alike, and the same
-/// is kept of them afterwards. Budgets are below where counting stops, as each command's is. This is a law, and
-/// does nothing when it is called.
+/// is kept of them afterwards. Budgets are below where counting stops, as each command's is.
 pub fn what_is_kept_of_a_life_tells_all<A: Allocator>()
     ensures { (one other : Life) (e : Event A) → option_map short one ≡ option_map short other → budget_in one < most_counted
         → (answer_to one e ≡ answer_to other e) × (option_map short (after one e) ≡ option_map short (after other e)) }
 {}
 
 /// No neighbour is felt: where two services were told of an address the same before and the same now,
-/// whatever they were told of others, they give that address the same outcomes. This is a law, and does
-/// nothing when it is called.
+/// whatever they were told of others, they give that address the same outcomes.
 pub fn no_neighbour_is_felt<A: Allocator>()
     ensures { (address : Address) (history other_history events other_events : List (Event A)) (outcomes other_outcomes : List Outcome)
         (service other_service : Registry)
         → Tells history events outcomes service → Tells other_history other_events other_outcomes other_service
         → own address history ≡ own address other_history
-        → own address (kept events outcomes) ≡ own address (kept other_events other_outcomes)
-        → told address events outcomes ≡ told address other_events other_outcomes }
+        → own address (kept (zip events outcomes)) ≡ own address (kept (zip other_events other_outcomes))
+        → told_to address (zip events outcomes) ≡ told_to address (zip other_events other_outcomes) }
 {}
 
-/// No two addresses are enrolled with one key number. This is a law, and does nothing when it is called.
+/// No two addresses are enrolled with one key number.
 pub fn a_number_has_one_holder<A: Allocator>()
     ensures { (service : Registry) (history : List (Event A)) (one two : Address) (number : ℕ) → StandsFor service history
-        → IsEnrolledWith (life_of (own one history)) number → IsEnrolledWith (life_of (own two history)) number → one ≡ two }
+        → IsEnrolledWith history one number → IsEnrolledWith history two number → one ≡ two }
 {}
 
 /// Whatever events an address had: while it is enrolled it has one key or two, and two keys have two numbers. So a number names
-/// one key. This is a law, and does nothing when it is called.
+/// one key.
 pub fn a_customer_has_one_or_two_keys<A: Allocator>()
     ensures { (events : List (Event A)) → IfSome (enrolment_in (life_of events)) HasKeys }
 {}
 
 /// Whatever events an address had: of the exchanges that are saved of it no stamp is 0, no two have one receive stamp, and no
 /// transmit stamp is a receive stamp; and no time reply and no crypto-NAK to it has equal receive and transmit stamps, or a
-/// transmit stamp 0. (Of a kiss that is a law of `ntp_reply_packets`.) This is a law, and does nothing when it is called.
+/// transmit stamp 0. (Of a kiss that is a law of `ntp_reply_packets`.)
 pub fn stamps_are_told_apart<A: Allocator>()
     ensures saved { (events : List (Event A)) → AreSaved (recent_in (life_of events)) }
     ensures time { (events : List (Event A)) (o : Occasion) (request : HeaderFields)
@@ -66,17 +65,17 @@ pub fn stamps_are_told_apart<A: Allocator>()
 
 /// Forged datagrams change nothing: without each datagram that was no signed query when it came, the other events of an
 /// address are answered as they are with it, and leave the same life, but for the refusals that are counted. A replay of a
-/// signed datagram counts as signed. This is a law, and does nothing when it is called.
+/// signed datagram counts as signed.
 pub fn forged_datagrams_change_nothing<A: Allocator>()
-    ensures answers { (events : List (Event A)) → says (genuine events) ≡ genuine_answers events }
+    ensures answers { (events : List (Event A)) → says_after None (genuine events) ≡ at_genuine None events (says_after None events) }
     ensures life { (events : List (Event A)) → without_refusals (life_of (genuine events)) ≡ without_refusals (life_of events) }
 {}
 
-/// Replies are few: in a stretch of the events of an address, in which no command is done and the windows of the receipts
-/// never fall, of the datagrams with their receipt in one window at most one more than the budget are answered with the time or
-/// `RATE`, and none where the address is not enrolled; and at most four with `DENY` or a crypto-NAK. So it is where all datagrams
-/// have their receipt in that window. Where receipts fall back into a window after another, or a command is done, a new count
-/// may begin. This is a law, and does nothing when it is called.
+/// Replies are few: in a stretch of the events of an address, in which no command is done and the windows of the receipts never
+/// fall, of the datagrams with their receipt in one window at most one more than the budget are answered with the time or `RATE`,
+/// and none where the address is not enrolled; and at most four with `DENY` or a crypto-NAK. So it is where all datagrams have
+/// their receipt in that window. Where receipts fall back into a window after another, or a command is done, a new count may
+/// begin.
 pub fn replies_in_a_window_are_few<A: Allocator>()
     ensures { (life : Life) (events : List (Event A)) → RepliesAreFew life events (says_after life events) }
 {}

@@ -5,7 +5,7 @@ ghost use Rattle.ntp_register.specs.declared.address.Address.{Address};
 ghost use Rattle.ntp_events.specs.declared.event.Event.{Event};
 ghost use Rattle.ntp_events.specs.declared.outcome.Outcome.{Outcome};
 ghost use Rattle.ntp_service_run.specs.Events.{own};
-ghost use Rattle.ntp_service_run.specs.Headline.{StandsFor, Tells, kept, told};
+ghost use Rattle.ntp_service_run.specs.Headline.{StandsFor, Tells, kept, told_to};
 ghost use Rattle.ntp_service_run.specs.Forgery.{TellsWithoutForgeries};
 ghost use Rattle.ntp_service_run.specs.Bound.{TellsFew};
 

@@ -6,7 +6,7 @@ use Rattle.ntp_service_run.proofs.service.Service.departed.Goals as goal
 
 pub returns-in_default-clause-tells : goal.returns-in_default-clause-tells
 returns-in_default-clause-tells g c = λ history stands.
-    rw c.self.view_is (unregistered-tells _ history _ stands (λ h. h.1) _ refl
+    rw c.self.view_is (unregistered-tells _ history _ stands refl _ refl
     (sym (rw c.self.view_is at c.in_default.ensures.value)) refl refl)
 
 pub invariant_of-self-2 : goal.invariant_of-self-2
@@ -17,7 +17,7 @@ invariant_of-self-2 g c =
 pub returns-clause-tells : goal.returns-clause-tells
 returns-clause-tells g c = λ history stands.
     let y = c.depart.ensures in
-    customer-tells _ history _ (rw (← c.self.view_is) at stands) (λ h. h.1) _ (unstruck c.depart.result)
+    customer-tells _ history _ (rw (← c.self.view_is) at stands) refl _ (unstruck c.depart.result)
     c.in-Some.receiver.now c.depart.new.customer (sym c.in-Some.ensures.value)
     (λ past is. ap departure_outcome (y.noted past is)) (λ past is. ap Some (y.after past is)) (invariant_of-self-2 g c)
 

@@ -1,6 +1,7 @@
 use Rattle.std.proofs.Common.{◌+◌, ◌++◌, ◌∷◌, [], arith, sym, ap, ◌∙◌, subst, take}
 use Rattle.std.proofs.lemmas.List.{take_more, take_all}
-use Rattle.ntp_service_run.proofs.Runs.{Goes, Goes-nil, Goes-push, Goes-tells}
+use Rattle.ntp_service_run.specs.Headline.{Tells}
+use Rattle.ntp_service_run.proofs.Runs.{Tells-nil, Tells-push}
 use Rattle.ntp_service_run.proofs.Forgeries.{without-forgeries}
 use Rattle.ntp_service_run.proofs.Stretches.{tells-few}
 use Rattle.ntp_service_run.proofs.service.Service.run.Goals as goal
@@ -10,8 +11,7 @@ loop-event-init g c =
     record {
       count = c.in-Ok.ensures.len;
       room = c.in-Ok.ensures.capacity;
-      goes = λ history stands. rw c.in-Ok.ensures.items
-          (Goes-nil history _ stands);
+      tells = λ history stands. rw c.in-Ok.ensures.items (Tells-nil history _ stands);
     }
 
 pub loop-event-preserved : goal.loop-event-preserved
@@ -24,15 +24,15 @@ loop-event-preserved g c =
     record {
       count = p.len ∙ ap (λ n. n + 1) i.count;
       room = omega (arith, i.room, p.capacity);
-      goes = λ history stands. rw (more, p.items)
-          (Goes-push history _ _ _ _ e c.apply.result (i.goes history stands) (λ so_far. c.apply.ensures _ so_far));
+      tells = λ history stands. rw (more, p.items)
+          (Tells-push history _ _ _ _ e c.apply.result (i.tells history stands) (λ so_far. c.apply.ensures _ so_far));
     }
 
 pub returns-clause-tells : goal.returns-clause-tells
 returns-clause-tells g c = λ history stands.
     let all = take_all c.loop-event.event-index c.args.events.now (omega arith) in
-    Goes-tells history _ _ _ (subst (λ events. Goes history events c.loop-event.outcomes.items c.loop-event.self) all
-    (c.loop-event.invariant.goes history stands))
+    subst (λ events. Tells history events c.loop-event.outcomes.items c.loop-event.self) all
+    (c.loop-event.invariant.tells history stands)
 
 pub returns-clause-forgeries : goal.returns-clause-forgeries
 returns-clause-forgeries g c = λ history stands. without-forgeries history _ _ _ (returns-clause-tells g c history stands)

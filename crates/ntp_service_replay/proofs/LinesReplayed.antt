@@ -8,15 +8,15 @@ use Rattle.ntp_register.specs.Registry.{Registry}
 use Rattle.ntp_events.specs.declared.event.Event.{Event}
 use Rattle.ntp_events.specs.declared.outcome.Outcome.{Outcome}
 use Rattle.ntp_admin.specs.Spells.{is_passed_over, Spells}
-use Rattle.ntp_admin.specs.Answers.{text_of}
+use Rattle.ntp_admin.specs.Answers.{outcome_text}
 use Rattle.ntp_service_replay.specs.declared.faults.ReplayFaultKind.{ReplayFaultKind}
 use Rattle.ntp_service_replay.specs.declared.faults.ReplayFaultKind.TheVariants.{Line, Read, Write, NoMemory, LineLong, NotUtf8}
-use Rattle.ntp_service_run.specs.Headline.{StandsFor, Tells, TellsOne, kept}
+use Rattle.ntp_service_run.specs.Headline.{StandsFor, TellsOne}
 use Rattle.ntp_service_replay.specs.Script.{IsReadable, event_lines}
 use Rattle.ntp_service_replay.specs.Replay.{Replays, Causes}
 use Rattle.ntp_service_replay.specs.Lines.{CutsShort}
 use Rattle.ntp_service_replay.specs.Engine.{Answers, Halts}
-use Rattle.ntp_service_run.proofs.Runs.{Goes, Goes-nil, Goes-push, Goes-tells, says-last}
+use Rattle.ntp_service_run.proofs.Runs.{Tells-nil, Tells-push}
 
 -- two lists that agree place by place, each with one member more
 AllZip-more : {X Y : Type 0} (R : X → Y → Type 0) (xs : List X) (ys : List Y) (x : X) (y : Y) → AllZip R xs ys → R x y
@@ -51,15 +51,6 @@ module _ {A : Type 0} where
   abbrev Takes : Registry → Event A → Outcome → Registry → Type 0
   Takes old e o new = (history : List (Event A)) → StandsFor old history → TellsOne history e o new
 
-  -- what was told, in the words in which it grows
-  tells-goes : (events : List (Event A)) (outcomes : List Outcome) (s : Registry) → Tells [] events outcomes s → Goes [] events outcomes s
-  tells-goes events outcomes s t = record {
-    each = t.each;
-    told = λ a. t.told a ∙ says-last a [] (kept events outcomes);
-    answered = t.answered;
-    stands = t.stands;
-  }
-
   -- nothing was replayed yet
   pub replays-nothing : (s : Registry) → StandsFor {A = A} s [] → Replays A [] [] s
   replays-nothing s stands = record {
@@ -67,7 +58,7 @@ module _ {A : Type 0} where
     outcomes = [];
     readable = All-nil IsReadable;
     spelled = tt;
-    tells = Goes-tells [] [] [] s (Goes-nil [] s stands);
+    tells = Tells-nil [] s stands;
     texts = refl;
   }
 
@@ -88,17 +79,15 @@ module _ {A : Type 0} where
   -- a line that is an event
   pub replays-event : (before : List (List ℕ)) (so_far line : List ℕ) (old new : Registry) (e : Event A) (o : Outcome)
       → Replays A before so_far old → IsReadable line → is_passed_over line ≡ false → Spells line e → Takes old e o new
-      → Replays A (before ++ line ∷ []) (so_far ++ text_of o) new
+      → Replays A (before ++ line ∷ []) (so_far ++ outcome_text o) new
   replays-event before so_far line old new e o r readable event spells step = record {
     events = r.events ++ e ∷ [];
     outcomes = r.outcomes ++ o ∷ [];
     readable = readable-more before line r.readable readable;
     spelled = subst (λ lines. AllZip Spells lines (r.events ++ e ∷ [])) (sym (event_lines-more before line false event))
         (AllZip-more Spells (event_lines before) r.events line e r.spelled spells);
-    tells =
-        let goes = tells-goes r.events r.outcomes old r.tells in
-        Goes-tells [] _ _ new (Goes-push [] r.events r.outcomes old new e o goes (λ so_far. step _ so_far));
-    texts = ap (λ text. text ++ text_of o) r.texts ∙ flat_map_more text_of [] r.outcomes o;
+    tells = Tells-push [] r.events r.outcomes old new e o r.tells (λ so_far. step _ so_far);
+    texts = ap (λ text. text ++ outcome_text o) r.texts ∙ flat_map_more outcome_text [] r.outcomes o;
   }
 
   -- ---- whatever was replayed before
@@ -118,18 +107,18 @@ module _ {A : Type 0} where
   Answers-passed s line readable passed = record { replays = λ before so_far r. replays-passed before so_far line s r readable passed }
 
   pub Answers-event : (old new : Registry) (line : List ℕ) (e : Event A) (o : Outcome) → IsReadable line
-      → is_passed_over line ≡ false → Spells line e → Takes old e o new → Answers A old (line ∷ []) (text_of o) new
+      → is_passed_over line ≡ false → Spells line e → Takes old e o new → Answers A old (line ∷ []) (outcome_text o) new
   Answers-event old new line e o readable event spells step =
       record { replays = λ before so_far r. replays-event before so_far line old new e o r readable event spells step }
 
   -- writing the answer to an event was cut short
   pub Halts-event : (kind : ReplayFaultKind) (old new : Registry) (line part : List ℕ) (e : Event A) (o : Outcome) → IsReadable line
-      → is_passed_over line ≡ false → Spells line e → Takes old e o new → CutsShort kind (text_of o) part
+      → is_passed_over line ≡ false → Spells line e → Takes old e o new → CutsShort kind (outcome_text o) part
       → Halts A kind old (line ∷ []) part
   Halts-event (Line fault) old new line part e o readable event spells step cut = absurd cut
   Halts-event Read old new line part e o readable event spells step cut = absurd cut
   Halts-event Write old new line part e o readable event spells step cut = record {
-    cause = λ before so_far r. (text_of o, cut.0, new, replays-event before so_far line old new e o r readable event spells step, cut.1);
+    cause = λ before so_far r. (outcome_text o, cut.0, new, replays-event before so_far line old new e o r readable event spells step, cut.1);
   }
   Halts-event NoMemory old new line part e o readable event spells step cut = record { cause = λ before so_far r. cut }
   Halts-event LineLong old new line part e o readable event spells step cut = absurd cut

@@ -1,4 +1,4 @@
--- What an engine does with octets, in steps. No public clause cites this.
+-- Not to be believed: for proofs. What an engine does with octets, in steps.
 use Rattle.std.specs.Prelude.{◌≡◌, ℕ, ◌+◌, List, [], ◌++◌, length}
 use Rattle.ntp_register.specs.Registry.{Registry}
 use Rattle.ntp_service_replay.specs.declared.engine.Engine.{Engine}

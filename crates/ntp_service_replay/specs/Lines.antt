@@ -1,4 +1,4 @@
--- What becomes of one line. No public clause cites this.
+-- Not to be believed: for proofs. What becomes of one line.
 use Rattle.std.specs.Prelude.{◌≡◌, ℕ, Bool, true, false, Option, Some, None, List, [], ◌++◌}
 use Rattle.ntp_events.specs.declared.event.Event.{Event}
 use Rattle.ntp_admin.specs.Spells.{is_passed_over, Spells}

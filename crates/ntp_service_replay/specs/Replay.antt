@@ -5,8 +5,8 @@ use Rattle.ntp_register.specs.Registry.{Registry}
 use Rattle.ntp_events.specs.declared.event.Event.{Event}
 use Rattle.ntp_events.specs.declared.outcome.Outcome.{Outcome}
 use Rattle.ntp_events.specs.declared.line_fault.LineFault.TheVariants as line_fault
-use Rattle.ntp_admin.specs.Spells.{is_passed_over, Spells, HasFault}
-use Rattle.ntp_admin.specs.Answers.{text_of}
+use Rattle.ntp_admin.specs.Spells.{is_passed_over, Spells, HasLineFault}
+use Rattle.ntp_admin.specs.Answers.{outcome_text}
 use Rattle.ntp_service_replay.specs.declared.faults.ReplayFault.{ReplayFault}
 use Rattle.ntp_service_replay.specs.declared.faults.ReplayFaultKind.{ReplayFaultKind}
 use Rattle.ntp_service_replay.specs.declared.faults.ReplayFaultKind.TheVariants.{Line, Read, Write, NoMemory, LineLong, NotUtf8}
@@ -25,14 +25,14 @@ pub record Replays (A : Type 0) (lines : List (List ℕ)) (written : List ℕ) (
   pub readable : All IsReadable lines
   pub spelled : AllZip Spells (event_lines lines) events
   pub tells : Tells [] events outcomes service
-  pub texts : written ≡ flat_map text_of outcomes
+  pub texts : written ≡ flat_map outcome_text outcomes
 
 -- why no more lines were answered, where some were replayed before and others follow; `part` was written for
 -- the first of those
 abbrev pub Causes : (A : Type 0) → ReplayFaultKind → List (List ℕ) → List ℕ → List (List ℕ) → List ℕ → Type 0
 Causes A (Line fault) before so_far [] part = ⊥
 Causes A (Line fault) before so_far (line ∷ lines) part = (part ≡ []) × IsReadable line × (is_passed_over line ≡ false)
-    × ((fault ≡ line_fault.NoMemory) ⊎ HasFault A line fault)
+    × ((fault ≡ line_fault.NoMemory) ⊎ HasLineFault A line fault)
 Causes A Read before so_far lines part = part ≡ []
 Causes A Write before so_far [] part = ⊥
 Causes A Write before so_far (line ∷ lines) part = (answer rest : List ℕ) × (service : Registry)

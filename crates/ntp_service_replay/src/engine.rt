@@ -4,7 +4,7 @@ ghost use Rattle.ntp_service_replay.specs.Script.{most_line_octets, lines_of};
 ghost use Rattle.ntp_service_replay.specs.Lines.{IsPastReading};
 ghost use Rattle.ntp_service_replay.specs.Watched.{has_failed, Wrote};
 
-use crate::faults::ReplayFaultKind;
+use crate::faults::{ReplayFault, ReplayFaultKind};
 use crate::lines::{judge, write_answer};
 use crate::watch::Watched;
 use ntp_service_run::Service;
@@ -40,11 +40,15 @@ impl<A: Allocator + Copy> Engine<A> {
         }
     }
 
-    // How many lines were answered or passed over.
-    pub(crate) fn done(&self) -> u64
-        ensures { result ≡ self.now.done }
+    // The fault that names the line behind those that are done.
+    pub(crate) fn fault(&self, kind: ReplayFaultKind) -> ReplayFault
+        requires { self.now.done + 1 < 2 ^ 64 }
+        ensures { result ≡ record { line = self.now.done + 1; kind = kind } }
     {
-        self.done
+        ReplayFault {
+            line: self.done + 1,
+            kind,
+        }
     }
 
     // Answers the line that has begun, and leaves it as it is.

@@ -1,7 +1,7 @@
 //! One line of a script, and one answer line.
 ghost use Rattle.std.specs.Prelude.{◌≡◌, ℕ, ◌≤◌, Bool, List, [], ◌∷◌, length, OnOk, IfOk, IfErr};
 ghost use Rattle.ntp_events.specs.declared.event.Event.{Event};
-ghost use Rattle.ntp_admin.specs.Answers.{text_of};
+ghost use Rattle.ntp_admin.specs.Answers.{outcome_text};
 ghost use Rattle.ntp_service_replay.specs.Script.{most_line_octets};
 ghost use Rattle.ntp_service_replay.specs.Replay.{Causes};
 ghost use Rattle.ntp_service_replay.specs.Lines.{Judges, CutsShort, IsPastReading};
@@ -42,9 +42,9 @@ pub(crate) fn write_answer<A: Allocator + Copy, W: Write>(
     outcome: &Outcome,
     writer: &mut Watched<W>,
 ) -> Result<(), ReplayFaultKind>
-    ensures ok { OnOk result (Wrote W.contents writer.old writer.new (text_of outcome.now)) }
+    ensures ok { OnOk result (Wrote W.contents writer.old writer.new (outcome_text outcome.now)) }
     ensures well { OnOk result (has_failed writer.new ≡ has_failed writer.old) }
-    ensures err { IfErr result (λ kind. (part : List ℕ) × CutsShort kind (text_of outcome.now) part
+    ensures err { IfErr result (λ kind. (part : List ℕ) × CutsShort kind (outcome_text outcome.now) part
         × Wrote W.contents writer.old writer.new part) }
     ensures past_reading { IfErr result (IsPastReading (has_failed writer.new)) }
 {

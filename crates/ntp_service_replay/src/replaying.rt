@@ -4,7 +4,6 @@ ghost use Rattle.std.specs.Io.KnownBytes.{IsAtEnd};
 ghost use Rattle.ntp_register.specs.Registry.{Registry};
 ghost use Rattle.ntp_service_replay.specs.Script.{lines_of};
 ghost use Rattle.ntp_service_replay.specs.Replay.{most_reads, Replays, StopsAt};
-ghost use Rattle.ntp_service_replay.specs.Engine.{IsUnfed};
 ghost use Rattle.ntp_service_replay.specs.Watched.{inner_of, has_failed, read_count, Wrote};
 
 use crate::engine::Engine;
@@ -58,45 +57,21 @@ pub fn replay<A: Allocator + Copy, R: Read, W: Write>(
     ensures bound { read_count reader.new ≤ most_reads }
 {
     let mut engine = Engine::new(alloc);
-    match feed_all(&mut engine, reader, writer) {
-        Ok(()) => Ok(()),
-        Err(kind) => Err(ReplayFault {
-            line: engine.done() + 1,
-            kind,
-        }),
-    }
-}
-
-// Feeds an engine all that a reader gives, and ends the last line.
-fn feed_all<A: Allocator + Copy, R: Read, W: Write>(
-    engine: &mut Engine<A>,
-    reader: &mut Watched<R>,
-    writer: &mut Watched<W>,
-) -> Result<(), ReplayFaultKind>
-    requires unfed { IsUnfed engine.old }
-    requires unread { read_count reader.old ≡ 0 }
-    ensures ok { OnOk result (IfSome (R.remaining (inner_of reader.old)) (λ text. (written : List ℕ) × (service : Registry)
-        × Replays A (lines_of text) written service × Wrote W.contents writer.old writer.new written)) }
-    ensures end { OnOk result (IsAtEnd (R.remaining (inner_of reader.new))) }
-    ensures reader_well { OnOk result (has_failed reader.new ≡ has_failed reader.old) }
-    ensures writer_well { OnOk result (has_failed writer.new ≡ has_failed writer.old) }
-    ensures stopped { IfErr result (λ kind. IfSome (R.remaining (inner_of reader.old)) (λ text. (written : List ℕ)
-        × StopsAt A (record { line = engine.new.done + 1; kind = kind }) (lines_of text) written
-        × Wrote W.contents writer.old writer.new written)) }
-    ensures counted { engine.new.done + 1 < 2 ^ 64 }
-    ensures read { result ≡ Err ReplayFaultKind.Read → (has_failed reader.new ≡ true) ⊎ (read_count reader.new ≡ most_reads) }
-    ensures write { result ≡ Err ReplayFaultKind.Write → has_failed writer.new ≡ true }
-    ensures bound { read_count reader.new ≤ most_reads }
-{
     let mut chunk = [0; CHUNK];
     for _turn in 0..MOST_READS {
         match reader.read_chunk(&mut chunk) {
-            Err(_) => return Err(ReplayFaultKind::Read),
-            Ok(0) => return engine.finish(writer),
-            Ok(n) => engine.feed(&chunk[..n], writer)?,
+            Err(_) => return Err(engine.fault(ReplayFaultKind::Read)),
+            Ok(0) => match engine.finish(writer) {
+                Ok(()) => return Ok(()),
+                Err(kind) => return Err(engine.fault(kind)),
+            },
+            Ok(n) => match engine.feed(&chunk[..n], writer) {
+                Ok(()) => {}
+                Err(kind) => return Err(engine.fault(kind)),
+            },
         }
     }
-    Err(ReplayFaultKind::Read)
+    Err(engine.fault(ReplayFaultKind::Read))
 }
 
 #[cfg(test)]

@@ -1,12 +1,10 @@
 -- What a turn comes to, once a datagram was received, or could not be.
-use Rattle.std.proofs.Common.{◌≡◌, ℕ, ◌+◌, ◌≤◌, true, false, Option, None, Some, Ok, Err, List, [], ◌∷◌, length, take, refl, sym, ap, ◌∙◌, subst, append-nil, length-take, arith}
+use Rattle.std.proofs.Common.{◌≡◌, ℕ, ◌≤◌, true, false, Option, None, Some, Ok, Err, List, [], ◌∷◌, length, get_or, take, drop, map, refl, sym, ap, ◌∙◌, subst, append-nil, length-take, arith}
 use Rattle.std.proofs.lemmas.List.{take_all}
 use Rattle.ntp_time.specs.declared.moment.Moment.{Moment}
 use Rattle.ntp_register.specs.Registry.{Registry}
 use Rattle.ntp_reply_packets.specs.Reference.{ReferenceState}
 use Rattle.ntp_reply.specs.declared.answers.Answer.{Answer}
-use Rattle.ntp_reply.specs.declared.answers.Answer.TheVariants as answer
-use Rattle.ntp_reply.specs.declared.answers.Reason.TheVariants as reason
 use Rattle.ntp_events.specs.declared.observation.Arrival.{Arrival}
 use Rattle.ntp_events.specs.declared.observation.Sending.{Sending}
 use Rattle.ntp_events.specs.declared.observation.TurnOutcome.TheVariants.{NothingReceived, Answered}
@@ -15,54 +13,54 @@ use Rattle.ntp_events.specs.declared.event.Event.TheVariants as event
 use Rattle.ntp_events.specs.declared.outcome.Outcome.TheVariants as outcome
 use Rattle.ntp_service_run.specs.Headline.{StandsFor, TellsOne}
 use Rattle.ntp_service_run.proofs.Runs.{Tells-nil, Tells-one, Tells-append}
+use Rattle.ntp_service_serve.specs.declared.memory_port.Sent.{Sent}
 use Rattle.ntp_service_serve.specs.declared.port.PortFault.{PortFault}
-use Rattle.ntp_service_serve.specs.Port.{IncomingValue, TurnValue, no_turn, Told, Arrives, Receives, ReceiveTells, NowTells, later, received}
-use Rattle.ntp_service_serve.specs.Made.{Made, departing, departure_events, arrival_of, sending_of}
+use Rattle.ntp_service_serve.specs.Port.{IncomingValue, Readings, TurnValue, no_turn, Told, Arrives, Begins, ReceiveTells, NowTells, later, received}
+use Rattle.ntp_service_serve.specs.Made.{Missed, Received, turn_of, departing, arrival_of, sending_of}
 use Rattle.ntp_service_serve.specs.Serving.{Follows, TurnMakes}
-use Rattle.ntp_service_serve.specs.Sending.{turn_of, IsInTurn, SendingMakes}
+use Rattle.ntp_service_serve.specs.Sending.{turn_with, IsInTurn, SendingMakes}
 use Rattle.ntp_service_serve.proofs.OneTurn.{follows-one}
 
 -- ---- a turn in which nothing came
--- what is made of a turn with no datagram
-abbrev unanswered : TurnValue → Made
-unanswered turn = record { turn = turn; answer = answer.Silent reason.Unregistered; noted = false }
-
 made-empty : (A : Type 0) (reference : ReferenceState) (turn : TurnValue) (t u : Option Told) (f g : ℕ) (fault : PortFault)
-    (buffer : List ℕ) (s : Registry) → turn.arrival ≡ None → Follows (unanswered turn ∷ []) t u → g ≡ f
+    (buffer : List ℕ) (s : Registry) → Follows (Missed turn.clock turn.sends ∷ []) t u → g ≡ f
     → TurnMakes A reference (Err fault) buffer t u f g s s NothingReceived
-made-empty A reference turn t u f g fault buffer s none follows count = record {
-  made = unanswered turn;
-  comes_to = rw none refl;
-  arrived = rw none refl;
-  octets = rw none refl;
+made-empty A reference turn t u f g fault buffer s follows count = record {
+  made = Missed turn.clock turn.sends;
+  comes_to = refl;
+  arrived = refl;
+  octets = refl;
   port = follows;
-  failures = rw none (omega (arith, count));
-  tells = λ history stands. rw none (Tells-nil history s stands);
+  failures = omega (arith, count);
+  tells = λ history stands. Tells-nil history s stands;
 }
 
 pub nothing-came : (A : Type 0) (reference : ReferenceState) (t u : Option Told) (f g : ℕ) (fault : PortFault) (buffer : List ℕ)
     (s : Registry) → g ≡ f → ReceiveTells t u (Err fault) buffer → TurnMakes A reference (Err fault) buffer t u f g s s NothingReceived
 nothing-came A reference t u f g fault buffer s count told = by_told t u told
   where
-    by_turns : (coming : List TurnValue) (old new : Told) → old.coming ≡ coming → Receives coming old new (Err fault) buffer
+    by_turns : (coming : List TurnValue) (old new : Told) → old.coming ≡ coming → Begins (get_or coming 0 no_turn) old new (Err fault) buffer
         → TurnMakes A reference (Err fault) buffer (Some old) (Some new) f g s s NothingReceived
-    by_turns [] old new here p = made-empty A reference no_turn (Some old) (Some new) f g fault buffer s refl (record {
+    by_turns [] old new here p = made-empty A reference no_turn (Some old) (Some new) f g fault buffer s (record {
       begun = rw here refl;
-      coming = rw (here, p.1) refl;
-      sent = rw p.1 (sym (append-nil old.sent));
+      coming = ap (λ (z : Told). z.coming) p.1;
+      sent = ap (λ (z : Told). z.sent) p.1 ∙ sym (append-nil old.sent);
     }) count
     by_turns (turn ∷ rest) old new here p = by_arrival turn.arrival refl p.0
       where
         by_arrival : (x : Option IncomingValue) → turn.arrival ≡ x → Arrives x (Err fault) buffer
             → TurnMakes A reference (Err fault) buffer (Some old) (Some new) f g s s NothingReceived
         by_arrival (Some d) is q = absurd q
-        by_arrival None is q = made-empty A reference turn (Some old) (Some new) f g fault buffer s is
-            (follows-one (unanswered turn) rest old new here (ap (λ (z : Told). z.coming) p.1)
-            (ap (λ (z : Told). z.sent) p.1 ∙ rw is (sym (append-nil old.sent)))) count
+        by_arrival None is q =
+            let whole : turn ≡ turn_of (Missed turn.clock turn.sends) =
+            ap (λ z. record { arrival = z; clock = turn.clock; sends = turn.sends }) is in
+            made-empty A reference turn (Some old) (Some new) f g fault buffer s
+            (follows-one (Missed turn.clock turn.sends) rest old new (here ∙ ap (λ z. z ∷ rest) whole)
+            (ap (λ (z : Told). z.coming) p.1 ∙ ap (drop 1) here) (ap (λ (z : Told). z.sent) p.1 ∙ sym (append-nil old.sent))) count
 
     by_told : (t u : Option Told) → ReceiveTells t u (Err fault) buffer
         → TurnMakes A reference (Err fault) buffer t u f g s s NothingReceived
-    by_told None u p = made-empty A reference no_turn None u f g fault buffer s refl tt count
+    by_told None u p = made-empty A reference no_turn None u f g fault buffer s tt count
     by_told (Some old) None p = absurd p
     by_told (Some old) (Some new) p = by_turns old.coming old new refl p
 
@@ -78,6 +76,10 @@ same-arrival : (d : IncomingValue) (x : Arrival) → d.address ≡ x.address →
     → length (received d) ≡ x.length → arrival_of d ≡ x
 same-arrival d x e h k n = rw (e, h, k, n) refl
 
+-- what a port tells that is in a turn, whose clock was read
+abbrev in_turn : List TurnValue → TurnValue → Readings → List Sent → Told
+in_turn rest turn clock sent = record { coming = rest; present = turn; clock = later clock; has_tried_send = false; sent = sent }
+
 module _ (x : Arrival) (buffer : List ℕ) (transmit : Moment) (most : x.length ≤ 1025) (long : length buffer ≡ 1025) where
   taken : length (take x.length buffer) ≡ x.length
   taken = omega (arith, length-take x.length buffer)
@@ -90,7 +92,7 @@ module _ (x : Arrival) (buffer : List ℕ) (transmit : Moment) (most : x.length 
   seen-whole = take_all 1025 (take x.length buffer) (omega (arith, taken))
 
   comes-next : (coming : List TurnValue) (old mid new : Told) → old.coming ≡ coming
-      → Receives coming old mid (Ok x) buffer → NowTells (Some mid) (Some new) transmit → Comes (Some old) (Some new) x buffer transmit
+      → Begins (get_or coming 0 no_turn) old mid (Ok x) buffer → NowTells (Some mid) (Some new) transmit → Comes (Some old) (Some new) x buffer transmit
   comes-next [] old mid new here p q = cc
   comes-next (turn ∷ rest) old mid new here p q = by_arrival turn.arrival refl p.0
     where
@@ -98,7 +100,7 @@ module _ (x : Arrival) (buffer : List ℕ) (transmit : Moment) (most : x.length 
       by_arrival None is a = cc
       by_arrival (Some d) is a =
           let shown : transmit ≡ turn.clock false 0 = q.0 ∙ ap (λ (t : Told). t.clock t.has_tried_send 0) p.1 in
-          let whole : turn ≡ turn_of d turn.clock turn.sends =
+          let whole : turn ≡ turn_with d turn.clock turn.sends =
           ap (λ z. record { arrival = z; clock = turn.clock; sends = turn.sends }) is in
           record {
             from = d;
@@ -112,13 +114,8 @@ module _ (x : Arrival) (buffer : List ℕ) (transmit : Moment) (most : x.length 
                 first = sym shown;
                 coming = here ∙ ap (λ z. z ∷ rest) whole;
                 after = q.1 ∙ ap (λ (t : Told). record t { clock = later t.clock }) p.1
-                    ∙ ap (λ z. record {
-                      coming = rest;
-                      present = Some z;
-                      clock = later turn.clock;
-                      has_tried_send = false;
-                      sent = old.sent;
-                    }) whole;
+                    ∙ ap (λ l. in_turn l turn turn.clock old.sent) (ap (drop 1) here)
+                    ∙ ap (λ z. in_turn rest z turn.clock old.sent) whole;
               },
             );
           }
@@ -149,13 +146,13 @@ answered A reference x buffer transmit t v u f g h s r q a sending k count told 
     ∙ ap (λ z. event.Datagram d.address d.receipt z reference (received d)) (sym p.first) in
     let first : Event A = event.Datagram d.address d.receipt (p.clock false 0) reference (received d) in
     record {
-      made = record { turn = turn_of d p.clock p.sends; answer = a; noted = p.noted };
-      comes_to = ap (λ z. Answered x a z) p.comes_to ∙ ap (λ z. Answered z a (sending_of p.sends a p.noted)) (sym k.arrival);
+      made = Received d p.clock p.sends a p.noted;
+      comes_to = ap (λ z. Answered x a z) p.comes_to ∙ ap (λ z. Answered z a (sending_of a p.sends p.noted)) (sym k.arrival);
       arrived = ap (λ z. Some z) k.arrival;
       octets = ap (λ l. Some l) k.octets;
       port = p.port;
-      failures = p.failures ∙ ap (λ n. n + 1) count;
-      tells = λ history stands. Tells-append history (first ∷ []) (departure_events d.address (p.clock true 1) (departing p.sends a))
+      failures = omega (arith, p.failures, count);
+      tells = λ history stands. Tells-append history (first ∷ []) (map (λ saved. event.Departed d.address saved (p.clock true 1)) (departing p.sends a))
           (outcome.Datagram a ∷ []) _ r q
           (Tells-one history first (outcome.Datagram a) s r stands
           (subst (λ e. TellsOne history e (outcome.Datagram a) r) same (told history stands)))

@@ -1,7 +1,7 @@
 -- The counts of turns.
-use Rattle.std.proofs.Common.{◌≡◌, ℕ, ◌+◌, ◌≤◌, Bool, true, false, Option, None, Some, List, [], ◌∷◌, ◌++◌, length, refl, sym, ap, ◌∙◌, subst, append-nil, length-append, arith}
+use Rattle.std.proofs.Common.{◌≡◌, ℕ, ◌+◌, ◌≤◌, Bool, true, false, Option, List, [], ◌∷◌, ◌++◌, length, refl, sym, ap, ◌∙◌, subst, append-nil, length-append, arith}
 use Rattle.std.proofs.lemmas.Grind.{flat_map-append}
-use Rattle.std.specs.Prelude.{Result, ◌&&◌, is_some, is_err, if◌then◌else◌}
+use Rattle.std.specs.Prelude.{Result, is_err, flat_map, if◌then◌else◌}
 use Rattle.ntp_register.specs.Registry.{Registry}
 use Rattle.ntp_reply_packets.specs.Reference.{ReferenceState}
 use Rattle.ntp_reply.specs.declared.answers.Answer.{Answer}
@@ -13,22 +13,18 @@ use Rattle.ntp_service_run.specs.Headline.{Tells}
 use Rattle.ntp_service_run.proofs.Runs.{Tells-nil, Tells-append}
 use Rattle.ntp_service_serve.specs.declared.port.PortFault.{PortFault}
 use Rattle.ntp_service_serve.specs.declared.serving.Served.{Served}
-use Rattle.ntp_service_serve.specs.Port.{IncomingValue, Told}
-use Rattle.ntp_service_serve.specs.Made.{Made, departing, events_in, outcomes_in, sent_in, has_arrived, has_departed, is_unfailing, sending_of, arrival_sent, turn_outcome}
-use Rattle.ntp_service_serve.specs.Serving.{ServeMakes, TurnMakes, events_of, outcomes_of, sent_of, count_of}
+use Rattle.ntp_service_serve.specs.Port.{IncomingValue, Readings, Told}
+use Rattle.ntp_service_serve.specs.Made.{Made, Missed, Received, events_in, outcomes_in, sent_in, has_arrived, has_departed, is_failing, sending_of, turn_outcome}
+use Rattle.ntp_service_serve.specs.Serving.{ServeMakes, TurnMakes}
 use Rattle.ntp_service_serve.specs.Sending.{counted, was_sent, was_noted}
-use Rattle.ntp_service_serve.proofs.ManyTurns.{count-append, Follows-nil, Follows-append}
+use Rattle.ntp_service_serve.proofs.ManyTurns.{sent_of, count_of, count-append, Follows-nil, Follows-append}
 
-abbrev if_so : Bool → ℕ
+abbrev pub if_so : Bool → ℕ
 if_so b = if b then 1 else 0
 
-at-most-one : (b : Bool) → if_so b ≤ 1
+pub at-most-one : (b : Bool) → if_so b ≤ 1
 at-most-one true = omega arith
 at-most-one false = omega arith
-
-pub one-or-none : (b : Bool) → (if b then 1 else 0) + (if b then 0 else 1) ≡ 1
-one-or-none true = refl
-one-or-none false = refl
 
 -- a turn counts one at most
 pub record CountsOne (c d : Served) : Type 0 where
@@ -44,32 +40,33 @@ counts-one (Answered x a sending) c = record {
   departed = omega (arith, at-most-one (was_noted sending));
 }
 
-sent-one : (d : IncomingValue) (sends : Bool) (a : Answer) (noted : Bool)
-    → if_so (was_sent (sending_of sends a noted)) ≡ length (arrival_sent (Some d) sends a)
-sent-one d true (answer.Time reply saved) true = refl
-sent-one d true (answer.Time reply saved) false = refl
-sent-one d true (answer.Rate reply) noted = refl
-sent-one d true (answer.Deny reply) noted = refl
-sent-one d true (answer.Nak reply) noted = refl
-sent-one d true (answer.Silent why) noted = refl
-sent-one d false (answer.Time reply saved) noted = refl
-sent-one d false (answer.Rate reply) noted = refl
-sent-one d false (answer.Deny reply) noted = refl
-sent-one d false (answer.Nak reply) noted = refl
-sent-one d false (answer.Silent why) noted = refl
+pub sent-one : (d : IncomingValue) (clock : Readings) (sends : Bool) (a : Answer) (noted : Bool)
+    → if_so (was_sent (sending_of a sends noted)) ≡ length (sent_in (Received d clock sends a noted))
+sent-one d clock true (answer.Time reply saved) true = refl
+sent-one d clock true (answer.Time reply saved) false = refl
+sent-one d clock true (answer.Rate reply) noted = refl
+sent-one d clock true (answer.Deny reply) noted = refl
+sent-one d clock true (answer.Nak reply) noted = refl
+sent-one d clock true (answer.Silent why) noted = refl
+sent-one d clock false (answer.Time reply saved) noted = refl
+sent-one d clock false (answer.Rate reply) noted = refl
+sent-one d clock false (answer.Deny reply) noted = refl
+sent-one d clock false (answer.Nak reply) noted = refl
+sent-one d clock false (answer.Silent why) noted = refl
 
-noted-one : (sends : Bool) (a : Answer) (noted : Bool) → was_noted (sending_of sends a noted) ≡ (is_some (departing sends a) && noted)
-noted-one true (answer.Time reply saved) true = refl
-noted-one true (answer.Time reply saved) false = refl
-noted-one true (answer.Rate reply) noted = refl
-noted-one true (answer.Deny reply) noted = refl
-noted-one true (answer.Nak reply) noted = refl
-noted-one true (answer.Silent why) noted = refl
-noted-one false (answer.Time reply saved) noted = refl
-noted-one false (answer.Rate reply) noted = refl
-noted-one false (answer.Deny reply) noted = refl
-noted-one false (answer.Nak reply) noted = refl
-noted-one false (answer.Silent why) noted = refl
+pub noted-one : (d : IncomingValue) (clock : Readings) (sends : Bool) (a : Answer) (noted : Bool)
+    → was_noted (sending_of a sends noted) ≡ has_departed (Received d clock sends a noted)
+noted-one d clock true (answer.Time reply saved) true = refl
+noted-one d clock true (answer.Time reply saved) false = refl
+noted-one d clock true (answer.Rate reply) noted = refl
+noted-one d clock true (answer.Deny reply) noted = refl
+noted-one d clock true (answer.Nak reply) noted = refl
+noted-one d clock true (answer.Silent why) noted = refl
+noted-one d clock false (answer.Time reply saved) noted = refl
+noted-one d clock false (answer.Rate reply) noted = refl
+noted-one d clock false (answer.Deny reply) noted = refl
+noted-one d clock false (answer.Nak reply) noted = refl
+noted-one d clock false (answer.Silent why) noted = refl
 
 -- what a turn counts
 record Counted (m : Made) (c d : Served) : Type 0 where
@@ -78,15 +75,12 @@ record Counted (m : Made) (c d : Served) : Type 0 where
   departed : d.departed ≡ c.departed + if_so (has_departed m)
 
 counted-made : (m : Made) (c : Served) → Counted m c (counted (turn_outcome m) c)
-counted-made m c = by_arrival m.turn.arrival refl
-  where
-    by_arrival : (x : Option IncomingValue) → m.turn.arrival ≡ x → Counted m c (counted (turn_outcome m) c)
-    by_arrival None is = record { arrivals = rw is (omega arith); sent = rw is (omega arith); departed = rw is (omega arith) }
-    by_arrival (Some d) is = record {
-      arrivals = rw is refl;
-      sent = rw is (ap (λ n. c.sent + n) (sent-one d m.turn.sends m.answer m.noted));
-      departed = rw is (ap (λ b. c.departed + if_so b) (noted-one m.turn.sends m.answer m.noted));
-    }
+counted-made (Missed clock sends) c = record { arrivals = omega arith; sent = omega arith; departed = omega arith }
+counted-made (Received d clock sends a noted) c = record {
+  arrivals = refl;
+  sent = ap (λ n. c.sent + n) (sent-one d clock sends a noted);
+  departed = ap (λ b. c.departed + if_so b) (noted-one d clock sends a noted);
+}
 
 count-one : (is : Made → Bool) (m : Made) → count_of is (m ∷ []) ≡ if_so (is m)
 count-one is m = chosen (is m)
@@ -95,7 +89,7 @@ count-one is m = chosen (is m)
     chosen true = refl
     chosen false = refl
 
-count-more : (is : Made → Bool) (made : List Made) (m : Made) → count_of is (made ++ m ∷ []) ≡ count_of is made + if_so (is m)
+pub count-more : (is : Made → Bool) (made : List Made) (m : Made) → count_of is (made ++ m ∷ []) ≡ count_of is made + if_so (is m)
 count-more is made m = count-append is made (m ∷ []) ∙ ap (λ n. count_of is made + n) (count-one is m)
 
 sent-more : (made : List Made) (m : Made) → length (sent_of (made ++ m ∷ [])) ≡ length (sent_of made) + length (sent_in m)
@@ -112,7 +106,7 @@ ServeMakes-nil A reference t f s = record {
   arrivals = refl;
   sent = refl;
   departed = refl;
-  failures = refl;
+  failures = let none : f ≡ f + 0 = omega arith in none;
   tells = λ history stands. Tells-nil history s stands;
 }
 
@@ -130,13 +124,13 @@ ServeMakes-turn A reference n t u v f g i h s r q c x buffer o p came k =
       arrivals = omega (arith, p.arrivals, one.arrivals, count-more has_arrived p.made m);
       sent = omega (arith, p.sent, one.sent, sent-more p.made m);
       departed = omega (arith, p.departed, one.departed, count-more has_departed p.made m);
-      failures = omega (arith, p.failures, k.failures, came, one-or-none (is_err x), count-more is_unfailing p.made m);
+      failures = omega (arith, p.failures, k.failures, came, count-more is_failing p.made m);
       tells = λ history stands.
-          subst (λ es. Tells history es (outcomes_of (p.made ++ m ∷ [])) q)
-          (ap (λ l. events_of reference p.made ++ l) (sym (append-nil (events_in reference m)))
+          subst (λ es. Tells history es (flat_map outcomes_in (p.made ++ m ∷ [])) q)
+          (ap (λ l. flat_map (events_in reference) p.made ++ l) (sym (append-nil (events_in reference m)))
           ∙ sym (flat_map-append (events_in reference) p.made (m ∷ [])))
-          (subst (λ os. Tells history (events_of reference p.made ++ events_in reference m) os q)
-          (ap (λ l. outcomes_of p.made ++ l) (sym (append-nil (outcomes_in m))) ∙ sym (flat_map-append outcomes_in p.made (m ∷ [])))
-          (Tells-append history (events_of reference p.made) (events_in reference m) (outcomes_of p.made) (outcomes_in m) r q
+          (subst (λ os. Tells history (flat_map (events_in reference) p.made ++ events_in reference m) os q)
+          (ap (λ l. flat_map outcomes_in p.made ++ l) (sym (append-nil (outcomes_in m))) ∙ sym (flat_map-append outcomes_in p.made (m ∷ [])))
+          (Tells-append history (flat_map (events_in reference) p.made) (events_in reference m) (flat_map outcomes_in p.made) (outcomes_in m) r q
           (p.tells history stands) (λ on. k.tells _ on)));
     }

@@ -2,5 +2,5 @@ pub mod Sequences
 pub mod ManyTurns
 mod OneTurn
 mod Answering
-mod Counting
+pub mod Counting
 mod Receiving

@@ -1,6 +1,6 @@
 -- One turn, by the calls that were made in it.
 use Rattle.std.proofs.Common.{◌≡◌, ℕ, ◌+◌, ◌≤◌, Bool, true, false, Option, None, Some, Result, Ok, Err, List, [], ◌∷◌, ◌++◌, length, drop, refl, sym, ap, ◌∙◌, subst, append-nil, arith, rules}
-use Rattle.std.specs.Prelude.{nat_le, not, ◌||◌, is_some, is_err, if◌then◌else◌}
+use Rattle.std.specs.Prelude.{nat_le, not, is_err, option_to_list, map, if◌then◌else◌}
 use Rattle.ntp_time.specs.declared.moment.Moment.{Moment}
 use Rattle.ntp_time.specs.declared.stamp.Stamp.{Stamp}
 use Rattle.ntp_mac.specs.Mac.{most_reply_octets}
@@ -8,7 +8,7 @@ use Rattle.ntp_register.specs.declared.address.Address.{Address}
 use Rattle.ntp_register.specs.Registry.{Registry}
 use Rattle.ntp_reply.specs.declared.answers.Answer.{Answer}
 use Rattle.ntp_reply.specs.declared.answers.Answer.TheVariants as answer
-use Rattle.ntp_events.specs.declared.observation.Sending.TheVariants.{NoReply, NotSent, Sent as WasSent}
+use Rattle.ntp_events.specs.declared.observation.Sending.TheVariants.{NoReply, NotSent, Sent as WasSent, Noted, NotNoted}
 use Rattle.ntp_events.specs.declared.event.Event.{Event}
 use Rattle.ntp_events.specs.declared.event.Event.TheVariants as event
 use Rattle.ntp_service_run.specs.Model.{departure_outcome}
@@ -19,12 +19,12 @@ use Rattle.ntp_service_serve.specs.declared.port.PortFault.{PortFault}
 use Rattle.ntp_service_serve.specs.declared.port.PortFault.TheVariants.{Send}
 use Rattle.ntp_service_serve.specs.Sequence.{firsts}
 use Rattle.ntp_service_serve.specs.Port.{IncomingValue, Readings, later, TurnValue, no_turn, Told, NowTells, SendTells}
-use Rattle.ntp_service_serve.specs.Made.{Made, reply_in, saved_in, departing, sent_back, sent_in, sending_on}
+use Rattle.ntp_service_serve.specs.Made.{Made, Received, turn_of, reply_in, departing, sent_in, sending_of, is_failing}
 use Rattle.ntp_service_serve.specs.Serving.{FollowsList, Follows}
-use Rattle.ntp_service_serve.specs.Sending.{turn_of, HasBegun, IsInTurn, SendingMakes}
+use Rattle.ntp_service_serve.specs.Sending.{saved_in, turn_with, HasBegun, IsInTurn, SendingMakes}
 
 -- one turn of a port that tells its turns
-pub follows-one : (m : Made) (rest : List TurnValue) (old new : Told) → old.coming ≡ m.turn ∷ rest → new.coming ≡ rest
+pub follows-one : (m : Made) (rest : List TurnValue) (old new : Told) → old.coming ≡ turn_of m ∷ rest → new.coming ≡ rest
     → new.sent ≡ old.sent ++ sent_in m → FollowsList (m ∷ []) old new
 follows-one m rest old new here coming sent = record {
   begun = sym (ap (firsts no_turn 1) here);
@@ -32,23 +32,66 @@ follows-one m rest old new here coming sent = record {
   sent = sent ∙ ap (λ l. old.sent ++ l) (sym (append-nil (sent_in m)));
 }
 
--- an answer with no reply is no time
-unsaved-silence : (a : Answer) → reply_in a ≡ None → saved_in a ≡ None
-unsaved-silence (answer.Time reply saved) e = cc
-unsaved-silence (answer.Rate reply) e = refl
-unsaved-silence (answer.Deny reply) e = refl
-unsaved-silence (answer.Nak reply) e = refl
-unsaved-silence (answer.Silent why) e = refl
+-- ---- what becomes of the reply of an answer
+undeparting-silence : (sends : Bool) (a : Answer) → reply_in a ≡ None → departing sends a ≡ []
+undeparting-silence true (answer.Silent why) e = refl
+undeparting-silence false (answer.Silent why) e = refl
+undeparting-silence sends (answer.Time reply saved) e = cc
+undeparting-silence sends (answer.Rate reply) e = cc
+undeparting-silence sends (answer.Deny reply) e = cc
+undeparting-silence sends (answer.Nak reply) e = cc
 
-undeparting : (sends : Bool) (a : Answer) → saved_in a ≡ None → departing sends a ≡ None
-undeparting true a e = e
-undeparting false a e = refl
+undeparting : (a : Answer) → saved_in a ≡ None → departing true a ≡ []
+undeparting (answer.Time reply saved) e = cc
+undeparting (answer.Rate reply) e = refl
+undeparting (answer.Deny reply) e = refl
+undeparting (answer.Nak reply) e = refl
+undeparting (answer.Silent why) e = refl
+
+departing-time : (a : Answer) (saved : Stamp) → saved_in a ≡ Some saved → departing true a ≡ saved ∷ []
+departing-time (answer.Time reply stamp) saved e = ap option_to_list e
+departing-time (answer.Rate reply) saved e = cc
+departing-time (answer.Deny reply) saved e = cc
+departing-time (answer.Nak reply) saved e = cc
+departing-time (answer.Silent why) saved e = cc
+
+sending-silence : (sends : Bool) (a : Answer) (noted : Bool) → reply_in a ≡ None → NoReply ≡ sending_of a sends noted
+sending-silence sends (answer.Silent why) noted e = refl
+sending-silence sends (answer.Time reply saved) noted e = cc
+sending-silence sends (answer.Rate reply) noted e = cc
+sending-silence sends (answer.Deny reply) noted e = cc
+sending-silence sends (answer.Nak reply) noted e = cc
+
+sending-failed : (a : Answer) (noted : Bool) (reply : List ℕ) → reply_in a ≡ Some reply → NotSent ≡ sending_of a false noted
+sending-failed (answer.Time reply saved) noted r e = refl
+sending-failed (answer.Rate reply) noted r e = refl
+sending-failed (answer.Deny reply) noted r e = refl
+sending-failed (answer.Nak reply) noted r e = refl
+sending-failed (answer.Silent why) noted r e = cc
+
+sending-sent : (a : Answer) (noted : Bool) (reply : List ℕ) → reply_in a ≡ Some reply → saved_in a ≡ None → WasSent ≡ sending_of a true noted
+sending-sent (answer.Time reply saved) noted r e h = cc
+sending-sent (answer.Rate reply) noted r e h = refl
+sending-sent (answer.Deny reply) noted r e h = refl
+sending-sent (answer.Nak reply) noted r e h = refl
+sending-sent (answer.Silent why) noted r e h = cc
+
+sending-time : (a : Answer) (noted : Bool) (saved : Stamp) → saved_in a ≡ Some saved → (if noted then Noted else NotNoted) ≡ sending_of a true noted
+sending-time (answer.Time reply stamp) noted saved e = refl
+sending-time (answer.Rate reply) noted saved e = cc
+sending-time (answer.Deny reply) noted saved e = cc
+sending-time (answer.Nak reply) noted saved e = cc
+sending-time (answer.Silent why) noted saved e = cc
 
 -- what a port tells in a turn, once it tried to send a reply
 abbrev pub tried_in : List TurnValue → TurnValue → List Sent → Told
-tried_in rest turn sent = record { coming = rest; present = Some turn; clock = later turn.clock; has_tried_send = true; sent = sent }
+tried_in rest turn sent = record { coming = rest; present = turn; clock = later turn.clock; has_tried_send = true; sent = sent }
 
--- a reply to where a datagram came from, where it was sent
+-- a reply to where a datagram came from
+abbrev pub sent_back : IncomingValue → Option (List ℕ) → List Sent
+sent_back d replies = map (λ reply. record { address = d.address; port = d.port; reply = reply }) (option_to_list replies)
+
+-- and where it was sent
 abbrev pub if_sent : Bool → List Sent → IncomingValue → List ℕ → List Sent
 if_sent good sent from reply = if good then sent ++ sent_back from (Some reply) else sent
 
@@ -56,8 +99,8 @@ if_sent good sent from reply = if good then sent ++ sent_back from (Some reply) 
 module _ (from : IncomingValue) (transmit : Moment) where
   pub record HasTriedOne (good : Bool) (reply : List ℕ) (old new : Told) (clock : Readings) (rest : List TurnValue) : Type 0 where
     pub first : clock false 0 ≡ transmit
-    pub coming : old.coming ≡ turn_of from clock good ∷ rest
-    pub after : new ≡ tried_in rest (turn_of from clock good) (if_sent good old.sent from reply)
+    pub coming : old.coming ≡ turn_with from clock good ∷ rest
+    pub after : new ≡ tried_in rest (turn_with from clock good) (if_sent good old.sent from reply)
 
   -- a port is in a turn, and tried to send a reply
   abbrev pub HasTried : Bool → List ℕ → Option Told → Option Told → Type 0
@@ -71,10 +114,10 @@ module _ (from : IncomingValue) (transmit : Moment) where
   tried-one reply old mid new sent clock sends rest fits b told =
       by_sends sends b.coming (subst (λ m. SendTells (Some m) (Some new) from.address from.port reply sent) b.after told)
     where
-      by_sends : (sends : Bool) → old.coming ≡ turn_of from clock sends ∷ rest
+      by_sends : (sends : Bool) → old.coming ≡ turn_with from clock sends ∷ rest
           → SendTells (Some (record {
             coming = rest;
-            present = Some (turn_of from clock sends);
+            present = turn_with from clock sends;
             clock = later clock;
             has_tried_send = false;
             sent = old.sent;
@@ -88,7 +131,7 @@ module _ (from : IncomingValue) (transmit : Moment) where
             record {
               first = b.first;
               coming = coming;
-              after = p.1 ∙ ap (λ z. tried_in rest (turn_of from clock true) (if_sent z old.sent from reply)) fits;
+              after = p.1 ∙ ap (λ z. tried_in rest (turn_with from clock true) (if_sent z old.sent from reply)) fits;
             },
           )
 
@@ -106,7 +149,7 @@ module _ (from : IncomingValue) (transmit : Moment) where
   -- the answer to the datagram
   module _ (a : Answer) where
     abbrev pub made_of : Readings → Bool → Bool → Made
-    made_of clock sends noted = record { turn = turn_of from clock sends; answer = a; noted = noted }
+    made_of clock sends noted = Received from clock sends a noted
 
     -- ---- there is no reply
     nothing-sent : (clock : Readings) (sends : Bool) → reply_in a ≡ None → sent_in (made_of clock sends false) ≡ []
@@ -125,7 +168,7 @@ module _ (from : IncomingValue) (transmit : Moment) where
           (ap (λ (z : Told). z.sent) i.3.after ∙ sym (append-nil old.sent) ∙ ap (λ l. old.sent ++ l) (sym (nothing-sent i.0 i.1 none))),
     )
 
-    silent-unfailing : (sends : Bool) → reply_in a ≡ None → ◌≡◌ {A = ℕ} (if sends || not (is_some (reply_in a)) then 1 else 0) 1
+    silent-unfailing : (sends : Bool) → reply_in a ≡ None → is_failing (made_of (λ tried n. transmit) sends false) ≡ false
     silent-unfailing true none = refl
     silent-unfailing false none = rw none refl
 
@@ -133,15 +176,16 @@ module _ (from : IncomingValue) (transmit : Moment) where
         → IsInTurn t u from transmit → SendingMakes A a from transmit t u f g s s NoReply
     makes-no-reply A t u f g s none count i =
         let p = follows-silent t u none i in
-        let gone : departing p.1 a ≡ None = undeparting p.1 a (unsaved-silence a none) in
+        let gone : departing p.1 a ≡ [] = undeparting-silence p.1 a none in
+        let well : is_failing (made_of p.0 p.1 false) ≡ false = silent-unfailing p.1 none in
         record {
           clock = p.0;
           first = p.2;
           sends = p.1;
           noted = false;
-          comes_to = rw none refl;
+          comes_to = sending-silence p.1 a false none;
           port = p.3;
-          failures = omega (arith, count, silent-unfailing p.1 none);
+          failures = rw well (omega (arith, count));
           tells = λ history stands. rw gone (Tells-nil history s stands);
         }
 
@@ -188,7 +232,7 @@ module _ (from : IncomingValue) (transmit : Moment) where
             first = q.1;
             sends = false;
             noted = false;
-            comes_to = rw is refl;
+            comes_to = sending-failed a false reply is;
             port = q.2;
             failures = rw is (omega (arith, count));
             tells = λ history stands. Tells-nil history s stands;
@@ -204,10 +248,10 @@ module _ (from : IncomingValue) (transmit : Moment) where
             first = q.1;
             sends = true;
             noted = false;
-            comes_to = rw (is, unsaved) refl;
+            comes_to = sending-sent a false reply is unsaved;
             port = q.2;
             failures = omega (arith, count);
-            tells = λ history stands. rw unsaved (Tells-nil history s stands);
+            tells = λ history stands. rw (undeparting a unsaved) (Tells-nil history s stands);
           }
 
       pub makes-departed : (A : Type 0) (t w z : Option Told) (f g : ℕ) (s r : Registry) (sent : Result (Unit {0}) PortFault)
@@ -215,7 +259,7 @@ module _ (from : IncomingValue) (transmit : Moment) where
           → from.address ≡ address → HasTried (not (is_err sent)) reply t w → NowTells w z moment
           → ((history : List (Event A)) → StandsFor s history
           → TellsOne history (event.Departed address saved moment) (departure_outcome noted) r)
-          → SendingMakes A a from transmit t z f g s r (sending_on (Some saved) noted)
+          → SendingMakes A a from transmit t z f g s r (if noted then Noted else NotNoted)
       makes-departed A t w z f g s r sent saved moment noted address good was count e p k told =
           let q = follows-departed noted t w z moment (subst (λ b. HasTried (not b) reply t w) good p) k in
           record {
@@ -223,11 +267,11 @@ module _ (from : IncomingValue) (transmit : Moment) where
             first = q.1;
             sends = true;
             noted = noted;
-            comes_to = rw (is, was) refl;
+            comes_to = sending-time a noted saved was;
             port = q.3;
             failures = omega (arith, count);
             tells = λ history stands.
-                rw was (Tells-one history (event.Departed from.address saved (q.0 true 1)) (departure_outcome noted) s r stands
+                rw (departing-time a saved was) (Tells-one history (event.Departed from.address saved (q.0 true 1)) (departure_outcome noted) s r stands
                 (subst (λ m. TellsOne history (event.Departed from.address saved m) (departure_outcome noted) r) (sym q.2)
                 (subst (λ x. TellsOne history (event.Departed x saved moment) (departure_outcome noted) r) (sym e) (told history stands))));
           }

@@ -1,13 +1,14 @@
 -- A port in memory begins its next turn.
-use Rattle.std.proofs.Common.{◌-◌, get_or, length-take, inl, inr, ◌≡◌, ◌≢◌, ℕ, ◌+◌, ◌<◌, min, Some, Result, List, ◌∷◌, ◌++◌, length, take, drop, map, refl, sym, ap, ◌∙◌, arith}
+use Rattle.std.proofs.Common.{◌-◌, get_or, length-take, inl, inr, ◌≡◌, ◌≢◌, ℕ, ◌+◌, ◌<◌, min, Option, Some, Result, List, ◌∷◌, ◌++◌, length, take, drop, map, refl, sym, ap, ◌∙◌, arith}
 use Rattle.std.proofs.lemmas.List.{take_all, take-take, take-append-le, drop_more}
 use Rattle.std.proofs.lemmas.Bool.Decides.{eqb_tells}
 use Rattle.std.proofs.lemmas.Option.{slice_get_read}
-use Rattle.std.specs.Prelude.{option_map, slice_get}
+use Rattle.std.specs.Prelude.{false, option_map, slice_get}
+use Rattle.std.specs.Option.{option_map_or}
 use Rattle.ntp_service_serve.specs.declared.turn.Turn.{Turn}
 use Rattle.ntp_events.specs.declared.observation.Arrival.{Arrival}
 use Rattle.ntp_service_serve.specs.declared.port.PortFault.{PortFault}
-use Rattle.ntp_service_serve.specs.Port.{Told, begun, Arrives, Receives}
+use Rattle.ntp_service_serve.specs.Port.{TurnValue, no_turn, Told, Arrives, Begins}
 use Rattle.ntp_service_serve.specs.Memory.{turn_told, incoming_told}
 
 shortest : (xs : List ℕ) (n m : ℕ) → n ≡ min (length xs) m → take n xs ≡ take m xs
@@ -23,13 +24,25 @@ cut xs ys zs n m e f =
     let size : length zs ≡ n = omega (arith, ap length f, length-take n xs) in
     take-append-le n zs ys (omega arith) ∙ ap (take n) f ∙ take-take n n xs (omega arith) ∙ shortest xs n m e
 
+-- the present turn, where it is this one of the list, if it has any there
+abbrev present : {A : Type 0} → Option (Turn A) → TurnValue
+present turn = option_map_or turn_told turn no_turn
+
+-- what a port tells that has begun a turn
+abbrev begun : List TurnValue → TurnValue → Told → Told
+begun rest turn old = record { coming = rest; present = turn; clock = turn.clock; has_tried_send = false; sent = old.sent }
+
 -- the turn at i begins
 pub receives-next : (A : Type 0) (turns : List (Turn A)) (i : ℕ) (x : Turn A) (old : Told) (r : Result Arrival PortFault) (buffer : List ℕ)
-    → i < length turns → x ≡ get_or turns i x → Arrives (option_map incoming_told x.arrival) r buffer
-    → Receives (map turn_told (drop i turns)) old
-    (begun old (option_map turn_told (slice_get turns (i + 1 - 1))) (map turn_told (drop (i + 1) turns))) r buffer
-receives-next A turns i x old r buffer h e arrives =
+    → i < length turns → x ≡ get_or turns i x → old.coming ≡ map turn_told (drop i turns) → Arrives (option_map incoming_told x.arrival) r buffer
+    → Begins (get_or (map turn_told (drop i turns)) 0 no_turn) old
+    (begun (map turn_told (drop (i + 1) turns)) (present (slice_get turns (i + 1 - 1))) old) r buffer
+receives-next A turns i x old r buffer h e told arrives =
     let here : drop i turns ≡ x ∷ drop (i + 1) turns = drop_more turns i x h ∙ ap (λ y. y ∷ drop (i + 1) turns) (sym e) in
     let same : i + 1 - 1 ≡ i = omega arith in
     let there : slice_get turns (i + 1 - 1) ≡ Some x = ap (slice_get turns) same ∙ slice_get_read turns (length turns) i x refl h e in
-    rw here (arrives, ap (λ q. begun old (option_map turn_told q) (map turn_told (drop (i + 1) turns))) there)
+    let left : drop 1 old.coming ≡ map turn_told (drop (i + 1) turns) = ap (drop 1) (told ∙ ap (map turn_told) here) in
+    rw here (
+      arrives,
+      ap (λ q. begun (map turn_told (drop (i + 1) turns)) (present q) old) there ∙ ap (λ l. begun l (turn_told x) old) (sym left),
+    )

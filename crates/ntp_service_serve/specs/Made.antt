@@ -1,8 +1,6 @@
 -- A turn that a server made, and what it gives.
-use Rattle.std.specs.Prelude.{ℕ, Bool, not, ◌&&◌, ◌||◌, Option, None, Some, is_some, List, [], ◌∷◌, length, if◌then◌else◌}
+use Rattle.std.specs.Prelude.{ℕ, Bool, true, false, not, ◌&&◌, Option, None, Some, is_some, option_to_list, List, [], ◌∷◌, length, map, if◌then◌else◌}
 use Rattle.ntp_time.specs.declared.stamp.Stamp.{Stamp}
-use Rattle.ntp_time.specs.declared.moment.Moment.{Moment}
-use Rattle.ntp_register.specs.declared.address.Address.{Address}
 use Rattle.ntp_reply_packets.specs.Reference.{ReferenceState}
 use Rattle.ntp_reply.specs.declared.answers.Answer.{Answer}
 use Rattle.ntp_reply.specs.declared.answers.Answer.TheVariants as answer
@@ -17,13 +15,18 @@ use Rattle.ntp_events.specs.declared.outcome.Outcome.{Outcome}
 use Rattle.ntp_events.specs.declared.outcome.Outcome.TheVariants as outcome
 use Rattle.ntp_service_run.specs.Model.{departure_outcome}
 use Rattle.ntp_service_serve.specs.declared.memory_port.Sent.{Sent}
-use Rattle.ntp_service_serve.specs.Port.{IncomingValue, TurnValue, transmit_of, departure_of, received}
+use Rattle.ntp_service_serve.specs.Port.{IncomingValue, Readings, TurnValue, received}
 
--- a turn, with the answer to its datagram and whether its departure was noted, which say nothing where it has none (profile)
-pub record Made : Type 0 where
-  pub turn : TurnValue
-  pub answer : Answer
-  pub noted : Bool
+-- a turn in which nothing was received; and one with its datagram, its answer, and whether the departure is noted of the reply, if it is
+-- time and is sent. Each has what the clock shows in it, and whether a reply can be sent (profile)
+pub data Made : Type 0 where
+  Missed : Readings → Bool → Made
+  Received : IncomingValue → Readings → Bool → Answer → Bool → Made
+
+-- the turn of the port (profile)
+abbrev pub turn_of : Made → TurnValue
+turn_of (Missed clock sends) = record { arrival = None; clock = clock; sends = sends }
+turn_of (Received d clock sends a noted) = record { arrival = Some d; clock = clock; sends = sends }
 
 -- the reply of an answer (profile)
 abbrev pub reply_in : Answer → Option (List ℕ)
@@ -33,83 +36,54 @@ reply_in (answer.Deny reply) = Some reply
 reply_in (answer.Nak reply) = Some reply
 reply_in (answer.Silent why) = None
 
--- the receive stamp of a time reply (profile)
-abbrev pub saved_in : Answer → Option Stamp
-saved_in (answer.Time reply saved) = Some saved
-saved_in other = None
+-- the receive stamp of a time reply, if it is sent: its departure is reported (profile)
+abbrev pub departing : Bool → Answer → List Stamp
+departing true (answer.Time reply saved) = saved ∷ []
+departing sends other = []
 
--- the receive stamp of a time reply that was sent: its departure is reported (profile)
-abbrev pub departing : Bool → Answer → Option Stamp
-departing sends a = if sends then saved_in a else None
-
--- the report of a departure (profile)
-abbrev pub departure_events : {A : Type 0} → Address → Moment → Option Stamp → List (Event A)
-departure_events address departure None = []
-departure_events address departure (Some saved) = event.Departed address saved departure ∷ []
-
--- the events of a turn with this datagram (profile)
-abbrev pub arrival_events : {A : Type 0} → ReferenceState → Option IncomingValue → TurnValue → Answer → List (Event A)
-arrival_events reference None turn a = []
-arrival_events reference (Some d) turn a = event.Datagram d.address d.receipt (transmit_of turn) reference (received d)
-    ∷ departure_events d.address (departure_of turn) (departing turn.sends a)
-
--- the events of a turn: its datagram; and where the answer was time and was sent, the departure (profile)
+-- the events of a turn: its datagram, with the first reading of the clock; and where the answer was time and was sent, the departure,
+-- with the second, once a send was tried (profile)
 abbrev pub events_in : {A : Type 0} → ReferenceState → Made → List (Event A)
-events_in reference m = arrival_events reference m.turn.arrival m.turn m.answer
+events_in reference (Missed clock sends) = []
+events_in reference (Received d clock sends a noted) = event.Datagram d.address d.receipt (clock false 0) reference (received d)
+    ∷ map (λ saved. event.Departed d.address saved (clock true 1)) (departing sends a)
 
--- the outcomes of a turn with this datagram (profile)
-abbrev pub arrival_outcomes : Option IncomingValue → Option Stamp → Answer → Bool → List Outcome
-arrival_outcomes None departing a noted = []
-arrival_outcomes (Some d) departing a noted = outcome.Datagram a ∷ (if is_some departing then departure_outcome noted ∷ [] else [])
-
--- the outcomes of a turn's events (profile)
+-- their outcomes (profile)
 abbrev pub outcomes_in : Made → List Outcome
-outcomes_in m = arrival_outcomes m.turn.arrival (departing m.turn.sends m.answer) m.answer m.noted
+outcomes_in (Missed clock sends) = []
+outcomes_in (Received d clock sends a noted) = outcome.Datagram a ∷ map (λ saved. departure_outcome noted) (departing sends a)
 
--- a reply to where a datagram came from (profile)
-abbrev pub sent_back : IncomingValue → Option (List ℕ) → List Sent
-sent_back d None = []
-sent_back d (Some reply) = record { address = d.address; port = d.port; reply = reply } ∷ []
-
--- what a turn with this datagram sends (profile)
-abbrev pub arrival_sent : Option IncomingValue → Bool → Answer → List Sent
-arrival_sent None sends a = []
-arrival_sent (Some d) sends a = if sends then sent_back d (reply_in a) else []
-
--- what a turn sends: the reply to its datagram, where there is one and the send succeeds (profile)
+-- what a turn sends: the reply, if any, to where the datagram came from (profile)
 abbrev pub sent_in : Made → List Sent
-sent_in m = arrival_sent m.turn.arrival m.turn.sends m.answer
+sent_in (Received d clock true a noted) = map (λ reply. record { address = d.address; port = d.port; reply = reply }) (option_to_list (reply_in a))
+sent_in other = []
 
 -- whether a turn has a datagram (profile)
 abbrev pub has_arrived : Made → Bool
-has_arrived m = is_some m.turn.arrival
+has_arrived m = is_some (turn_of m).arrival
 
--- whether a turn's departure was noted (profile)
+-- whether a departure was noted in it (profile)
 abbrev pub has_departed : Made → Bool
-has_departed m = has_arrived m && is_some (departing m.turn.sends m.answer) && m.noted
+has_departed (Received d clock true (answer.Time reply saved) true) = true
+has_departed other = false
 
--- whether no call of a turn failed: it has a datagram, and the reply, if any, was sent (profile)
-abbrev pub is_unfailing : Made → Bool
-is_unfailing m = has_arrived m && (m.turn.sends || not (is_some (reply_in m.answer)))
+-- whether a call of it failed: nothing was received, or there was a reply that could not be sent (profile)
+abbrev pub is_failing : Made → Bool
+is_failing (Missed clock sends) = true
+is_failing (Received d clock sends a noted) = not sends && is_some (reply_in a)
 
 -- what is told of a datagram beside its octets (profile)
 abbrev pub arrival_of : IncomingValue → Arrival
 arrival_of d = record { address = d.address; port = d.port; length = length (received d); receipt = d.receipt }
 
--- what became of a reply that was sent: the departure of a time reply is noted, or not (profile)
-abbrev pub sending_on : Option Stamp → Bool → Sending
-sending_on None noted = WasSent
-sending_on (Some saved) noted = if noted then Noted else NotNoted
-
 -- what became of the reply of an answer (profile)
-abbrev pub sending_of : Bool → Answer → Bool → Sending
-sending_of sends a noted = if not (is_some (reply_in a)) then NoReply else (if sends then sending_on (saved_in a) noted else NotSent)
-
--- what a turn with this datagram comes to (profile)
-abbrev pub arrival_outcome : Option IncomingValue → Bool → Answer → Bool → TurnOutcome
-arrival_outcome None sends a noted = NothingReceived
-arrival_outcome (Some d) sends a noted = Answered (arrival_of d) a (sending_of sends a noted)
+abbrev pub sending_of : Answer → Bool → Bool → Sending
+sending_of (answer.Silent why) sends noted = NoReply
+sending_of other false noted = NotSent
+sending_of (answer.Time reply saved) true noted = if noted then Noted else NotNoted
+sending_of other true noted = WasSent
 
 -- what a turn comes to (profile)
 abbrev pub turn_outcome : Made → TurnOutcome
-turn_outcome m = arrival_outcome m.turn.arrival m.turn.sends m.answer m.noted
+turn_outcome (Missed clock sends) = NothingReceived
+turn_outcome (Received d clock sends a noted) = Answered (arrival_of d) a (sending_of a sends noted)

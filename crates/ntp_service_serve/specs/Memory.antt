@@ -1,10 +1,11 @@
 -- What a port in memory tells.
-use Rattle.std.specs.Prelude.{ℕ, zero, suc, ◌-◌, Option, None, map, option_map, drop, slice_get, if◌then◌else◌}
+use Rattle.std.specs.Prelude.{ℕ, zero, suc, ◌-◌, option_map, map, drop, slice_get, if◌then◌else◌}
+use Rattle.std.specs.Option.{option_map_or}
 use Rattle.ntp_time.specs.declared.moment.Moment.{Moment}
 use Rattle.ntp_service_serve.specs.declared.turn.Incoming.{Incoming}
 use Rattle.ntp_service_serve.specs.declared.turn.Turn.{Turn}
 use Rattle.ntp_service_serve.specs.declared.memory_port.MemoryPort.{MemoryPort}
-use Rattle.ntp_service_serve.specs.Port.{IncomingValue, Readings, later, TurnValue, clock_of, Told}
+use Rattle.ntp_service_serve.specs.Port.{IncomingValue, Readings, later, TurnValue, no_turn, Told}
 
 -- a datagram of a list of turns, as a port tells it (profile)
 abbrev pub incoming_told : {A : Type 0} → Incoming A → IncomingValue
@@ -21,19 +22,19 @@ turn_told turn =
     record { arrival = option_map incoming_told turn.arrival; clock = readings turn.transmit turn.departure; sends = turn.sends }
 
 -- the present turn (profile)
-abbrev pub present_of : {A : Type 0} → MemoryPort A → Option TurnValue
-present_of p = if p.is_present then option_map turn_told (slice_get p.turns.items (p.begun - 1)) else None
+abbrev pub present_of : {A : Type 0} → MemoryPort A → TurnValue
+present_of p = if p.is_present then option_map_or turn_told (slice_get p.turns.items (p.begun - 1)) no_turn else no_turn
 
 -- what the calls will answer from here on (profile)
 abbrev pub told_by : {A : Type 0} → MemoryPort A → Told
 told_by p = record {
   coming = map turn_told (drop p.begun p.turns.items);
   present = present_of p;
-  clock = if p.has_read_clock then later (clock_of (present_of p)) else clock_of (present_of p);
+  clock = if p.has_read_clock then later (present_of p).clock else (present_of p).clock;
   has_tried_send = p.has_tried_send;
   sent = p.sent.items;
 }
 
 -- how many calls failed (profile)
-abbrev pub failures_of : {A : Type 0} → MemoryPort A → ℕ
-failures_of p = p.failures
+abbrev pub memory_failures : {A : Type 0} → MemoryPort A → ℕ
+memory_failures p = p.failures

@@ -44,19 +44,19 @@ pub struct MemoryPort<A: Allocator = Global> {
 
 impl<A: Allocator + Copy> MemoryPort<A> {
     ghost use Rattle.ntp_service_serve.specs.Port.{no_turn};
-    ghost use Rattle.ntp_service_serve.specs.Memory.{turn_told, told_by, failures_of};
+    ghost use Rattle.ntp_service_serve.specs.Memory.{turn_told, told_by, memory_failures};
 
     /// A port that will make these turns. The room for all that can be sent is taken from `alloc` here, so that
     /// no call of the port takes memory: `NoMemory` only where it was refused.
     pub fn new(alloc: A, turns: Vec<Turn<A>, A>) -> Result<MemoryPort<A>, NoMemory>
         ensures told { IfOk result (λ port. told_by port ≡ record {
           coming = map turn_told turns.items;
-          present = None;
+          present = no_turn;
           clock = no_turn.clock;
           has_tried_send = false;
           sent = [];
         }) }
-        ensures failures { IfOk result (λ port. failures_of port ≡ 0) }
+        ensures failures { IfOk result (λ port. memory_failures port ≡ 0) }
     {
         let sent = Vec::with_capacity(alloc, turns.len())?;
         Ok(MemoryPort {
@@ -73,7 +73,6 @@ impl<A: Allocator + Copy> MemoryPort<A> {
 
 impl<A: Allocator> MemoryPort<A> {
     ghost use Rattle.ntp_service_serve.specs.Memory.{told_by, present_of};
-    ghost use Rattle.ntp_service_serve.specs.Port.{can_send};
 
     /// What was sent, in order.
     pub fn sent(&self) -> &[Sent]
@@ -84,18 +83,18 @@ impl<A: Allocator> MemoryPort<A> {
 
     // Whether the present turn takes a reply.
     fn can_send(&self) -> bool
-        ensures { result ≡ can_send (present_of self.now) self.now.has_tried_send }
+        ensures { result ≡ ((present_of self.now).sends && not self.now.has_tried_send) }
     {
         self.is_present && self.turns[self.begun - 1].sends && !self.has_tried_send
     }
 }
 
 impl<A: Allocator> Port for MemoryPort<A> {
-    ghost use Rattle.ntp_service_serve.specs.Memory.{told_by, failures_of};
+    ghost use Rattle.ntp_service_serve.specs.Memory.{told_by, memory_failures};
 
     ghost told = { λ p. Some (told_by p) };
 
-    ghost failure_count = { failures_of };
+    ghost failure_count = { memory_failures };
 
     fn receive(&mut self, datagram: &mut [u8; 1025]) -> Result<Arrival, PortFault> {
         let at = self.begun;

@@ -1,7 +1,7 @@
 //! What a server asks of the network and of the clock.
 ghost use Rattle.std.specs.Prelude.{◌≡◌, ℕ, ◌+◌, ◌-◌, ◌≤◌, ◌<◌, ◌^◌, Option, None, IfOk, IfErr, IfSome, IfNone, Bool, false, is_err, if◌then◌else◌};
 ghost use Rattle.std.specs.Option.{option_map_or};
-ghost use Rattle.ntp_service_serve.specs.Port.{Told, most_datagram_octets, ReceiveTells, NowTells, SendTells};
+ghost use Rattle.ntp_service_serve.specs.Port.{Told, most_received_octets, ReceiveTells, NowTells, SendTells};
 
 use ntp_events::Arrival;
 use ntp_register::Address;
@@ -33,7 +33,7 @@ pub trait Port {
     /// Receives a datagram into the front of `datagram`, cut to 1,025 octets. The one fault is `Receive`.
     fn receive(&mut self, datagram: &mut [u8; 1025]) -> Result<Arrival, PortFault>
         requires { failure_count self.old < 2 ^ 64 - 1 }
-        ensures length { IfOk result (λ arrival. arrival.length ≤ most_datagram_octets) }
+        ensures length { IfOk result (λ arrival. arrival.length ≤ most_received_octets) }
         ensures fault { IfErr result (λ fault. fault ≡ PortFault.Receive) }
         ensures failures { failure_count self.new ≡ failure_count self.old + (if is_err result then 1 else 0) }
         ensures turns { ReceiveTells (told self.old) (told self.new) result datagram.new };
@@ -64,7 +64,7 @@ pub trait TimedPort: Port {
     /// begins no turn.
     fn receive_in_time(&mut self, datagram: &mut [u8; 1025]) -> Option<Result<Arrival, PortFault>>
         requires { Self.failure_count self.old < 2 ^ 64 - 1 }
-        ensures length { IfSome result (λ received. IfOk received (λ arrival. arrival.length ≤ most_datagram_octets)) }
+        ensures length { IfSome result (λ received. IfOk received (λ arrival. arrival.length ≤ most_received_octets)) }
         ensures fault { IfSome result (λ received. IfErr received (λ fault. fault ≡ PortFault.Receive)) }
         ensures failures { Self.failure_count self.new
             ≡ Self.failure_count self.old + option_map_or (λ received. if is_err received then 1 else 0) result 0 }

@@ -1,10 +1,10 @@
 //! A server: datagrams in, replies out.
 ghost use Rattle.std.specs.Prelude.{◌≡◌, ℕ, ◌+◌, ◌-◌, ◌≤◌, ◌<◌, ◌^◌, Option, option_map, OnOk, IfOk};
 ghost use Rattle.ntp_time.specs.declared.moment.Moment.{Moment};
-ghost use Rattle.ntp_service_serve.specs.Port.{Told, IncomingValue, ReceiveTells, most_datagram_octets};
-ghost use Rattle.ntp_service_serve.specs.Made.{reply_in, saved_in};
+ghost use Rattle.ntp_service_serve.specs.Port.{Told, IncomingValue, ReceiveTells, most_received_octets};
+ghost use Rattle.ntp_service_serve.specs.Made.{reply_in};
 ghost use Rattle.ntp_service_serve.specs.Serving.{ServeMakes, TurnMakes};
-ghost use Rattle.ntp_service_serve.specs.Sending.{IsInTurn, SendingMakes, counted};
+ghost use Rattle.ntp_service_serve.specs.Sending.{IsInTurn, SendingMakes, counted, saved_in};
 
 use crate::port::{MOST_DATAGRAM_OCTETS, Port, PortFault};
 use ntp_events::{Arrival, Sending, TurnOutcome};
@@ -69,7 +69,7 @@ pub fn answer_received<P: Port, A: Allocator + Copy>(
     received: Result<Arrival, PortFault>,
     datagram: &[u8; 1025],
 ) -> TurnOutcome
-    requires length { IfOk received (λ arrival. arrival.length ≤ most_datagram_octets) }
+    requires length { IfOk received (λ arrival. arrival.length ≤ most_received_octets) }
     requires failures { OnOk received (P.failure_count port.old < 2 ^ 64 - 1) }
     ensures { (t : Option Told) → ReceiveTells t (P.told port.old) received datagram.now
         → TurnMakes A reference.now received datagram.now t (P.told port.new) (P.failure_count port.old) (P.failure_count port.new)

@@ -1,7 +1,16 @@
 use Rattle.std.proofs.Common.{arith}
-use Rattle.ntp_service_serve.proofs.Counting.{counts-one, one-or-none, ServeMakes-turn}
+use Rattle.ntp_service_serve.proofs.Counting.{counts-one, at-most-one, ServeMakes-nil, ServeMakes-turn}
 use Rattle.ntp_service_serve.proofs.serving.serve.Goals as goal
-use Rattle.std.specs.Prelude.{is_err}
+use Rattle.ntp_service_serve.specs.Made.{is_failing}
+
+pub loop-turn-init : goal.loop-turn-init
+loop-turn-init g c = record {
+  failures = omega arith;
+  arrivals = omega arith;
+  sent = omega arith;
+  departed = omega arith;
+  makes = ServeMakes-nil _ _ _ _ _;
+}
 
 pub loop-turn-preserved : goal.loop-turn-preserved
 loop-turn-preserved g c =
@@ -9,7 +18,7 @@ loop-turn-preserved g c =
     let one = counts-one c.answer_received-outcome.result c.loop-turn.served in
     let came = c.receive-received.ensures.failures in
     rw c.count.ensures (record {
-      failures = omega (arith, c.loop-turn.invariant.failures, came, turn.failures, one-or-none (is_err c.receive-received.result));
+      failures = omega (arith, c.loop-turn.invariant.failures, came, turn.failures, at-most-one (is_failing turn.made));
       arrivals = omega (arith, c.loop-turn.invariant.arrivals, one.arrivals);
       sent = omega (arith, c.loop-turn.invariant.sent, one.sent);
       departed = omega (arith, c.loop-turn.invariant.departed, one.departed);

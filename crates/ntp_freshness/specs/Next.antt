@@ -1,4 +1,4 @@
--- What one take comes to. No public clause cites this.
+-- Not to be believed: for proofs. What one take comes to.
 use Rattle.std.specs.Prelude.{◌≡◌, ℕ, Option, List, length, ◌++◌}
 use Rattle.ntp_freshness.specs.declared.queue_event.QueueEvent.{QueueEvent}
 use Rattle.ntp_freshness.specs.declared.queue_watch.QueueWatch.{QueueWatch}

@@ -1,7 +1,7 @@
 //! A port that passes on only datagrams that have not waited for long.
 ghost use Rattle.std.specs.Prelude.{◌≡◌, ◌+◌, ◌-◌, ◌≤◌, ◌<◌, ◌^◌, List, All, Some, IfOk, IfErr, IfSome, is_err, if◌then◌else◌};
 ghost use Rattle.std.specs.Option.{option_map_or};
-ghost use Rattle.ntp_service_serve.specs.Port.{most_datagram_octets};
+ghost use Rattle.ntp_service_serve.specs.Port.{most_received_octets};
 ghost use Rattle.ntp_freshness.specs.declared.queue_event.QueueEvent.{QueueEvent};
 ghost use Rattle.ntp_freshness.specs.Freshness.{moment_of, IsInOrder};
 ghost use Rattle.ntp_freshness.specs.Watch.{Watches, longest_of};
@@ -95,7 +95,7 @@ impl<P: QueuedPort> FreshPort<P> {
     /// tells what it saw, it is just that.
     pub fn receive_fresh(&mut self, datagram: &mut [u8; 1025]) -> Option<Result<Arrival, PortFault>>
         requires { self.old.failures < 2 ^ 64 - 1 }
-        ensures length { IfSome result (λ received. IfOk received (λ arrival. arrival.length ≤ most_datagram_octets)) }
+        ensures length { IfSome result (λ received. IfOk received (λ arrival. arrival.length ≤ most_received_octets)) }
         ensures fault { IfSome result (λ received. IfErr received (λ fault. fault ≡ PortFault.Receive)) }
         ensures failures { self.new.failures
             ≡ self.old.failures + option_map_or (λ received. if is_err received then 1 else 0) result 0 }
@@ -119,7 +119,7 @@ impl<P: QueuedPort> FreshPort<P> {
     // Takes the next datagram out of the queue, and judges it.
     fn take_next(&mut self, datagram: &mut [u8; 1025]) -> Next
         requires { self.old.failures < 2 ^ 64 - 1 }
-        ensures fresh { (arrival : Arrival) → result ≡ Next.Fresh arrival → arrival.length ≤ most_datagram_octets }
+        ensures fresh { (arrival : Arrival) → result ≡ Next.Fresh arrival → arrival.length ≤ most_received_octets }
         ensures fault { (fault : PortFault) → result ≡ Next.Fault fault → fault ≡ PortFault.Receive }
         ensures failures { self.new.failures ≡ self.old.failures + failures_in result }
         ensures longest { longest_of self.new.watch ≡ longest_of self.old.watch }
@@ -231,7 +231,7 @@ impl<P: QueuedPort> Port for FreshPort<P> {
     /// Waits until a datagram comes that may be answered.
     fn receive(&mut self, datagram: &mut [u8; 1025]) -> Result<Arrival, PortFault>
         requires { self.old.failures < 2 ^ 64 - 1 }
-        ensures length { IfOk result (λ arrival. arrival.length ≤ most_datagram_octets) }
+        ensures length { IfOk result (λ arrival. arrival.length ≤ most_received_octets) }
         ensures fault { IfErr result (λ fault. fault ≡ PortFault.Receive) }
         ensures failures { self.new.failures ≡ self.old.failures + (if is_err result then 1 else 0) }
         ensures longest { longest_of self.new.watch ≡ longest_of self.old.watch }
@@ -282,7 +282,7 @@ impl<P: QueuedPort> TimedPort for FreshPort<P> {
     /// As `receive_fresh`.
     fn receive_in_time(&mut self, datagram: &mut [u8; 1025]) -> Option<Result<Arrival, PortFault>>
         requires { self.old.failures < 2 ^ 64 - 1 }
-        ensures length { IfSome result (λ received. IfOk received (λ arrival. arrival.length ≤ most_datagram_octets)) }
+        ensures length { IfSome result (λ received. IfOk received (λ arrival. arrival.length ≤ most_received_octets)) }
         ensures fault { IfSome result (λ received. IfErr received (λ fault. fault ≡ PortFault.Receive)) }
         ensures failures { self.new.failures
             ≡ self.old.failures + option_map_or (λ received. if is_err received then 1 else 0) result 0 }

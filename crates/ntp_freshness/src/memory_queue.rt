@@ -1,6 +1,6 @@
 //! A queue in memory.
 ghost use Rattle.std.specs.Prelude.{◌≡◌, ◌≤◌, ◌<◌, [], ◌∷◌, ◌++◌, false, Some, IfOk, IfSome, IsSome, reverse, vec_len};
-ghost use Rattle.ntp_service_serve.specs.Port.{most_datagram_octets};
+ghost use Rattle.ntp_service_serve.specs.Port.{most_received_octets};
 ghost use Rattle.ntp_freshness.specs.Queue.{last_reading};
 
 use crate::queue_event::QueueEvent;
@@ -104,7 +104,7 @@ impl<A: Allocator> MemoryQueue<A> {
     // The next datagram, where it has come by a moment.
     fn come_by(&self, moment: u64) -> Option<Arrival>
         ensures within { IsSome result → self.now.taken < vec_len self.now.due }
-        ensures length { IfSome result (λ arrival. arrival.length ≤ most_datagram_octets) }
+        ensures length { IfSome result (λ arrival. arrival.length ≤ most_received_octets) }
     {
         if self.taken == self.due.len() {
             return None;

@@ -1,7 +1,7 @@
 //! What a port tells of the queue out of which its datagrams come.
 ghost use Rattle.std.specs.Prelude.{◌≡◌, ◌+◌, ◌-◌, ◌≤◌, ◌<◌, ◌^◌, Option, None, List, IfOk, IfErr, IfSome, IfNone, false, is_err, if◌then◌else◌};
 ghost use Rattle.std.specs.Option.{option_map_or};
-ghost use Rattle.ntp_service_serve.specs.Port.{most_datagram_octets, ReceiveTells};
+ghost use Rattle.ntp_service_serve.specs.Port.{most_received_octets, ReceiveTells};
 ghost use Rattle.ntp_freshness.specs.declared.queue_event.QueueEvent.{QueueEvent};
 ghost use Rattle.ntp_freshness.specs.Queue.{ReadsClock, Tells, seen_in_count, seen_in_look, seen_in_wait};
 
@@ -38,7 +38,7 @@ pub trait QueuedPort: TimedPort {
     /// moment of the call.
     fn take_in_time(&mut self, datagram: &mut [u8; 1025]) -> Option<Result<Arrival, PortFault>>
         requires { Self.failure_count self.old < 2 ^ 64 - 1 }
-        ensures length { IfSome result (λ received. IfOk received (λ arrival. arrival.length ≤ most_datagram_octets)) }
+        ensures length { IfSome result (λ received. IfOk received (λ arrival. arrival.length ≤ most_received_octets)) }
         ensures fault { IfSome result (λ received. IfErr received (λ fault. fault ≡ PortFault.Receive)) }
         ensures failures { Self.failure_count self.new
             ≡ Self.failure_count self.old + option_map_or (λ received. if is_err received then 1 else 0) result 0 }

@@ -3,5 +3,5 @@ use Rattle.std.specs.Prelude.{ℕ}
 use Rattle.ntp_service_udp.specs.declared.udp_port.UdpPort.{UdpPort}
 
 -- how many calls failed (profile)
-abbrev pub failures_of : {C : Type 0} → UdpPort C → ℕ
-failures_of p = p.failures
+abbrev pub udp_failures : {C : Type 0} → UdpPort C → ℕ
+udp_failures p = p.failures

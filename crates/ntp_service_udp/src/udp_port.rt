@@ -21,12 +21,12 @@ pub struct UdpPort<C: Clock + Drop> {
 }
 
 impl<C: Clock + Drop> UdpPort<C> {
-    ghost use Rattle.ntp_service_udp.specs.Failures.{failures_of};
+    ghost use Rattle.ntp_service_udp.specs.Failures.{udp_failures};
 
     /// A port over a bound socket. A time limit of the socket's is the longest that `receive_in_time` takes; with none it
     /// takes as long as nothing comes.
     pub fn new(socket: UdpSocket, clock: C) -> UdpPort<C>
-        ensures { failures_of result ≡ 0 }
+        ensures { udp_failures result ≡ 0 }
     {
         UdpPort {
             socket,
@@ -45,9 +45,9 @@ fn is_no_failure(error: &io::Error) -> bool {
 }
 
 impl<C: Clock + Drop> Port for UdpPort<C> {
-    ghost use Rattle.ntp_service_udp.specs.Failures.{failures_of};
+    ghost use Rattle.ntp_service_udp.specs.Failures.{udp_failures};
 
-    ghost failure_count = { failures_of };
+    ghost failure_count = { udp_failures };
 
     /// Waits until a datagram comes: a time limit that passes, or a signal, ends no turn.
     fn receive(&mut self, datagram: &mut [u8; 1025]) -> Result<Arrival, PortFault> {

@@ -1,5 +1,5 @@
 ghost use Rattle.std.specs.Prelude.{◌≡◌, IfOk};
-ghost use Rattle.ntp_service_udp.specs.Failures.{failures_of};
+ghost use Rattle.ntp_service_udp.specs.Failures.{udp_failures};
 
 use super::*;
 use ntp_time::difference;
@@ -9,7 +9,7 @@ use std::time::Duration;
 
 // A port on a socket of its own with a short time limit, and a client's socket that is joined to it.
 fn port_and_client(rt: &HostRuntime) -> Result<(UdpPort<&HostRuntime>, UdpSocket), Fail>
-    ensures { IfOk result (λ pair. failures_of pair.0 ≡ 0) }
+    ensures { IfOk result (λ pair. udp_failures pair.0 ≡ 0) }
 {
     let socket = UdpSocket::bind(rt, "127.0.0.1:0")?;
     socket.set_read_timeout(Some(Duration::from_millis(50)))?;
@@ -109,7 +109,7 @@ fn a_reply_that_cannot_be_sent_is_counted(rt: HostRuntime) -> Result<(), Fail> {
 // A port whose next call of its socket fails, and a client to which the call after that would go through. The socket is
 // joined to the client, so that it is told that nobody is there for a datagram, and fails once for that.
 fn port_that_fails_once(rt: &HostRuntime) -> Result<(UdpPort<&HostRuntime>, UdpSocket), Fail>
-    ensures { IfOk result (λ pair. failures_of pair.0 ≡ 0) }
+    ensures { IfOk result (λ pair. udp_failures pair.0 ≡ 0) }
 {
     let socket = UdpSocket::bind(rt, "127.0.0.1:0")?;
     socket.set_read_timeout(Some(Duration::from_millis(50)))?;

@@ -1,6 +1,6 @@
 -- One round after another.
 use Rattle.std.proofs.Common.{◌≡◌, ℕ, ◌+◌, ◌≤◌, Bool, true, false, Option, None, Some, Result, List, [], ◌∷◌, ◌++◌, length, refl, sym, ap, ◌∙◌, subst, append-nil, length-append, arith}
-use Rattle.std.specs.Prelude.{if◌then◌else◌, option_map, is_some, is_err, ◌&&◌}
+use Rattle.std.specs.Prelude.{if◌then◌else◌, option_map, is_err}
 use Rattle.std.specs.Result.{result_ok}
 use Rattle.std.proofs.lemmas.List.{map-append, length-map}
 use Rattle.std.proofs.lemmas.List.Elements.{All-push}
@@ -10,13 +10,9 @@ use Rattle.std.proofs.lemmas.List.Sums.{length-filter, count_by-le-length}
 use Rattle.ntp_time.specs.declared.moment.Moment.{Moment}
 use Rattle.ntp_register.specs.Registry.{Registry}
 use Rattle.ntp_reply_packets.specs.Reference.{ReferenceState}
-use Rattle.ntp_reply.specs.declared.answers.Answer.{Answer}
-use Rattle.ntp_reply.specs.declared.answers.Answer.TheVariants as answer
 use Rattle.ntp_events.specs.declared.observation.Arrival.{Arrival}
 use Rattle.ntp_events.specs.declared.observation.Observation.{Observation}
 use Rattle.ntp_events.specs.declared.observation.Observation.TheVariants.{Turn}
-use Rattle.ntp_events.specs.declared.observation.Sending.{Sending}
-use Rattle.ntp_events.specs.declared.observation.Sending.TheVariants.{NoReply, NotSent, Sent as WasSent, Noted, NotNoted}
 use Rattle.ntp_events.specs.declared.observation.TurnOutcome.{TurnOutcome}
 use Rattle.ntp_events.specs.declared.observation.TurnOutcome.TheVariants.{NothingReceived, Answered}
 use Rattle.ntp_events.specs.Sees.{Sees}
@@ -25,13 +21,15 @@ use Rattle.ntp_service_run.specs.Headline.{Tells}
 use Rattle.ntp_service_run.proofs.Runs.{Tells-nil, Tells-append}
 use Rattle.ntp_service_serve.specs.declared.port.PortFault.{PortFault}
 use Rattle.ntp_service_serve.specs.Port.{IncomingValue, Told}
-use Rattle.ntp_service_serve.specs.Made.{Made, arrival_of, reply_in, departing, events_in, outcomes_in, sent_back, arrival_sent, sent_in, has_arrived, has_departed, is_unfailing, sending_of, arrival_outcome, turn_outcome}
-use Rattle.ntp_service_serve.specs.Serving.{Follows, TurnMakes, sent_of, count_of}
-use Rattle.ntp_service_serve.proofs.ManyTurns.{count-append, Follows-nil, Follows-append}
+use Rattle.ntp_service_serve.specs.Made.{Made, Missed, Received, turn_of, arrival_of, events_in, outcomes_in, sent_in, has_arrived, has_departed, is_failing, turn_outcome}
+use Rattle.ntp_service_serve.specs.Serving.{Follows, TurnMakes}
+use Rattle.ntp_service_serve.specs.Sending.{was_sent}
+use Rattle.ntp_service_serve.proofs.ManyTurns.{sent_of, count_of, Follows-nil, Follows-append}
+use Rattle.ntp_service_serve.proofs.Counting.{if_so, at-most-one, sent-one, noted-one, count-more}
 use Rattle.ntp_server.specs.declared.server.Totals.{Totals}
 use Rattle.ntp_server.specs.Sources.{Coming, Gives}
-use Rattle.ntp_server.specs.Rounds.{Look, Round, AreDueInTurn, HasLooks, AsksRight, ServesRounds, looks_of, states_of, made_in, asked_of, given_of, receipt_in, receipts_of, looks_events, looks_outcomes, looks_observations, round_events, round_outcomes, round_observations}
-use Rattle.ntp_server.specs.Steps.{LooksOnce, Waits, IsIdle, MakesRound, arrivals_in, sent_on, replies_in, noted_on, departures_in}
+use Rattle.ntp_server.specs.Rounds.{Look, Round, AreDueInTurn, HasLooks, AsksRight, ServesRounds, looks_of, made_in, receipt_in, round_events, round_outcomes, round_observations}
+use Rattle.ntp_server.specs.Steps.{LooksOnce, Waits, IsIdle, MakesRound, asked_of, given_of, looks_events, looks_outcomes, looks_observations, receipts_of, states_of, arrivals_in, replies_in, departures_in}
 use Rattle.ntp_server.proofs.Looking.{Gives-nil, Gives-append, due-append, Looks-append}
 
 -- ---- a turn behind a wait and a look
@@ -41,18 +39,13 @@ one_look false looks l reference made idle = omega (arith, length-append looks (
 one_look true looks l reference made idle = ap (λ ls. length (ls ++ l ∷ [])) idle
 
 -- when the datagram of a turn came, as it was received
-came : (made : Made) (r : Result Arrival PortFault) → option_map arrival_of made.turn.arrival ≡ result_ok r
+came : (made : Made) (r : Result Arrival PortFault) → option_map arrival_of (turn_of made).arrival ≡ result_ok r
     → option_map (λ a. a.receipt) (result_ok r) ≡ receipt_in made
-came made r arrived = sym (ap (option_map (λ a. a.receipt)) arrived) ∙ any made.turn.arrival
+came made r arrived = sym (ap (option_map (λ a. a.receipt)) arrived) ∙ any (turn_of made).arrival
   where
     any : (d : Option IncomingValue) → option_map (λ a. a.receipt) (option_map arrival_of d) ≡ option_map (λ x. x.receipt) d
     any None = refl
     any (Some d) = refl
-
--- the failures of a call of `receive` and of those behind it
-both : (failed : Bool) (x f m : ℕ) → m ≡ f + (if failed then 1 else 0) → x ≡ m + (if failed then 0 else 1) → x ≡ f + 1
-both true x f m p q = omega (arith, p, q)
-both false x f m p q = omega (arith, p, q)
 
 pub Makes-turn : (A : Type 0) (prompt : Bool) (asked : Option Moment) (i j k : ℕ) (p o : Option Told) (f m g : ℕ)
     (c d e : Option (Coming (Option (List ℕ)))) (x n y : Option (Coming ReferenceState)) (t u v w : Option (List Observation))
@@ -76,7 +69,7 @@ Makes-turn A prompt asked i j k p o f m g c d e x n y t u v w q r s z reference 
       observed = Sees-append t v w (looks_observations looks) (Turn (turn_outcome turn.made) ∷ []) all.observed
           (subst (λ l. Sees v w (Turn l ∷ [])) turn.comes_to seen);
       comes_to = turn.comes_to;
-      failures = both (is_err received) (g + (if is_unfailing turn.made then 1 else 0)) f m failed turn.failures;
+      failures = omega (arith, failed, turn.failures);
       tells = λ history stands. Tells-append history (looks_events looks) (events_in reference turn.made) (looks_outcomes looks)
           (outcomes_in turn.made) s z (all.tells history stands) (λ stood. turn.tells _ stood);
     }
@@ -85,13 +78,6 @@ Makes-turn A prompt asked i j k p o f m g c d e x n y t u v w q r s z reference 
 flat_map-push : {X Y : Type 0} (f : X → List Y) (xs : List X) (x : X) → flat_map f (xs ++ x ∷ []) ≡ flat_map f xs ++ f x
 flat_map-push f xs x = flat_map-append f xs (x ∷ []) ∙ ap (λ l. flat_map f xs ++ l) (append-nil (f x))
 
-count-push : (is : Made → Bool) (xs : List Made) (m : Made) → count_of is (xs ++ m ∷ []) ≡ count_of is xs + (if is m then 1 else 0)
-count-push is xs m = count-append is xs (m ∷ []) ∙ ap (λ n. count_of is xs + n) (one (is m))
-  where
-    one : (b : Bool) → length (if b then m ∷ [] else []) ≡ (if b then 1 else 0)
-    one true = refl
-    one false = refl
-
 looks_of-push : (rounds : List Round) (r : Round) → looks_of (rounds ++ r ∷ []) ≡ looks_of rounds ++ r.looks
 looks_of-push rounds r = flat_map-push (λ x. x.looks) rounds r
 
@@ -99,57 +85,17 @@ made_in-push : (rounds : List Round) (r : Round) → made_in (rounds ++ r ∷ []
 made_in-push rounds r = map-append (λ x. x.made) rounds (r ∷ [])
 
 -- ---- what a turn comes to, counted
-arrivals-made : (m : Made) → arrivals_in (turn_outcome m) ≡ (if has_arrived m then 1 else 0)
-arrivals-made m = any m.turn.arrival
-  where
-    any : (d : Option IncomingValue) → arrivals_in (arrival_outcome d m.turn.sends m.answer m.noted) ≡ (if is_some d then 1 else 0)
-    any None = refl
-    any (Some d) = refl
+arrivals-made : (m : Made) → arrivals_in (turn_outcome m) ≡ if_so (has_arrived m)
+arrivals-made (Missed clock sends) = refl
+arrivals-made (Received d clock sends a noted) = refl
 
 replies-made : (m : Made) → replies_in (turn_outcome m) ≡ length (sent_in m)
-replies-made m = any m.turn.arrival
-  where
-    answered : (d : IncomingValue) (sends : Bool) (a : Answer) (noted : Bool)
-        → sent_on (sending_of sends a noted) ≡ length (if sends then sent_back d (reply_in a) else [])
-    answered d true (answer.Time reply saved) true = refl
-    answered d true (answer.Time reply saved) false = refl
-    answered d true (answer.Rate reply) noted = refl
-    answered d true (answer.Deny reply) noted = refl
-    answered d true (answer.Nak reply) noted = refl
-    answered d true (answer.Silent why) noted = refl
-    answered d false (answer.Time reply saved) noted = refl
-    answered d false (answer.Rate reply) noted = refl
-    answered d false (answer.Deny reply) noted = refl
-    answered d false (answer.Nak reply) noted = refl
-    answered d false (answer.Silent why) noted = refl
+replies-made (Missed clock sends) = refl
+replies-made (Received d clock sends a noted) = sent-one d clock sends a noted
 
-    any : (d : Option IncomingValue)
-        → replies_in (arrival_outcome d m.turn.sends m.answer m.noted) ≡ length (arrival_sent d m.turn.sends m.answer)
-    any None = refl
-    any (Some d) = answered d m.turn.sends m.answer m.noted
-
-departures-made : (m : Made) → departures_in (turn_outcome m) ≡ (if has_departed m then 1 else 0)
-departures-made m = any m.turn.arrival
-  where
-    answered : (sends : Bool) (a : Answer) (noted : Bool)
-        → noted_on (sending_of sends a noted) ≡ (if is_some (departing sends a) && noted then 1 else 0)
-    answered true (answer.Time reply saved) true = refl
-    answered true (answer.Time reply saved) false = refl
-    answered true (answer.Rate reply) noted = refl
-    answered true (answer.Deny reply) noted = refl
-    answered true (answer.Nak reply) noted = refl
-    answered true (answer.Silent why) noted = refl
-    answered false (answer.Time reply saved) noted = refl
-    answered false (answer.Rate reply) noted = refl
-    answered false (answer.Deny reply) noted = refl
-    answered false (answer.Nak reply) noted = refl
-    answered false (answer.Silent why) noted = refl
-
-    any : (d : Option IncomingValue)
-        → departures_in (arrival_outcome d m.turn.sends m.answer m.noted)
-        ≡ (if is_some d && is_some (departing m.turn.sends m.answer) && m.noted then 1 else 0)
-    any None = refl
-    any (Some d) = answered m.turn.sends m.answer m.noted
+departures-made : (m : Made) → departures_in (turn_outcome m) ≡ if_so (has_departed m)
+departures-made (Missed clock sends) = refl
+departures-made (Received d clock sends a noted) = ap if_so (noted-one d clock sends a noted)
 
 -- there is at most one reply a turn
 few_sent : (ms : List Made) → length (sent_of ms) ≤ length ms
@@ -159,14 +105,7 @@ few_sent (m ∷ ms) =
   where
     one : (o : TurnOutcome) → replies_in o ≤ 1
     one NothingReceived = omega arith
-    one (Answered arrival answer sending) = sent sending
-      where
-        sent : (s : Sending) → sent_on s ≤ 1
-        sent NoReply = omega arith
-        sent NotSent = omega arith
-        sent WasSent = omega arith
-        sent Noted = omega arith
-        sent NotNoted = omega arith
+    one (Answered arrival answer sending) = at-most-one (was_sent sending)
 
 few_such : (is : Made → Bool) (ms : List Made) → count_of is ms ≤ length ms
 few_such is ms = omega (arith, length-filter is ms, count_by-le-length is ms)
@@ -188,7 +127,7 @@ Serves-none A prompt i t f c x seen s = record {
   arrivals = refl;
   sent = refl;
   departed = refl;
-  failures = refl;
+  failures = let none : f ≡ f + 0 = omega arith in none;
   tells = λ history stands. Tells-nil history s stands;
 }
 
@@ -230,7 +169,7 @@ Serves-round A prompt n i j k t u v f g h c d e x y z seen told heard q r s a b 
         ap arrivals_in m.comes_to,
         arrivals-made made,
         ap (count_of has_arrived) turns,
-        count-push has_arrived (made_in rounds) made,
+        count-more has_arrived (made_in rounds) made,
       );
       sent = omega (
         arith,
@@ -249,9 +188,9 @@ Serves-round A prompt n i j k t u v f g h c d e x y z seen told heard q r s a b 
         ap departures_in m.comes_to,
         departures-made made,
         ap (count_of has_departed) turns,
-        count-push has_departed (made_in rounds) made,
+        count-more has_departed (made_in rounds) made,
       );
-      failures = omega (arith, p.failures, m.failures, ap (count_of is_unfailing) turns, count-push is_unfailing (made_in rounds) made);
+      failures = omega (arith, p.failures, m.failures, ap (count_of is_failing) turns, count-more is_failing (made_in rounds) made);
       tells = λ history stands.
           subst (λ es. Tells history es (flat_map round_outcomes (rounds ++ round ∷ [])) s) (sym (flat_map-push round_events rounds round))
           (subst (λ os. Tells history (flat_map round_events rounds ++ round_events round) os s) (sym (flat_map-push round_outcomes rounds round))
@@ -270,5 +209,5 @@ Serves-few A prompt n i j t u f g c d x y seen told q r a p =
       omega (arith, all, p.arrivals, few_such has_arrived made),
       omega (arith, all, p.sent, few_sent made),
       omega (arith, all, p.departed, few_such has_departed made),
-      omega (arith, p.failures),
+      omega (arith, all, p.failures, few_such is_failing made),
     )

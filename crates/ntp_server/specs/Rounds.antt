@@ -1,5 +1,5 @@
 -- What a server with its commands does.
-use Rattle.std.specs.Prelude.{◌≡◌, ℕ, ◌+◌, ◌<◌, Bool, true, false, Option, None, Some, option_map, List, [], ◌∷◌, ◌++◌, length, map, flat_map, All}
+use Rattle.std.specs.Prelude.{◌≡◌, ℕ, ◌+◌, ◌<◌, Bool, true, false, Option, None, Some, option_map, List, [], ◌∷◌, ◌++◌, length, map, filter, flat_map, All}
 use Rattle.ntp_time.specs.declared.moment.Moment.{Moment}
 use Rattle.ntp_register.specs.Registry.{Registry}
 use Rattle.ntp_reply_packets.specs.Reference.{ReferenceState}
@@ -10,8 +10,8 @@ use Rattle.ntp_events.specs.declared.observation.Observation.TheVariants.{Turn}
 use Rattle.ntp_events.specs.Sees.{Sees}
 use Rattle.ntp_service_run.specs.Headline.{StandsFor, Tells}
 use Rattle.ntp_service_serve.specs.Port.{Told}
-use Rattle.ntp_service_serve.specs.Made.{Made, events_in, outcomes_in, has_arrived, has_departed, is_unfailing, turn_outcome}
-use Rattle.ntp_service_serve.specs.Serving.{Follows, sent_of, count_of}
+use Rattle.ntp_service_serve.specs.Made.{Made, turn_of, events_in, outcomes_in, sent_in, has_arrived, has_departed, is_failing, turn_outcome}
+use Rattle.ntp_service_serve.specs.Serving.{Follows}
 use Rattle.ntp_customer_files.specs.CommandsFile.{TakenLine, AreDue, lines_taken, line_events, line_outcomes, line_observations}
 use Rattle.ntp_server.specs.declared.server.Totals.{Totals}
 use Rattle.ntp_server.specs.Sources.{Coming, Gives}
@@ -41,55 +41,28 @@ AreDueInTurn applied [] after = after ≡ applied
 AreDueInTurn applied (l ∷ looks) after = (next : ℕ)
     × (l.applied ≡ applied) × AreDueAt applied l.given (lines_taken l.taken) next × AreDueInTurn next looks after
 
--- the looks, the states and the turns of rounds, in their order
+-- the looks and the turns of rounds, in their order
 abbrev pub looks_of : List Round → List Look
 looks_of rounds = flat_map (λ r. r.looks) rounds
-
-abbrev pub states_of : List Round → List ReferenceState
-states_of rounds = map (λ r. r.reference) rounds
 
 abbrev pub made_in : List Round → List Made
 made_in rounds = map (λ r. r.made) rounds
 
--- what looks were asked with, in their order
-abbrev pub asked_of : List Look → List (Option Moment)
-asked_of looks = map (λ l. l.asked) looks
-
--- what looks gave, in their order
-abbrev pub given_of : List Look → List (Option (List ℕ))
-given_of looks = map (λ l. l.given) looks
-
--- the events of looks: the commands of the lines that were taken (profile)
-abbrev pub looks_events : {A : Type 0} → List Look → List (Event A)
-looks_events looks = flat_map (λ l. line_events l.taken) looks
-
--- their outcomes (profile)
-abbrev pub looks_outcomes : List Look → List Outcome
-looks_outcomes looks = flat_map (λ l. line_outcomes l.taken) looks
-
--- what an observer is told of looks: each line that was taken (profile)
-abbrev pub looks_observations : List Look → List Observation
-looks_observations looks = flat_map (λ l. line_observations l.applied l.taken) looks
-
--- the events of a round: the commands of its looks, then those of its turn (profile)
+-- the events of a round: the commands of the lines that were taken at its looks, then those of its turn (profile)
 abbrev pub round_events : {A : Type 0} → Round → List (Event A)
-round_events r = looks_events r.looks ++ events_in r.reference r.made
+round_events r = flat_map (λ l. line_events l.taken) r.looks ++ events_in r.reference r.made
 
 -- their outcomes (profile)
 abbrev pub round_outcomes : Round → List Outcome
-round_outcomes r = looks_outcomes r.looks ++ outcomes_in r.made
+round_outcomes r = flat_map (λ l. line_outcomes l.taken) r.looks ++ outcomes_in r.made
 
 -- what an observer is told of a round: each line that was taken, then the turn (profile)
 abbrev pub round_observations : Round → List Observation
-round_observations r = looks_observations r.looks ++ Turn (turn_outcome r.made) ∷ []
+round_observations r = flat_map (λ l. line_observations l.applied l.taken) r.looks ++ Turn (turn_outcome r.made) ∷ []
 
 -- when the datagram of a turn came (profile)
 abbrev pub receipt_in : Made → Option Moment
-receipt_in m = option_map (λ d. d.receipt) m.turn.arrival
-
--- when the datagrams of rounds came
-abbrev pub receipts_of : List Round → List (Option Moment)
-receipts_of rounds = map (λ r. receipt_in r.made) rounds
+receipt_in m = option_map (λ d. d.receipt) (turn_of m).arrival
 
 -- commands are looked at in each turn, and just once at a port at which no wait ends with none (profile)
 abbrev pub HasLooks : Bool → Round → Type 0
@@ -115,15 +88,14 @@ pub record ServesRounds (A : Type 0) (prompt : Bool) (turns applied_before appli
   pub looked : All (HasLooks prompt) rounds
   pub asked : All AsksRight rounds
   pub due : AreDueInTurn applied_before (looks_of rounds) applied_after
-  pub commands : Gives commands_before commands_after (asked_of (looks_of rounds)) (given_of (looks_of rounds))
-  pub states : Gives states_before states_after (receipts_of rounds) (states_of rounds)
+  pub commands : Gives commands_before commands_after (map (λ l. l.asked) (looks_of rounds)) (map (λ l. l.given) (looks_of rounds))
+  pub states : Gives states_before states_after (map (λ r. receipt_in r.made) rounds) (map (λ r. r.reference) rounds)
   pub port : Follows (made_in rounds) port_before port_after
   pub observed : Sees seen_before seen_after (flat_map round_observations rounds)
-  pub arrivals : totals.arrivals ≡ count_of has_arrived (made_in rounds)
-  pub sent : totals.sent ≡ length (sent_of (made_in rounds))
-  pub departed : totals.departed ≡ count_of has_departed (made_in rounds)
-  -- one call failed in each turn, unless it has a datagram, and the reply, if any, was sent
-  pub failures : failures_after + count_of is_unfailing (made_in rounds) ≡ failures_before + turns
+  pub arrivals : totals.arrivals ≡ length (filter has_arrived (made_in rounds))
+  pub sent : totals.sent ≡ length (flat_map sent_in (made_in rounds))
+  pub departed : totals.departed ≡ length (filter has_departed (made_in rounds))
+  pub failures : failures_after ≡ failures_before + length (filter is_failing (made_in rounds))
   -- whatever history the service stood for, it tells the rounds' events these outcomes
   pub tells : (history : List (Event A)) → StandsFor before history
       → Tells history (flat_map round_events rounds) (flat_map round_outcomes rounds) after

@@ -1,5 +1,5 @@
 -- What the sources of a server give.
-use Rattle.std.specs.Prelude.{◌≡◌, Option, None, Some, List, [], ◌∷◌, length, drop}
+use Rattle.std.specs.Prelude.{◌≡◌, Option, IfSome, IsSomeAnd, List, [], ◌∷◌, length, drop}
 use Rattle.ntp_time.specs.declared.moment.Moment.{Moment}
 use Rattle.ntp_service_serve.specs.Sequence.{firsts}
 
@@ -16,8 +16,5 @@ answers (a ∷ asked) (f ∷ fs) = f a ∷ answers asked fs
 
 -- a source gave these, as it was asked: one that tells what it gives, the first of its list, which goes on for ever (profile)
 abbrev pub Gives : {X : Type 0} → Option (Coming X) → Option (Coming X) → List (Option Moment) → List X → Type 0
-Gives None new asked given = Unit {0}
-Gives (Some old) None asked given = ⊥
-Gives (Some old) (Some new) asked given =
-    (given ≡ answers asked (firsts old.behind (length asked) old.coming))
-    × (new ≡ record { coming = drop (length asked) old.coming; behind = old.behind })
+Gives t u asked given = IfSome t (λ old. IsSomeAnd u (λ new. (given ≡ answers asked (firsts old.behind (length asked) old.coming))
+    × (new ≡ record old { coming = drop (length asked) old.coming })))

@@ -1,21 +1,46 @@
--- What one look, a wait and one turn do. No public clause cites this.
-use Rattle.std.specs.Prelude.{◌≡◌, ℕ, ◌+◌, Bool, true, false, Option, None, List, [], ◌∷◌, if◌then◌else◌, All}
+-- Not to be believed: for proofs. What one look, a wait and one turn do.
+use Rattle.std.specs.Prelude.{◌≡◌, ℕ, ◌+◌, Bool, true, false, Option, None, List, [], ◌∷◌, map, flat_map, if◌then◌else◌, All}
 use Rattle.ntp_time.specs.declared.moment.Moment.{Moment}
 use Rattle.ntp_reply_packets.specs.Reference.{ReferenceState}
 use Rattle.ntp_register.specs.Registry.{Registry}
 use Rattle.ntp_events.specs.declared.event.Event.{Event}
+use Rattle.ntp_events.specs.declared.outcome.Outcome.{Outcome}
 use Rattle.ntp_events.specs.declared.observation.Observation.{Observation}
-use Rattle.ntp_events.specs.declared.observation.Sending.{Sending}
-use Rattle.ntp_events.specs.declared.observation.Sending.TheVariants.{NoReply, NotSent, Sent, Noted, NotNoted}
 use Rattle.ntp_events.specs.declared.observation.TurnOutcome.{TurnOutcome}
 use Rattle.ntp_events.specs.declared.observation.TurnOutcome.TheVariants.{NothingReceived, Answered}
 use Rattle.ntp_events.specs.Sees.{Sees}
 use Rattle.ntp_service_run.specs.Headline.{StandsFor, Tells}
 use Rattle.ntp_service_serve.specs.Port.{Told}
-use Rattle.ntp_service_serve.specs.Made.{is_unfailing, turn_outcome}
+use Rattle.ntp_service_serve.specs.Made.{is_failing, turn_outcome}
 use Rattle.ntp_service_serve.specs.Serving.{Follows}
+use Rattle.ntp_service_serve.specs.Sending.{was_sent, was_noted}
+use Rattle.ntp_customer_files.specs.CommandsFile.{line_events, line_outcomes, line_observations}
 use Rattle.ntp_server.specs.Sources.{Coming, Gives}
-use Rattle.ntp_server.specs.Rounds.{Look, Round, AreDueInTurn, HasLooks, AsksRight, asked_of, given_of, receipt_in, looks_events, looks_outcomes, looks_observations, round_events, round_outcomes, round_observations}
+use Rattle.ntp_server.specs.Rounds.{Look, Round, AreDueInTurn, HasLooks, AsksRight, receipt_in, round_events, round_outcomes, round_observations}
+
+-- what looks were asked with, and what they gave
+abbrev pub asked_of : List Look → List (Option Moment)
+asked_of looks = map (λ l. l.asked) looks
+
+abbrev pub given_of : List Look → List (Option (List ℕ))
+given_of looks = map (λ l. l.given) looks
+
+-- their events, the outcomes, and what an observer is told of them
+abbrev pub looks_events : {A : Type 0} → List Look → List (Event A)
+looks_events looks = flat_map (λ l. line_events l.taken) looks
+
+abbrev pub looks_outcomes : List Look → List Outcome
+looks_outcomes looks = flat_map (λ l. line_outcomes l.taken) looks
+
+abbrev pub looks_observations : List Look → List Observation
+looks_observations looks = flat_map (λ l. line_observations l.applied l.taken) looks
+
+-- when the datagrams of rounds came, and their states
+abbrev pub receipts_of : List Round → List (Option Moment)
+receipts_of rounds = map (λ r. receipt_in r.made) rounds
+
+abbrev pub states_of : List Round → List ReferenceState
+states_of rounds = map (λ r. r.reference) rounds
 
 -- these looks were made
 pub record Looks (A : Type 0) (looks : List Look) (applied after : ℕ) (c d : Option (Coming (Option (List ℕ))))
@@ -58,7 +83,7 @@ pub record MakesRound (A : Type 0) (prompt : Bool) (applied after : ℕ) (t u : 
   pub port : Follows (round.made ∷ []) t u
   pub observed : Sees seen told (round_observations round)
   pub comes_to : outcome ≡ turn_outcome round.made
-  pub failures : g + (if is_unfailing round.made then 1 else 0) ≡ f + 1
+  pub failures : g ≡ f + (if is_failing round.made then 1 else 0)
   pub tells : (history : List (Event A)) → StandsFor old history → Tells history (round_events round) (round_outcomes round) new
 
 -- how many datagrams came in a turn
@@ -66,25 +91,12 @@ abbrev pub arrivals_in : TurnOutcome → ℕ
 arrivals_in NothingReceived = 0
 arrivals_in (Answered arrival answer sending) = 1
 
--- how many replies were sent
-abbrev pub sent_on : Sending → ℕ
-sent_on NoReply = 0
-sent_on NotSent = 0
-sent_on Sent = 1
-sent_on Noted = 1
-sent_on NotNoted = 1
-
--- how many replies were sent in a turn
+-- how many replies were sent in it
 abbrev pub replies_in : TurnOutcome → ℕ
 replies_in NothingReceived = 0
-replies_in (Answered arrival answer sending) = sent_on sending
+replies_in (Answered arrival answer sending) = if was_sent sending then 1 else 0
 
--- how many departures were noted
-abbrev pub noted_on : Sending → ℕ
-noted_on Noted = 1
-noted_on other = 0
-
--- how many departures were noted in a turn
+-- how many departures were noted in it
 abbrev pub departures_in : TurnOutcome → ℕ
 departures_in NothingReceived = 0
-departures_in (Answered arrival answer sending) = noted_on sending
+departures_in (Answered arrival answer sending) = if was_noted sending then 1 else 0

@@ -1,7 +1,7 @@
 //! A server, turn by turn.
 ghost use Rattle.std.specs.Prelude.{◌≡◌, ◌+◌, ◌-◌, ◌≤◌, ◌<◌, ◌^◌, option_map, IfOk, is_err, if◌then◌else◌};
 ghost use Rattle.std.specs.Result.{result_ok};
-ghost use Rattle.ntp_service_serve.specs.Port.{most_datagram_octets, ReceiveTells};
+ghost use Rattle.ntp_service_serve.specs.Port.{most_received_octets, ReceiveTells};
 ghost use Rattle.ntp_server.specs.Rounds.{ServesRounds};
 ghost use Rattle.ntp_server.specs.Steps.{LooksOnce, Waits, MakesRound, arrivals_in, replies_in, departures_in};
 
@@ -127,7 +127,7 @@ impl<
         reporter: &mut Q,
     ) -> Result<Arrival, PortFault>
         requires { P.failure_count self.old.port < 2 ^ 64 - 1 }
-        ensures length { IfOk result (λ arrival. arrival.length ≤ most_datagram_octets) }
+        ensures length { IfOk result (λ arrival. arrival.length ≤ most_received_octets) }
         ensures failures { P.failure_count self.new.port ≡ P.failure_count self.old.port + (if is_err result then 1 else 0) }
         ensures turns { ReceiveTells (P.told self.old.port) (P.told self.new.port) result datagram.new }
         ensures reference { R.coming self.new.reference ≡ R.coming self.old.reference }

@@ -1,5 +1,5 @@
 -- Commands that are done one after another.
-use Rattle.std.proofs.Common.{◌≡◌, ℕ, ◌+◌, ◌<◌, List, [], ◌∷◌, ◌++◌, length, take, drop, get_or, arith, refl, sym, ap, ◌∙◌}
+use Rattle.std.proofs.Common.{◌≡◌, ℕ, ◌+◌, ◌<◌, List, [], ◌∷◌, ◌++◌, zip, length, take, drop, get_or, arith, refl, sym, ap, ◌∙◌}
 use Rattle.std.specs.declared.alloc.Global.{Global}
 use Rattle.std.proofs.lemmas.List.{map-append, drop_more, take-append-drop, length-take-le}
 use Rattle.ntp_register.specs.Registry.{Registry}
@@ -8,22 +8,22 @@ use Rattle.ntp_events.specs.declared.command.Command.{Command}
 use Rattle.ntp_events.specs.declared.event.Event.{Event}
 use Rattle.ntp_events.specs.declared.event.Event.TheVariants as event
 use Rattle.ntp_events.specs.declared.outcome.Outcome.TheVariants as outcome
-use Rattle.ntp_service_run.specs.Headline.{StandsFor, TellsOne, kept}
-use Rattle.ntp_service_run.proofs.Runs.{Goes, Goes-nil, Goes-push, Goes-tells}
+use Rattle.ntp_service_run.specs.Headline.{StandsFor, TellsOne, Tells, kept}
+use Rattle.ntp_service_run.proofs.Runs.{Tells-nil, Tells-push}
 use Rattle.ntp_customer_files.specs.Loading.{orders, all_done, Enrols, IsRefused}
 
 -- a service was given commands and nothing before them, and each was done
 pub record Enrolled (commands : List Command) (service : Registry) : Type 0 where
-  pub goes : Goes {A = Global} [] (orders commands) (all_done commands) service
+  pub tells : Tells {A = Global} [] (orders commands) (all_done commands) service
 
 pub Enrolled-none : (service : Registry) → StandsFor {A = Global} service [] → Enrolled [] service
-Enrolled-none service stands = record { goes = Goes-nil [] service stands }
+Enrolled-none service stands = record { tells = Tells-nil [] service stands }
 
 pub Enrolled-tells : (commands : List Command) (service : Registry) → Enrolled commands service → Enrols commands service
-Enrolled-tells commands service e = Goes-tells [] _ _ service e.goes
+Enrolled-tells commands service e = e.tells
 
 -- what was done strikes nothing out
-kept-done : (commands : List Command) → kept {A = Global} (orders commands) (all_done commands) ≡ orders commands
+kept-done : (commands : List Command) → kept {A = Global} (zip (orders commands) (all_done commands)) ≡ orders commands
 kept-done [] = refl
 kept-done (c ∷ commands) = ap (λ es. event.Command c ∷ es) (kept-done commands)
 
@@ -39,8 +39,8 @@ pub Enrolled-more : (commands : List Command) (c : Command) (old new : Registry)
     → ((history : List (Event Global)) → StandsFor old history → TellsOne history (event.Command c) outcome.Done new)
     → Enrolled (commands ++ c ∷ []) new
 Enrolled-more commands c old new e tells = record {
-  goes = rw (orders-more commands c, all_done-more commands c)
-      (Goes-push [] (orders commands) (all_done commands) old new (event.Command c) outcome.Done e.goes (λ stands. tells _ stands));
+  tells = rw (orders-more commands c, all_done-more commands c)
+      (Tells-push [] (orders commands) (all_done commands) old new (event.Command c) outcome.Done e.tells (λ stands. tells _ stands));
 }
 
 -- the command behind those that were done is refused
@@ -58,5 +58,5 @@ Enrolled-refused commands place c refusal old new e inside is tells = record {
   service = old;
   enrols = Enrolled-tells (take place commands) old e;
   left = new;
-  refused = rw (← kept-done (take place commands)) (tells _ e.goes.stands);
+  refused = rw (← kept-done (take place commands)) (tells _ e.tells.stands);
 }

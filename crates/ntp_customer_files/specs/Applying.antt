@@ -1,4 +1,4 @@
--- What becomes of a text, of its lines, and of one of them. No public clause cites this.
+-- Not to be believed: for proofs. What becomes of a text, of its lines, and of one of them.
 use Rattle.std.specs.Prelude.{◌≡◌, ℕ, max, List, [], ◌∷◌, length, drop, Option, Some, Result}
 use Rattle.ntp_register.specs.declared.refusal.Refusal.{Refusal}
 use Rattle.ntp_register.specs.Registry.{Registry}

@@ -60,14 +60,14 @@ HasRegisterFault text fault =
     (state_in text ≡ Err fault) ⊎ ((reference : ReferenceState) × (state_in text ≡ Ok reference) × (register_in text ≡ Err fault))
 
 -- the file's fault; want of memory can come whatever the file says (profile)
-abbrev pub HasFault : List ℕ → RegisterFault → Type 0
-HasFault text NoMemory = Unit {0}
-HasFault text fault = HasRegisterFault text fault
+abbrev pub HasFaultOrNoMemory : List ℕ → RegisterFault → Type 0
+HasFaultOrNoMemory text NoMemory = Unit {0}
+HasFaultOrNoMemory text fault = HasRegisterFault text fault
 
 -- the first reason, in this order, why a register file gives no service (profile)
 abbrev pub LoadFails : List ℕ → LoadFault → Type 0
 LoadFails octets load_fault.Read = ¬ IsText octets
-LoadFails octets (load_fault.Register fault) = IsText octets × HasFault octets fault
+LoadFails octets (load_fault.Register fault) = IsText octets × HasFaultOrNoMemory octets fault
 LoadFails octets (load_fault.Refused place refusal) = IsText octets
     × ((reference : ReferenceState) × (state_in octets ≡ Ok reference))
     × ((commands : List Command) × (register_in octets ≡ Ok commands) × IsRefused commands place refusal)

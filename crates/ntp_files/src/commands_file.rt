@@ -1,8 +1,8 @@
 //! A commands file that is looked at in each turn of a server, before its datagram is answered.
 
 use crate::pacing::{MILLISECOND, is_due};
-use crate::reading::read_open;
 use crate::version::Version;
+use crate::whole_read::read_open;
 use ntp_server::CommandsSource;
 use ntp_time::{Moment, Stamp};
 use std::alloc::Allocator;

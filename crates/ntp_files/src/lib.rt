@@ -4,11 +4,11 @@
 
 mod commands_file;
 mod pacing;
-mod reading;
 #[cfg(test)]
 mod tests;
 mod version;
+mod whole_read;
 
 pub use commands_file::CommandsFile;
 pub use pacing::EachMillisecond;
-pub use reading::read_file;
+pub use whole_read::read_file;

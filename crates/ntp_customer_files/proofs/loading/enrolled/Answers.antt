@@ -1,12 +1,15 @@
 use Rattle.std.proofs.Common.{◌+◌, arith, take, ◌∷◌, [], ◌++◌, ◌≡◌, ◌∙◌, sym, ap}
 use Rattle.std.proofs.lemmas.List.{take_more, take_all}
-use Rattle.ntp_customer_files.proofs.Enrolments.{Enrolled-more, Enrolled-refused, Enrolled-tells}
+use Rattle.ntp_customer_files.proofs.Enrolments.{Enrolled-none, Enrolled-more, Enrolled-refused, Enrolled-tells}
 use Rattle.ntp_customer_files.proofs.loading.enrolled.Goals as goal
 
 pub returns-in-Err-clause-fault : goal.returns-in-Err-clause-fault
 returns-in-Err-clause-fault c =
     Enrolled-refused _ _ c.index-commands-place.result _ _ _ c.loop-place.invariant (omega arith) c.index-commands-place.is
     c.in-Err.ensures.tells
+
+pub loop-place-init : goal.loop-place-init
+loop-place-init c = Enrolled-none _ c.new-service.ensures
 
 pub loop-place-preserved : goal.loop-place-preserved
 loop-place-preserved c =

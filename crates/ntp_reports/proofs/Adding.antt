@@ -12,7 +12,7 @@ use Rattle.ntp_events.specs.declared.observation.TurnOutcome.TheVariants.{Answer
 use Rattle.ntp_reports.specs.declared.kind.Kind.{Kind}
 use Rattle.ntp_reports.specs.declared.counts.Counts.{Counts}
 use Rattle.ntp_reports.specs.Kinds.{is_kind, kinds_of, answer_kind, sending_kinds}
-use Rattle.ntp_reports.specs.Counted.{most_counted, CountsMore, Adds}
+use Rattle.ntp_reports.specs.Counted.{most_in_count, CountsMore, Adds}
 
 -- two lists of kinds were counted, one behind the other
 pub Adds-append : (a b c : Counts) (xs ys : List Kind) → Adds a b xs → Adds b c ys → Adds a c (xs ++ ys)
@@ -31,8 +31,8 @@ counted-Adds old new more adds = record {
         let kinds : flat_map kinds_of (seen ++ more ∷ []) ≡ flat_map kinds_of seen ++ kinds_of more =
         flat_map-append kinds_of seen (more ∷ []) ∙ ap (λ ks. flat_map kinds_of seen ++ ks) (append-nil (kinds_of more)) in
         let all = sum_by-append (λ k. cond (is_kind kind k) 1 0) (flat_map kinds_of seen) (kinds_of more) in
-        adds.each kind (count_by (is_kind kind) (flat_map kinds_of seen)) (are.each kind) ∙ ap (λ n. min n most_counted) (sym all)
-        ∙ ap (λ ks. min (count_by (is_kind kind) ks) most_counted) (sym kinds);
+        adds.each kind (count_by (is_kind kind) (flat_map kinds_of seen)) (are.each kind) ∙ ap (λ n. min n most_in_count) (sym all)
+        ∙ ap (λ ks. min (count_by (is_kind kind) ks) most_in_count) (sym kinds);
   };
 }
 

@@ -14,18 +14,18 @@ abbrev pub asked_in : ℕ → List ℕ → ℕ
 asked_in minute asks = min (prefix_len (λ m. m == minute) asks) (2 ^ 64 - 1)
 
 -- how many lines were held in the last minute in which one was asked for (profile)
-abbrev pub held_in : List ℕ → ℕ
-held_in [] = 0
-held_in (last ∷ asks) = asked_in last (last ∷ asks) - most_lines
+abbrev pub held_back_in : List ℕ → ℕ
+held_back_in [] = 0
+held_back_in (last ∷ asks) = asked_in last (last ∷ asks) - most_lines
 
 -- the first line of a minute is written, and tells how many were held before (profile)
 abbrev pub first_answer : ℕ → Ask
 first_answer held = if nat_lt 0 held then SayWithMore held else Say
 
 -- what an ask in a minute is answered, behind these: the first ten lines of a minute are written, and no more (profile)
-abbrev pub answer_to : List ℕ → ℕ → Ask
-answer_to asks minute =
-    if asked_in minute asks == 0 then first_answer (held_in asks) else (if nat_lt (asked_in minute asks) most_lines then Say else Hold)
+abbrev pub ask_answer : List ℕ → ℕ → Ask
+ask_answer asks minute =
+    if asked_in minute asks == 0 then first_answer (held_back_in asks) else (if nat_lt (asked_in minute asks) most_lines then Say else Hold)
 
 -- the last ask, if there was one, was made in a minute
 abbrev pub IsLastIn : List ℕ → ℕ → Type 0

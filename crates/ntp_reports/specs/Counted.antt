@@ -6,8 +6,8 @@ use Rattle.ntp_reports.specs.declared.counts.Counts.{Counts}
 use Rattle.ntp_reports.specs.Kinds.{is_kind, kinds_of, place_of}
 
 -- the most that is counted: no server makes so many turns (profile)
-abbrev pub most_counted : ℕ
-most_counted = 2 ^ 64 - 1
+abbrev pub most_in_count : ℕ
+most_in_count = 2 ^ 64 - 1
 
 -- the count of a kind
 abbrev pub count_at : Counts → Kind → ℕ
@@ -15,7 +15,7 @@ count_at counts kind = slice_index counts.by_kind (place_of kind)
 
 -- how many there are of a kind among what these observations are counted as, or `most_counted` where there are more (profile)
 abbrev pub count_in : Kind → List Observation → ℕ
-count_in kind seen = min (count_by (is_kind kind) (flat_map kinds_of seen)) most_counted
+count_in kind seen = min (count_by (is_kind kind) (flat_map kinds_of seen)) most_in_count
 
 -- the counts are those of these observations (profile)
 pub record AreCounts (counts : Counts) (seen : List Observation) : Type 0 where
@@ -27,5 +27,5 @@ pub record CountsMore (old new : Counts) (more : Observation) : Type 0 where
 
 -- these kinds were counted, whatever was before; no public clause cites this
 pub record Adds (old new : Counts) (kinds : List Kind) : Type 0 where
-  pub each : (kind : Kind) (before : ℕ) → count_at old kind ≡ min before most_counted
-      → count_at new kind ≡ min (before + count_by (is_kind kind) kinds) most_counted
+  pub each : (kind : Kind) (before : ℕ) → count_at old kind ≡ min before most_in_count
+      → count_at new kind ≡ min (before + count_by (is_kind kind) kinds) most_in_count

@@ -1,6 +1,6 @@
 //! How many lines of a kind may be written.
 ghost use Rattle.std.specs.Prelude.{◌≡◌, ℕ, List, [], ◌∷◌};
-ghost use Rattle.ntp_reports.specs.Allowing.{answer_to, first_answer, IsLeftBy};
+ghost use Rattle.ntp_reports.specs.Allowing.{ask_answer, first_answer, IsLeftBy};
 
 /// How many lines of a kind are written in a minute (profile).
 pub const MOST_LINES: u64 = 10;
@@ -39,7 +39,7 @@ impl LineAllowance {
     /// Whether a line may be written in a minute. The first ten of a minute may. The first one of a minute also tells how
     /// many were held before. A minute is a new one where it differs from that of the last ask.
     pub fn ask(&mut self, minute: u64) -> Ask
-        ensures answer { (asks : List ℕ) → IsLeftBy asks self.old → result ≡ answer_to asks minute }
+        ensures answer { (asks : List ℕ) → IsLeftBy asks self.old → result ≡ ask_answer asks minute }
         ensures left { (asks : List ℕ) → IsLeftBy asks self.old → IsLeftBy (minute ∷ asks) self.new }
     {
         let LineAllowance {

@@ -1,6 +1,6 @@
 //! A server and a client, each with its socket.
 ghost use Rattle.std.specs.Prelude.{◌≡◌, ◌+◌, ◌-◌, ◌≤◌, ◌<◌, ◌^◌, IfOk};
-ghost use Rattle.ntp_service.specs.Failures.{failures_of};
+ghost use Rattle.ntp_service.specs.Failures.{udp_failures};
 
 use ntp_client::{Client, Taken};
 use ntp_events::{Command, Sending, TurnOutcome};
@@ -53,7 +53,7 @@ pub(crate) struct Pair<'a, R: Clock, A: Allocator> {
 impl<'a, R: Net + Clock, A: Allocator + Copy> Pair<'a, R, A> {
     /// The server with its socket, and a client whose socket is joined to it.
     pub(crate) fn new(rt: &'a R, service: Service<A>) -> io::Result<Pair<'a, R, A>>
-        ensures { IfOk result (λ pair. failures_of pair.port ≡ 0) }
+        ensures { IfOk result (λ pair. udp_failures pair.port ≡ 0) }
     {
         let served = UdpSocket::bind(rt, "127.0.0.1:0")?;
         served.set_read_timeout(Some(Duration::from_secs(LONGEST_WAIT)))?;
@@ -74,8 +74,8 @@ impl<'a, R: Net + Clock, A: Allocator + Copy> Pair<'a, R, A> {
 
     /// One request and its reply, and what the client took it for; nothing where a socket failed or nothing came.
     pub(crate) fn meet(&mut self) -> Option<Taken>
-        requires { failures_of self.old.port < 2 ^ 64 - 1 }
-        ensures { failures_of self.new.port ≤ failures_of self.old.port + 1 }
+        requires { udp_failures self.old.port < 2 ^ 64 - 1 }
+        ensures { udp_failures self.new.port ≤ udp_failures self.old.port + 1 }
     {
         let query = self.client.request(moment_now(&self.clock));
         self.socket.send(query.octets()).ok()?;
@@ -90,8 +90,8 @@ impl<'a, R: Net + Clock, A: Allocator + Copy> Pair<'a, R, A> {
 
     // Takes a datagram and answers it. Whether a reply was sent.
     fn answer(&mut self) -> bool
-        requires { failures_of self.old.port < 2 ^ 64 - 1 }
-        ensures { failures_of self.new.port ≤ failures_of self.old.port + 1 }
+        requires { udp_failures self.old.port < 2 ^ 64 - 1 }
+        ensures { udp_failures self.new.port ≤ udp_failures self.old.port + 1 }
     {
         let mut datagram = [0; 1025];
         let Some(received) = self.port.receive_in_time(&mut datagram) else {

@@ -1,5 +1,5 @@
 ghost use Rattle.std.specs.Prelude.{◌≡◌, IfOk};
-ghost use Rattle.ntp_service.specs.Failures.{failures_of};
+ghost use Rattle.ntp_service.specs.Failures.{udp_failures};
 
 use super::*;
 use labntp_command_line::{IO_FAILED, TEXT_FAULTY};
@@ -53,7 +53,7 @@ fn server_and_socket<'a>(
     path: &'a str,
     faults: &'a mut Vec<u8>,
 ) -> Result<(Tried<'a>, UdpSocket), Fail>
-    ensures { IfOk result (λ pair. failures_of pair.0.port ≡ 0) }
+    ensures { IfOk result (λ pair. udp_failures pair.0.port ≡ 0) }
 {
     let served = bound(rt, 0)?;
     let socket = bound(rt, 0)?;

@@ -1,6 +1,6 @@
 //! Customers are served over a socket.
 ghost use Rattle.std.specs.Prelude.{◌≡◌};
-ghost use Rattle.ntp_service.specs.Failures.{failures_of};
+ghost use Rattle.ntp_service.specs.Failures.{udp_failures};
 
 use labntp_command_line::{DONE, Serving, load_status, socket_status, write_status};
 use ntp_customer_files::{FaultLines, LoadFault, Loaded, MOST_FILE_OCTETS, load_register};
@@ -82,7 +82,7 @@ fn server<'a, R: Files + Clock, F: Write>(
     loaded: Loaded,
     faults: &'a mut F,
 ) -> Server<UdpPort<&'a R>, CommandsFile<'a, R>, FixedReference, FaultLines<&'a mut F>, Global>
-    ensures { failures_of result.port ≡ 0 }
+    ensures { udp_failures result.port ≡ 0 }
 {
     let Loaded { reference, service } = loaded;
     Server {

@@ -66,10 +66,10 @@ pub record Says (text : List ℕ) (configuration : Configuration) : Type 0 where
   pub settings : settings_in document ≡ Ok (settings_of configuration)
 
 -- the first fault of a document: its unknown keys come before its settings (profile)
-abbrev pub HasFault : Members → ConfigurationFault → Type 0
-HasFault document why = HasUnknownKey document why ⊎ (HasKnownKeys document × (settings_in document ≡ Err why))
+abbrev pub HasConfigurationFault : Members → ConfigurationFault → Type 0
+HasConfigurationFault document why = HasUnknownKey document why ⊎ (HasKnownKeys document × (settings_in document ≡ Err why))
 
 -- the first fault of a text: it is no document, in whichever line that shows, or its document has that fault (TOML 1.1; profile)
 abbrev pub FaultOf : Option Members → ConfigurationFault → Type 0
 FaultOf None why = (line : ℕ) × (why ≡ fault.Toml line)
-FaultOf (Some document) why = HasFault document why
+FaultOf (Some document) why = HasConfigurationFault document why

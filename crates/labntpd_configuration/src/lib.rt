@@ -4,9 +4,9 @@
 
 pub mod command_line;
 mod configuration;
+mod configuration_reader;
 mod fault;
 mod key_file;
-mod reading;
 mod setting;
 mod settings;
 #[cfg(test)]
@@ -14,7 +14,7 @@ mod tests;
 mod values;
 
 pub use configuration::{ClockDaemon, ClockSource, Configuration, Endpoint, Listen};
+pub use configuration_reader::read_configuration;
 pub use fault::ConfigurationFault;
 pub use key_file::key_in_file;
-pub use reading::read_configuration;
 pub use setting::Setting;

@@ -1,7 +1,7 @@
 //! What the daemon does beside serving: statistics and its log.
 
+use crate::assembly::Daemon;
 use crate::files::CommandsFault;
-use crate::serving::Daemon;
 use labntpd_configuration::Configuration;
 use labntpd_configuration::command_line::VERSION;
 use labntpd_host::{ClockSource, HostClocks, Log, queue_state, replace_file};

@@ -1,16 +1,16 @@
 //! The daemon: `labntpd --config FILE` serves the customers of a register file day and night.
 #![tactic(auto)]
 
+mod assembly;
 mod command_log;
 mod files;
 mod housekeeping;
-mod serving;
 mod starting;
 
+use assembly::serve_status;
 use clap::error::ErrorKind;
 use labntp_command_line::{DONE, memory_status, unread_status, write_status};
 use labntpd_configuration::command_line::{Asked, parse};
-use serving::serve_status;
 use starting::prepare;
 use std::io::Write;
 use std::process::ExitCode;

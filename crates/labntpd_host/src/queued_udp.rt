@@ -1,7 +1,7 @@
 //! A port over a UDP socket whose queue can be asked.
 
 ghost use Rattle.std.specs.Prelude.{◌≡◌};
-ghost use Rattle.ntp_service_udp.specs.Failures.{failures_of};
+ghost use Rattle.ntp_service_udp.specs.Failures.{udp_failures};
 
 use crate::kernel_queue::{most_datagrams, queue_state};
 use libc::net::{POLLIN, poll};
@@ -91,7 +91,7 @@ impl<'a, C: Clock + Copy + Drop, R: Files> QueuedUdp<'a, C, R> {
         files: &'a R,
         room: Vec<u8>,
     ) -> QueuedUdp<'a, C, R>
-        ensures { failures_of result.port ≡ 0 }
+        ensures { udp_failures result.port ≡ 0 }
     {
         QueuedUdp {
             descriptor: socket.as_raw_fd(),
@@ -135,7 +135,7 @@ fn readable(descriptor: i32) -> pollfd {
 }
 
 impl<'a, C: Clock + Copy + Drop, R: Files> Port for QueuedUdp<'a, C, R> {
-    ghost failure_count = { λ queued. failures_of queued.port };
+    ghost failure_count = { λ queued. udp_failures queued.port };
 
     fn receive(&mut self, datagram: &mut [u8; 1025]) -> Result<Arrival, PortFault> {
         self.has_sent = false;

@@ -3,6 +3,6 @@
 #![tactic(auto)]
 
 #[cfg(test)]
-mod printing;
+mod event_lines;
 #[cfg(test)]
-mod reading;
+mod printing;

@@ -1,63 +1,15 @@
-//! A server whose port gives no datagram in some turns, and one that cannot send in one turn. The digests are those of
-//! Python's `hashlib.md5` over the key `key` and the octets before the key number.
+//! A server whose port gives no datagram in some turns, and one that cannot send in one turn.
 ghost use Rattle.std.specs.Prelude.{◌≡◌, IfOk};
-ghost use Rattle.ntp_service.specs.Memory.{failures_of};
+ghost use Rattle.ntp_service.specs.Memory.{memory_failures};
 
-use crate::exchange::{CUSTOMER, moment, reference};
-use ntp_admin::{Octets, parse_command};
-use ntp_service::{Incoming, MemoryPort, Port, Served, Service, Turn, serve};
+use ntp_service::{MemoryPort, Port, Served, Turn, serve};
 use std::alloc::Global;
 use std::process::Abort;
 use std::test::Fail;
-
-/// A signed query with transmit stamp ec00001080000000.
-const FIRST_QUERY: &[u8] = b"\x23\x00\x06\x00\
-    \x00\x00\x00\x00\x00\x00\x00\x00\x00\x00\x00\x00\x00\x00\x00\x00\x00\x00\x00\x00\
-    \x00\x00\x00\x00\x00\x00\x00\x00\x00\x00\x00\x00\x00\x00\x00\x00\xec\x00\x00\x10\x80\x00\x00\x00\
-    \x00\x00\x00\x07\xc5\x4a\x79\xb8\x7f\xf9\x95\x97\x51\x80\x76\x9b\xdd\x0a\x52\x36";
-
-/// The next one, with transmit stamp ec00001180000000.
-const SECOND_QUERY: &[u8] = b"\x23\x00\x06\x00\
-    \x00\x00\x00\x00\x00\x00\x00\x00\x00\x00\x00\x00\x00\x00\x00\x00\x00\x00\x00\x00\
-    \x00\x00\x00\x00\x00\x00\x00\x00\x00\x00\x00\x00\x00\x00\x00\x00\xec\x00\x00\x11\x80\x00\x00\x00\
-    \x00\x00\x00\x07\x95\x3d\x5c\xa8\x72\xa6\xfd\x39\x92\x92\x0c\xf3\xd9\xa2\xc6\xbb";
-
-/// One that names the second exchange, whose receive stamp is ec00001190000000.
-const THIRD_QUERY: &[u8] = b"\x23\x00\x06\x00\
-    \x00\x00\x00\x00\x00\x00\x00\x00\x00\x00\x00\x00\x00\x00\x00\x00\x00\x00\x00\x00\
-    \xec\x00\x00\x11\x90\x00\x00\x00\xec\x00\x00\x11\xa0\x00\x00\x00\xec\x00\x00\x12\x80\x00\x00\x00\
-    \x00\x00\x00\x07\x2d\x22\x6b\x9c\xb8\xa0\x9d\xb9\x2a\xf3\x20\xf9\xfa\x20\x97\x8f";
-
-/// The basic reply to the first query.
-const FIRST_REPLY: &[u8] = b"\x24\x01\x06\xec\
-    \x00\x00\x00\x00\x00\x00\x00\x10\x4e\x49\x53\x54\xec\x00\x00\x00\x00\x00\x00\x00\
-    \xec\x00\x00\x10\x80\x00\x00\x00\xec\x00\x00\x10\x90\x00\x00\x00\xec\x00\x00\x10\x90\x00\x01\x00\
-    \x00\x00\x00\x07\xb2\x6e\x57\x65\x47\xe4\x15\xeb\xd8\x46\x1f\x86\x48\x49\x12\xfe";
-
-/// The basic reply to the second.
-const SECOND_REPLY: &[u8] = b"\x24\x01\x06\xec\
-    \x00\x00\x00\x00\x00\x00\x00\x10\x4e\x49\x53\x54\xec\x00\x00\x00\x00\x00\x00\x00\
-    \xec\x00\x00\x11\x80\x00\x00\x00\xec\x00\x00\x11\x90\x00\x00\x00\xec\x00\x00\x11\x90\x00\x01\x00\
-    \x00\x00\x00\x07\xe8\x6c\xf7\x8d\x3f\x39\xb6\xd2\xd8\xc9\x46\xb0\x09\xcc\xab\x85";
-
-/// The interleaved reply to the third, which tells when the second reply departed.
-const THIRD_REPLY: &[u8] = b"\x24\x01\x06\xec\
-    \x00\x00\x00\x00\x00\x00\x00\x10\x4e\x49\x53\x54\xec\x00\x00\x00\x00\x00\x00\x00\
-    \xec\x00\x00\x11\xa0\x00\x00\x00\xec\x00\x00\x12\x90\x00\x00\x00\xec\x00\x00\x11\x90\x00\x01\x80\
-    \x00\x00\x00\x07\x92\x71\x48\x6f\x92\x4b\x6d\x3d\x24\x93\x2f\x2f\x4a\x26\x6d\xb6";
-
-/// The same where the second reply did not depart: it tells when that was to depart.
-const PLANNED_REPLY: &[u8] = b"\x24\x01\x06\xec\
-    \x00\x00\x00\x00\x00\x00\x00\x10\x4e\x49\x53\x54\xec\x00\x00\x00\x00\x00\x00\x00\
-    \xec\x00\x00\x11\xa0\x00\x00\x00\xec\x00\x00\x12\x90\x00\x00\x00\xec\x00\x00\x11\x90\x00\x01\x00\
-    \x00\x00\x00\x07\x5b\x64\x9a\xeb\x0b\xaa\x00\x30\x12\x12\x0d\x8b\x31\x64\xb7\xac";
-
-// A service with the one customer.
-fn service(alloc: Global) -> Result<Service, Fail> {
-    let mut service = Service::new(alloc);
-    service.command(&parse_command("enrol 192.0.2.10 7 md5 6b6579 10")?)?;
-    Ok(service)
-}
+use worked_data::{
+    CUSTOMER, FIRST_QUERY, FIRST_REPLY, PLANNED_REPLY, SECOND_QUERY, SECOND_REPLY, THIRD_QUERY,
+    THIRD_REPLY, enrolled_service, moment, reference, turn,
+};
 
 // The arrivals, the replies sent and the departures noted.
 fn counts(served: Served) -> [u32; 3] {
@@ -74,21 +26,6 @@ fn empty_turn() -> Turn {
     }
 }
 
-// A turn with a datagram of the customer.
-fn turn(alloc: Global, port: u16, receipt: u64, octets: &[u8], sends: bool) -> Result<Turn, Fail> {
-    Ok(Turn {
-        arrival: Some(Incoming {
-            address: CUSTOMER,
-            port,
-            receipt: moment(receipt),
-            octets: Octets::new(octets.to_vec(alloc)?),
-        }),
-        transmit: moment(receipt.wrapping_add(0x100)),
-        departure: moment(receipt.wrapping_add(0x180)),
-        sends,
-    })
-}
-
 #[test]
 fn a_turn_without_a_datagram_is_no_event(rt: HostRuntime) -> Result<(), Fail> {
     let mut turns = Vec::new(rt.alloc());
@@ -96,7 +33,12 @@ fn a_turn_without_a_datagram_is_no_event(rt: HostRuntime) -> Result<(), Fail> {
     turns.push(turn(rt.alloc(), 5001, 0xec00_0010_9000_0000, FIRST_QUERY, true)?)?;
     turns.push(empty_turn())?;
     let mut port = MemoryPort::new(rt.alloc(), turns)?;
-    let served = serve(&mut port, &mut service(rt.alloc())?, &reference()?, 4);
+    let served = serve(
+        &mut port,
+        &mut enrolled_service(rt.alloc())?,
+        &reference()?,
+        4,
+    );
     assert_eq!(rt; counts(served), [1, 1, 1]);
     assert_eq!(rt; port.failures(), 3);
     were_sent(&rt, &port, &[(5001, FIRST_REPLY)]);
@@ -105,7 +47,7 @@ fn a_turn_without_a_datagram_is_no_event(rt: HostRuntime) -> Result<(), Fail> {
 
 // A port with three turns. The send of the one with this number fails.
 fn three_turns(alloc: Global, failing: u16) -> Result<MemoryPort, Fail>
-    ensures { IfOk result (λ port. failures_of port ≡ 0) }
+    ensures { IfOk result (λ port. memory_failures port ≡ 0) }
 {
     let mut turns = Vec::new(alloc);
     for (number, receipt, octets) in [
@@ -136,7 +78,7 @@ fn fails_at(
     expected: &[(u16, &[u8])],
 ) -> Result<(), Fail> {
     let mut port = three_turns(alloc, failing)?;
-    let served = serve(&mut port, &mut service(alloc)?, &reference()?, 3);
+    let served = serve(&mut port, &mut enrolled_service(alloc)?, &reference()?, 3);
     assert_eq!(rt; counts(served), [3, 2, 2], "without {failing}");
     assert_eq!(rt; port.failures(), 1);
     were_sent(rt, &port, expected);

@@ -1,11 +1,12 @@
 //! A replay whose reader or writer fails at each place in turn: the lines before the fault are answered, and the fault is
 //! told at its line.
 
-use crate::exchange::{ANSWERS, SCRIPT, are_first_answers, ended_lines};
 use crate::fail_after::FailAfter;
+use crate::first_answers::{are_first_answers, ended_lines};
 use ntp_service::{ReplayFault, ReplayFaultKind, Watched, replay};
 use std::alloc::{AllocError, Global};
 use std::test::Fail;
+use worked_data::{ANSWERS, SCRIPT};
 
 // What a replay of a text writes where the reader fails behind so many octets, and the writer too, and how it ends.
 fn replayed(

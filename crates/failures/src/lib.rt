@@ -2,13 +2,13 @@
 #![tactic(auto)]
 
 #[cfg(test)]
-mod exchange;
-#[cfg(test)]
 mod fail_after;
 #[cfg(test)]
 mod failing_ports;
 #[cfg(test)]
 mod failing_streams;
+#[cfg(test)]
+mod first_answers;
 #[cfg(test)]
 mod refused;
 #[cfg(test)]

@@ -1,16 +1,16 @@
 //! Calls while one allocation is refused: those that change nothing, a run, and a replay.
 
-use crate::exchange::{
-    ANSWERS, CUSTOMER, SCRIPT, UNENROLLED_ANSWERS, are_first_answers, events, moment, printed,
-};
+use crate::first_answers::{UNENROLLED_ANSWERS, are_first_answers};
 use crate::refused::Refused;
 use ntp_admin::{Event, LineFault, NoMemory, parse_event, print_answer};
 use ntp_service::{MemoryPort, ReplayFaultKind, Service, Turn, Watched, replay};
 use ntp_slots::Slots;
+use ntp_time::Stamp;
 use refusing::Refusing;
 use std::alloc::Global;
 use std::process::Abort;
 use std::test::Fail;
+use worked_data::{ANSWERS, CUSTOMER, SCRIPT, events, moment, printed};
 
 // What was refused a call that tells it by `NoMemory`, and else is right.
 fn call_refused(
@@ -30,7 +30,7 @@ fn call_refused(
 pub(crate) fn slots_refused(rt: &impl Abort, alloc: Global, n: u64) -> Refused {
     let memory = Refusing::new(alloc);
     memory.refuse_nth(n);
-    let end = Slots::new(&memory).map(|slots| slots.receive_stamps().is_empty());
+    let end = Slots::new(&memory).map(|slots| slots.find(Stamp(0)).is_none());
     call_refused(rt, &memory, end)
 }
 

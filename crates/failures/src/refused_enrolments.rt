@@ -1,6 +1,5 @@
 //! Enrolments while one allocation is refused: a refused one leaves the address, the number and all counts as they were.
 
-use crate::exchange::{CUSTOMER, moment, reference};
 use crate::refused::Refused;
 use ntp_admin::Command;
 use ntp_customer_files::commands_step;
@@ -13,6 +12,7 @@ use std::alloc::{Allocator, Global};
 use std::num::NonZero;
 use std::process::Abort;
 use std::test::Fail;
+use worked_data::{CUSTOMER, moment, reference};
 
 const NEIGHBOUR: Address = Address([192, 0, 2, 20]);
 

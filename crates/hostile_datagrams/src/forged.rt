@@ -1,15 +1,14 @@
 //! Datagrams that are cut, changed and forged.
 
-use crate::exchange::{
-    ANSWERS, CUSTOMER, NAK, RECEIPT, TRANSMIT, WITH_FIELD, WITH_REST, events, reference,
-};
+use crate::altered_queries::{NAK, RECEIPT, TRANSMIT, WITH_FIELD, WITH_REST};
 use ntp_admin::{Outcome, print_answer};
 use ntp_reply::{Answer, Reason};
-use ntp_service::Service;
 use ntp_request::Malformed;
+use ntp_service::Service;
 use std::alloc::Global;
 use std::process::Abort;
 use std::test::Fail;
+use worked_data::{ANSWERS, CUSTOMER, enrolled_service, events, reference};
 
 // What a datagram is answered, in a word and a place.
 #[derive(Clone, Copy, Debug, PartialEq, Eq)]
@@ -58,15 +57,6 @@ fn word_for_front(length: usize) -> Told {
     }
 }
 
-// A service with the one customer.
-fn enrolled(alloc: Global) -> Result<Service, Fail> {
-    let mut service = Service::new(alloc);
-    let events = events(alloc)?;
-    let enrolment = events.get(0).ok_or("no enrolment")?;
-    let _ = service.apply(enrolment);
-    Ok(service)
-}
-
 // What the customer is answered to octets.
 fn ask(service: &mut Service, octets: &[u8]) -> Result<Answer, Fail> {
     Ok(service.datagram(CUSTOMER, RECEIPT, TRANSMIT, &reference()?, octets))
@@ -74,7 +64,7 @@ fn ask(service: &mut Service, octets: &[u8]) -> Result<Answer, Fail> {
 
 #[test]
 fn each_front_of_a_query_is_what_it_is(rt: HostRuntime) -> Result<(), Fail> {
-    let mut service = enrolled(rt.alloc())?;
+    let mut service = enrolled_service(rt.alloc())?;
     for length in 0..85 {
         let answer = ask(&mut service, &WITH_FIELD[..length])?;
         assert_eq!(rt; word_for(&answer), word_for_front(length), "{length}");
@@ -84,7 +74,7 @@ fn each_front_of_a_query_is_what_it_is(rt: HostRuntime) -> Result<(), Fail> {
 
 #[test]
 fn fields_and_rests_that_fit_nothing(rt: HostRuntime) -> Result<(), Fail> {
-    let mut service = enrolled(rt.alloc())?;
+    let mut service = enrolled_service(rt.alloc())?;
     for (high, low, wanted) in [
         (0xff, 0xff, Told::FieldUnaligned(48)),
         (0xff, 0xfc, Told::FieldPastEnd(48)),
@@ -101,25 +91,31 @@ fn fields_and_rests_that_fit_nothing(rt: HostRuntime) -> Result<(), Fail> {
 
 // What the customer is answered to octets, as a line.
 fn answer_line(alloc: Global, octets: &[u8]) -> Result<String, Fail> {
-    let answer = ask(&mut enrolled(alloc)?, octets)?;
+    let answer = ask(&mut enrolled_service(alloc)?, octets)?;
     Ok(print_answer(alloc, &Outcome::Datagram(answer))?)
+}
+
+// The answer of the exchange at a place, without its line feed.
+fn exchange_answer(place: usize) -> Result<&'static str, Fail> {
+    Ok(ANSWERS.lines().nth(place).ok_or("no answer")?)
 }
 
 #[test]
 fn octets_added_to_a_query(rt: HostRuntime) -> Result<(), Fail> {
+    let time = exchange_answer(1)?;
     for (octets, answer) in [
-        (&WITH_REST[..68], ANSWERS[1]),
-        (&WITH_REST[..69], "silent rest 48\n"),
-        (&WITH_REST[..70], "silent rest 48\n"),
-        (&WITH_REST[..71], "silent rest 48\n"),
+        (&WITH_REST[..68], time),
+        (&WITH_REST[..69], "silent rest 48"),
+        (&WITH_REST[..70], "silent rest 48"),
+        (&WITH_REST[..71], "silent rest 48"),
         (&WITH_REST, NAK),
         // A field is read over.
-        (&WITH_FIELD, ANSWERS[1]),
+        (&WITH_FIELD, time),
     ] {
         let length = octets.len();
         assert_eq!(rt;
-            answer_line(rt.alloc(), octets)?.as_str(),
-            answer,
+            answer_line(rt.alloc(), octets)?.as_str().strip_suffix('\n'),
+            Some(answer),
             "{length}"
         );
     }
@@ -156,7 +152,8 @@ fn is_answered(
     let events = events(alloc)?;
     let event = events.get(place).ok_or("no event")?;
     let answer = print_answer(alloc, &service.apply(event))?;
-    assert_eq!(rt; Some(&answer.as_str()), ANSWERS.get(place));
+    let expected = exchange_answer(place)?;
+    assert_eq!(rt; answer.as_str().strip_suffix('\n'), Some(expected));
     Ok(())
 }
 

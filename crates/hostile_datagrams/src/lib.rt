@@ -1,7 +1,7 @@
-//! Tests of hostile use: datagrams that are cut, changed and forged.
+//! Tests of hostile datagrams: ones that are cut, changed and forged.
 #![tactic(auto)]
 
 #[cfg(test)]
-mod exchange;
+mod altered_queries;
 #[cfg(test)]
 mod forged;

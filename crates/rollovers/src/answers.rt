@@ -2,20 +2,12 @@
 //! answer.
 
 use crate::examples::{EXAMPLES, Example, RETIRED};
-use ntp_admin::{Command, Event, Outcome, parse_event, print_answer};
+use ntp_admin::{Command, Event, Outcome, parse_event};
 use ntp_reply::Answer;
 use ntp_service::{Service, Watched, replay};
 use std::alloc::Global;
 use std::test::Fail;
-
-// The lines that are printed for outcomes.
-fn printed(alloc: Global, outcomes: &[Outcome]) -> Result<String, Fail> {
-    let mut lines = String::new(alloc);
-    for outcome in outcomes {
-        lines.push_str(print_answer(alloc, outcome)?.as_str())?;
-    }
-    Ok(lines)
-}
+use worked_data::printed;
 
 // The events of an example's script. A line that begins with `#` has none.
 fn events(alloc: Global, example: &Example) -> Result<Vec<Event>, Fail> {

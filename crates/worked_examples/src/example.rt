@@ -1,14 +1,11 @@
-//! A worked example with its texts in full.
+//! A worked example as texts: the script, and what is written for it.
 
-use crate::rows::{PIECES, Row};
+use crate::rows::Row;
 use ntp_admin::{Event, LineFault, parse_event};
 use ntp_service::{ReplayFault, ReplayFaultKind};
 use std::alloc::{AllocError, Global};
 
-/// How deep names stand in one another.
-const DEPTH: usize = 3;
-
-/// A script, and what is written for it. One that is too long for a literal is made by a function.
+/// A script, and what is written for it.
 #[derive(Drop)]
 pub struct Example {
     /// What it shows.
@@ -22,14 +19,33 @@ pub struct Example {
 }
 
 impl Example {
-    /// The example that a row means.
+    /// One without lines.
+    pub fn new(alloc: Global, name: &'static str) -> Example {
+        Example {
+            name,
+            script: String::new(alloc),
+            written: String::new(alloc),
+            fault: None,
+        }
+    }
+
+    /// The example that a row is.
     pub fn of(alloc: Global, row: &Row) -> Result<Example, AllocError> {
-        Ok(Example {
-            name: row.name,
-            script: put_in(alloc, row.script)?,
-            written: put_in(alloc, row.written)?,
-            fault: row.fault,
-        })
+        let mut example = Example::new(alloc, row.name);
+        for (line, answer) in row.lines {
+            example.push(line, answer)?;
+        }
+        if let Some((line, fault)) = row.faulty {
+            push_line(&mut example.script, line)?;
+            example.fault = Some(fault);
+        }
+        Ok(example)
+    }
+
+    /// Appends a line and its answer.
+    pub fn push(&mut self, line: &str, answer: &str) -> Result<(), AllocError> {
+        push_line(&mut self.script, line)?;
+        push_line(&mut self.written, answer)
     }
 
     /// How the replay of the script is to end. Each line before a faulty one has one answer line.
@@ -57,40 +73,8 @@ impl Example {
     }
 }
 
-// A text with all pieces put in.
-pub(crate) fn put_in(alloc: Global, text: &str) -> Result<String, AllocError> {
-    let mut whole = String::from_str(alloc, text)?;
-    for _ in 0..DEPTH {
-        whole = put_in_once(alloc, whole.as_str())?;
-    }
-    Ok(whole)
-}
-
-// A text with the pieces put in that it names itself. A name of no piece is left out.
-fn put_in_once(alloc: Global, text: &str) -> Result<String, AllocError> {
-    let mut whole = String::new(alloc);
-    let mut parts = text.split('{');
-    whole.push_str(parts.next().unwrap_or(""))?;
-    for part in parts {
-        let (name, plain) = part.split_once('}').unwrap_or((part, ""));
-        push_piece(&mut whole, name)?;
-        whole.push_str(plain)?;
-    }
-    Ok(whole)
-}
-
-// Appends what a name stands for.
-fn push_piece(whole: &mut String, name: &str) -> Result<(), AllocError> {
-    if let Some(count) = name.strip_prefix("0^") {
-        for _ in 0..count.parse::<u16>().unwrap_or(0) {
-            whole.push('0')?;
-        }
-        return Ok(());
-    }
-    for (named, piece) in PIECES {
-        if named == name {
-            whole.push_str(piece)?;
-        }
-    }
-    Ok(())
+// Appends a line to a text.
+fn push_line(text: &mut String, line: &str) -> Result<(), AllocError> {
+    text.push_str(line)?;
+    text.push('\n')
 }

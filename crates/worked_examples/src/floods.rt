@@ -1,5 +1,5 @@
 //! Floods under one address: what they are answered, and what a neighbour and the address itself are told meanwhile.
-use crate::example::put_in;
+use crate::lines::{DENY, ENROLLED, NEIGHBOUR_ENROLLED, SIGNED, TIME};
 use ntp_admin::{Event, Outcome, parse_event, print_answer};
 use ntp_reply::{Answer, Reason};
 use ntp_service::Service;
@@ -7,37 +7,47 @@ use std::alloc::Global;
 use std::process::Abort;
 use std::test::Fail;
 
-// The answers to the customer's signed query and to the neighbour's, and to the neighbour's query without a MAC.
-const TIME: &str = "time {R} 240106ec{reply}00000007b26e576547e415ebd8461f86484912fe\n";
+// A query with the customer's key number and a digest of zeros.
+const FORGED: &str = "datagram 192.0.2.10 0:ec00001090000000 0:ec00001090000100 \
+    0001ec00000000000000104e495354ec00000000000000 \
+    23000600000000000000000000000000000000000000000000000000000000000000000000000000\
+    ec000010800000000000000700000000000000000000000000000000";
+
+// The neighbour's signed query, and the answer to it.
+const SIGNED_OF_NEIGHBOUR: &str = "datagram 192.0.2.20 0:ec00001090000000 0:ec00001090000100 \
+    0001ec00000000000000104e495354ec00000000000000 \
+    23000600000000000000000000000000000000000000000000000000000000000000000000000000\
+    ec00001080000000000000085cdcd7fe63874c71063fa471f426c77f08f21218";
 
 const TIME_OF_NEIGHBOUR: &str =
-    "time {R} 240106ec{reply}0000000809ae60bd0178a05dd3f819f4c3e77707a971df80\n";
+    "time ec00001090000000 240106ec00000000000000104e495354ec00000000000000\
+    ec00001080000000ec00001090000000ec000010900001000000000809ae60bd0178a05dd3f819f4c3e77707a971df80";
 
-const DENY_OF_NEIGHBOUR: &str = "{deny}\n";
-
-// The line of a datagram from the neighbour, up to its octets.
-const DATAGRAM_OF_NEIGHBOUR: &str = "datagram 192.0.2.20 0:{R} 0:{X} {reference}";
+// The same query without its MAC.
+const UNSIGNED_OF_NEIGHBOUR: &str = "datagram 192.0.2.20 0:ec00001090000000 0:ec00001090000100 \
+    0001ec00000000000000104e495354ec00000000000000 \
+    23000600000000000000000000000000000000000000000000000000000000000000000000000000\
+    ec00001080000000";
 
 // Appends an event as often as is said.
 fn push(alloc: Global, events: &mut Vec<Event>, line: &str, count: u32) -> Result<(), Fail> {
-    let line = put_in(alloc, line)?;
     for _ in 0..count {
-        events.push(parse_event(alloc, line.as_str())?)?;
+        events.push(parse_event(alloc, line)?)?;
     }
     Ok(())
 }
 
-// The outcome at a place has this text.
+// The outcome at a place has this answer line.
 fn is_told(
     rt: &impl Abort,
     alloc: Global,
     outcomes: &Vec<Outcome>,
     place: usize,
-    text: &str,
+    answer: &str,
 ) -> Result<(), Fail> {
     let outcome = outcomes.get(place).ok_or("no outcome")?;
     let told = print_answer(alloc, outcome)?;
-    assert_eq!(rt; told.as_str(), put_in(alloc, text)?.as_str());
+    assert_eq!(rt; told.as_str().strip_suffix('\n'), Some(answer));
     Ok(())
 }
 
@@ -73,32 +83,20 @@ fn silences(outcomes: &Vec<Outcome>, reason: Reason) -> usize {
 fn forged_queries_cost_nobody_an_answer(rt: HostRuntime) -> Result<(), Fail> {
     let alloc = rt.alloc();
     let mut events = Vec::new(alloc);
-    push(alloc, &mut events, "{A}", 1)?;
-    push(alloc, &mut events, "{B}", 1)?;
-    push(
-        alloc,
-        &mut events,
-        "{datagram} 23{query}00000007{0^32}",
-        40_000,
-    )?;
-    let signed = format!(in alloc; "{DATAGRAM_OF_NEIGHBOUR} 23{{query}}{{mac 8}}")?;
-    push(alloc, &mut events, signed.as_str(), 1)?;
-    let unsigned = format!(in alloc; "{DATAGRAM_OF_NEIGHBOUR} 23{{query}}")?;
-    push(alloc, &mut events, unsigned.as_str(), 1)?;
-    push(
-        alloc,
-        &mut events,
-        "{datagram} 23{query}00000007{0^32}",
-        30_000,
-    )?;
-    push(alloc, &mut events, "{datagram} 23{query}{mac}", 1)?;
+    push(alloc, &mut events, ENROLLED.0, 1)?;
+    push(alloc, &mut events, NEIGHBOUR_ENROLLED.0, 1)?;
+    push(alloc, &mut events, FORGED, 40_000)?;
+    push(alloc, &mut events, SIGNED_OF_NEIGHBOUR, 1)?;
+    push(alloc, &mut events, UNSIGNED_OF_NEIGHBOUR, 1)?;
+    push(alloc, &mut events, FORGED, 30_000)?;
+    push(alloc, &mut events, SIGNED, 1)?;
 
     let outcomes = Service::new(alloc).run(&events)?;
     assert_eq!(rt; outcomes.len(), 70_005);
     assert_eq!(rt; naks(&outcomes), 4);
     assert_eq!(rt; silences(&outcomes, Reason::Muted), 69_996);
     is_told(&rt, alloc, &outcomes, 40_002, TIME_OF_NEIGHBOUR)?;
-    is_told(&rt, alloc, &outcomes, 40_003, DENY_OF_NEIGHBOUR)?;
+    is_told(&rt, alloc, &outcomes, 40_003, DENY)?;
     is_told(&rt, alloc, &outcomes, 70_004, TIME)?;
     Ok(())
 }
@@ -109,7 +107,7 @@ fn the_largest_budget_is_spent_once(rt: HostRuntime) -> Result<(), Fail> {
     let alloc = rt.alloc();
     let mut events = Vec::new(alloc);
     push(alloc, &mut events, "enrol 192.0.2.10 7 md5 6b6579 65535", 1)?;
-    push(alloc, &mut events, "{datagram} 23{query}{mac}", 70_000)?;
+    push(alloc, &mut events, SIGNED, 70_000)?;
 
     let outcomes = Service::new(alloc).run(&events)?;
     assert_eq!(rt; outcomes.len(), 70_001);

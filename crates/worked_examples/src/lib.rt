@@ -6,8 +6,10 @@ mod example;
 #[cfg(test)]
 mod floods;
 #[cfg(test)]
+mod lines;
+#[cfg(test)]
 mod rows;
 #[cfg(test)]
-mod serving;
-#[cfg(test)]
 mod tests;
+#[cfg(test)]
+mod turns;

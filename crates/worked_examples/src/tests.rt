@@ -1,35 +1,62 @@
 //! Each worked example is answered the same as a script, as a list of events, and where no memory is left.
 use crate::example::Example;
-use crate::rows::ROWS;
-use ntp_admin::{Command, Event, Outcome, print_answer};
+use crate::lines::{ENROLLED, UNSIGNED};
+use crate::rows::{BUDGETS, COMMANDS, DATAGRAMS, EXCHANGES, Row};
+use ntp_admin::{Command, Event, Outcome};
 use ntp_service::{Service, Watched, replay};
 use refusing::Refusing;
-use std::alloc::{AllocError, Allocator, Global};
+use std::alloc::{Allocator, Global};
 use std::process::Abort;
 use std::test::Fail;
+use worked_data::printed;
 
 #[test]
-fn each_row_is_replayed_as_it_is_worked(rt: HostRuntime) -> Result<(), Fail> {
-    for row in &ROWS {
-        is_replayed(&rt, rt.alloc(), &Example::of(rt.alloc(), row)?);
+fn datagrams_are_answered_as_worked(rt: HostRuntime) -> Result<(), Fail> {
+    are_answered(&rt, rt.alloc(), &DATAGRAMS)
+}
+
+#[test]
+fn budgets_are_spent_as_worked(rt: HostRuntime) -> Result<(), Fail> {
+    are_answered(&rt, rt.alloc(), &BUDGETS)
+}
+
+#[test]
+fn exchanges_are_saved_as_worked(rt: HostRuntime) -> Result<(), Fail> {
+    are_answered(&rt, rt.alloc(), &EXCHANGES)
+}
+
+#[test]
+fn commands_and_faults_are_told_as_worked(rt: HostRuntime) -> Result<(), Fail> {
+    are_answered(&rt, rt.alloc(), &COMMANDS)
+}
+
+// A query with zeros behind it, which would be too long for a row.
+#[test]
+fn a_datagram_of_1025_octets_is_long(rt: HostRuntime) -> Result<(), Fail> {
+    let mut line = String::from_str(rt.alloc(), UNSIGNED)?;
+    for _ in 48..1025 {
+        line.push_str("00")?;
+    }
+    let mut example = Example::new(rt.alloc(), "a datagram of 1,025 octets is long");
+    let (enrolment, done) = ENROLLED;
+    example.push(enrolment, done)?;
+    example.push(line.as_str(), "silent long")?;
+    is_answered(&rt, rt.alloc(), &example)
+}
+
+// Each of these is answered as it is worked.
+fn are_answered(rt: &impl Abort, alloc: Global, rows: &[Row]) -> Result<(), Fail> {
+    for row in rows {
+        is_answered(rt, alloc, &Example::of(alloc, row)?)?;
     }
     Ok(())
 }
 
-#[test]
-fn each_row_is_run_as_it_is_worked(rt: HostRuntime) -> Result<(), Fail> {
-    for row in &ROWS {
-        is_run(&rt, rt.alloc(), &Example::of(rt.alloc(), row)?)?;
-    }
-    Ok(())
-}
-
-#[test]
-fn nothing_but_an_enrolment_takes_memory(rt: HostRuntime) -> Result<(), Fail> {
-    for row in &ROWS {
-        takes_no_memory(&rt, rt.alloc(), &Example::of(rt.alloc(), row)?)?;
-    }
-    Ok(())
+// An example is answered as it is worked: as a script, as events, and where memory is refused.
+fn is_answered(rt: &impl Abort, alloc: Global, example: &Example) -> Result<(), Fail> {
+    is_replayed(rt, alloc, example);
+    is_run(rt, alloc, example)?;
+    takes_no_memory(rt, alloc, example)
 }
 
 // A replay of the script writes what is worked, and ends as it is to end.
@@ -55,19 +82,16 @@ fn is_run(rt: &impl Abort, alloc: Global, example: &Example) -> Result<(), Fail>
     are_worked(rt, alloc, example, &outcomes)
 }
 
-// The outcomes' texts, one after another, are what is worked.
+// The outcomes' lines, one after another, are what is worked.
 fn are_worked(
     rt: &impl Abort,
     alloc: Global,
     example: &Example,
     outcomes: &[Outcome],
 ) -> Result<(), Fail> {
-    let mut written = String::new(alloc);
-    for outcome in outcomes {
-        written.push_str(print_answer(alloc, outcome)?.as_str())?;
-    }
+    let lines = printed(alloc, outcomes)?;
     assert_eq!(rt;
-        written.as_str(),
+        lines.as_str(),
         example.written.as_str(),
         "{}",
         example.name

@@ -1,14 +1,13 @@
 #!/usr/bin/env python3
-"""The merge gate: what `rt ci` does, by the toolchain's own functions, in an order that has an end; then the program from outside.
+"""The merge gate: what `rt ci` does, with an end to its must-fail edits; then the programs from outside.
 
     .ci/run                         from the top or elsewhere
-    GATE_MINUTES=20 .ci/run         takes up no must-fail edit later than 20 minutes after the start, in place of 140
+    GATE_MINUTES=20 .ci/run         takes up no must-fail edit later than 20 minutes after the start, in place of 100
 
-1. What docs/ say of the sources that is counted: `tests/belief --check` and `tests/crates --check`, a case each.
-2. Every proof from nothing, every test and every program.
-3. The must-fail edits, first those of the crates that changed last (.ci/edits.py), until the minutes are over. What was not tried is
-   named, crate by crate. Processors that no proof takes begin with them earlier.
-4. tests/program and tests/clients over labntp, and tests/daemon over labntpd, as they were built. Where chronyd or ntpdig is not on
+1. What docs/ say of the sources that is counted or drawn: `tests/belief --check` and `tests/crates --check`, a case each.
+2. What `rt ci` does: each proof, the must-fail edits until the minutes are over, each test and each program. What an earlier run on this
+   machine passed of the same files it does not prove or try again; the tests and programs it runs each time.
+3. tests/program and tests/clients over labntp, and tests/daemon over labntpd, as they were built. Where chronyd or ntpdig is not on
    the path, Debian's packages are fetched into a directory that is removed again; nothing is installed.
 
 The last line is `N passed, M failed`, or `N passed, M failed, K skipped` where K edits and cases were not tried. Status 0 only where
@@ -32,7 +31,6 @@ import traceback
 # Nothing is written into the toolchain's folder, nor into this one.
 sys.dont_write_bytecode = True
 sys.path.insert(0, os.path.dirname(os.path.realpath(__file__)))
-from edits import Pool, in_order
 from processes import end_all
 from toolchain import toolchain
 
@@ -41,7 +39,7 @@ TOP = os.path.dirname(os.path.dirname(os.path.realpath(__file__)))
 COMPARED, COMPARE_LIMIT = ("belief", "crates"), 60
 # Which program is judged by which tests.
 JUDGED = {"program": "labntp", "clients": "labntp", "daemon": "labntpd"}
-MINUTES = float(os.environ.get("GATE_MINUTES") or 140)
+MINUTES = float(os.environ.get("GATE_MINUTES") or 100)
 # How many seconds the tests of a program may take, and the fetching of the clients.
 LIMITS = {"program": 300, "clients": 900, "daemon": 1200}
 FETCH_LIMIT = 120
@@ -71,84 +69,59 @@ class Said:
                 to.flush()
 
 
+# What the try of an edit came to that was not made, in a word as the toolchain has them.
+NOT_TRIED = "not tried"
+
+
 class Gate:
-    """The run of `rt ci`, with its parts in another order."""
+    """The run of `rt ci`, where no edit is tried once the minutes are over."""
 
     def __init__(self, rt, begun):
-        self.rt, self.begun, self.said = rt, begun, Said()
-        self.crates, self.ran = [], {}
-        self.in_lanes, self.run, self.crates_of = rt.in_lanes, rt.run, rt.crates_of
-        rt.print, rt.in_lanes, rt.run, rt.crates_of = self.said, self.edits_last, self.run_once, self.noted_crates
-        self.not_tried = []
+        self.begun, self.said = begun, Said()
+        # Which programs ran as they should, and which edits were not tried, by their crates and numbers.
+        self.ran, self.left = {}, set()
+        self.in_lanes, self.run = rt.in_lanes, rt.run
+        rt.print, rt.in_lanes, rt.run = self.said, self.in_lanes_with_an_end, self.noted_run
+        # It counts the kinds that it knows by this name.
+        rt.SETTLED = (*rt.SETTLED, NOT_TRIED)
 
     def is_over(self):
         return time.monotonic() - self.begun >= 60 * MINUTES
 
-    def noted_crates(self, *words):
-        self.crates = self.crates_of(*words)
-        return self.crates
+    def noted_run(self, crate, tests, ending=""):
+        """What `run` gives, noted for each program: whether it ran as both compilers make it."""
+        ran = self.run(crate, tests, ending)
+        if not tests:
+            self.ran[crate.name] = ran and self.ran.get(crate.name, True)
+        return ran
 
-    def run_once(self, crate, tests, ending=""):
-        """What `run` gives. The toolchain asks last, when all has been run already."""
-        key = crate.name, tests, ending
-        if key not in self.ran:
-            self.ran[key] = self.run(crate, tests, ending)
-        return self.ran[key]
+    def in_lanes_with_an_end(self, tasks):
+        """What `in_lanes` gives."""
+        return self.in_lanes({key: (waits, lines, needs, self.until_over(key, call)) for key, (waits, lines, needs, call) in tasks.items()})
 
-    def run_all(self, crate):
-        for tests in (False, True):
-            made = f"{crate.folder}/out/{crate.name}{'_tests' if tests else ''}"
-            for ending in self.rt.BACKENDS.values():
-                if (tests or crate.is_program) and os.path.isfile(made + ending) and not self.run_once(crate, tests, ending):
-                    break
+    def until_over(self, key, call):
+        """The call of a task, or for one about edits what does not try them once the minutes are over: the toolchain first proves what
+        each edit of a crate begins with (`seed`), tries each (`edits`), looks whether that seed was sound, and gives the results (`again`)."""
+        name, kind, number = key if len(key) == 3 else (*key, None)
+        is_left = lambda at: (name, at) in self.left
 
-    def edits_last(self, tasks):
-        """What `in_lanes` gives, once the tests and programs have run, and with the edits last."""
-        rt, gave = self.rt, {}
-        number = os.environ.get("RT_JOBS", "")
-        lanes = int(number) if number.isdigit() and int(number) else rt.processors()
-        bad_and_good = {it.name: rt.edits_of(it)[::-1] for it in self.crates}
-        named = {it.name: it for it in self.crates}
-        is_well = lambda name: gave.get((name, "proof")) and gave.get((name, "tests"))
-        pool = Pool(rt, lanes, 0.85 * rt.free(), in_order([it for it in named if bad_and_good[it][1]]), self.is_over)
-        noting = threading.Lock()
+        def seed(given, jobs):
+            return None if self.is_over() else call(given, jobs)
 
-        def noted(key, call, needs):
-            def prove(given, jobs):
-                pool.proof_begins(key, needs, jobs)
-                try:
-                    found = call(given, jobs)
-                finally:
-                    pool.proof_ends(key)
-                with noting:
-                    gave[key] = found
-                    is_last = is_well(key[0])
-                if is_last and bad_and_good[key[0]][1]:
-                    pool.add(named[key[0]], bad_and_good[key[0]][1], tasks[key[0], "edits"][2])
-                return found
+        def edit(given, jobs):
+            if not self.is_over():
+                return call(given, jobs)
+            self.left.add((name, number))
+            return NOT_TRIED, f"must-fail {name}: its edit {number + 1} was not tried within {MINUTES:g} minutes"
 
-            return prove
+        def sound(given, jobs):
+            tried = [it for it in given if it[:2] == (name, "edits") and not is_left(it[2])]
+            return call(given, jobs) if tried else True
 
-        proofs = {}
-        for key, (waits, lines, needs, call) in tasks.items():
-            if key[1] != "edits":
-                pool.proof_begins(key, needs, 0)
-                proofs[key] = waits, lines, needs, noted(key, call, needs)
-        working = threading.Thread(target=pool.work, daemon=True)
-        working.start()
-        given = self.in_lanes(proofs)
-        for crate in self.crates:
-            if is_well(crate.name):
-                self.run_all(crate)
-        pool.proofs_ended()
-        working.join()
-        tried = {it.crate.name: it.tried for it in pool.series}
-        for name, (bad, good) in bad_and_good.items():
-            some = tried.get(name, [])
-            given[name, "edits"] = bad, good, some
-            if is_well(name) and len(some) < len(good):
-                self.not_tried.append((name, len(good) - len(some), len(good)))
-        return given
+        def again(given, jobs):
+            return given[name, "edits", number] if is_left(number) else call(given, jobs)
+
+        return {"seed": seed, "edits": edit, "sound": sound, "again": again}.get(kind, call)
 
 
 def run_limited(words, seconds, environment=None):
@@ -257,15 +230,12 @@ def gate(rt, begun):
     """The whole gate, and its status."""
     pages = [compared(name) for name in COMPARED]
     it = Gate(rt, begun)
-    status = rt.ci()
+    status = rt.ci(anew=False)
     passed, failed = it.said.counts or (0, 1)
-    passed, failed, skipped = passed + sum(pages), failed + pages.count(False), 0
-    for name, left, among in it.not_tried:
-        print(f"not tried: {name} {left} of {among} edits", flush=True)
-        skipped += left
+    passed, failed, skipped = passed + sum(pages), failed + pages.count(False), len(it.left)
     with clients() as environment:
         for name, program in JUDGED.items():
-            if not it.ran.get((program, False, "")):
+            if not it.ran.get(program):
                 print(f"tests/{name} was not run, for want of a program that is proved and runs", flush=True)
                 continue
             some = cases(name, environment)

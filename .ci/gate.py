@@ -5,17 +5,15 @@
     GATE_MINUTES=20 .ci/run         takes up no must-fail edit later than 20 minutes after the start, in place of 100
 
 1. What docs/ say of the sources that is counted or drawn: `tests/belief --check` and `tests/crates --check`, a case each.
-2. What `rt ci` does: each proof, the must-fail edits until the minutes are over, each test and each program. What an earlier run on this
-   machine passed of the same files it does not prove or try again; the tests and programs it runs each time.
+2. What `rt ci` does (.ci/proofs.py): each proof, the must-fail edits until the minutes are over, each test and each program.
 3. tests/program and tests/clients over labntp, and tests/daemon over labntpd, as they were built. Where chronyd or ntpdig is not on
    the path, Debian's packages are fetched into a directory that is removed again; nothing is installed.
 
 The last line is `N passed, M failed`, or `N passed, M failed, K skipped` where K edits and cases were not tried. Status 0 only where
-nothing failed. An interrupt ends all that was started, and what earlier runs kept is given back.
+nothing failed. An interrupt ends all that was started; the next `rt ci` gives back what earlier runs kept.
 """
 import contextlib
 import ctypes
-import fcntl
 import glob
 import os
 import re
@@ -32,7 +30,7 @@ import traceback
 sys.dont_write_bytecode = True
 sys.path.insert(0, os.path.dirname(os.path.realpath(__file__)))
 from processes import end_all
-from toolchain import toolchain
+from proofs import NOT_TRIED
 
 TOP = os.path.dirname(os.path.dirname(os.path.realpath(__file__)))
 # What compares pages with the sources, and how many seconds each may take.
@@ -50,82 +48,9 @@ PACKAGES = ("chrony", "ntpsec-ntpdig", "python3-ntp")
 PR_SET_PDEATHSIG, PR_SET_CHILD_SUBREAPER = 1, 36
 
 
-class Said:
-    """Takes the place of the toolchain's `print`: each text in one piece, since many threads print. The line that counts is kept back."""
-
-    def __init__(self):
-        self.lock, self.counts = threading.Lock(), None
-
-    def __call__(self, *words, sep=" ", end="\n", file=None, flush=False):
-        text = sep.join(map(str, words))
-        counts = re.fullmatch(r"(\d+) passed, (\d+) failed", text)
-        if counts and file is None:
-            self.counts = int(counts[1]), int(counts[2])
-            return
-        with self.lock:
-            to = file or sys.stdout
-            to.write(text + end)
-            if flush:
-                to.flush()
-
-
-# What the try of an edit came to that was not made, in a word as the toolchain has them.
-NOT_TRIED = "not tried"
-
-
-class Gate:
-    """The run of `rt ci`, where no edit is tried once the minutes are over."""
-
-    def __init__(self, rt, begun):
-        self.begun, self.said = begun, Said()
-        # Which programs ran as they should, and which edits were not tried, by their crates and numbers.
-        self.ran, self.left = {}, set()
-        self.in_lanes, self.run = rt.in_lanes, rt.run
-        rt.print, rt.in_lanes, rt.run = self.said, self.in_lanes_with_an_end, self.noted_run
-        # It counts the kinds that it knows by this name.
-        rt.SETTLED = (*rt.SETTLED, NOT_TRIED)
-
-    def is_over(self):
-        return time.monotonic() - self.begun >= 60 * MINUTES
-
-    def noted_run(self, crate, tests, ending=""):
-        """What `run` gives, noted for each program: whether it ran as both compilers make it."""
-        ran = self.run(crate, tests, ending)
-        if not tests:
-            self.ran[crate.name] = ran and self.ran.get(crate.name, True)
-        return ran
-
-    def in_lanes_with_an_end(self, tasks):
-        """What `in_lanes` gives."""
-        return self.in_lanes({key: (waits, lines, needs, self.until_over(key, call)) for key, (waits, lines, needs, call) in tasks.items()})
-
-    def until_over(self, key, call):
-        """The call of a task, or for one about edits what does not try them once the minutes are over: the toolchain first proves what
-        each edit of a crate begins with (`seed`), tries each (`edits`), looks whether that seed was sound, and gives the results (`again`)."""
-        name, kind, number = key if len(key) == 3 else (*key, None)
-        is_left = lambda at: (name, at) in self.left
-
-        def seed(given, jobs):
-            return None if self.is_over() else call(given, jobs)
-
-        def edit(given, jobs):
-            if not self.is_over():
-                return call(given, jobs)
-            self.left.add((name, number))
-            return NOT_TRIED, f"must-fail {name}: its edit {number + 1} was not tried within {MINUTES:g} minutes"
-
-        def sound(given, jobs):
-            tried = [it for it in given if it[:2] == (name, "edits") and not is_left(it[2])]
-            return call(given, jobs) if tried else True
-
-        def again(given, jobs):
-            return given[name, "edits", number] if is_left(number) else call(given, jobs)
-
-        return {"seed": seed, "edits": edit, "sound": sound, "again": again}.get(kind, call)
-
-
-def run_limited(words, seconds, environment=None):
-    """Runs a command and passes on what it prints, and returns its lines, and its status or none where it took longer."""
+def run_limited(words, seconds, environment=None, is_kept_back=lambda line: False):
+    """Runs a command and passes on what it prints, but the lines kept back, and returns all its lines, and its status or none where it
+    took longer than so many seconds (None: however long)."""
     how = {"stdin": subprocess.DEVNULL, "stdout": subprocess.PIPE, "stderr": subprocess.STDOUT, "errors": "replace"}
     with subprocess.Popen(words, env=environment, start_new_session=True, **how) as started:
         ended, is_late = threading.Event(), threading.Event()
@@ -139,16 +64,27 @@ def run_limited(words, seconds, environment=None):
                 if ended.wait(patience):
                     break
 
-        timer, lines = threading.Timer(seconds, end), []
-        timer.start()
+        timer, lines = threading.Timer(seconds or 0, end), []
+        if seconds:
+            timer.start()
         for line in started.stdout:
-            print(line, end="", flush=True)
             lines.append(line.rstrip("\n"))
+            if not is_kept_back(lines[-1]):
+                print(line, end="", flush=True)
         status = started.wait()
         ended.set()
         timer.cancel()
-        timer.join()
     return lines, None if is_late.is_set() else status
+
+
+def proofs():
+    """Runs .ci/proofs.py and returns how many of its cases passed, failed and were not tried, and its status."""
+    counts = re.compile(r"(\d+) passed, (\d+) failed")
+    lines, status = run_limited([sys.executable, f"{TOP}/.ci/proofs.py", f"{MINUTES:g}"], None, is_kept_back=counts.fullmatch)
+    counted = next(filter(None, map(counts.fullmatch, reversed(lines))), None)
+    passed, failed = map(int, counted.groups()) if counted else (0, 1)
+    left = sum(it.endswith(NOT_TRIED) for it in lines)
+    return passed - left, failed, left, status
 
 
 def cases(name, environment=None):
@@ -226,17 +162,16 @@ def clients():
         yield {**os.environ, "PEERS": folder}
 
 
-def gate(rt, begun):
+def gate():
     """The whole gate, and its status."""
     pages = [compared(name) for name in COMPARED]
-    it = Gate(rt, begun)
-    status = rt.ci(anew=False)
-    passed, failed = it.said.counts or (0, 1)
-    passed, failed, skipped = passed + sum(pages), failed + pages.count(False), len(it.left)
+    passed, failed, skipped, status = proofs()
+    passed, failed = passed + sum(pages), failed + pages.count(False)
     with clients() as environment:
         for name, program in JUDGED.items():
-            if not it.ran.get(program):
-                print(f"tests/{name} was not run, for want of a program that is proved and runs", flush=True)
+            # (rt ci puts aside what was there, so it has built what is there)
+            if not os.path.isfile(f"{TOP}/crates/{program}/out/{program}"):
+                print(f"tests/{name} was not run, for want of a program that is proved", flush=True)
                 continue
             some = cases(name, environment)
             passed, failed, skipped = passed + some[0], failed + some[1], skipped + some[2]
@@ -246,20 +181,7 @@ def gate(rt, begun):
 
 # ---- Its end
 
-def give_back(rt, room):
-    """Gives the crates back what earlier runs kept, where the gate was ended before it did."""
-    with contextlib.suppress(OSError), open(f"{TOP}/.git/rt-ci.lock", "a") as lock:
-        # Another run that has the lock has put its own aside there.
-        fcntl.flock(lock, fcntl.LOCK_EX | fcntl.LOCK_NB)
-        aside = f"{TOP}/.git/rt-aside"
-        if os.path.isdir(aside) and not os.path.islink(aside):
-            rt.put_back(TOP, aside, was_killed=True)
-            rt.clear(aside)
-    for aside in glob.glob(f"{glob.escape(room)}/rt-aside-*"):
-        rt.put_back(TOP, aside, was_killed=True)
-
-
-def beneath(rt, begun, room):
+def beneath(room):
     """The process that does the work; the one above it waits."""
     ctypes.CDLL(None).prctl(PR_SET_PDEATHSIG, signal.SIGKILL, 0, 0, 0)
     for it in (signal.SIGTERM, signal.SIGHUP):
@@ -269,7 +191,7 @@ def beneath(rt, begun, room):
     os.environ["TMPDIR"] = tempfile.tempdir = room
     status = 1
     try:
-        status = gate(rt, begun)
+        status = gate()
     except BaseException:
         traceback.print_exc()
     finally:
@@ -278,9 +200,7 @@ def beneath(rt, begun, room):
 
 
 def main():
-    begun = time.monotonic()
     os.chdir(TOP)
-    rt = toolchain(".ci/run")
     ctypes.CDLL(None).prctl(PR_SET_CHILD_SUBREAPER, 1, 0, 0, 0)
     room = tempfile.mkdtemp(prefix="gate-")
     # What is run as nobody lies below.
@@ -297,12 +217,11 @@ def main():
             signal.signal(it, interrupted)
         started = os.fork()
         if not started:
-            beneath(rt, begun, room)
+            beneath(room)
         ended = os.waitstatus_to_exitcode(os.waitpid(started, 0)[1])
         return ended if ended >= 0 else 128 - ended
     finally:
         end_all()
-        give_back(rt, room)
         shutil.rmtree(room, ignore_errors=True)
 
 

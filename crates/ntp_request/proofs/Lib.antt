@@ -11,3 +11,4 @@ pub mod Padding
 pub mod Composed
 pub mod Answered
 pub mod TheReading
+pub mod FirstCase

@@ -1,3 +1,4 @@
+pub mod FirstCase
 pub mod Field
 pub mod Tail
 pub mod Request

@@ -1,35 +1,54 @@
 -- What a client takes octets for, once they are read; and what it is before and after.
-use Rattle.std.proofs.Common.{◌≡◌, ◌≢◌, ℕ, ◌<◌, List, [], ◌∷◌, Option, Some, None, Result, sym, ap, ◌∙◌, arith}
+use Rattle.std.proofs.Common.{◌≡◌, ◌≢◌, ℕ, ◌<◌, List, [], ◌∷◌, Option, Some, None, Ok, refl, sym, ap, ◌∙◌, arith}
 use Rattle.std.specs.Prelude.{Contains}
+use Rattle.std.proofs.lemmas.Bool.{eq-eqb}
 use Rattle.ntp_time.specs.declared.stamp.Stamp.{Stamp}
 use Rattle.ntp_time.specs.declared.moment.Moment.{Moment}
 use Rattle.ntp_time.proofs.Freshness.{fresh-apart, fresh-nonzero}
 use Rattle.ntp_packet.specs.Header.{HeaderFields}
+use Rattle.ntp_request.specs.FirstCase.{◌>>◌, decided}
 use Rattle.ntp_request.specs.Request.{RequestValue}
-use Rattle.ntp_request.specs.declared.malformed.Malformed.{Malformed}
 use Rattle.ntp_mac.specs.Key.{SymmetricKey}
 use Rattle.ntp_mac.specs.Reading.{reading_of}
+use Rattle.ntp_mac.specs.Signed.{IsSigned}
+use Rattle.ntp_mac.proofs.Signing.{is-signed}
 use Rattle.ntp_client.specs.declared.exchange.Exchange.{Exchange}
 use Rattle.ntp_client.specs.declared.exchange.Outstanding.{Outstanding}
-use Rattle.ntp_client.specs.declared.taken.Taken.{Taken}
+use Rattle.ntp_client.specs.declared.pairing.Pairing.{Pairing}
+use Rattle.ntp_client.specs.declared.sample.Sample.{Sample}
 use Rattle.ntp_client.specs.State.{ClientState, IsOutstanding, IsClient}
-use Rattle.ntp_client.specs.Pairing.{exchange_of}
+use Rattle.ntp_client.specs.Pairing.{pairing_of, exchange_of, sample_of}
 use Rattle.ntp_client.specs.Query.{transmit_of}
-use Rattle.ntp_client.specs.Taking.{reading_taken, asked_taken, taken_for, read_exchange, exchange_with, after_exchange, after_taken}
+use Rattle.ntp_client.specs.Taking.{with_mac, taken_for}
+use Rattle.ntp_client.specs.Judging.{authentic_steps, mac_steps, tail_steps, packet_steps}
 
--- while a request waits, octets are taken for what they are read as
-pub read-taken : (c : ClientState) (q : Outstanding) (octets : List ℕ) (at : Moment) (a : Result RequestValue Malformed)
-    → c.outstanding ≡ Some q → a ≡ reading_of octets
-    → reading_taken c.key c.number q at a ≡ taken_for c octets at
-read-taken c q octets at a there is =
-    ap (reading_taken c.key c.number q at) is ∙ ap (λ o. asked_taken c.key c.number o octets at) (sym there)
+-- while a request waits, octets are taken for the packet that they are read as
+pub read-taken : (c : ClientState) (q : Outstanding) (octets : List ℕ) (r : RequestValue) (at : Moment) → c.outstanding ≡ Some q
+    → reading_of octets ≡ Ok r → taken_for c octets at ≡ decided (packet_steps c.key c.number q r at)
+read-taken c q octets r at there read = rw (there, read) refl
 
--- and the client after that is the one with that exchange
-pub read-after : (c : ClientState) (q : Outstanding) (octets : List ℕ) (at : Moment) (a : Result RequestValue Malformed) (t : Taken)
-    → c.outstanding ≡ Some q → a ≡ reading_of octets
-    → after_exchange c (read_exchange q at a) t ≡ after_taken c octets at t
-read-after c q octets at a t there is =
-    ap (λ e. after_exchange c e t) (ap (read_exchange q at) is ∙ ap (λ o. exchange_with o octets at) (sym there))
+-- and a server's reply to the request for what its tail says
+pub paired-taken : (key : SymmetricKey) (number : ℕ) (q : Outstanding) (r : RequestValue) (at : Moment) (p : Pairing)
+    → r.header.mode ≡ 4 → r.header.version ≡ 4 → pairing_of q r.header.origin ≡ Some p
+    → packet_steps key number q r at ≡ tail_steps key number p r (sample_of q p r.header at)
+paired-taken key number q r at p mode version paired =
+    rw (eq-eqb r.header.mode 4 mode, eq-eqb r.header.version 4 version, paired) refl
+
+-- by what is seen of its header and by its sample
+pub judged-taken : (key : SymmetricKey) (number : ℕ) (q : Outstanding) (r : RequestValue) (at : Moment) (p : Pairing) (h : HeaderFields)
+    (s : Sample) → h ≡ r.header → h.mode ≡ 4 → h.version ≡ 4 → pairing_of q h.origin ≡ Some p → s ≡ sample_of q p h at
+    → tail_steps key number p r s ≡ packet_steps key number q r at
+judged-taken key number q r at p h s same mode version paired is =
+    ap (tail_steps key number p r) (is ∙ ap (λ h. sample_of q p h at) same)
+    ∙ sym (paired-taken key number q r at p (ap (λ (h : HeaderFields). h.mode) (sym same) ∙ mode)
+    (ap (λ (h : HeaderFields). h.version) (sym same) ∙ version) (ap (λ (h : HeaderFields). pairing_of q h.origin) (sym same) ∙ paired))
+
+-- and a signed one for what its header says
+pub signed-taken : (key : SymmetricKey) (number : ℕ) (p : Pairing) (r : RequestValue) (x : Sample) → IsSigned key number r
+    → tail_steps key number p r x ≡ authentic_steps p r.header x
+unfolding IsSigned
+signed-taken key number p r x signed =
+    ap (λ tail. with_mac r p tail >> mac_steps key number p r x) signed ∙ rw ((is-signed key number r).1 signed) refl
 
 -- no request has its receive stamp as its transmit stamp
 transmit-apart : (earlier : Option Exchange) (now : Moment) (e : Exchange) → earlier ≡ Some e → e.arrival ≢ transmit_of earlier now

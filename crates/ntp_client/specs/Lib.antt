@@ -3,3 +3,4 @@ pub mod Query
 pub mod Pairing
 pub mod Sample
 pub mod Taking
+pub mod Judging

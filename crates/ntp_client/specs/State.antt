@@ -4,8 +4,8 @@ use Rattle.ntp_mac.specs.Key.{SymmetricKey}
 use Rattle.ntp_client.specs.declared.exchange.Exchange.{Exchange}
 use Rattle.ntp_client.specs.declared.exchange.Outstanding.{Outstanding}
 
--- the key and its number, the request that waits for its reply, and the exchange that gave a sample since the last request
--- (profile)
+-- the key and its number, the request that waits for its reply, and the exchange that gave a sample since the last request; the code's
+-- `Client` hides them (profile)
 pub record ClientState : Type 0 where
   pub key : SymmetricKey
   pub number : ℕ

@@ -1,9 +1,11 @@
 //! A client, with its request and what it takes for a reply.
-ghost use Rattle.std.specs.Prelude.{◌≡◌, ◌<◌, Some};
+ghost use Rattle.std.specs.Prelude.{◌≡◌, ◌<◌, List, ℕ, Some, Ok};
+ghost use Rattle.ntp_request.specs.FirstCase.{decided};
+ghost use Rattle.ntp_mac.specs.Reading.{reading_of};
 ghost use Rattle.ntp_client.specs.State.{new_client, IsClient};
 ghost use Rattle.ntp_client.specs.Query.{query_octets, next_query, after_query};
-ghost use Rattle.ntp_client.specs.Pairing.{exchange_of};
-ghost use Rattle.ntp_client.specs.Taking.{packet_taken, taken_for, after_exchange, after_taken};
+ghost use Rattle.ntp_client.specs.Taking.{taken_for, after_taken};
+ghost use Rattle.ntp_client.specs.Judging.{packet_steps};
 
 use crate::exchange::{Exchange, Outstanding};
 use crate::judging::judge;
@@ -102,8 +104,8 @@ impl Client {
     // What a packet is taken for that arrives at a moment.
     fn take_reply(&mut self, asked: Outstanding, reply: &Request<'_>, at: Moment) -> Taken
         requires { self.old.outstanding ≡ Some asked }
-        ensures first { result ≡ packet_taken self.old.key self.old.number asked reply.now at }
-        ensures after { self.new ≡ after_exchange self.old (Some (exchange_of asked reply.now.header at)) result }
+        ensures first { result ≡ decided (packet_steps self.old.key self.old.number asked reply.now at) }
+        ensures after { (octets : List ℕ) → reading_of octets ≡ Ok reply.now → self.new ≡ after_taken self.old octets at result }
         ensures client { IsClient self.new }
     {
         let taken = judge(&self.key, self.number, asked, reply, at);

@@ -1,6 +1,8 @@
 //! What a reply is taken for, in the order of the cases.
 ghost use Rattle.std.specs.Prelude.{◌≡◌};
-ghost use Rattle.ntp_client.specs.Taking.{is_kiss, is_unsynchronised, lacks_stamp, authentic_taken, mac_taken, tail_taken, packet_taken};
+ghost use Rattle.ntp_request.specs.FirstCase.{decided};
+ghost use Rattle.ntp_client.specs.Taking.{is_kiss, is_unsynchronised, lacks_stamp};
+ghost use Rattle.ntp_client.specs.Judging.{authentic_steps, mac_steps, tail_steps, packet_steps};
 
 use crate::exchange::Outstanding;
 use crate::pairing::{Pairing, is_basic, pairing_of, sample_of};
@@ -29,7 +31,7 @@ pub(crate) fn judge(
     reply: &Request<'_>,
     at: Moment,
 ) -> Taken
-    ensures { result ≡ packet_taken key.now number asked reply.now at }
+    ensures { result ≡ decided (packet_steps key.now number asked reply.now at) }
 {
     if reply.header.mode() != SERVER_MODE {
         return Taken::Refused(Distrust::Mode);
@@ -52,7 +54,7 @@ fn judge_tail(
     reply: &Request<'_>,
     sample: Sample,
 ) -> Taken
-    ensures { result ≡ tail_taken key.now number pairing reply.now sample reply.now.tail }
+    ensures { result ≡ decided (tail_steps key.now number pairing reply.now sample) }
 {
     match reply.tail {
         Tail::Absent if is_kiss(&reply.header, DENY_CODE, pairing) => Taken::Deny,
@@ -64,7 +66,7 @@ fn judge_tail(
 
 // What a reply with a MAC is taken for.
 fn judge_mac(key: &Key, number: u16, pairing: Pairing, reply: &Request<'_>, sample: Sample) -> Taken
-    ensures { result ≡ mac_taken key.now number pairing reply.now sample }
+    ensures { result ≡ decided (mac_steps key.now number pairing reply.now sample) }
 {
     if verifies(key, number, reply) {
         judge_authentic(pairing, &reply.header, sample)
@@ -75,7 +77,7 @@ fn judge_mac(key: &Key, number: u16, pairing: Pairing, reply: &Request<'_>, samp
 
 // What an authentic reply is taken for.
 fn judge_authentic(pairing: Pairing, reply: &Header, sample: Sample) -> Taken
-    ensures { result ≡ authentic_taken pairing reply.now sample }
+    ensures { result ≡ decided (authentic_steps pairing reply.now sample) }
 {
     if is_kiss(reply, RATE_CODE, pairing) {
         Taken::Rate

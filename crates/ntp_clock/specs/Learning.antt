@@ -15,7 +15,8 @@ use Rattle.ntp_reply_packets.specs.Reference.{ReferenceState, reference_of}
 use Rattle.ntp_clock.specs.declared.answer.ClockAnswer.{ClockAnswer}
 use Rattle.ntp_clock.specs.declared.limits.ClockLimits.{ClockLimits}
 
--- what a follower of the host's clock daemon knows: the client that asks it, the limits, and the last answer (profile)
+-- what a follower of the host's clock daemon knows: the client that asks it, the limits, and the last answer; the code's `Follower` hides
+-- them (profile)
 pub record FollowerState : Type 0 where
   pub client : ClientState
   pub limits : ClockLimits

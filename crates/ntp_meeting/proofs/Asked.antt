@@ -1,11 +1,7 @@
 -- What a client's request is to the server.
-use Rattle.std.proofs.Common.{◌≡◌, ℕ, ◌^◌, ◌<◌, Some, IfSome, refl, ap, ◌∙◌}
+use Rattle.std.proofs.Common.{◌≡◌, ℕ, ◌^◌, ◌<◌, Some, IfSome, Ok, refl, ap, ◌∙◌}
 use Rattle.ntp_time.specs.declared.moment.Moment.{Moment}
-use Rattle.ntp_packet.specs.Header.{HeaderFields, header_octets}
-use Rattle.ntp_request.specs.Tail.{MacTail}
-use Rattle.ntp_request.specs.declared.digests.Digest.{Digest}
 use Rattle.ntp_mac.specs.Key.{SymmetricKey}
-use Rattle.ntp_mac.specs.Digest.{digest_of}
 use Rattle.ntp_mac.specs.Reading.{reading_of}
 use Rattle.ntp_mac.proofs.Signing.{is-signed}
 use Rattle.ntp_client.specs.declared.exchange.Outstanding.{Outstanding}
@@ -14,18 +10,18 @@ use Rattle.ntp_client.specs.Query.{query_fields, next_query, after_query}
 use Rattle.ntp_customer.specs.Customer.{Enrolment, held_in}
 use Rattle.ntp_customer.specs.Past.{Past}
 use Rattle.ntp_reply_packets.specs.declared.occasion.Occasion.{Occasion}
-use Rattle.ntp_reply.specs.Kind.{Signed, client_kind, octets_kind, kind_of}
+use Rattle.ntp_reply.specs.Kind.{Signed, octets_kind, kind_of}
 use Rattle.ntp_reply.specs.Verdict.{kind_answer, verdict}
 use Rattle.ntp_meeting.specs.Meeting.{Waits, SharesKey, request_octets}
 use Rattle.ntp_meeting.proofs.Headers.{IsHeader-query}
 use Rattle.ntp_meeting.proofs.Readings.{sealed_packet, signed-sealed, read-sealed}
 
--- sealed under a key that the customer has, a packet is signed
-signed-kind : (key : SymmetricKey) (number : ℕ) (h : HeaderFields) (e : Enrolment) (d : Digest)
+-- sealed under a key that the customer has, a request is signed
+signed-kind : (key : SymmetricKey) (number : ℕ) (q : Outstanding) (e : Enrolment)
     → held_in e number ≡ Some (record { number = number; key = key })
-    → client_kind (sealed_packet key number h) (Some e) (MacTail number d) ≡ Signed key number h
-signed-kind key number h e d held =
-    rw (held, (is-signed key number (sealed_packet key number h)).1 (signed-sealed key number h)) refl
+    → octets_kind (Some e) (Ok (sealed_packet key number (query_fields q))) ≡ Signed key number (query_fields q)
+signed-kind key number q e held =
+    rw (held, (is-signed key number (sealed_packet key number (query_fields q))).1 (signed-sealed key number (query_fields q))) refl
 
 -- a request is a signed query, where the key is shared
 pub request-kind : (c : ClientState) (q : Outstanding) (past : Past) → Waits c q → SharesKey past c
@@ -33,7 +29,7 @@ pub request-kind : (c : ClientState) (q : Outstanding) (past : Past) → Waits c
 request-kind c q past waits shares =
     ap (λ enrolment. octets_kind enrolment (reading_of (request_octets c q))) shares.enrolled
     ∙ ap (octets_kind (Some shares.enrolment)) (read-sealed c.key c.number (query_fields q) waits.header waits.number)
-    ∙ signed-kind c.key c.number (query_fields q) shares.enrolment (digest_of c.key (header_octets (query_fields q))) shares.key
+    ∙ signed-kind c.key c.number q shares.enrolment shares.key
 
 -- and its answer is that to one
 pub request-answer : (c : ClientState) (q : Outstanding) (past : Past) (o : Occasion) → Waits c q → SharesKey past c

@@ -8,13 +8,14 @@ use Rattle.ntp_packet.specs.Header.{HeaderFields, IsHeader}
 use Rattle.ntp_mac.specs.Reading.{reading_of}
 use Rattle.ntp_slots.specs.declared.slot.Slot.{Slot}
 use Rattle.ntp_slots.specs.Exchanges.{new_exchange, unused_at}
+use Rattle.ntp_client.specs.declared.exchange.Exchange.{Exchange}
 use Rattle.ntp_client.specs.declared.exchange.Outstanding.{Outstanding}
 use Rattle.ntp_client.specs.declared.sample.Sample.{Sample}
 use Rattle.ntp_client.specs.declared.taken.Taken.TheVariants as taken
 use Rattle.ntp_client.specs.State.{ClientState}
 use Rattle.ntp_client.specs.Query.{query_fields}
 use Rattle.ntp_client.specs.Pairing.{exchange_of}
-use Rattle.ntp_client.specs.Taking.{read_exchange, exchange_with, after_exchange, after_taken}
+use Rattle.ntp_client.specs.Taking.{exchange_with, after_taken}
 use Rattle.ntp_customer.specs.Past.{Past}
 use Rattle.ntp_reply_packets.specs.Replies.{time_fields}
 use Rattle.ntp_reply_packets.specs.declared.occasion.Occasion.{Occasion}
@@ -62,8 +63,8 @@ module _ (c : ClientState) (q : Outstanding) (past : Past) (o : Occasion) (reply
       let read : reading_of reply ≡ Ok (sealed_packet c.key c.number h) =
       ap reading_of told.0 ∙ read-sealed c.key c.number h header.0 waits.number in
       let exchange : exchange_with c.outstanding reply at ≡ Some (exchange_of q h at) =
-      ap (λ o. exchange_with o reply at) waits.outstanding ∙ ap (read_exchange q at) read in
-      ap (λ e. after_exchange c e (taken.Sample s)) (exchange
+      rw (waits.outstanding, read) refl in
+      ap (λ (e : Option Exchange). record c { outstanding = None; sampled = e }) (exchange
       ∙ ap (λ r. Some (record { transmit = q.transmit; receive = r; arrival = fresh at.stamp [] })) (header.1 ∙ sym told.1))
 
   -- and the server has it, unused

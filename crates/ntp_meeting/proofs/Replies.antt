@@ -4,9 +4,9 @@ use Rattle.std.proofs.lemmas.Bool.{eq-eqb, ne_eqb}
 use Rattle.ntp_time.specs.declared.stamp.Stamp.{Stamp}
 use Rattle.ntp_time.specs.declared.moment.Moment.{Moment}
 use Rattle.ntp_packet.specs.Header.{HeaderFields, IsHeader}
+use Rattle.ntp_request.specs.FirstCase.{decided}
 use Rattle.ntp_request.specs.Tail.{NoTail, BareTail}
 use Rattle.ntp_request.specs.Request.{RequestValue}
-use Rattle.ntp_mac.specs.Key.{SymmetricKey}
 use Rattle.ntp_mac.specs.Reading.{reading_of}
 use Rattle.ntp_client.specs.declared.exchange.Outstanding.{Outstanding}
 use Rattle.ntp_client.specs.declared.pairing.Pairing.{Pairing}
@@ -17,10 +17,11 @@ use Rattle.ntp_client.specs.State.{ClientState}
 use Rattle.ntp_client.specs.Query.{query_fields}
 use Rattle.ntp_client.specs.Pairing.{pairing_of, sample_of}
 use Rattle.ntp_client.specs.Sample.{IsTimeReply}
-use Rattle.ntp_client.specs.Taking.{authentic_taken, packet_taken, paired_taken, reading_taken, asked_taken, taken_for}
+use Rattle.ntp_client.specs.Taking.{taken_for}
+use Rattle.ntp_client.specs.Judging.{authentic_steps, tail_steps}
 use Rattle.ntp_client.proofs.Pairings.{basic-pairing}
 use Rattle.ntp_client.proofs.Authentic.{time-taken}
-use Rattle.ntp_client.proofs.Samples.{signed-taken}
+use Rattle.ntp_client.proofs.Takings.{read-taken, paired-taken, signed-taken}
 use Rattle.ntp_customer.specs.Past.{Past}
 use Rattle.ntp_reply_packets.specs.Reference.{ReferenceState, IsReference}
 use Rattle.ntp_reply_packets.specs.Replies.{reply_fields, basic_fields, kiss_fields, shown_stratum}
@@ -33,16 +34,13 @@ use Rattle.ntp_meeting.proofs.Stamps.{receive-known, receive-fits, transmit-fits
 use Rattle.ntp_meeting.proofs.Headers.{IsHeader-reply, IsHeader-kiss}
 use Rattle.ntp_meeting.proofs.Readings.{packet, sealed_packet, signed-sealed, read-header, read-nak, read-sealed}
 
--- while a request waits, octets are taken for the packet that they are read as
-pub read-taken : (c : ClientState) (q : Outstanding) (octets : List ℕ) (r : RequestValue) (at : Moment) → c.outstanding ≡ Some q
-    → reading_of octets ≡ Ok r → taken_for c octets at ≡ packet_taken c.key c.number q r at
-read-taken c q octets r at there read =
-    ap (λ o. asked_taken c.key c.number o octets at) there ∙ ap (reading_taken c.key c.number q at) read
-
--- a reply to the request's transmit stamp is paired with the request
-basic-taken : (key : SymmetricKey) (number : ℕ) (q : Outstanding) (r : RequestValue) (at : Moment) → r.header.origin ≡ q.transmit
-    → paired_taken key number q r at (pairing_of q r.header.origin) ≡ paired_taken key number q r at (Some Basic)
-basic-taken key number q r at is = ap (paired_taken key number q r at) (basic-pairing q r.header.origin is)
+-- a reply to the request's transmit stamp is taken for what its tail says
+basic-taken : (c : ClientState) (q : Outstanding) (octets : List ℕ) (r : RequestValue) (at : Moment) → c.outstanding ≡ Some q
+    → reading_of octets ≡ Ok r → r.header.mode ≡ 4 → r.header.version ≡ 4 → r.header.origin ≡ q.transmit
+    → taken_for c octets at ≡ decided (tail_steps c.key c.number Basic r (sample_of q Basic r.header at))
+basic-taken c q octets r at there read mode version is =
+    read-taken c q octets r at there read
+    ∙ ap decided (paired-taken c.key c.number q r at Basic mode version (basic-pairing q r.header.origin is))
 
 -- a RATE is taken for one
 pub rate-taken : (c : ClientState) (q : Outstanding) (at : Moment) → Waits c q
@@ -50,16 +48,15 @@ pub rate-taken : (c : ClientState) (q : Outstanding) (at : Moment) → Waits c q
 rate-taken c q at waits =
     let h : HeaderFields = kiss_fields Rate (query_fields q) in
     let r : RequestValue = sealed_packet c.key c.number h in
-    read-taken c q _ r at waits.outstanding (read-sealed c.key c.number h (IsHeader-kiss Rate q waits.header) waits.number)
-    ∙ basic-taken c.key c.number q r at refl
-    ∙ signed-taken c.key c.number Basic r (sample_of q Basic h at) (signed-sealed c.key c.number h)
+    basic-taken c q _ r at waits.outstanding (read-sealed c.key c.number h (IsHeader-kiss Rate q waits.header) waits.number) refl refl refl
+    ∙ ap decided (signed-taken c.key c.number Basic r (sample_of q Basic h at) (signed-sealed c.key c.number h))
 
 -- a DENY is taken for one
 pub deny-taken : (c : ClientState) (q : Outstanding) (at : Moment) → Waits c q → taken_for c (deny_octets (query_fields q)) at ≡ taken.Deny
 deny-taken c q at waits =
     let h : HeaderFields = kiss_fields Deny (query_fields q) in
     let r : RequestValue = packet h NoTail in
-    read-taken c q _ r at waits.outstanding (read-header h (IsHeader-kiss Deny q waits.header)) ∙ basic-taken c.key c.number q r at refl
+    basic-taken c q _ r at waits.outstanding (read-header h (IsHeader-kiss Deny q waits.header)) refl refl refl
 
 -- a crypto-NAK is taken for one
 pub nak-taken : (c : ClientState) (q : Outstanding) (past : Past) (o : Occasion) (at : Moment) → Waits c q → FitsPacket o.reference
@@ -69,7 +66,7 @@ nak-taken c q past o at waits fits =
     let is : IsHeader h =
     IsHeader-reply o.reference q q.transmit _ _ fits waits.header waits.header.transmit (receive-fits past o) (transmit-fits past o) in
     let r : RequestValue = packet h (BareTail 0) in
-    read-taken c q _ r at waits.outstanding (read-nak h is) ∙ basic-taken c.key c.number q r at refl
+    basic-taken c q _ r at waits.outstanding (read-nak h is) refl refl refl
 
 -- the header of a signed reply, with the new receive stamp
 abbrev stamped : Past → Occasion → Outstanding → Stamp → Stamp → HeaderFields
@@ -79,15 +76,15 @@ stamped past o q origin transmit = reply_fields o.reference (query_fields q) ori
 signed-reply : (c : ClientState) (q : Outstanding) (past : Past) (o : Occasion) (at : Moment) (p : Pairing) (origin transmit : Stamp)
     → Waits c q → FitsPacket o.reference → origin.0 < 2 ^ 64 → transmit.0 < 2 ^ 64 → pairing_of q origin ≡ Some p
     → taken_for c (time_octets c.key c.number (stamped past o q origin transmit)) at
-    ≡ authentic_taken p (stamped past o q origin transmit) (sample_of q p (stamped past o q origin transmit) at)
+    ≡ decided (authentic_steps p (stamped past o q origin transmit) (sample_of q p (stamped past o q origin transmit) at))
 signed-reply c q past o at p origin transmit waits fits origin_fits transmit_fits paired =
     let h : HeaderFields = stamped past o q origin transmit in
     let r : RequestValue = sealed_packet c.key c.number h in
     let is : IsHeader h =
     IsHeader-reply o.reference q origin _ transmit fits waits.header origin_fits (receive-fits past o) transmit_fits in
     read-taken c q _ r at waits.outstanding (read-sealed c.key c.number h is waits.number)
-    ∙ ap (paired_taken c.key c.number q r at) paired
-    ∙ signed-taken c.key c.number p r (sample_of q p h at) (signed-sealed c.key c.number h)
+    ∙ ap decided (paired-taken c.key c.number q r at p refl refl paired
+    ∙ signed-taken c.key c.number p r (sample_of q p h at) (signed-sealed c.key c.number h))
 
 -- the stratum of a clock that is synchronised
 stratum-synchronised : (r : ReferenceState) → IsReference r → r.leap ≢ 3 → (1 ≤ shown_stratum r) × (shown_stratum r ≤ 15)

@@ -1,5 +1,5 @@
 -- How many octets requests and replies have.
-use Rattle.std.proofs.Common.{◌≡◌, ℕ, ◌+◌, ◌≤◌, List, length, ap, ◌∙◌, subst, arith}
+use Rattle.std.proofs.Common.{◌≡◌, ℕ, ◌+◌, ◌≤◌, List, length, Ok, ap, ◌∙◌, subst, arith}
 use Rattle.ntp_request.specs.Tail.{TailValue, NoTail, BareTail, MacTail, tail_octets, IsTail}
 use Rattle.ntp_request.specs.Request.{RequestValue, IsReading}
 use Rattle.ntp_request.specs.declared.digests.Digest.TheVariants as digest
@@ -9,8 +9,8 @@ use Rattle.ntp_mac.specs.Digest.{digest_length, hash}
 use Rattle.ntp_mac.specs.Signed.{IsSigned}
 use Rattle.ntp_mac.specs.declared.key.Algorithm.{Algorithm}
 use Rattle.ntp_mac.specs.declared.key.Algorithm.TheVariants.{Md5, Sha1}
+use Rattle.ntp_reply.specs.Kind.{mac_number}
 use Rattle.ntp_reply.specs.Verdict.{request_length}
-use Rattle.ntp_reply.specs.Answered.{HasMac}
 
 -- a request has a header
 pub signed-long : (r : RequestValue) → IsReading r → 48 ≤ length r.signed
@@ -25,15 +25,15 @@ pub sha1-long : (number : ℕ) (octets : List ℕ) → IsTail (MacTail number (d
 unfolding tail_octets
 sha1-long number octets is = omega (arith, is.1)
 
-mac-long : (number : ℕ) (tail : TailValue) → IsTail tail → HasMac number tail → 20 ≤ length (tail_octets tail)
-mac-long number NoTail is mac = absurd mac
-mac-long number (MacTail found (digest.Md5 octets)) is mac = omega (arith, md5-long found octets is)
-mac-long number (MacTail found (digest.Sha1 octets)) is mac = omega (arith, sha1-long found octets is)
-mac-long number (BareTail found) is mac = absurd mac
+mac-long : (r : RequestValue) (number : ℕ) (tail : TailValue) → IsTail tail → mac_number r tail ≡ Ok number → 20 ≤ length (tail_octets tail)
+mac-long r number NoTail is mac = grind arith
+mac-long r number (MacTail found (digest.Md5 octets)) is mac = omega (arith, md5-long found octets is)
+mac-long r number (MacTail found (digest.Sha1 octets)) is mac = omega (arith, sha1-long found octets is)
+mac-long r number (BareTail found) is mac = grind arith
 
 -- so a request with one is as long as a crypto-NAK
-pub mac-fits : (number : ℕ) (r : RequestValue) → IsReading r → HasMac number r.tail → 52 ≤ request_length r
-mac-fits number r is mac = omega (arith, signed-long r is, mac-long number r.tail is.tail mac)
+pub mac-fits : (number : ℕ) (r : RequestValue) → IsReading r → mac_number r r.tail ≡ Ok number → 52 ≤ request_length r
+mac-fits number r is mac = omega (arith, signed-long r is, mac-long r number r.tail is.tail mac)
 
 -- a MAC under an algorithm has four octets more than its digest
 signed-tail : (algorithm : Algorithm) (message : List ℕ) (number : ℕ) (tail : TailValue) → IsTail tail

@@ -7,7 +7,8 @@ use Rattle.ntp_budget.specs.Tally.{tally, count_in, most_counted}
 use Rattle.ntp_budget.proofs.Tallies.{tally-tells_all}
 use Rattle.ntp_packet.specs.Header.{HeaderFields}
 use Rattle.ntp_mac.specs.Reading.{reading_of}
-use Rattle.ntp_customer.specs.Customer.{enrolment_at, budget_of, with_queries, changing}
+use Rattle.ntp_customer.specs.Customer.{enrolment_at, budget_of, changing}
+use Rattle.ntp_customer.proofs.Customers.{with_queries}
 use Rattle.ntp_customer.specs.Past.{Past, queries_in, with_refusal, with_query, short}
 use Rattle.ntp_customer.proofs.Pasts.{enrolment_at-short, queries_kept, queries-short, short-with_query}
 use Rattle.ntp_reply_packets.specs.Replies.{new_stamps, basic_fields, crypto_nak_octets, deny_octets, rate_octets}

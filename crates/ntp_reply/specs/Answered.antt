@@ -1,6 +1,5 @@
 -- Not to be believed: for proofs. What the private functions give that answer a datagram.
 use Rattle.std.specs.Prelude.{◌≡◌, ◌≤◌, ℕ}
-use Rattle.ntp_request.specs.Tail.{TailValue, MacTail}
 use Rattle.ntp_customer.specs.Customer.{CustomerState, numbers_of}
 use Rattle.ntp_customer.specs.Past.{Past, short}
 use Rattle.ntp_reply_packets.specs.declared.occasion.Occasion.{Occasion}
@@ -15,8 +14,3 @@ pub record Answers (o : Occasion) (kind : Kind) (most : ℕ) (old new : Customer
   pub after : (past : Past) → short past ≡ old → new ≡ short (after_kind past o kind)
   pub numbers : numbers_of new ≡ numbers_of old
   pub no_longer : reply_length reply ≤ most
-
--- a tail has a MAC of this key number
-abbrev pub HasMac : ℕ → TailValue → Type 0
-HasMac number (MacTail found digest) = found ≡ number
-HasMac number other = ⊥

@@ -1,7 +1,7 @@
 -- What a datagram is to the address from which it came.
-use Rattle.std.specs.Prelude.{ℕ, List, not, ◌==◌, ◌||◌, if◌then◌else◌, Option, Some, None, Result, Ok, Err}
-use Rattle.std.specs.Option.{option_map_or}
+use Rattle.std.specs.Prelude.{ℕ, List, ◌==◌, ◌||◌, Option, ok_or, Result, Ok, Err}
 use Rattle.ntp_packet.specs.Header.{HeaderFields}
+use Rattle.ntp_request.specs.FirstCase.{◌>>=◌, ◌>>◌, provided, decided}
 use Rattle.ntp_request.specs.Tail.{TailValue, NoTail, BareTail, MacTail}
 use Rattle.ntp_request.specs.Request.{RequestValue}
 use Rattle.ntp_request.specs.declared.malformed.Malformed.{Malformed}
@@ -21,22 +21,24 @@ pub data Kind : Type 0 where
   RefusedByNak : HeaderFields → Kind
   Signed : SymmetricKey → ℕ → HeaderFields → Kind
 
--- a client's request, by the enrolment of its address, if it has one now, and by the request's tail (RFC 5905; profile)
-abbrev pub client_kind : RequestValue → Option Enrolment → TailValue → Kind
-client_kind r None tail = RefusedByDeny r.header
-client_kind r (Some e) NoTail = RefusedByDeny r.header
-client_kind r (Some e) (BareTail number) = PassedOver reason.Bare
-client_kind r (Some e) (MacTail number digest) =
-    let refused = RefusedByNak r.header in
-    option_map_or (λ k. if is_signed k.key k.number r then Signed k.key k.number r.header else refused) (held_in e number) refused
+-- the key number of a request's MAC: without a MAC the request is refused, and a bare key number is passed over (RFC 5905; profile)
+abbrev pub mac_number : RequestValue → TailValue → Result ℕ Kind
+mac_number r NoTail = Err (RefusedByDeny r.header)
+mac_number r (BareTail number) = Err (PassedOver reason.Bare)
+mac_number r (MacTail number digest) = Ok number
 
--- octets, as they are read, from an address that was enrolled once; the first case that applies decides (profile)
+-- octets, as they are read, from an address that was enrolled once, by its enrolment, if it has one now; the first case that applies
+-- decides (profile)
 abbrev pub octets_kind : Option Enrolment → Result RequestValue Malformed → Kind
 octets_kind enrolment (Err fault) = PassedOver (reason.Malformed fault)
-octets_kind enrolment (Ok r) =
-    if not ((r.header.version == 3) || (r.header.version == 4)) then PassedOver reason.Version
-    else if not (r.header.mode == 3) then PassedOver reason.Mode
-    else client_kind r enrolment r.tail
+octets_kind enrolment (Ok r) = decided do
+  provided ((r.header.version == 3) || (r.header.version == 4)) (PassedOver reason.Version)
+  provided (r.header.mode == 3) (PassedOver reason.Mode)
+  e ← ok_or enrolment (RefusedByDeny r.header)
+  number ← mac_number r r.tail
+  k ← ok_or (held_in e number) (RefusedByNak r.header)
+  provided (is_signed k.key k.number r) (RefusedByNak r.header)
+  Ok (Signed k.key k.number r.header)
 
 -- a datagram (profile)
 abbrev pub kind_of : Past → List ℕ → Kind

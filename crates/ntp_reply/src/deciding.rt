@@ -1,11 +1,11 @@
 //! The decision, in its order.
-ghost use Rattle.std.specs.Prelude.{◌≡◌, ◌≤◌, ◌||◌, ◌==◌, length, IsSome};
+ghost use Rattle.std.specs.Prelude.{◌≡◌, ◌≤◌, ◌||◌, ◌==◌, true, length, IsSome, Ok};
 ghost use Rattle.ntp_customer.specs.Customer.{enrolment_at, numbers_of};
 ghost use Rattle.ntp_customer.specs.Past.{Past, short};
-ghost use Rattle.ntp_reply.specs.Kind.{client_kind, octets_kind, kind_of};
+ghost use Rattle.ntp_reply.specs.Kind.{mac_number, octets_kind, kind_of};
 ghost use Rattle.ntp_reply_packets.specs.Replies.{occasion_of};
 ghost use Rattle.ntp_reply.specs.Verdict.{kind_answer, after_kind, reply_length, request_length};
-ghost use Rattle.ntp_reply.specs.Answered.{Answers, HasMac};
+ghost use Rattle.ntp_reply.specs.Answered.{Answers};
 
 use crate::refusing::{deny, nak};
 use crate::signed_queries::serve_signed;
@@ -106,9 +106,11 @@ fn answer_mac<A: Allocator + Copy>(
     occasion: &Occasion,
 ) -> Answer
     requires enrolled { IsSome (enrolment_at customer.old) }
-    requires mac { HasMac number request.now.tail }
-    ensures { Answers occasion.now (client_kind request.now (enrolment_at customer.old) request.now.tail) (request_length request.now)
-        customer.old customer.new result }
+    requires served { ((request.now.header.version == 3) || (request.now.header.version == 4)) ≡ true }
+    requires mode { request.now.header.mode ≡ 3 }
+    requires mac { mac_number request.now request.now.tail ≡ Ok number }
+    ensures { Answers occasion.now (octets_kind (enrolment_at customer.old) (Ok request.now)) (request_length request.now) customer.old
+        customer.new result }
 {
     let Some(found) = customer.held(number) else {
         return nak(customer, &request.header, occasion);

@@ -1,9 +1,10 @@
--- The settings of a configuration file, or the first fault in them.
+-- The settings of a configuration file, or the first fault in them: each step gives a part of them, or the file's fault.
 use Rattle.std.specs.Prelude.{ℕ, suc, ◌≤◌, ◌==◌, IfSome, Bool, false, if◌then◌else◌, List, codes, Option, Some, None, Result, Ok, Err}
 use Rattle.std.specs.Option.{ok_or, option_map, option_map_or}
 use Rattle.std.specs.Str.{bytes_eq}
 use Rattle.std.specs.declared.num.NonZeroU16.{NonZeroU16}
 use Rattle.toml.specs.Data.{Data, Members, no_members, member, get_member, as_str, as_table}
+use Rattle.ntp_request.specs.FirstCase.{◌>>=◌}
 use Rattle.ntp_mac.specs.declared.key.Algorithm.{Algorithm}
 use Rattle.labntpd_configuration.specs.declared.configuration.Endpoint.{Endpoint}
 use Rattle.labntpd_configuration.specs.declared.configuration.Listen.{Listen}
@@ -13,12 +14,6 @@ use Rattle.labntpd_configuration.specs.declared.setting.Setting.{Setting}
 use Rattle.labntpd_configuration.specs.declared.setting.Setting.TheVariants as setting
 use Rattle.labntpd_configuration.specs.Keys.{key_of}
 use Rattle.labntpd_configuration.specs.Values.{listen_of, endpoint_of, path_of, whole_of, number_of, algorithm_of, seconds_of}
-
--- the second step, where the first gave a value; otherwise its fault is the file's
-infixl 10 ◌>>=◌
-abbrev pub ◌>>=◌ : {X Y : Type 0} → Result X ConfigurationFault → (X → Result Y ConfigurationFault) → Result Y ConfigurationFault
-Ok x >>= f = f x
-Err e >>= f = Err e
 
 -- a setting that has to stand there (profile)
 abbrev pub required : {X : Type 0} → Setting → (Data → Option X) → Members → Result X ConfigurationFault
@@ -45,7 +40,7 @@ nanoseconds = 1000000000
 abbrev pub short_units : ℕ
 short_units = 65536
 
--- what the table `[clock]` says of a daemon
+-- what the table `[clock]` says of a daemon; the code's `ClockSettings` borrows its path (profile)
 pub record Daemon : Type 0 where
   pub source : Endpoint
   pub number : NonZeroU16
@@ -95,7 +90,7 @@ clock_in clock =
     then (if key_count clock == 1 then Ok None else Err (fault.Wanted setting.Source))
     else daemon_in clock >>= (λ daemon. Ok (Some daemon))
 
--- what a configuration file says
+-- what a configuration file says; the code's `Settings` borrows its paths (profile)
 pub record Settings : Type 0 where
   pub listen : Listen
   pub register : List ℕ

@@ -1,7 +1,8 @@
--- What a line of a script says, or the first fault in it.
+-- What a line of a script says, or the first fault in it: each step gives a part of it, or the line's fault.
 use Rattle.std.specs.Prelude.{◌≡◌, ◌==◌, ℕ, Bool, true, false, if◌then◌else◌, List, [], ◌∷◌, codes, Result, Ok, Err}
 use Rattle.std.specs.Option.{ok_or}
 use Rattle.std.specs.Str.{bytes_eq}
+use Rattle.ntp_request.specs.FirstCase.{◌>>=◌}
 use Rattle.ntp_admin.specs.Words.{words, address_in, number_in, algorithm_in, key_in, stamp_in, moment_in, reference_in, octets_in}
 use Rattle.ntp_events.specs.declared.command.Command.{Command}
 use Rattle.ntp_events.specs.declared.command.Command.TheVariants as command
@@ -14,12 +15,6 @@ use Rattle.ntp_events.specs.declared.line_fault.LineFault.TheVariants as fault
 abbrev pub is_passed_over : List ℕ → Bool
 is_passed_over [] = true
 is_passed_over (x ∷ xs) = x == 35
-
--- the second step, where the first gave a value; otherwise its fault is the line's
-infixl 10 ◌>>=◌
-abbrev pub ◌>>=◌ : {X Y : Type 0} → Result X LineFault → (X → Result Y LineFault) → Result Y LineFault
-Ok x >>= f = f x
-Err e >>= f = Err e
 
 -- the words behind `enrol` (profile)
 abbrev pub enrol_in : List (List ℕ) → Result Command LineFault

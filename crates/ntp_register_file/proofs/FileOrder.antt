@@ -5,7 +5,8 @@ use Rattle.toml.proofs.Views.{items_view-drop}
 use Rattle.toml.specs.declared.value.Value.{Value}
 use Rattle.ntp_events.specs.declared.command.Command.{Command}
 use Rattle.ntp_register_file.specs.declared.fault.RegisterFault.{RegisterFault}
-use Rattle.ntp_register_file.specs.RegisterFile.{◌>>=◌, customer_in, customers_in}
+use Rattle.ntp_request.specs.FirstCase.{◌>>=◌}
+use Rattle.ntp_register_file.specs.RegisterFile.{customer_in, customers_in}
 
 -- the commands of the customers that are left, behind those that were read
 abbrev pub behind : List Command → Result (List Command) RegisterFault → Result (List Command) RegisterFault

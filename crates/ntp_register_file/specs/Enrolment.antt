@@ -3,7 +3,7 @@ use Rattle.std.specs.Prelude.{ℤ, pos, negsuc, nat_le, if◌then◌else◌, Opt
 use Rattle.std.specs.Option.{ok_or}
 use Rattle.std.specs.declared.num.NonZeroU16.{NonZeroU16}
 use Rattle.ntp_admin.specs.Words.{non_zero, address_in, algorithm_in, key_in}
-use Rattle.ntp_admin.specs.Spells.{◌>>=◌}
+use Rattle.ntp_request.specs.FirstCase.{◌>>=◌}
 use Rattle.ntp_events.specs.declared.command.Command.{Command}
 use Rattle.ntp_events.specs.declared.command.Command.TheVariants as command
 use Rattle.ntp_events.specs.declared.line_fault.LineFault.{LineFault}

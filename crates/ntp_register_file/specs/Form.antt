@@ -16,7 +16,7 @@ text_at name table = get_member name table >>= as_str
 abbrev pub whole_at : List ℕ → Members → Option ℤ
 whole_at name table = get_member name table >>= as_integer
 
--- what a register file has: the text of its reference, and its customers
+-- what a register file has: the text of its reference, and its customers (profile)
 pub record Top : Type 0 where
   pub reference : List ℕ
   pub customers : Items
@@ -33,7 +33,7 @@ top_of table = do
   customers ← customers_from (key_count table) (get_member (codes "customer") table)
   Some (record { reference = reference; customers = customers })
 
--- what a customer has
+-- what a customer has; the code's `Entry` borrows its texts (profile)
 pub record Entry : Type 0 where
   pub address : List ℕ
   pub number : ℤ

@@ -1,8 +1,9 @@
--- What a register file says, or the first fault in it.
+-- What a register file says, or the first fault in it: each step gives a part of it, or the file's fault.
 use Rattle.std.specs.Prelude.{ℕ, suc, List, [], ◌∷◌, Result, Ok, Err}
 use Rattle.std.specs.Option.{ok_or}
 use Rattle.toml.specs.Data.{Data, Items, no_items, item}
 use Rattle.toml.specs.Parse.{parse_document}
+use Rattle.ntp_request.specs.FirstCase.{◌>>=◌}
 use Rattle.ntp_admin.specs.Words.{reference_in}
 use Rattle.ntp_events.specs.declared.command.Command.{Command}
 use Rattle.ntp_events.specs.declared.line_fault.LineFault.{LineFault}
@@ -11,12 +12,6 @@ use Rattle.ntp_register_file.specs.Form.{Top, top_of, entry_of}
 use Rattle.ntp_register_file.specs.Enrolment.{enrolment_command}
 use Rattle.ntp_register_file.specs.declared.fault.RegisterFault.{RegisterFault}
 use Rattle.ntp_register_file.specs.declared.fault.RegisterFault.TheVariants as fault
-
--- the second step, where the first gave a value; otherwise its fault is the file's
-infixl 10 ◌>>=◌
-abbrev pub ◌>>=◌ : {X Y : Type 0} → Result X RegisterFault → (X → Result Y RegisterFault) → Result Y RegisterFault
-Ok x >>= f = f x
-Err e >>= f = Err e
 
 -- the top level of the document that a text is (TOML 1.1; profile)
 abbrev pub top_in : List ℕ → Result Top RegisterFault

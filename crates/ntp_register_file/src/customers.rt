@@ -35,14 +35,14 @@ fn customer_in(place: u64, customer: &Value) -> Result<Command, RegisterFault>
     ensures { result ≡ customer_in place (view customer.now) }
 {
     let entry = entry_of(customer).ok_or(RegisterFault::Shape)?;
-    match enrolment_of(&entry) {
+    match enrolment_command(&entry) {
         Ok(command) => Ok(command),
         Err(fault) => Err(RegisterFault::Entry { place, fault }),
     }
 }
 
 // The enrolment that an entry orders.
-fn enrolment_of(entry: &Entry<'_>) -> Result<Command, LineFault>
+fn enrolment_command(entry: &Entry<'_>) -> Result<Command, LineFault>
     ensures { result ≡ enrolment_command entry.now }
 {
     let address = words::address(entry.address).ok_or(LineFault::Address)?;

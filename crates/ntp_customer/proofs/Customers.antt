@@ -1,8 +1,24 @@
 -- Customers by cases, and those that are not enrolled.
-use Rattle.std.proofs.Common.{◌≡◌, ℕ, false, Option, Some, None, ap, ◌∙◌, sym, refl, true≢false}
-use Rattle.ntp_customer.specs.Customer.{AccountOf, CustomerOf, revoked, rebudgeted, is_enrolled, numbers_of}
+use Rattle.std.proofs.Common.{◌≡◌, ℕ, ◌==◌, false, [], ◌∷◌, ◌++◌, Option, Some, None, ap, ◌∙◌, sym, refl, true≢false}
+use Rattle.std.specs.Prelude.{not, filter}
+use Rattle.ntp_customer.specs.declared.numbered_key.NumberedKey.{NumberedKey}
+use Rattle.ntp_customer.specs.Customer.{Enrolment, AccountOf, CustomerOf, revoked, rebudgeted, is_enrolled, numbers_of}
+
+-- an enrolment with one key more, and without the key of a number
+abbrev pub with_key : Enrolment → NumberedKey → Enrolment
+with_key e key = record e { keys = e.keys ++ key ∷ [] }
+
+abbrev pub without_key : Enrolment → ℕ → Enrolment
+without_key e number = record e { keys = filter (λ k. not (k.number == number)) e.keys }
 
 module _ {C : Type 0} where
+  -- an account with this count of signed queries, and a customer with this one of refusals
+  abbrev pub with_queries : AccountOf C → C → AccountOf C
+  with_queries a queries = record a { queries = queries }
+
+  abbrev pub with_refusals : CustomerOf C → C → CustomerOf C
+  with_refusals c refusals = record c { refusals = refusals }
+
   -- a customer is not enrolled, or it is
   pub by_customer : (P : CustomerOf C → Type 0) → ((refusals : C) → P (record { account = None; refusals = refusals }))
       → ((a : AccountOf C) (refusals : C) → P (record { account = Some a; refusals = refusals }))

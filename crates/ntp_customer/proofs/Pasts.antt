@@ -3,9 +3,9 @@ use Rattle.std.proofs.Common.{◌≡◌, ℕ, List, [], ◌∷◌, ◌++◌, Som
 use Rattle.std.specs.Option.{option_map_or}
 use Rattle.ntp_budget.specs.Tally.{Tally, tally}
 use Rattle.ntp_budget.proofs.Tallies.{tally-nil}
-use Rattle.ntp_customer.specs.Customer.{AccountOf, CustomerState, with_queries, changing, enrolment_at}
+use Rattle.ntp_customer.specs.Customer.{AccountOf, CustomerState, changing, enrolment_at}
 use Rattle.ntp_customer.specs.Past.{Past, queries_in, with_query, short}
-use Rattle.ntp_customer.proofs.Customers.{by_customer}
+use Rattle.ntp_customer.proofs.Customers.{by_customer, with_queries}
 
 -- a past is that of an address that is not enrolled now, or of one that is
 pub by_past : (P : Past → Type 0) → ((refusals : List ℕ) → P (record { account = None; refusals = refusals }))

@@ -21,10 +21,6 @@ pub record Enrolment : Type 0 where
 abbrev pub enrolment_of : NumberedKey → ℕ → Enrolment
 enrolment_of key budget = record { keys = key ∷ []; budget = budget }
 
--- an enrolment with this budget (profile)
-abbrev pub with_budget : Enrolment → ℕ → Enrolment
-with_budget e budget = record e { budget = budget }
-
 -- the key numbers of an enrolment (profile)
 abbrev pub numbers_in : Enrolment → List ℕ
 numbers_in e = map (λ k. k.number) e.keys
@@ -37,21 +33,14 @@ older_in e = slice_get e.keys 0
 abbrev pub held_in : Enrolment → ℕ → Option NumberedKey
 held_in e number = find (λ k. k.number == number) e.keys
 
--- an enrolment with one key more, the newest (profile)
-abbrev pub with_key : Enrolment → NumberedKey → Enrolment
-with_key e key = record e { keys = e.keys ++ key ∷ [] }
-
--- an enrolment without the key of a number (profile)
-abbrev pub without_key : Enrolment → ℕ → Enrolment
-without_key e number = record e { keys = filter (λ k. not (k.number == number)) e.keys }
-
 -- what holds of the keys of each enrolment: one or two, and no two have one number (profile)
 pub record HasKeys (e : Enrolment) : Type 0 where
   pub some : 0 < length e.keys
   pub few : length e.keys ≤ most_keys
   pub apart : AllPairs (λ one other. one ≢ other) (numbers_in e)
 
--- what an address has while it is enrolled: its enrolment, the count of its signed queries, and its exchanges, oldest first (profile)
+-- what an address has while it is enrolled: its enrolment, the count of its signed queries, and its exchanges, oldest first. The code's
+-- `Account`, and `Customer` below, have counts of one kind alone (profile)
 pub record AccountOf (C : Type 0) : Type 0 where
   pub enrolment : Enrolment
   pub queries : C
@@ -98,14 +87,6 @@ module _ {C : Type 0} where
   abbrev pub exchanges_of : CustomerOf C → List Slot
   exchanges_of c = option_map_or (λ a. a.exchanges) c.account []
 
-  -- an account with this count of signed queries (profile)
-  abbrev pub with_queries : AccountOf C → C → AccountOf C
-  with_queries a queries = record a { queries = queries }
-
-  -- a customer with this count of refusals (profile)
-  abbrev pub with_refusals : CustomerOf C → C → CustomerOf C
-  with_refusals c refusals = record c { refusals = refusals }
-
   -- a customer with its account changed, if it has one (profile)
   abbrev pub changing : (AccountOf C → AccountOf C) → CustomerOf C → CustomerOf C
   changing change c = record c { account = option_map change c.account }
@@ -118,15 +99,15 @@ module _ {C : Type 0} where
   abbrev pub with_terms : (Enrolment → Enrolment) → CustomerOf C → CustomerOf C
   with_terms change c = changing (λ a. record a { enrolment = change a.enrolment }) c
 
-  -- a customer with this budget, with one key more, and without the key of a number (profile)
+  -- a customer with this budget, with one key more, the newest, and without the key of a number (profile)
   abbrev pub rebudgeted : CustomerOf C → ℕ → CustomerOf C
-  rebudgeted c budget = with_terms (λ e. with_budget e budget) c
+  rebudgeted c budget = with_terms (λ e. record e { budget = budget }) c
 
   abbrev pub rolled_over : CustomerOf C → NumberedKey → CustomerOf C
-  rolled_over c key = with_terms (λ e. with_key e key) c
+  rolled_over c key = with_terms (λ e. record e { keys = e.keys ++ key ∷ [] }) c
 
   abbrev pub retired : CustomerOf C → ℕ → CustomerOf C
-  retired c number = with_terms (λ e. without_key e number) c
+  retired c number = with_terms (λ e. record e { keys = filter (λ k. not (k.number == number)) e.keys }) c
 
 -- a customer as the code keeps it at its enrolment: nothing is counted yet, and nothing saved (profile)
 abbrev pub new_customer : Enrolment → CustomerState

@@ -3,7 +3,7 @@ use Rattle.std.specs.Prelude.{ℕ, List, [], ◌∷◌, ◌++◌, option_map}
 use Rattle.std.specs.Option.{option_map_or}
 use Rattle.ntp_budget.specs.Tally.{tally}
 use Rattle.ntp_slots.specs.Exchanges.{recent}
-use Rattle.ntp_customer.specs.Customer.{AccountOf, CustomerOf, Account, CustomerState, with_queries, with_refusals, changing}
+use Rattle.ntp_customer.specs.Customer.{AccountOf, CustomerOf, Account, CustomerState, changing}
 
 -- the past of an address that was enrolled once: the windows of its refusals since it was enrolled last, and while it is enrolled its
 -- enrolment, the windows of all its signed queries and all its exchanges since then. A list has the oldest first (profile)
@@ -16,10 +16,10 @@ queries_in past = option_map_or (λ a. a.queries) past.account []
 
 -- the past with one refusal more, and with one signed query more, in a window (profile)
 abbrev pub with_refusal : Past → ℕ → Past
-with_refusal past w = with_refusals past (past.refusals ++ w ∷ [])
+with_refusal past w = record past { refusals = past.refusals ++ w ∷ [] }
 
 abbrev pub with_query : Past → ℕ → Past
-with_query past w = changing (λ a. with_queries a (a.queries ++ w ∷ [])) past
+with_query past w = changing (λ a. record a { queries = a.queries ++ w ∷ [] }) past
 
 -- what is kept of an account: of windows the tally, and of exchanges the recent ones (profile)
 abbrev pub short_account : AccountOf (List ℕ) → Account

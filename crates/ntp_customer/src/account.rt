@@ -1,9 +1,9 @@
 //! What a customer has while it is enrolled.
-ghost use Rattle.std.specs.Prelude.{◌≡◌, ◌↔◌, ◌<◌, ℕ, None, Some, IsSome, Contains, List, [], ◌∷◌, ◌++◌, length, nat_lt, option_copied, option_map};
+ghost use Rattle.std.specs.Prelude.{◌≡◌, ◌↔◌, ◌<◌, ℕ, None, Some, IsSome, Contains, List, [], ◌∷◌, ◌++◌, length, nat_lt, option_copied, option_map, ◌==◌, not, filter};
 ghost use Rattle.std.specs.Borrow.{sem};
 ghost use Rattle.std.specs.Option.{option_to_list};
 ghost use Rattle.ntp_budget.specs.Tally.{capped_count, tally};
-ghost use Rattle.ntp_customer.specs.Customer.{most_keys, enrolment_of, numbers_in, older_in, held_in, with_budget, with_key, without_key, with_queries, IsAccount};
+ghost use Rattle.ntp_customer.specs.Customer.{most_keys, enrolment_of, numbers_in, older_in, held_in, IsAccount};
 
 use crate::NumberedKey;
 use ntp_budget::Window;
@@ -126,7 +126,7 @@ impl<A: Allocator> Account<A> {
         requires number_given { 0 < key.number }
         requires new { held_in self.old.enrolment key.number ≡ None }
         requires room { length self.old.enrolment.keys < most_keys }
-        ensures { self.new ≡ record self.old { enrolment = with_key self.old.enrolment key } }
+        ensures { self.new ≡ record self.old { enrolment = record self.old.enrolment { keys = self.old.enrolment.keys ++ key ∷ [] } } }
     {
         self.newer = Some(key);
     }
@@ -134,7 +134,7 @@ impl<A: Allocator> Account<A> {
     // Takes the key of a number away, where one is left without it.
     pub(crate) fn retire(&mut self, number: u16)
         requires { 1 < length self.old.enrolment.keys }
-        ensures { self.new ≡ record self.old { enrolment = without_key self.old.enrolment number } }
+        ensures { self.new ≡ record self.old { enrolment = record self.old.enrolment { keys = filter (λ k. not (k.number == number)) self.old.enrolment.keys } } }
     {
         let Some(newer) = self.newer else {
             return;
@@ -158,7 +158,7 @@ impl<A: Allocator> Account<A> {
     // Another budget; all else stays.
     pub(crate) fn set_budget(&mut self, budget: u16)
         requires { 0 < budget }
-        ensures { self.new ≡ record self.old { enrolment = with_budget self.old.enrolment budget } }
+        ensures { self.new ≡ record self.old { enrolment = record self.old.enrolment { budget = budget } } }
     {
         self.budget = budget;
     }
@@ -167,7 +167,7 @@ impl<A: Allocator> Account<A> {
     pub(crate) fn charge(&mut self, w: u64) -> u32
         ensures counted { (windows : List ℕ) → tally windows ≡ self.old.queries → result ≡ capped_count windows w }
         ensures after { (windows : List ℕ) → tally windows ≡ self.old.queries
-            → self.new ≡ with_queries self.old (tally (windows ++ w ∷ [])) }
+            → self.new ≡ record self.old { queries = tally (windows ++ w ∷ []) } }
         ensures enrolment { self.new.enrolment ≡ self.old.enrolment }
     {
         self.queries.charge(w)

@@ -4,7 +4,8 @@ use Rattle.std.specs.Prelude.{if◌then◌else◌}
 use Rattle.std.specs.Int.NonZero.{non_zero_u16_get}
 use Rattle.ntp_slots.specs.Exchanges.{AreSaved}
 use Rattle.ntp_slots.proofs.Saved.{AreSaved-nil}
-use Rattle.ntp_customer.specs.Customer.{Enrolment, with_budget, with_key, without_key, with_terms}
+use Rattle.ntp_customer.specs.Customer.{Enrolment, with_terms}
+use Rattle.ntp_customer.proofs.Customers.{with_key, without_key}
 use Rattle.ntp_reply.specs.Life.{Life, enrolment_in, recent_in}
 use Rattle.ntp_reply.specs.Kind.{kind_of}
 use Rattle.ntp_reply.specs.Replies.{occasion_of}
@@ -25,7 +26,7 @@ AreSaved-done life (Enrol address number key budget) are = AreSaved-none
 AreSaved-done None (Revoke address) are = are
 AreSaved-done (Some past) (Revoke address) are = AreSaved-none
 AreSaved-done life (Budget address budget) are =
-    subst AreSaved (sym (changed (λ e. with_budget e (non_zero_u16_get budget)) life)) are
+    subst AreSaved (sym (changed (λ e. record e { budget = non_zero_u16_get budget }) life)) are
 AreSaved-done life (Rollover address number key) are = subst AreSaved (sym (changed (λ e. with_key e (numbered number key)) life)) are
 AreSaved-done life (Retire address number) are = subst AreSaved (sym (changed (λ e. without_key e (non_zero_u16_get number)) life)) are
 

@@ -9,7 +9,8 @@ use Rattle.std.proofs.lemmas.List.Elements.{Contains-get_or}
 use Rattle.std.proofs.lemmas.List.Kept.{AllPairs-filter}
 use Rattle.std.proofs.lemmas.List.Quantifiers.{all_pairs_push}
 use Rattle.ntp_customer.specs.declared.numbered_key.NumberedKey.{NumberedKey}
-use Rattle.ntp_customer.specs.Customer.{Enrolment, HasKeys, enrolment_of, with_budget, with_key, without_key, with_terms, numbers_in, most_keys}
+use Rattle.ntp_customer.specs.Customer.{Enrolment, HasKeys, enrolment_of, with_terms, numbers_in, most_keys}
+use Rattle.ntp_customer.proofs.Customers.{with_key, without_key}
 use Rattle.ntp_register.specs.declared.refusal.Refusal.{Refusal}
 use Rattle.ntp_register.specs.Refusals.{rollover_refusal, retire_refusal}
 use Rattle.ntp_reply.specs.Life.{Life, enrolment_in}
@@ -92,7 +93,7 @@ HasKeys-done life (Enrol address number key budget) plain has = HasKeys-one (num
 HasKeys-done None (Revoke address) plain has = has
 HasKeys-done (Some past) (Revoke address) plain has = tt
 HasKeys-done life (Budget address budget) plain has =
-    changed (λ e. with_budget e (non_zero_u16_get budget)) life
+    changed (λ e. record e { budget = non_zero_u16_get budget }) life
     (λ e is keys. record { some = keys.some; few = keys.few; apart = keys.apart }) has
 HasKeys-done life (Rollover address number key) plain has =
     changed (λ e. with_key e (numbered number key)) life

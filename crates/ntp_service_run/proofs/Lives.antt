@@ -2,7 +2,6 @@
 use Rattle.std.proofs.Common.{◌≡◌, ◌≢◌, ℕ, List, Option, Some, None, is_some, option_map, refl, sym}
 use Rattle.std.specs.Prelude.{if◌then◌else◌}
 use Rattle.std.specs.Option.{option_map_or}
-use Rattle.std.specs.Int.NonZero.{non_zero_u16_get}
 use Rattle.std.proofs.lemmas.Option.{none-some, same_Some}
 use Rattle.ntp_customer.specs.Customer.{AccountOf, CustomerState, enrolment_at}
 use Rattle.ntp_customer.specs.Past.{Past, short}

@@ -2,7 +2,7 @@
 use Rattle.std.specs.Prelude.{◌≡◌, Bool, true, false, None, option_map, List, [], map, filter, zip, scan}
 use Rattle.std.specs.Option.{option_map_or}
 use Rattle.ntp_register.specs.declared.address.Address.{Address}
-use Rattle.ntp_customer.specs.Customer.{with_refusals}
+use Rattle.ntp_customer.specs.Past.{Past}
 use Rattle.ntp_reply.specs.Life.{Life}
 use Rattle.ntp_reply.specs.Kind.{Kind, Signed, kind_of}
 use Rattle.ntp_events.specs.declared.event.Event.{Event}
@@ -34,7 +34,7 @@ genuine events = at_genuine None events events
 
 -- a life with no refusals counted (profile)
 abbrev pub without_refusals : Life → Life
-without_refusals life = option_map (λ past. with_refusals past []) life
+without_refusals life = option_map (λ (past : Past). record past { refusals = [] }) life
 
 -- each address is told at its genuine events, of those that are not struck out, what the model of one customer gives to its genuine
 -- events alone (profile)

@@ -14,7 +14,7 @@ count_in windows w = suffix_len (λ v. v == w) windows
 abbrev pub capped_count : List ℕ → ℕ → ℕ
 capped_count windows w = min (count_in windows w) most_counted
 
--- a window, and the count in it as it is kept
+-- a window, and the count in it as it is kept; the code's `Window` hides both (profile)
 pub record Tallied : Type 0 where
   pub window : ℕ
   pub count : ℕ

@@ -8,7 +8,7 @@ use Rattle.ntp_time.specs.declared.stamp.Short.{Short}
 abbrev pub header_length : ℕ
 header_length = 48
 
--- the fields of a header, in the order of the packet (RFC 5905, 7.3)
+-- the fields of a header, in the order of the packet; the code's `Header` hides its own (RFC 5905, 7.3)
 pub record HeaderFields : Type 0 where
   pub leap : ℕ
   pub version : ℕ

@@ -3,7 +3,8 @@ use Rattle.std.specs.Prelude.{◌≡◌, ◌↔◌, ℕ, ℤ, ◌≤◌, ◌==�
 use Rattle.ntp_time.specs.declared.stamp.Stamp.{Stamp}
 use Rattle.ntp_time.specs.declared.stamp.Short.{Short}
 
--- the fields of a packet that tell the state of a server's clock (RFC 5905, 7.3)
+-- the fields of a packet that tell the state of a server's clock; the code's `Reference` hides its own, so that each is such a state
+-- (RFC 5905, 7.3)
 pub record ReferenceState : Type 0 where
   pub leap : ℕ
   pub stratum : ℕ

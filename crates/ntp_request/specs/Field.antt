@@ -4,7 +4,7 @@ use Rattle.std.specs.List.{flat_map}
 use Rattle.std.specs.Int.{w16, to_be_bytes, from_be_bytes}
 use Rattle.ntp_request.specs.Tail.{most_tail_octets}
 
--- an extension field: its kind, and its value with the padding (RFC 7822, 3)
+-- an extension field: its kind, and its value with the padding; the code's `Field` borrows its value (RFC 7822, 3)
 pub record Field : Type 0 where
   pub kind : ℕ
   pub value : List ℕ

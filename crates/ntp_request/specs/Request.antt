@@ -9,7 +9,7 @@ use Rattle.ntp_request.specs.Tail.{TailValue, tail_octets, IsTail}
 abbrev pub most_datagram_octets : ℕ
 most_datagram_octets = 1024
 
--- a request: its parts, and the octets that a digest covers (RFC 5905, 7.3; RFC 7822, 3)
+-- a request: its parts, and the octets that a digest covers; the code's `Request` borrows them (RFC 5905, 7.3; RFC 7822, 3)
 pub record RequestValue : Type 0 where
   pub header : HeaderFields
   pub fields : List Field

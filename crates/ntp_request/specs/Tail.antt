@@ -11,7 +11,8 @@ abbrev pub digest_octets : Digest → List ℕ
 digest_octets (digest.Md5 octets) = octets
 digest_octets (digest.Sha1 octets) = octets
 
--- a tail: nothing, a key number alone, or a key number and a digest (RFC 5905, 7.3, which calls the number the key identifier; profile)
+-- a tail: nothing, a key number alone, or a key number and a digest; the code's `Tail` borrows the digest (RFC 5905, 7.3, which calls
+-- the number the key identifier; profile)
 pub data TailValue : Type 0 where
   NoTail : TailValue
   BareTail : ℕ → TailValue

@@ -2,7 +2,7 @@
 use Rattle.std.proofs.Common.{◌≤◌, List, length, filter, arith}
 use Rattle.std.proofs.lemmas.List.Sums.{length-filter, count_by-le-length}
 use Rattle.std.proofs.lemmas.List.{length-map}
-use Rattle.ntp_service.specs.Made.{is_failing}
+use Rattle.ntp_service_serve.specs.Made.{is_failing}
 use Rattle.ntp_server.specs.Rounds.{Round, made_in}
 
 -- one call a round at most

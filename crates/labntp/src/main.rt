@@ -7,7 +7,7 @@ mod serve_job;
 
 use labntp_command_line::{Job, job, replay_status, unread_status, usage_status};
 use loopback::loopback_status;
-use ntp_service::Watched;
+use ntp_service_replay::Watched;
 use serve_job::serve_status;
 use std::process::ExitCode;
 use std::{env, io};

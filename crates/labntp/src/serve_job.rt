@@ -1,13 +1,13 @@
 //! Customers are served over a socket.
 ghost use Rattle.std.specs.Prelude.{◌≡◌};
-ghost use Rattle.ntp_service.specs.Failures.{udp_failures};
+ghost use Rattle.ntp_host.specs.Failures.{udp_failures};
 
 use labntp_command_line::{DONE, Serving, load_status, socket_status, write_status};
 use ntp_customer_files::{FaultLines, LoadFault, Loaded, MOST_FILE_OCTETS, load_register};
-use ntp_files::{CommandsFile, read_file};
+use ntp_host::{CommandsFile, UdpPort, read_file};
 use ntp_register_file::RegisterFault;
-use ntp_server::{FixedReference, Server, Totals};
-use ntp_service::UdpPort;
+use ntp_server::{Server, Totals};
+use ntp_service_serve::FixedReference;
 use std::alloc::Global;
 use std::fs::Files;
 use std::io::{self, ErrorKind, Write};

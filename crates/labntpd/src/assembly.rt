@@ -13,8 +13,8 @@ use labntpd_host::{
 };
 use ntp_clock::Follower;
 use ntp_customer_files::Loaded;
-use ntp_files::EachMillisecond;
 use ntp_freshness::{FreshPort, QueueWatch};
+use ntp_host::EachMillisecond;
 use ntp_reports::{AnswerLines, Both, Counting, Counts};
 use ntp_server::Server;
 use std::alloc::Global;

@@ -2,9 +2,9 @@
 
 use ntp_customer_files::MOST_FILE_OCTETS;
 use ntp_events::{LineOutcome, Observer, TurnOutcome};
-use ntp_files::CommandsFile;
+use ntp_host::CommandsFile;
 use ntp_reports::AnswerLines;
-use ntp_server::CommandsSource;
+use ntp_service_serve::CommandsSource;
 use ntp_time::Moment;
 use std::alloc::Allocator;
 use std::fs::Files;

@@ -6,7 +6,7 @@ use labntpd_configuration::{
 };
 use ntp_clock::{ClockLimits, Follower};
 use ntp_customer_files::{LoadFault, Loaded, MOST_FILE_OCTETS, load_register};
-use ntp_files::read_file;
+use ntp_host::read_file;
 use ntp_register_file::{RegisterFault, read_register};
 use ntp_time::Short;
 use sha2::{Digest, Sha256};
@@ -38,7 +38,7 @@ pub fn prepare<R: Files, F: Write>(
     path: &str,
     faults: &mut F,
 ) -> Result<Prepared, u8> {
-    let text = text_of(files, alloc, path, faults)?;
+    let text = small_text(files, alloc, path, faults)?;
     let configuration = match read_configuration(alloc, &text) {
         Ok(configuration) => configuration,
         Err(ConfigurationFault::NoMemory) => return Err(memory_status(faults)),
@@ -85,7 +85,7 @@ fn follower<R: Files, F: Write>(
     faults: &mut F,
 ) -> Result<Follower, u8> {
     let path = daemon.key_file.as_str();
-    let text = text_of(files, alloc, path, faults)?;
+    let text = small_text(files, alloc, path, faults)?;
     let Some(key) = key_in_file(&text, daemon.algorithm) else {
         let _ = writeln!(
             faults,
@@ -121,7 +121,7 @@ fn octets_of_register<R: Files, F: Write>(
 }
 
 // The text of a small file.
-fn text_of<R: Files, F: Write>(
+fn small_text<R: Files, F: Write>(
     files: &R,
     alloc: Global,
     path: &str,

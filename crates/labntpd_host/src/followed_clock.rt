@@ -3,9 +3,9 @@
 use crate::queued_udp::HostClocks;
 use ntp_client::Taken;
 use ntp_clock::{Follower, reference_unsynchronised};
+use ntp_host::moment_now;
 use ntp_reply::Reference;
-use ntp_server::ReferenceSource;
-use ntp_service::moment_now;
+use ntp_service_serve::ReferenceSource;
 use ntp_time::Moment;
 use std::net::UdpSocket;
 use std::os::fd::AsRawFd;

@@ -1,5 +1,5 @@
-//! What the daemon asks of its host: sockets, clocks, the host's clock daemon, its log and its statistics file. No clause
-//! says what the host answers.
+//! What the daemon asks of its host beside what `ntp_host` has: sockets, clocks, the host's clock daemon, its log and its
+//! statistics file. No clause says what the host answers.
 #![tactic(auto)]
 
 mod followed_clock;

@@ -1,14 +1,15 @@
 //! A port over a UDP socket whose queue can be asked.
 
 ghost use Rattle.std.specs.Prelude.{◌≡◌};
-ghost use Rattle.ntp_service_udp.specs.Failures.{udp_failures};
+ghost use Rattle.ntp_host.specs.Failures.{udp_failures};
 
 use crate::kernel_queue::{most_datagrams, queue_state};
 use libc::net::{POLLIN, poll};
 use libc::types::pollfd;
 use ntp_freshness::QueuedPort;
+use ntp_host::UdpPort;
 use ntp_register::Address;
-use ntp_service::{Arrival, Port, PortFault, TimedPort, UdpPort};
+use ntp_service_serve::{Arrival, Port, PortFault, TimedPort};
 use ntp_time::{Moment, Stamp};
 use std::cell::Cell;
 use std::fs::Files;

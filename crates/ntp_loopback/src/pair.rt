@@ -1,13 +1,15 @@
 //! A server and a client, each with its socket.
 ghost use Rattle.std.specs.Prelude.{◌≡◌, ◌+◌, ◌-◌, ◌≤◌, ◌<◌, ◌^◌, IfOk};
-ghost use Rattle.ntp_service.specs.Failures.{udp_failures};
+ghost use Rattle.ntp_host.specs.Failures.{udp_failures};
 
 use ntp_client::{Client, Taken};
 use ntp_events::{Command, Sending, TurnOutcome};
+use ntp_host::{UdpPort, moment_now};
 use ntp_mac::{Algorithm, Key};
 use ntp_register::Address;
 use ntp_reply::Reference;
-use ntp_service::{Service, TimedPort, UdpPort, answer_received, moment_now};
+use ntp_service_run::Service;
+use ntp_service_serve::{TimedPort, answer_received};
 use ntp_time::Short;
 use std::alloc::Allocator;
 use std::io;

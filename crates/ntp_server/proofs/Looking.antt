@@ -12,7 +12,7 @@ use Rattle.ntp_service_run.specs.Headline.{Tells}
 use Rattle.ntp_service_run.proofs.Runs.{Tells-nil, Tells-append}
 use Rattle.ntp_service_serve.specs.Sequence.{firsts}
 use Rattle.ntp_customer_files.specs.CommandsFile.{TakenLine, CarriesOut, CarriesOutDue, lines_taken, line_events, line_outcomes, line_observations}
-use Rattle.ntp_server.specs.Sources.{Coming, answers, Gives}
+use Rattle.ntp_service_serve.specs.Sources.{Coming, answers, Gives}
 use Rattle.ntp_server.specs.Rounds.{Look, AreDueAt, AreDueInTurn}
 use Rattle.ntp_server.specs.Steps.{Looks, LooksOnce, Waits, IsIdle, asked_of, given_of, looks_events, looks_outcomes, looks_observations}
 

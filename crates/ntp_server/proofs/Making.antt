@@ -27,7 +27,7 @@ use Rattle.ntp_service_serve.specs.Sending.{was_sent}
 use Rattle.ntp_service_serve.proofs.ManyTurns.{sent_of, count_of, Follows-nil, Follows-append}
 use Rattle.ntp_service_serve.proofs.Counting.{if_so, at-most-one, sent-one, noted-one, count-more}
 use Rattle.ntp_server.specs.declared.server.Totals.{Totals}
-use Rattle.ntp_server.specs.Sources.{Coming, Gives}
+use Rattle.ntp_service_serve.specs.Sources.{Coming, Gives}
 use Rattle.ntp_server.specs.Rounds.{Look, Round, AreDueInTurn, HasLooks, AsksRight, ServesRounds, looks_of, made_in, receipt_in, round_events, round_outcomes, round_observations}
 use Rattle.ntp_server.specs.Steps.{LooksOnce, Waits, IsIdle, MakesRound, asked_of, given_of, looks_events, looks_outcomes, looks_observations, receipts_of, states_of, arrivals_in, replies_in, departures_in}
 use Rattle.ntp_server.proofs.Looking.{Gives-nil, Gives-append, due-append, Looks-append}

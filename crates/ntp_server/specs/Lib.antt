@@ -1,4 +1,3 @@
-pub mod Sources
 pub mod Memory
 pub mod Rounds
 pub mod Steps

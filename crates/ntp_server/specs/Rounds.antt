@@ -14,7 +14,7 @@ use Rattle.ntp_service_serve.specs.Made.{Made, turn_of, events_in, outcomes_in, 
 use Rattle.ntp_service_serve.specs.Serving.{Follows}
 use Rattle.ntp_customer_files.specs.CommandsFile.{TakenLine, AreDue, lines_taken, line_events, line_outcomes, line_observations}
 use Rattle.ntp_server.specs.declared.server.Totals.{Totals}
-use Rattle.ntp_server.specs.Sources.{Coming, Gives}
+use Rattle.ntp_service_serve.specs.Sources.{Coming, Gives}
 
 -- a look at the commands: what the source was asked with, how many lines were applied before, the octets that it gave, if any, and the
 -- lines that were taken (profile)

@@ -15,7 +15,7 @@ use Rattle.ntp_service_serve.specs.Made.{is_failing, turn_outcome}
 use Rattle.ntp_service_serve.specs.Serving.{Follows}
 use Rattle.ntp_service_serve.specs.Sending.{was_sent, was_noted}
 use Rattle.ntp_customer_files.specs.CommandsFile.{line_events, line_outcomes, line_observations}
-use Rattle.ntp_server.specs.Sources.{Coming, Gives}
+use Rattle.ntp_service_serve.specs.Sources.{Coming, Gives}
 use Rattle.ntp_server.specs.Rounds.{Look, Round, AreDueInTurn, HasLooks, AsksRight, receipt_in, round_events, round_outcomes, round_observations}
 
 -- what looks were asked with, and what they gave

@@ -4,11 +4,9 @@
 mod memory;
 mod reporter;
 mod server;
-mod sources;
 #[cfg(test)]
 mod tests;
 
 pub use memory::{MemoryCommands, MemoryObserver, MemoryStates};
 pub use reporter::{NoReports, Reporter};
 pub use server::{Server, Totals};
-pub use sources::{CommandsSource, FixedReference, ReferenceSource};

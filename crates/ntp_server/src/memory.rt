@@ -2,9 +2,9 @@
 ghost use Rattle.std.specs.Prelude.{◌≡◌, ◌≤◌, ◌<◌, ◌++◌, Some, None, false, [], ◌∷◌, map, option_map, vec_len, vec_capacity, IfOk, if◌then◌else◌};
 ghost use Rattle.ntp_events.specs.declared.observation.Observation.{Observation};
 
-use crate::sources::{CommandsSource, ReferenceSource};
 use ntp_events::{LineOutcome, NoMemory, Observation, Observer, TurnOutcome};
 use ntp_reply::Reference;
+use ntp_service_serve::{CommandsSource, ReferenceSource};
 use ntp_time::Moment;
 use std::alloc::{Allocator, Global};
 

@@ -6,11 +6,10 @@ ghost use Rattle.ntp_server.specs.Rounds.{ServesRounds};
 ghost use Rattle.ntp_server.specs.Steps.{LooksOnce, Waits, MakesRound, arrivals_in, replies_in, departures_in};
 
 use crate::reporter::{NoReports, Reporter};
-use crate::sources::{CommandsSource, ReferenceSource};
 use ntp_customer_files::apply_commands;
 use ntp_events::{Arrival, Observer, Sending, TurnOutcome};
 use ntp_service_run::Service;
-use ntp_service_serve::{PortFault, TimedPort, answer_received};
+use ntp_service_serve::{CommandsSource, PortFault, ReferenceSource, TimedPort, answer_received};
 use ntp_time::Moment;
 use std::alloc::Allocator;
 

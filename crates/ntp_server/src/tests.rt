@@ -4,16 +4,15 @@
 //! key `key` and the octets before the key number.
 ghost use Rattle.std.specs.Prelude.{◌≡◌};
 
-use crate::{
-    FixedReference, MemoryCommands, MemoryObserver, MemoryStates, ReferenceSource, Reporter,
-    Server, Totals,
-};
+use crate::{MemoryCommands, MemoryObserver, MemoryStates, Reporter, Server, Totals};
 use ntp_events::{Arrival, LineOutcome, Observation, Octets, Sending, TurnOutcome};
 use ntp_mac::Reply;
 use ntp_register::Address;
 use ntp_reply::{Answer, Reason, Reference};
 use ntp_service_run::Service;
-use ntp_service_serve::{Incoming, MemoryPort, Port, PortFault, TimedPort, Turn};
+use ntp_service_serve::{
+    FixedReference, Incoming, MemoryPort, Port, PortFault, ReferenceSource, TimedPort, Turn,
+};
 use ntp_time::{Moment, Short, Stamp};
 use refusing::Refusing;
 use std::alloc::Allocator;

@@ -16,4 +16,4 @@ pub use Rattle.ntp_service_serve.specs.declared.memory_port
 pub use Rattle.ntp_service_serve.specs.declared.port
 pub use Rattle.ntp_service_serve.specs.declared.serving
 pub use Rattle.ntp_service_serve.specs.declared.turn
-pub use Rattle.ntp_service_udp.specs.Failures
+pub use Rattle.ntp_host.specs.Failures

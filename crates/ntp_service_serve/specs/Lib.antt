@@ -1,4 +1,5 @@
 pub mod Sequence
+pub mod Sources
 pub mod Port
 pub mod Memory
 pub mod Made

@@ -1,11 +1,11 @@
 ghost use Rattle.std.specs.Prelude.{◌≡◌, IfOk};
-ghost use Rattle.ntp_service.specs.Failures.{udp_failures};
+ghost use Rattle.ntp_host.specs.Failures.{udp_failures};
 
 use super::*;
 use labntp_command_line::{IO_FAILED, TEXT_FAULTY};
 use ntp_client::{Client, Taken};
+use ntp_host::moment_now;
 use ntp_mac::{Algorithm, Key};
-use ntp_service::moment_now;
 use refusing::Broken;
 use std::fs::{self, File};
 use std::num::NonZero;

@@ -1,7 +1,7 @@
 //! The system's clock, as moments.
 ghost use Rattle.std.specs.Prelude.{◌≡◌, IfOk, IfErr};
 ghost use Rattle.std.specs.Time.{system_time_nanos, FitsClock};
-ghost use Rattle.ntp_service_udp.specs.Clock.{IsMomentOf, unread};
+ghost use Rattle.ntp_host.specs.Clock.{IsMomentOf, unread};
 
 use ntp_time::{Moment, Stamp};
 use std::io;

@@ -1,5 +1,5 @@
 ghost use Rattle.std.specs.Prelude.{◌≡◌, IfOk};
-ghost use Rattle.ntp_service_udp.specs.Failures.{udp_failures};
+ghost use Rattle.ntp_host.specs.Failures.{udp_failures};
 
 use super::*;
 use ntp_time::difference;

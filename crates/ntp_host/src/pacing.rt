@@ -1,6 +1,6 @@
 //! How often files are asked.
 
-use ntp_server::CommandsSource;
+use ntp_service_serve::CommandsSource;
 use ntp_time::{Moment, Stamp};
 use std::alloc::Allocator;
 

@@ -21,7 +21,7 @@ pub struct UdpPort<C: Clock + Drop> {
 }
 
 impl<C: Clock + Drop> UdpPort<C> {
-    ghost use Rattle.ntp_service_udp.specs.Failures.{udp_failures};
+    ghost use Rattle.ntp_host.specs.Failures.{udp_failures};
 
     /// A port over a bound socket. A time limit of the socket's is the longest that `receive_in_time` takes; with none it
     /// takes as long as nothing comes.
@@ -45,7 +45,7 @@ fn is_no_failure(error: &io::Error) -> bool {
 }
 
 impl<C: Clock + Drop> Port for UdpPort<C> {
-    ghost use Rattle.ntp_service_udp.specs.Failures.{udp_failures};
+    ghost use Rattle.ntp_host.specs.Failures.{udp_failures};
 
     ghost failure_count = { udp_failures };
 

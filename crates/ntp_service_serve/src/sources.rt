@@ -1,7 +1,7 @@
 //! Where a server has its commands and the state of its clock from.
 ghost use Rattle.std.specs.Prelude.{◌≡◌, ℕ, Option, None, Some, List, [], ◌∷◌, option_map};
 ghost use Rattle.ntp_reply_packets.specs.Reference.{ReferenceState};
-ghost use Rattle.ntp_server.specs.Sources.{Coming, Gives};
+ghost use Rattle.ntp_service_serve.specs.Sources.{Coming, Gives};
 
 use ntp_reply::Reference;
 use ntp_time::Moment;

@@ -1,5 +1,5 @@
 use Rattle.std.proofs.Common.{◌≡◌}
-use Rattle.ntp_service_udp.proofs.udp_port.UdpPortPort.receive.Given as goal
+use Rattle.ntp_host.proofs.udp_port.UdpPortPort.receive.Given as goal
 
 abbrev pub invariant-loop : goal.invariant-loop
 invariant-loop g l = l.self.failures ≡ l.fn.self.failures

@@ -4,7 +4,7 @@ mod counting;
 
 use crate::{CommandsFile, EachMillisecond, read_file};
 use counting::Counting;
-use ntp_server::CommandsSource;
+use ntp_service_serve::CommandsSource;
 use ntp_time::{Moment, Stamp};
 use std::alloc::Allocator;
 use std::cell::Cell;

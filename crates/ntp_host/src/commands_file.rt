@@ -3,7 +3,7 @@
 use crate::pacing::{MILLISECOND, is_due};
 use crate::version::Version;
 use crate::whole_read::read_open;
-use ntp_server::CommandsSource;
+use ntp_service_serve::CommandsSource;
 use ntp_time::{Moment, Stamp};
 use std::alloc::Allocator;
 use std::fs::{self, Files, OpenFile};
@@ -169,3 +169,6 @@ impl<'a, R: Files, A: Allocator + Copy> CommandsSource<A> for CommandsFile<'a, R
         self.read_whole(alloc, version?)
     }
 }
+
+#[cfg(test)]
+mod tests;

@@ -1,6 +1,6 @@
 -- What a port over a socket counts.
 use Rattle.std.specs.Prelude.{ℕ}
-use Rattle.ntp_service_udp.specs.declared.udp_port.UdpPort.{UdpPort}
+use Rattle.ntp_host.specs.declared.udp_port.UdpPort.{UdpPort}
 
 -- how many calls failed (profile)
 abbrev pub udp_failures : {C : Type 0} → UdpPort C → ℕ

@@ -8,16 +8,16 @@ use Rattle.std.proofs.lemmas.Bool.Decides.{nat_tests}
 use Rattle.std.specs.declared.num.NonZeroU16.{NonZeroU16}
 use Rattle.ntp_admin.specs.Words.{non_zero}
 use Rattle.ntp_admin.proofs.Numbers.{new-non_zero}
-use Rattle.ntp_register_file.specs.Enrolment.{number_of}
+use Rattle.ntp_register_file.specs.Enrolment.{non_zero_whole}
 
 -- a number that fits is looked at by itself alone
-within : (n : ℕ) (o : Option NonZeroU16) → n < 2 ^ 16 → o ≡ non_zero n → o ≡ number_of (pos n)
+within : (n : ℕ) (o : Option NonZeroU16) → n < 2 ^ 16 → o ≡ non_zero n → o ≡ non_zero_whole (pos n)
 within n o fits e = grind (arith, nat_tests)
 
 -- what both give
-pub number_of-read : {E : Type 0} (z : ℤ) (n : ℕ) (r : Result ℕ E) (o : Option NonZeroU16) → OkIff r (FitsUnsignedBits 16 z) (nat_abs z)
-    → Some n ≡ result_ok r → MatchOption o (n ≡ 0) (λ x. x.value ≡ n) → o ≡ number_of z
-number_of-read (pos m) n (Ok k) o h e s =
+pub non_zero_whole-read : {E : Type 0} (z : ℤ) (n : ℕ) (r : Result ℕ E) (o : Option NonZeroU16) → OkIff r (FitsUnsignedBits 16 z) (nat_abs z)
+    → Some n ≡ result_ok r → MatchOption o (n ≡ 0) (λ x. x.value ≡ n) → o ≡ non_zero_whole z
+non_zero_whole-read (pos m) n (Ok k) o h e s =
     let same : n ≡ m = cc in within m o h.0 (rw same at (new-non_zero n o s))
-number_of-read (negsuc m) n (Ok k) o h e s = absurd h.0
-number_of-read z n (Err x) o h e s = cc
+non_zero_whole-read (negsuc m) n (Ok k) o h e s = absurd h.0
+non_zero_whole-read z n (Err x) o h e s = cc

@@ -11,16 +11,16 @@ use Rattle.ntp_events.specs.declared.line_fault.LineFault.TheVariants as fault
 use Rattle.ntp_register_file.specs.Form.{Entry}
 
 -- a key number or a budget: from 1 to 65,535 (profile)
-abbrev pub number_of : ℤ → Option NonZeroU16
-number_of (pos n) = if nat_le n 65535 then non_zero n else None
-number_of (negsuc n) = None
+abbrev pub non_zero_whole : ℤ → Option NonZeroU16
+non_zero_whole (pos n) = if nat_le n 65535 then non_zero n else None
+non_zero_whole (negsuc n) = None
 
 -- the enrolment of a customer, its texts as the words of a line, or the first fault in this order (profile)
 abbrev pub enrolment_command : Entry → Result Command LineFault
 enrolment_command entry = do
   a ← ok_or (address_in entry.address) fault.Address
-  n ← ok_or (number_of entry.number) fault.Number
+  n ← ok_or (non_zero_whole entry.number) fault.Number
   h ← ok_or (algorithm_in entry.algorithm) fault.Algorithm
   k ← ok_or (key_in entry.key) fault.KeyText
-  b ← ok_or (number_of entry.budget) fault.Budget
+  b ← ok_or (non_zero_whole entry.budget) fault.Budget
   Ok (command.Enrol a n (record { algorithm = h; octets = k }) b)

@@ -1,7 +1,7 @@
 //! Customers to commands.
 ghost use Rattle.std.specs.Prelude.{◌≡◌, ◌⊎◌, IfOk, IfErr};
 ghost use Rattle.toml.specs.View.{view, items_view};
-ghost use Rattle.ntp_register_file.specs.Enrolment.{number_of, enrolment_command};
+ghost use Rattle.ntp_register_file.specs.Enrolment.{non_zero_whole, enrolment_command};
 ghost use Rattle.ntp_register_file.specs.RegisterFile.{customer_in, customers_in};
 
 use crate::RegisterFault;
@@ -46,10 +46,10 @@ fn enrolment_command(entry: &Entry<'_>) -> Result<Command, LineFault>
     ensures { result ≡ enrolment_command entry.now }
 {
     let address = words::address(entry.address).ok_or(LineFault::Address)?;
-    let number = number_of(entry.number).ok_or(LineFault::Number)?;
+    let number = non_zero_whole(entry.number).ok_or(LineFault::Number)?;
     let algorithm = words::algorithm(entry.algorithm).ok_or(LineFault::Algorithm)?;
     let key = words::key(algorithm, entry.key).ok_or(LineFault::KeyText)?;
-    let budget = number_of(entry.budget).ok_or(LineFault::Budget)?;
+    let budget = non_zero_whole(entry.budget).ok_or(LineFault::Budget)?;
     Ok(Command::Enrol {
         address,
         number,
@@ -59,8 +59,8 @@ fn enrolment_command(entry: &Entry<'_>) -> Result<Command, LineFault>
 }
 
 // A key number or a budget.
-fn number_of(whole: i64) -> Option<NonZero<u16>>
-    ensures { result ≡ number_of whole }
+fn non_zero_whole(whole: i64) -> Option<NonZero<u16>>
+    ensures { result ≡ non_zero_whole whole }
 {
     let number = u16::try_from(whole).ok()?;
     NonZero::<u16>::new(number)

@@ -9,7 +9,8 @@ use Rattle.ntp_request.specs.Field.{written_length}
 use Rattle.ntp_request.specs.declared.digests.Digest.TheVariants.{Md5, Sha1}
 use Rattle.ntp_request.specs.Tail.{TailValue, NoTail, BareTail, MacTail, tail_octets, IsTail}
 use Rattle.ntp_request.specs.Request.{RequestValue, IsRequest, request_of, signed_octets}
-use Rattle.ntp_request.specs.Faults.{Stands, IsFieldShort, IsFieldUnaligned, IsFieldPastEnd, IsNoTail, Fails}
+use Rattle.ntp_request.specs.Faults.{Stands, Fails}
+use Rattle.ntp_request.proofs.RestFaults.{IsFieldShort, IsFieldUnaligned, IsFieldPastEnd, IsNoTail}
 use Rattle.ntp_request.specs.OneAnswer.{HasOneReading, HasOneFault}
 use Rattle.ntp_request.specs.declared.malformed.Malformed.{Malformed}
 use Rattle.ntp_request.specs.declared.malformed.Malformed.TheVariants.{Short, Long, FieldShort, FieldUnaligned, FieldPastEnd, Rest}
@@ -106,9 +107,9 @@ module _ (octets : List ℕ) (are : AreOctets octets) (fits : length octets ≤ 
         | inl more ↦ elim (cases_lt (written_length rest) 16) [
           | inl least ↦ inr (FieldShort place, fails_at IsFieldShort octets place rest fits s (more, least))
           | inr least ↦ elim (cases_eq (written_length rest % 4) 0) [
-            | inr odd ↦ inr (FieldUnaligned place, fails_at IsFieldUnaligned octets place rest fits s (more, least, odd))
+            | inr odd ↦ inr (FieldUnaligned place, fails_at IsFieldUnaligned octets place rest fits s (more, (least, odd)))
             | inl aligned ↦ elim (cases_lt (length rest) (written_length rest)) [
-              | inl past ↦ inr (FieldPastEnd place, fails_at IsFieldPastEnd octets place rest fits s (more, least, aligned, past))
+              | inl past ↦ inr (FieldPastEnd place, fails_at IsFieldPastEnd octets place rest fits s (more, (least, aligned, past)))
               | inr whole ↦ from-place fuel (place + written_length rest) (drop (written_length rest) rest)
                   (Stands-next octets place rest s are more (record { least = least; aligned = aligned; whole = whole }))
                   (omega (arith, length-drop (written_length rest) rest))

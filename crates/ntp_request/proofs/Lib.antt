@@ -2,6 +2,7 @@ pub mod Octets
 pub mod Spelling
 pub mod Spelled
 pub mod Headers
+pub mod RestFaults
 pub mod Places
 pub mod Tails
 pub mod Ends

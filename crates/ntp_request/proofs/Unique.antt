@@ -7,7 +7,8 @@ use Rattle.ntp_request.specs.Field.{Field, written_length}
 use Rattle.ntp_request.specs.declared.digests.Digest.TheVariants.{Md5, Sha1}
 use Rattle.ntp_request.specs.Tail.{TailValue, NoTail, BareTail, MacTail, tail_octets, IsTail}
 use Rattle.ntp_request.specs.Request.{RequestValue, IsRequest}
-use Rattle.ntp_request.specs.Faults.{Stands, FailsAt, IsFieldShort, IsFieldUnaligned, IsFieldPastEnd, IsNoTail, Fails}
+use Rattle.ntp_request.specs.Faults.{Stands, FailsAt, Fails}
+use Rattle.ntp_request.proofs.RestFaults.{IsFieldShort, IsFieldUnaligned, IsFieldPastEnd, IsNoTail}
 use Rattle.ntp_request.specs.declared.malformed.Malformed.{Malformed}
 use Rattle.ntp_request.specs.declared.malformed.Malformed.TheVariants.{Short, Long, FieldShort, FieldUnaligned, FieldPastEnd, Rest}
 use Rattle.ntp_request.proofs.Places.{Stands-long}
@@ -90,20 +91,20 @@ module _ (place : ℕ) (rest : List ℕ) where
   shows-unaligned : IsFieldUnaligned rest → Shows place rest (FieldUnaligned place)
   unfolding fault_at
   shows-unaligned f = record {
-    end = λ b. f.2 b.whole.aligned;
+    end = λ b. f.1.1 b.whole.aligned;
     is = sym
-        (cond-false _ _ _ (lt-leb (length rest) 24 f.0) ∙ cond-false _ _ _ (le-ltb (written_length rest) 16 f.1)
-        ∙ cond-false _ _ _ (ne_eqb (written_length rest % 4) 0 f.2));
+        (cond-false _ _ _ (lt-leb (length rest) 24 f.0) ∙ cond-false _ _ _ (le-ltb (written_length rest) 16 f.1.0)
+        ∙ cond-false _ _ _ (ne_eqb (written_length rest % 4) 0 f.1.1));
     unread = no-longer-tail rest f.0;
   }
 
   shows-past-end : IsFieldPastEnd rest → Shows place rest (FieldPastEnd place)
   unfolding fault_at
   shows-past-end f = record {
-    end = λ b. let whole = b.whole.whole in let h = f.3 in omega arith;
+    end = λ b. let whole = b.whole.whole in let h = f.1.2 in omega arith;
     is = sym
-        (cond-false _ _ _ (lt-leb (length rest) 24 f.0) ∙ cond-false _ _ _ (le-ltb (written_length rest) 16 f.1)
-        ∙ cond-true _ _ _ (eq-eqb (written_length rest % 4) 0 f.2));
+        (cond-false _ _ _ (lt-leb (length rest) 24 f.0) ∙ cond-false _ _ _ (le-ltb (written_length rest) 16 f.1.0)
+        ∙ cond-true _ _ _ (eq-eqb (written_length rest % 4) 0 f.1.1));
     unread = no-longer-tail rest f.0;
   }
 

@@ -21,28 +21,18 @@ abbrev pub FailsAt : List ℕ → ℕ → (List ℕ → Type 0) → Type 0
 FailsAt octets place fault =
     (header_length ≤ length octets) × (length octets ≤ most_datagram_octets) × (rest : List ℕ) × Stands octets place rest × fault rest
 
--- a field stands there, and its length is too short (RFC 7822, 3)
-abbrev pub IsFieldShort : List ℕ → Type 0
-IsFieldShort rest = (most_tail_octets < length rest) × (written_length rest < 16)
+-- a field stands there, whose written length, beside how many octets are left, has the fault (RFC 7822, 3)
+abbrev pub FieldFails : List ℕ → ℕ → (ℕ → ℕ → Type 0) → Type 0
+FieldFails octets place fault =
+    FailsAt octets place (λ rest. (most_tail_octets < length rest) × fault (written_length rest) (length rest))
 
--- a field stands there, and its length is long enough but no multiple of 4 (RFC 7822, 3)
-abbrev pub IsFieldUnaligned : List ℕ → Type 0
-IsFieldUnaligned rest = (most_tail_octets < length rest) × (16 ≤ written_length rest) × (written_length rest % 4 ≢ 0)
-
--- a field stands there, and its length is a field's, but more than what remains (RFC 7822, 3)
-abbrev pub IsFieldPastEnd : List ℕ → Type 0
-IsFieldPastEnd rest =
-    (most_tail_octets < length rest) × (16 ≤ written_length rest) × (written_length rest % 4 ≡ 0) × (length rest < written_length rest)
-
--- no field stands there, and as many octets are no tail (profile)
-abbrev pub IsNoTail : List ℕ → Type 0
-IsNoTail rest = (length rest ≤ most_tail_octets) × (length rest ≢ 0) × (length rest ≢ 4) × (length rest ≢ 20) × (length rest ≢ 24)
-
--- the octets have this fault; no octets have two (profile)
+-- the octets have this fault: they are too few or too many; the length of a field is too short, is no multiple of 4, or is more than what
+-- remains; what is left is too short for a field, and no tail has so many octets. No octets have two (RFC 7822, 3; profile)
 abbrev pub Fails : List ℕ → Malformed → Type 0
 Fails octets Short = length octets < header_length
 Fails octets Long = most_datagram_octets < length octets
-Fails octets (FieldShort at) = FailsAt octets at IsFieldShort
-Fails octets (FieldUnaligned at) = FailsAt octets at IsFieldUnaligned
-Fails octets (FieldPastEnd at) = FailsAt octets at IsFieldPastEnd
-Fails octets (Rest at) = FailsAt octets at IsNoTail
+Fails octets (FieldShort at) = FieldFails octets at (λ written left. written < 16)
+Fails octets (FieldUnaligned at) = FieldFails octets at (λ written left. (16 ≤ written) × (written % 4 ≢ 0))
+Fails octets (FieldPastEnd at) = FieldFails octets at (λ written left. (16 ≤ written) × (written % 4 ≡ 0) × (left < written))
+Fails octets (Rest at) = FailsAt octets at
+    (λ rest. (length rest ≤ most_tail_octets) × (length rest ≢ 0) × (length rest ≢ 4) × (length rest ≢ 20) × (length rest ≢ 24))

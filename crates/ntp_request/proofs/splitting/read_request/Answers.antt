@@ -4,7 +4,8 @@ use Rattle.std.proofs.lemmas.List.{take_rest, length-drop}
 use Rattle.std.proofs.lemmas.Result.{err_from_is_err_and}
 use Rattle.ntp_request.specs.Request.{IsRequest}
 use Rattle.ntp_request.specs.Tail.{tail_value}
-use Rattle.ntp_request.specs.Faults.{IsNoTail, Fails}
+use Rattle.ntp_request.specs.Faults.{Fails}
+use Rattle.ntp_request.proofs.RestFaults.{IsNoTail}
 use Rattle.ntp_request.specs.declared.malformed.Malformed.TheVariants.{Short, Rest}
 use Rattle.ntp_request.proofs.Places.{Stands-first, fails_at}
 use Rattle.ntp_request.proofs.Found.{place-behind, fields-behind, is-request}

@@ -20,7 +20,7 @@ use Rattle.ntp_client.specs.Query.{query_fields}
 use Rattle.ntp_client.specs.Taking.{taken_for}
 use Rattle.ntp_client.proofs.Pairings.{basic-pairing, interleaved-pairing}
 use Rattle.ntp_customer.specs.Past.{Past}
-use Rattle.ntp_reply_packets.specs.Replies.{time_fields, time_octets}
+use Rattle.ntp_reply_packets.specs.Replies.{time_fields, sealed}
 use Rattle.ntp_reply_packets.specs.declared.occasion.Occasion.{Occasion}
 use Rattle.ntp_reply.specs.Life.{Life, recent_of}
 use Rattle.ntp_reply.specs.Kind.{kind_of}
@@ -41,11 +41,11 @@ module _ (c : ClientState) (q : Outstanding) (past : Past) (o : Occasion) (at : 
   -- a time reply with this exchange matched
   matched-reply : (reply : List ℕ) (saved : Stamp) (found : Option Slot) → SharesKey past c
       → matched (recent_of past) (query_fields q) ≡ found → verdict (Some past) o (request_octets c q) ≡ answer.Time reply saved
-      → (reply ≡ time_octets c.key c.number (time_fields o (query_fields q) found (stamps_of past o)))
+      → (reply ≡ sealed c.key c.number (time_fields o (query_fields q) found (stamps_of past o)))
       × (saved ≡ (stamps_of past o).receive)
   matched-reply reply saved found shares match is =
       let told = told-time past o c.key c.number (query_fields q) reply saved (sym (request-answer c q past o waits shares) ∙ is) in
-      (told.0 ∙ ap (λ x. time_octets c.key c.number (time_fields o (query_fields q) x (stamps_of past o))) match, told.1)
+      (told.0 ∙ ap (λ x. sealed c.key c.number (time_fields o (query_fields q) x (stamps_of past o))) match, told.1)
 
   -- a basic one is taken for the sample of the request and the reply
   pub basic-met : (reply : List ℕ) (saved : Stamp) → SharesKey past c → FitsPacket o.reference → o.reference.leap ≢ 3

@@ -1,14 +1,16 @@
 -- What the answer to a datagram is that is refused.
-use Rattle.std.proofs.Common.{◌≡◌, ℕ, Bool, true, false, ◌==◌, nat_lt, List, Some, None, Ok, ap, ◌∙◌}
+use Rattle.std.proofs.Common.{◌≡◌, ℕ, Bool, true, false, ◌==◌, nat_lt, List, ◌++◌, Some, None, Ok, ap, ◌∙◌}
 use Rattle.std.specs.Prelude.{if◌then◌else◌}
-use Rattle.ntp_packet.specs.Header.{HeaderFields}
+use Rattle.ntp_packet.specs.Header.{HeaderFields, header_octets}
+use Rattle.ntp_mac.specs.Mac.{nak_octets}
 use Rattle.ntp_request.specs.Request.{RequestValue}
 use Rattle.ntp_mac.specs.Key.{SymmetricKey}
 use Rattle.ntp_mac.specs.Reading.{reading_of}
 use Rattle.ntp_customer.specs.Customer.{budget_of}
 use Rattle.ntp_customer.specs.Past.{Past}
 use Rattle.ntp_reply_packets.specs.declared.occasion.Occasion.{Occasion}
-use Rattle.ntp_reply_packets.specs.Replies.{basic_fields, rate_octets, deny_octets, crypto_nak_octets}
+use Rattle.ntp_reply_packets.specs.Replies.{basic_fields, kiss_fields, sealed}
+use Rattle.ntp_reply_packets.specs.declared.kiss.Kiss.TheVariants.{Rate, Deny}
 use Rattle.ntp_reply.specs.Life.{Life, recent_of}
 use Rattle.ntp_reply.specs.Exchanged.{stamps_of}
 use Rattle.ntp_reply.specs.Kind.{Kind, PassedOver, RefusedByDeny, RefusedByNak, Signed, kind_of}
@@ -26,22 +28,22 @@ neither false one other third a b is = b is
 module _ (past : Past) (o : Occasion) where
   -- a signed query is answered by the time, a RATE or silence
   served : (key : SymmetricKey) (number : ℕ) (h : HeaderFields) (third : Answer) → (timed key number o h (recent_of past) ≡ third → ⊥)
-      → (answer.Rate (rate_octets key number h) ≡ third → ⊥) → (answer.Silent reason.OverBudget ≡ third → ⊥)
+      → (answer.Rate (sealed key number (kiss_fields Rate h)) ≡ third → ⊥) → (answer.Silent reason.OverBudget ≡ third → ⊥)
       → kind_answer past o (Signed key number h) ≡ third → ⊥
   served key number h third a b c is =
       neither (nat_lt (query_count past o) (budget_of past)) (timed key number o h (recent_of past)) _ third a
-      (neither (query_count past o == budget_of past) (answer.Rate (rate_octets key number h)) (answer.Silent reason.OverBudget) third b c)
+      (neither (query_count past o == budget_of past) (answer.Rate (sealed key number (kiss_fields Rate h))) (answer.Silent reason.OverBudget) third b c)
       is
 
   -- the octets of a crypto-NAK to a header
   abbrev nak : HeaderFields → List ℕ
-  nak h = crypto_nak_octets (basic_fields o h (stamps_of past o))
+  nak h = header_octets (basic_fields o h (stamps_of past o)) ++ nak_octets
 
   -- a crypto-NAK goes to the header that the kind speaks of
   pub told-nak : (h : HeaderFields) (k : Kind) (reply : List ℕ) → SpeaksOf h k → kind_answer past o k ≡ answer.Nak reply → reply ≡ nak h
   told-nak h (PassedOver why) reply speaks is = absurd (cc)
   told-nak h (RefusedByDeny other) reply speaks is =
-      absurd (neither _ (answer.Deny (deny_octets other)) (answer.Silent reason.Muted) (answer.Nak reply)
+      absurd (neither _ (answer.Deny (header_octets (kiss_fields Deny other))) (answer.Silent reason.Muted) (answer.Nak reply)
       (λ e. absurd (cc)) (λ e. absurd (cc)) is)
   told-nak h (RefusedByNak other) reply speaks is = sent _ is ∙ ap nak speaks
     where
@@ -53,12 +55,12 @@ module _ (past : Past) (o : Occasion) where
 
   -- and so does a DENY
   told-deny : (h : HeaderFields) (k : Kind) (reply : List ℕ) → SpeaksOf h k → kind_answer past o k ≡ answer.Deny reply
-      → reply ≡ deny_octets h
+      → reply ≡ header_octets (kiss_fields Deny h)
   told-deny h (PassedOver why) reply speaks is = absurd (cc)
-  told-deny h (RefusedByDeny other) reply speaks is = sent _ is ∙ ap deny_octets speaks
+  told-deny h (RefusedByDeny other) reply speaks is = sent _ is ∙ ap (λ x. header_octets (kiss_fields Deny x)) speaks
     where
-      sent : (test : Bool) → (if test then answer.Deny (deny_octets other) else answer.Silent reason.Muted) ≡ answer.Deny reply
-          → reply ≡ deny_octets other
+      sent : (test : Bool) → (if test then answer.Deny (header_octets (kiss_fields Deny other)) else answer.Silent reason.Muted) ≡ answer.Deny reply
+          → reply ≡ header_octets (kiss_fields Deny other)
       sent true is = cc
       sent false is = absurd (cc)
   told-deny h (RefusedByNak other) reply speaks is =
@@ -69,6 +71,6 @@ module _ (past : Past) (o : Occasion) where
 
 -- so a DENY to octets goes to the header that they are read with
 pub denied : (life : Life) (o : Occasion) (octets : List ℕ) (r : RequestValue) (reply : List ℕ) → reading_of octets ≡ Ok r
-    → verdict life o octets ≡ answer.Deny reply → reply ≡ deny_octets r.header
+    → verdict life o octets ≡ answer.Deny reply → reply ≡ header_octets (kiss_fields Deny r.header)
 denied None o octets r reply read is = absurd (cc)
 denied (Some past) o octets r reply read is = told-deny past o r.header (kind_of past octets) reply (kind-speaks past octets r read) is

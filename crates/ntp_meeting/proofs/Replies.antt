@@ -1,9 +1,10 @@
 -- What a client takes a server's reply for.
-use Rattle.std.proofs.Common.{◌≡◌, ◌≢◌, ℕ, ◌^◌, ◌<◌, ◌≤◌, List, Some, Ok, refl, ap, ◌∙◌, arith}
+use Rattle.std.proofs.Common.{◌≡◌, ◌≢◌, ℕ, ◌^◌, ◌<◌, ◌≤◌, List, ◌++◌, Some, Ok, refl, ap, ◌∙◌, arith}
 use Rattle.std.proofs.lemmas.Bool.{eq-eqb, ne_eqb}
 use Rattle.ntp_time.specs.declared.stamp.Stamp.{Stamp}
 use Rattle.ntp_time.specs.declared.moment.Moment.{Moment}
-use Rattle.ntp_packet.specs.Header.{HeaderFields, IsHeader}
+use Rattle.ntp_packet.specs.Header.{HeaderFields, IsHeader, header_octets}
+use Rattle.ntp_mac.specs.Mac.{nak_octets}
 use Rattle.ntp_request.specs.FirstCase.{decided}
 use Rattle.ntp_request.specs.Tail.{NoTail, BareTail}
 use Rattle.ntp_request.specs.Request.{RequestValue}
@@ -24,8 +25,7 @@ use Rattle.ntp_client.proofs.Authentic.{time-taken}
 use Rattle.ntp_client.proofs.Takings.{read-taken, paired-taken, signed-taken}
 use Rattle.ntp_customer.specs.Past.{Past}
 use Rattle.ntp_reply_packets.specs.Reference.{ReferenceState, IsReference}
-use Rattle.ntp_reply_packets.specs.Replies.{reply_fields, basic_fields, kiss_fields, shown_stratum}
-use Rattle.ntp_reply_packets.specs.Replies.{time_octets, rate_octets, deny_octets, crypto_nak_octets}
+use Rattle.ntp_reply_packets.specs.Replies.{reply_fields, basic_fields, kiss_fields, shown_stratum, sealed}
 use Rattle.ntp_reply_packets.specs.declared.occasion.Occasion.{Occasion}
 use Rattle.ntp_reply_packets.specs.declared.kiss.Kiss.TheVariants.{Rate, Deny}
 use Rattle.ntp_reply.specs.Exchanged.{stamps_of}
@@ -44,7 +44,7 @@ basic-taken c q octets r at there read mode version is =
 
 -- a RATE is taken for one
 pub rate-taken : (c : ClientState) (q : Outstanding) (at : Moment) → Waits c q
-    → taken_for c (rate_octets c.key c.number (query_fields q)) at ≡ taken.Rate
+    → taken_for c (sealed c.key c.number (kiss_fields Rate (query_fields q))) at ≡ taken.Rate
 rate-taken c q at waits =
     let h : HeaderFields = kiss_fields Rate (query_fields q) in
     let r : RequestValue = sealed_packet c.key c.number h in
@@ -52,7 +52,7 @@ rate-taken c q at waits =
     ∙ ap decided (signed-taken c.key c.number Basic r (sample_of q Basic h at) (signed-sealed c.key c.number h))
 
 -- a DENY is taken for one
-pub deny-taken : (c : ClientState) (q : Outstanding) (at : Moment) → Waits c q → taken_for c (deny_octets (query_fields q)) at ≡ taken.Deny
+pub deny-taken : (c : ClientState) (q : Outstanding) (at : Moment) → Waits c q → taken_for c (header_octets (kiss_fields Deny (query_fields q))) at ≡ taken.Deny
 deny-taken c q at waits =
     let h : HeaderFields = kiss_fields Deny (query_fields q) in
     let r : RequestValue = packet h NoTail in
@@ -60,7 +60,7 @@ deny-taken c q at waits =
 
 -- a crypto-NAK is taken for one
 pub nak-taken : (c : ClientState) (q : Outstanding) (past : Past) (o : Occasion) (at : Moment) → Waits c q → FitsPacket o.reference
-    → taken_for c (crypto_nak_octets (basic_fields o (query_fields q) (stamps_of past o))) at ≡ taken.Nak
+    → taken_for c (header_octets (basic_fields o (query_fields q) (stamps_of past o)) ++ nak_octets) at ≡ taken.Nak
 nak-taken c q past o at waits fits =
     let h : HeaderFields = basic_fields o (query_fields q) (stamps_of past o) in
     let is : IsHeader h =
@@ -75,7 +75,7 @@ stamped past o q origin transmit = reply_fields o.reference (query_fields q) ori
 -- a signed reply of a pairing is taken for what its header says
 signed-reply : (c : ClientState) (q : Outstanding) (past : Past) (o : Occasion) (at : Moment) (p : Pairing) (origin transmit : Stamp)
     → Waits c q → FitsPacket o.reference → origin.0 < 2 ^ 64 → transmit.0 < 2 ^ 64 → pairing_of q origin ≡ Some p
-    → taken_for c (time_octets c.key c.number (stamped past o q origin transmit)) at
+    → taken_for c (sealed c.key c.number (stamped past o q origin transmit)) at
     ≡ decided (authentic_steps p (stamped past o q origin transmit) (sample_of q p (stamped past o q origin transmit) at))
 signed-reply c q past o at p origin transmit waits fits origin_fits transmit_fits paired =
     let h : HeaderFields = stamped past o q origin transmit in
@@ -96,7 +96,7 @@ stratum-synchronised r is clock =
 pub sample-taken : (c : ClientState) (q : Outstanding) (past : Past) (o : Occasion) (at : Moment) (p : Pairing) (origin transmit : Stamp)
     → Waits c q → FitsPacket o.reference → o.reference.leap ≢ 3 → transmit.0 ≢ 0 → origin.0 < 2 ^ 64 → transmit.0 < 2 ^ 64
     → pairing_of q origin ≡ Some p
-    → taken_for c (time_octets c.key c.number (stamped past o q origin transmit)) at
+    → taken_for c (sealed c.key c.number (stamped past o q origin transmit)) at
     ≡ taken.Sample (sample_of q p (stamped past o q origin transmit) at)
 sample-taken c q past o at p origin transmit waits fits clock known origin_fits transmit_fits paired =
     let h : HeaderFields = stamped past o q origin transmit in
@@ -116,7 +116,7 @@ sample-taken c q past o at p origin transmit waits fits clock known origin_fits 
 pub unsynchronised-taken : (c : ClientState) (q : Outstanding) (past : Past) (o : Occasion) (at : Moment) (p : Pairing)
     (origin transmit : Stamp) → Waits c q → FitsPacket o.reference → o.reference.leap ≡ 3 → origin.0 < 2 ^ 64 → transmit.0 < 2 ^ 64
     → pairing_of q origin ≡ Some p
-    → taken_for c (time_octets c.key c.number (stamped past o q origin transmit)) at ≡ taken.Refused distrust.Unsynchronised
+    → taken_for c (sealed c.key c.number (stamped past o q origin transmit)) at ≡ taken.Refused distrust.Unsynchronised
 unsynchronised-taken c q past o at p origin transmit waits fits clock origin_fits transmit_fits paired =
     signed-reply c q past o at p origin transmit waits fits origin_fits transmit_fits paired
     ∙ rw (eq-eqb o.reference.stratum 16 (fits.state.together.0 clock), eq-eqb o.reference.leap 3 clock) refl

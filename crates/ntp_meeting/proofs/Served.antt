@@ -7,7 +7,8 @@ use Rattle.ntp_mac.specs.Key.{SymmetricKey}
 use Rattle.ntp_customer.specs.Customer.{budget_of}
 use Rattle.ntp_customer.specs.Past.{Past, with_query}
 use Rattle.ntp_reply_packets.specs.declared.occasion.Occasion.{Occasion}
-use Rattle.ntp_reply_packets.specs.Replies.{time_fields, time_octets, rate_octets}
+use Rattle.ntp_reply_packets.specs.Replies.{time_fields, kiss_fields, sealed}
+use Rattle.ntp_reply_packets.specs.declared.kiss.Kiss.TheVariants.{Rate}
 use Rattle.ntp_reply.specs.Life.{recent_of}
 use Rattle.ntp_reply.specs.Exchanged.{matched, stamps_of, after_time}
 use Rattle.ntp_reply.specs.Kind.{Signed}
@@ -41,23 +42,23 @@ module _ (past : Past) (o : Occasion) (key : SymmetricKey) (number : ℕ) (h : H
   last = query_count past o == budget_of past
 
   abbrev time : List ℕ
-  time = time_octets key number (time_fields o h (matched (recent_of past) h) (stamps_of past o))
+  time = sealed key number (time_fields o h (matched (recent_of past) h) (stamps_of past o))
 
   -- the time is in its octets, with the new receive stamp beside them
   pub told-time : (reply : List ℕ) (saved : Stamp) → kind_answer past o (Signed key number h) ≡ answer.Time reply saved
       → (reply ≡ time) × (saved ≡ (stamps_of past o).receive)
   told-time reply saved is =
-      let only = only-time within last time (rate_octets key number h) reply (stamps_of past o).receive saved is in (only.1, only.2)
+      let only = only-time within last time (sealed key number (kiss_fields Rate h)) reply (stamps_of past o).receive saved is in (only.1, only.2)
 
   -- and leaves the past after one
   pub after-told_time : (reply : List ℕ) (saved : Stamp) → kind_answer past o (Signed key number h) ≡ answer.Time reply saved
       → after_kind past o (Signed key number h) ≡ after_time (with_query past (window_at o)) o h
   after-told_time reply saved is =
-      rw (only-time within last time (rate_octets key number h) reply (stamps_of past o).receive saved is).0 refl
+      rw (only-time within last time (sealed key number (kiss_fields Rate h)) reply (stamps_of past o).receive saved is).0 refl
 
   -- a RATE is in its octets
-  pub told-rate : (reply : List ℕ) → kind_answer past o (Signed key number h) ≡ answer.Rate reply → reply ≡ rate_octets key number h
-  told-rate reply is = only-rate within last time (rate_octets key number h) reply (stamps_of past o).receive is
+  pub told-rate : (reply : List ℕ) → kind_answer past o (Signed key number h) ≡ answer.Rate reply → reply ≡ sealed key number (kiss_fields Rate h)
+  told-rate reply is = only-rate within last time (sealed key number (kiss_fields Rate h)) reply (stamps_of past o).receive is
 
   -- while the budget has room, the answer is the time
   pub is-timed : query_count past o < budget_of past → kind_answer past o (Signed key number h) ≡ timed key number o h (recent_of past)

@@ -1,17 +1,19 @@
 -- Pasts of which the same is kept.
-use Rattle.std.proofs.Common.{◌≡◌, ℕ, ◌<◌, ◌==◌, min, nat_lt, Bool, true, false, List, refl, sym, ap, ◌∙◌, arith}
+use Rattle.std.proofs.Common.{◌≡◌, ℕ, ◌<◌, ◌==◌, min, nat_lt, Bool, true, false, List, ◌++◌, refl, sym, ap, ◌∙◌, arith}
 use Rattle.std.specs.Prelude.{if◌then◌else◌}
 use Rattle.std.specs.Option.{option_map_or}
 use Rattle.std.proofs.lemmas.Bool.Decides.{nat_tests}
 use Rattle.ntp_budget.specs.Tally.{tally, count_in, most_counted}
 use Rattle.ntp_budget.proofs.Tallies.{tally-tells_all}
-use Rattle.ntp_packet.specs.Header.{HeaderFields}
+use Rattle.ntp_packet.specs.Header.{HeaderFields, header_octets}
+use Rattle.ntp_mac.specs.Mac.{nak_octets}
 use Rattle.ntp_mac.specs.Reading.{reading_of}
 use Rattle.ntp_customer.specs.Customer.{enrolment_at, budget_of, changing}
 use Rattle.ntp_customer.proofs.Customers.{with_queries}
 use Rattle.ntp_customer.specs.Past.{Past, queries_in, with_refusal, with_query, short}
 use Rattle.ntp_customer.proofs.Pasts.{enrolment_at-short, queries_kept, queries-short, short-with_query}
-use Rattle.ntp_reply_packets.specs.Replies.{new_stamps, basic_fields, crypto_nak_octets, deny_octets, rate_octets}
+use Rattle.ntp_reply_packets.specs.Replies.{new_stamps, basic_fields, kiss_fields, sealed}
+use Rattle.ntp_reply_packets.specs.declared.kiss.Kiss.TheVariants.{Rate, Deny}
 use Rattle.ntp_reply_packets.specs.declared.occasion.Occasion.{Occasion}
 use Rattle.ntp_reply.specs.Life.{recent_of}
 use Rattle.ntp_reply.specs.Kind.{Kind, PassedOver, RefusedByDeny, RefusedByNak, Signed, octets_kind, kind_of}
@@ -91,12 +93,12 @@ module _ (one other : Past) (same : short one ≡ short other) where
     answered-alike : (o : Occasion) (k : Kind) → kind_answer one o k ≡ kind_answer other o k
     answered-alike o (PassedOver why) = refl
     answered-alike o (RefusedByDeny h) =
-        λ i. if sent (window_at o) i then answer.Deny (deny_octets h) else answer.Silent reason.Muted
+        λ i. if sent (window_at o) i then answer.Deny (header_octets (kiss_fields Deny h)) else answer.Silent reason.Muted
     answered-alike o (RefusedByNak h) =
         λ i. if sent (window_at o) i
-        then answer.Nak (crypto_nak_octets (basic_fields o h (new_stamps o (recents i)))) else answer.Silent reason.Muted
+        then answer.Nak (header_octets (basic_fields o h (new_stamps o (recents i))) ++ nak_octets) else answer.Silent reason.Muted
     answered-alike o (Signed key number h) =
-        λ i. by_budget (timed key number o h (recents i)) (answer.Rate (rate_octets key number h)) (within (window_at o) i)
+        λ i. by_budget (timed key number o h (recents i)) (answer.Rate (sealed key number (kiss_fields Rate h))) (within (window_at o) i)
         (last_one (window_at o) i)
 
     -- and the same is kept of both pasts afterwards

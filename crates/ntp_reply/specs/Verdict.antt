@@ -1,18 +1,20 @@
 -- What a datagram is answered, and what it leaves of the life of the address from which it came.
-use Rattle.std.specs.Prelude.{ℕ, List, Some, None, option_map, length, ◌+◌, ◌==◌, nat_lt, if◌then◌else◌}
+use Rattle.std.specs.Prelude.{ℕ, List, ◌++◌, Some, None, option_map, length, ◌+◌, ◌==◌, nat_lt, if◌then◌else◌}
 use Rattle.ntp_time.specs.Moment.{window_of}
 use Rattle.ntp_budget.specs.Tally.{count_in}
-use Rattle.ntp_packet.specs.Header.{HeaderFields}
+use Rattle.ntp_packet.specs.Header.{HeaderFields, header_octets}
 use Rattle.ntp_request.specs.Tail.{tail_octets}
 use Rattle.ntp_request.specs.Request.{RequestValue}
 use Rattle.ntp_mac.specs.Key.{SymmetricKey}
+use Rattle.ntp_mac.specs.Mac.{nak_octets}
 use Rattle.ntp_slots.specs.declared.slot.Slot.{Slot}
 use Rattle.ntp_customer.specs.Customer.{budget_of}
 use Rattle.ntp_customer.specs.Past.{Past, queries_in, with_refusal, with_query}
 use Rattle.ntp_reply.specs.Life.{Life, recent_of}
 use Rattle.ntp_reply.specs.Exchanged.{matched, stamps_of, after_time}
 use Rattle.ntp_reply.specs.Kind.{Kind, PassedOver, RefusedByDeny, RefusedByNak, Signed, kind_of}
-use Rattle.ntp_reply_packets.specs.Replies.{new_stamps, basic_fields, time_fields, time_octets, crypto_nak_octets, deny_octets, rate_octets}
+use Rattle.ntp_reply_packets.specs.Replies.{new_stamps, basic_fields, time_fields, kiss_fields, sealed}
+use Rattle.ntp_reply_packets.specs.declared.kiss.Kiss.TheVariants.{Rate, Deny}
 use Rattle.ntp_reply_packets.specs.declared.occasion.Occasion.{Occasion}
 use Rattle.ntp_reply.specs.declared.answers.Answer.{Answer}
 use Rattle.ntp_reply.specs.declared.answers.Answer.TheVariants as answer
@@ -30,21 +32,21 @@ refusals_sent = 4
 abbrev pub refused : Past → Occasion → Answer → Answer
 refused past o reply = if nat_lt (count_in past.refusals (window_at o)) refusals_sent then reply else answer.Silent reason.Muted
 
--- a time reply, with its receive stamp (profile, after RFC 9769)
+-- a time reply, signed, with its receive stamp (RFC 5905, 9.2; profile, after RFC 9769)
 abbrev pub timed : SymmetricKey → ℕ → Occasion → HeaderFields → List Slot → Answer
 timed key number o request saved =
     let stamps = new_stamps o saved in
-    answer.Time (time_octets key number (time_fields o request (matched saved request) stamps)) stamps.receive
+    answer.Time (sealed key number (time_fields o request (matched saved request) stamps)) stamps.receive
 
 -- how many of the newest signed queries lie in its window (profile)
 abbrev pub query_count : Past → Occasion → ℕ
 query_count past o = count_in (queries_in past) (window_at o)
 
--- a signed query: with fewer before it than the budget it gets the time, with as many RATE, with more nothing (profile)
+-- a signed query: with fewer before it than the budget it gets the time, with as many RATE, signed, with more nothing (profile)
 abbrev pub signed_answer : Past → Occasion → SymmetricKey → ℕ → HeaderFields → Answer
 signed_answer past o key number request =
     if nat_lt (query_count past o) (budget_of past) then timed key number o request (recent_of past)
-    else if query_count past o == budget_of past then answer.Rate (rate_octets key number request)
+    else if query_count past o == budget_of past then answer.Rate (sealed key number (kiss_fields Rate request))
     else answer.Silent reason.OverBudget
 
 -- the past after a signed query: it is counted, and a time reply is one exchange more (profile)
@@ -53,11 +55,12 @@ after_signed past o request =
     let counted = with_query past (window_at o) in
     if nat_lt (query_count past o) (budget_of past) then after_time counted o request else counted
 
--- the answer to a datagram of a kind, with a past (profile)
+-- the answer to a datagram of a kind, with a past: a DENY is unsigned, and a crypto-NAK has four zeros in the place of the MAC
+-- (RFC 5905, 7.4; profile)
 abbrev pub kind_answer : Past → Occasion → Kind → Answer
 kind_answer past o (PassedOver why) = answer.Silent why
-kind_answer past o (RefusedByDeny request) = refused past o (answer.Deny (deny_octets request))
-kind_answer past o (RefusedByNak request) = refused past o (answer.Nak (crypto_nak_octets (basic_fields o request (stamps_of past o))))
+kind_answer past o (RefusedByDeny request) = refused past o (answer.Deny (header_octets (kiss_fields Deny request)))
+kind_answer past o (RefusedByNak request) = refused past o (answer.Nak (header_octets (basic_fields o request (stamps_of past o)) ++ nak_octets))
 kind_answer past o (Signed key number request) = signed_answer past o key number request
 
 -- the past after a datagram of a kind: refusals and signed queries are counted, whether they were answered or not; a crypto-NAK's

@@ -6,7 +6,7 @@ ghost use Rattle.ntp_customer.specs.Past.{Past, short};
 ghost use Rattle.ntp_reply.specs.Life.{recent_of};
 ghost use Rattle.ntp_reply.specs.Exchanged.{after_time};
 ghost use Rattle.ntp_reply.specs.Kind.{Signed};
-ghost use Rattle.ntp_reply_packets.specs.Replies.{rate_octets};
+ghost use Rattle.ntp_reply_packets.specs.Replies.{kiss_fields, sealed};
 ghost use Rattle.ntp_reply.specs.Verdict.{timed, reply_length};
 ghost use Rattle.ntp_reply.specs.Answered.{Answers};
 
@@ -67,7 +67,7 @@ fn time<A: Allocator + Copy>(
 
 // The kiss RATE, sealed with the query's key.
 fn rate(held: &NumberedKey, request: &Header) -> Answer
-    ensures answer { result ≡ Answer.Rate (rate_octets held.now.key held.now.number request.now) }
+    ensures answer { result ≡ Answer.Rate (sealed held.now.key held.now.number (kiss_fields Kiss.Rate request.now)) }
     ensures octets { reply_length result ≡ 52 + digest_length held.now.key.algorithm }
 {
     let mut reply = Reply::from_header(&kiss_fields(Kiss::Rate, request));

@@ -8,7 +8,7 @@ use Rattle.ntp_slots.specs.Exchanges.{receives, all_stamps}
 use Rattle.ntp_packet.specs.Header.{HeaderFields, blank_header, header_octets}
 use Rattle.ntp_packet.specs.Kiss.{rate_code, deny_code}
 use Rattle.ntp_mac.specs.Key.{SymmetricKey}
-use Rattle.ntp_mac.specs.Mac.{mac_of, nak_octets}
+use Rattle.ntp_mac.specs.Mac.{mac_of}
 use Rattle.ntp_reply_packets.specs.Reference.{ReferenceState}
 use Rattle.ntp_reply_packets.specs.declared.occasion.Occasion.{Occasion}
 use Rattle.ntp_reply_packets.specs.declared.occasion.NewStamps.{NewStamps}
@@ -81,25 +81,9 @@ kiss_fields kiss request = record (blank_header request.version 4) {
   transmit = kiss_transmit request.transmit;
 }
 
--- octets with the MAC of a key and its number behind them (RFC 5905, 7.3; with SHA-1: profile)
-abbrev pub sealed : SymmetricKey → ℕ → List ℕ → List ℕ
-sealed key number octets = octets ++ mac_of key number octets
-
--- a time reply: signed (RFC 5905, 9.2; with SHA-1: profile)
-abbrev pub time_octets : SymmetricKey → ℕ → HeaderFields → List ℕ
-time_octets key number fields = sealed key number (header_octets fields)
-
--- a crypto-NAK: four zeros in the place of the MAC (RFC 5905)
-abbrev pub crypto_nak_octets : HeaderFields → List ℕ
-crypto_nak_octets fields = header_octets fields ++ nak_octets
-
--- a DENY: unsigned (RFC 5905, 7.4; profile)
-abbrev pub deny_octets : HeaderFields → List ℕ
-deny_octets request = header_octets (kiss_fields Deny request)
-
--- a RATE: signed (RFC 5905, 7.4; profile)
-abbrev pub rate_octets : SymmetricKey → ℕ → HeaderFields → List ℕ
-rate_octets key number request = sealed key number (header_octets (kiss_fields Rate request))
+-- a signed reply: the octets of its header, and behind them the MAC of a key and its number (RFC 5905, 7.3; with SHA-1: profile)
+abbrev pub sealed : SymmetricKey → ℕ → HeaderFields → List ℕ
+sealed key number fields = header_octets fields ++ mac_of key number (header_octets fields)
 
 -- the receive and the transmit stamp differ, and the transmit stamp is not 0 (profile, after RFC 9769)
 abbrev pub HasDistinctStamps : HeaderFields → Type 0

@@ -6,7 +6,8 @@ use Rattle.std.proofs.lemmas.Bool.Decides.{nat_tests}
 use Rattle.std.proofs.lemmas.Option.{none-some}
 use Rattle.ntp_budget.specs.Tally.{count_in}
 use Rattle.ntp_budget.proofs.Tallies.{count_in-append}
-use Rattle.ntp_packet.specs.Header.{HeaderFields}
+use Rattle.ntp_packet.specs.Header.{HeaderFields, header_octets}
+use Rattle.ntp_mac.specs.Mac.{nak_octets}
 use Rattle.ntp_mac.specs.Key.{SymmetricKey}
 use Rattle.ntp_mac.specs.Reading.{reading_of}
 use Rattle.ntp_request.specs.Request.{RequestValue}
@@ -15,7 +16,8 @@ use Rattle.ntp_customer.specs.Customer.{Enrolment, AccountOf, enrolment_at, is_e
 use Rattle.ntp_customer.specs.Past.{Past, with_refusal}
 use Rattle.ntp_customer.proofs.Pasts.{by_past}
 use Rattle.ntp_reply.specs.Life.{Life, enrolment_in}
-use Rattle.ntp_reply.specs.Replies.{deny_octets, basic_fields, crypto_nak_octets}
+use Rattle.ntp_reply_packets.specs.Replies.{basic_fields, kiss_fields}
+use Rattle.ntp_reply_packets.specs.declared.kiss.Kiss.TheVariants.{Deny}
 use Rattle.ntp_reply.specs.Kind.{Kind, PassedOver, RefusedByDeny, RefusedByNak, Signed, octets_kind, kind_of}
 use Rattle.ntp_reply.specs.Exchanged.{stamps_of, after_departure}
 use Rattle.ntp_reply.specs.Verdict.{window_at, refused, refusals_sent, signed_answer, after_signed, kind_answer, after_kind, verdict, after_datagram}
@@ -78,9 +80,9 @@ module _ (a : AccountOf (List ℕ)) (refusals : List ℕ) (o : Occasion) (key : 
 spends-kind : (past : Past) (o : Occasion) (k : Kind) → (is_signed_query k ≡ true → is_enrolled past ≡ true)
     → Spends (Some past) (Some (after_kind past o k)) (window_at o) (outcome.Datagram (kind_answer past o k))
 spends-kind past o (PassedOver why) signed = record { queries = omega arith; refusals = omega arith }
-spends-kind past o (RefusedByDeny h) signed = spends-refusal past o (answer.Deny (deny_octets h)) refl refl
+spends-kind past o (RefusedByDeny h) signed = spends-refusal past o (answer.Deny (header_octets (kiss_fields Deny h))) refl refl
 spends-kind past o (RefusedByNak h) signed =
-    spends-refusal past o (answer.Nak (crypto_nak_octets (basic_fields o h (stamps_of past o)))) refl refl
+    spends-refusal past o (answer.Nak (header_octets (basic_fields o h (stamps_of past o)) ++ nak_octets)) refl refl
 spends-kind past o (Signed key number h) signed =
     by_past (λ p. is_enrolled p ≡ true → Spends (Some p) (Some (after_signed p o h)) (window_at o)
     (outcome.Datagram (signed_answer p o key number h)))

@@ -32,17 +32,18 @@ refusals_sent = 4
 abbrev pub refused : Past → Occasion → Answer → Answer
 refused past o reply = if nat_lt (count_in past.refusals (window_at o)) refusals_sent then reply else answer.Silent reason.Muted
 
--- a time reply, signed, with its receive stamp (RFC 5905, 9.2; profile, after RFC 9769)
+-- a time reply, signed, and beside it its receive stamp (RFC 5905, 9.2; profile, after RFC 9769)
 abbrev pub timed : SymmetricKey → ℕ → Occasion → HeaderFields → List Slot → Answer
 timed key number o request saved =
     let stamps = new_stamps o saved in
     answer.Time (sealed key number (time_fields o request (matched saved request) stamps)) stamps.receive
 
--- how many of the newest signed queries lie in its window (profile)
+-- how many of the newest signed queries of a past lie in the window of an occasion (profile)
 abbrev pub query_count : Past → Occasion → ℕ
 query_count past o = count_in (queries_in past) (window_at o)
 
--- a signed query: with fewer before it than the budget it gets the time, with as many RATE, signed, with more nothing (profile)
+-- a signed query: where fewer lie before it than the budget, the time; where just as many do, RATE, signed; else nothing (profile; the kiss:
+-- RFC 5905, 7.4)
 abbrev pub signed_answer : Past → Occasion → SymmetricKey → ℕ → HeaderFields → Answer
 signed_answer past o key number request =
     if nat_lt (query_count past o) (budget_of past) then timed key number o request (recent_of past)
@@ -55,8 +56,8 @@ after_signed past o request =
     let counted = with_query past (window_at o) in
     if nat_lt (query_count past o) (budget_of past) then after_time counted o request else counted
 
--- the answer to a datagram of a kind, with a past: a DENY is unsigned, and a crypto-NAK has four zeros in the place of the MAC
--- (RFC 5905, 7.4; profile)
+-- the answer to a datagram of a kind, with a past: a DENY is its header alone (RFC 5905, 7.4; profile), and a crypto-NAK has four zeros in
+-- the place of the MAC (RFC 5905); which kind gets which: profile
 abbrev pub kind_answer : Past → Occasion → Kind → Answer
 kind_answer past o (PassedOver why) = answer.Silent why
 kind_answer past o (RefusedByDeny request) = refused past o (answer.Deny (header_octets (kiss_fields Deny request)))

@@ -1,4 +1,4 @@
--- The octets of the replies.
+-- The headers of replies, and the octets of a signed one.
 use Rattle.std.specs.Prelude.{◌≢◌, ℕ, List, [], ◌∷◌, ◌++◌, ◌==◌, if◌then◌else◌, Option, Some, None}
 use Rattle.ntp_time.specs.declared.stamp.Stamp.{Stamp}
 use Rattle.ntp_time.specs.declared.moment.Moment.{Moment}
@@ -67,7 +67,7 @@ abbrev pub kiss_code : Kiss → List ℕ
 kiss_code Rate = rate_code
 kiss_code Deny = deny_code
 
--- the transmit stamp of a kiss: the request's, but never 0, so that no client takes it for none (profile)
+-- the transmit stamp of a kiss: the request's, but 1 in the place of 0, so that no client takes it for none (profile)
 abbrev pub kiss_transmit : Stamp → Stamp
 kiss_transmit transmit = if transmit.0 == 0 then record { 0 = 1 } else transmit
 

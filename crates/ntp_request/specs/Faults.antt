@@ -21,13 +21,14 @@ abbrev pub FailsAt : List ℕ → ℕ → (List ℕ → Type 0) → Type 0
 FailsAt octets place fault =
     (header_length ≤ length octets) × (length octets ≤ most_datagram_octets) × (rest : List ℕ) × Stands octets place rest × fault rest
 
--- a field stands there, whose written length, beside how many octets are left, has the fault (RFC 7822, 3)
+-- a field stands there, since more octets are left than any tail has, and its written length, beside how many are left, has the fault
+-- (RFC 7822, 3; the split: profile)
 abbrev pub FieldFails : List ℕ → ℕ → (ℕ → ℕ → Type 0) → Type 0
 FieldFails octets place fault =
     FailsAt octets place (λ rest. (most_tail_octets < length rest) × fault (written_length rest) (length rest))
 
--- the octets have this fault: they are too few or too many; the length of a field is too short, is no multiple of 4, or is more than what
--- remains; what is left is too short for a field, and no tail has so many octets. No octets have two (RFC 7822, 3; profile)
+-- the octets have this fault: they are too few or too many; the length of a field is too small, else no multiple of 4, else more than what
+-- is left; or no more octets are left than a tail can have, and no tail has so many. No octets have two (RFC 7822, 3; profile)
 abbrev pub Fails : List ℕ → Malformed → Type 0
 Fails octets Short = length octets < header_length
 Fails octets Long = most_datagram_octets < length octets

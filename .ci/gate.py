@@ -5,7 +5,7 @@
     GATE_MINUTES=20 .ci/run         takes up no must-fail edit later than 20 minutes after the start, in place of 100
 
 1. What docs/ say of the sources that is counted or drawn: `tests/belief --check` and `tests/crates --check`, a case each.
-2. What `rt ci` does (.ci/proofs.py): each proof, the must-fail edits until the minutes are over, each test and each program.
+2. What `rt ci` does (.ci/proofs.py): each proof, then the must-fail edits until the minutes are over, then each test and each program.
 3. tests/program and tests/clients over labntp, and tests/daemon over labntpd, as they were built. Where chronyd or ntpdig is not on
    the path, Debian's packages are fetched into a directory that is removed again; nothing is installed.
 

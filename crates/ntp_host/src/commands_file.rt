@@ -29,7 +29,7 @@ const PATH_PERIOD: u64 = 429_496_729;
 /// Time is told by the receipts of the datagrams. All three are looked at where there is no datagram, and where the clock
 /// was set back.
 ///
-/// A file is told from its earlier state by its node, length, count of names and time of change. So one that is written
+/// A file is told from its earlier state by device, node, length, count of names and time of change. So one that is written
 /// anew to the same length, within one tick of the file system's clock, looks unchanged.
 ///
 /// Nothing is known of what a file has: no clause speaks of it.

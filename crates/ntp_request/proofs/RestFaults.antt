@@ -1,4 +1,4 @@
--- The four faults of what is left behind a header and whole fields.
+-- The four faults of what is left behind a header and whole fields, as `Fails` comes to them by unfolding.
 use Rattle.std.proofs.Common.{◌≡◌, ◌≢◌, ℕ, ◌<◌, ◌≤◌, List}
 use Rattle.std.specs.Prelude.{◌%◌, length}
 use Rattle.ntp_request.specs.Field.{written_length}

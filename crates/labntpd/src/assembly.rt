@@ -1,5 +1,5 @@
 //! Customers are served, day and night.
-ghost use Rattle.std.specs.Prelude.{◌≡◌};
+ghost use Rattle.std.specs.Prelude.{◌≡◌, IfOk};
 
 use crate::command_log::CommandLog;
 use crate::files::{Answering, InspectedFile};
@@ -11,8 +11,6 @@ use labntpd_host::{
     BoundAt, ClockSource, FollowedClock, HostClocks, Log, QueuedUdp, bound, has_standard_streams,
     inherited, receive_buffer, set_receive_buffer,
 };
-use ntp_clock::Follower;
-use ntp_customer_files::Loaded;
 use ntp_freshness::{FreshPort, QueueWatch};
 use ntp_host::EachMillisecond;
 use ntp_reports::{AnswerLines, Both, Counting, Counts};
@@ -30,83 +28,123 @@ const LONGEST_WAIT: u64 = 100;
 
 /// A server of the daemon.
 pub type Daemon<'a> = Server<
-    FreshPort<QueuedUdp<'a, &'a HostRuntime, HostRuntime>>,
+    DaemonPort<'a>,
     EachMillisecond<InspectedFile<'a, HostRuntime>>,
     ClockSource<'a, &'a HostRuntime>,
-    Counting<Both<Answering<File>, CommandLog<'a, Stderr>>>,
+    DaemonObserver<'a>,
     Global,
 >;
 
+// Where its datagrams come from, and who is told what it does.
+type DaemonPort<'a> = FreshPort<QueuedUdp<'a, &'a HostRuntime, HostRuntime>>;
+
+type DaemonObserver<'a> = Counting<Both<Answering<File>, CommandLog<'a, Stderr>>>;
+
 /// Serves by what was prepared, for ever. Gives the exit status where that cannot begin; a fault is told in one line on
 /// standard error.
-pub fn serve_status(rt: &HostRuntime, alloc: Global, prepared: Prepared) -> u8 {
+pub fn serve_status(rt: &HostRuntime, alloc: Global, mut prepared: Prepared) -> u8 {
     if !has_standard_streams() {
         return write_status(&mut rt.stderr());
     }
     let clocks = HostClocks::new();
-    match serve(rt, alloc, &clocks, prepared) {
-        Ok(()) => DONE,
+    match Parts::open(rt, alloc, &clocks, &mut prepared) {
+        Ok(parts) => serve(rt, alloc, &clocks, prepared, parts),
         Err(status) => status,
     }
 }
 
-// Serves by what was prepared, or gives the exit status of what hinders it.
+// What a server has of its host.
+#[derive(Drop)]
+struct Parts<'a> {
+    port: DaemonPort<'a>,
+    bound: BoundAt,
+    reference: ClockSource<'a, &'a HostRuntime>,
+    observer: DaemonObserver<'a>,
+}
+
+impl<'a> Parts<'a> {
+    // Opens the socket first: where another server has its port, nothing of that one's is touched.
+    fn open(
+        rt: &'a HostRuntime,
+        alloc: Global,
+        clocks: &'a HostClocks,
+        prepared: &mut Prepared,
+    ) -> Result<Parts<'a>, u8>
+        ensures { IfOk result (λ parts. parts.port.failures ≡ 0) }
+    {
+        let watch = watch_from_now(rt, clocks, &prepared.configuration);
+        let socket = open_socket(rt, prepared.configuration.listen)?;
+        let bound = set_up(rt, &socket, &prepared.configuration)?;
+        let reference = clock_source(rt, clocks, prepared)?;
+        let observer = open_observer(rt, alloc, clocks, prepared)?;
+        let Ok(room) = Vec::with_capacity(alloc, SOCKETS_ROOM) else {
+            return Err(memory_status(&mut rt.stderr()));
+        };
+        let queued = QueuedUdp::new(socket, bound, rt, clocks, rt, room);
+        Ok(Parts {
+            port: FreshPort::new(queued, watch),
+            bound,
+            reference,
+            observer,
+        })
+    }
+}
+
+// Serves by what was prepared and opened, and gives the exit status.
 fn serve(
     rt: &HostRuntime,
     alloc: Global,
     clocks: &HostClocks,
     prepared: Prepared,
-) -> Result<(), u8> {
+    parts: Parts<'_>,
+) -> u8
+    requires { parts.port.failures ≡ 0 }
+{
     let Prepared {
         configuration,
         loaded,
         customers,
-        follower,
         digests,
+        ..
     } = prepared;
-    // The socket first: where another server has its port, nothing of that one's is touched.
-    let opened = Opened::new(rt, clocks, &configuration)?;
-    let answers = answers_file(rt, &configuration)?;
-    let source = clock_source(rt, clocks, &configuration, follower, &loaded)?;
-    let Ok(log) = Log::new(alloc, rt.stderr()) else {
-        return Err(memory_status(&mut rt.stderr()));
-    };
-    let observer = Counting {
-        counts: Counts::new(),
-        inner: Both {
-            first: answers,
-            second: CommandLog::new(log, clocks, customers),
-        },
-    };
     let begun = Begun {
-        local: opened.local,
+        bound: parts.bound,
         wanted_buffer: configuration.receive_buffer,
-        given_buffer: opened.buffer,
         customers,
         digests,
     };
-    let Ok(mut housekeeping) = Housekeeping::new(rt, alloc, clocks, &configuration, begun) else {
-        return Err(memory_status(&mut rt.stderr()));
+    let mut housekeeping = match begin(rt, alloc, clocks, &configuration, begun) {
+        Ok(housekeeping) => housekeeping,
+        Err(status) => return status,
     };
-    let Ok(room) = Vec::with_capacity(alloc, SOCKETS_ROOM) else {
-        return Err(memory_status(&mut rt.stderr()));
-    };
-    let port = opened.port(rt, clocks, configuration.longest_wait, room);
-    let Loaded { service, .. } = loaded;
     let mut server: Daemon<'_> = Server {
-        port,
+        port: parts.port,
         commands: EachMillisecond::new(InspectedFile::new(rt, &configuration.commands)),
         applied: 0,
-        reference: source,
-        observer,
-        service,
+        reference: parts.reference,
+        observer: parts.observer,
+        service: loaded.service,
     };
-    if writeln!(rt.stdout(), "serving {}", begun.local).is_err() {
+    server.serve_reported(u64::MAX, &mut housekeeping);
+    DONE
+}
+
+// Says that it serves.
+fn begin<'a>(
+    rt: &'a HostRuntime,
+    alloc: Global,
+    clocks: &'a HostClocks,
+    configuration: &'a Configuration,
+    begun: Begun,
+) -> Result<Housekeeping<'a>, u8> {
+    let Ok(mut housekeeping) = Housekeeping::new(rt, alloc, clocks, configuration, begun) else {
+        return Err(memory_status(&mut rt.stderr()));
+    };
+    if writeln!(rt.stdout(), "serving {}", begun.bound.local).is_err() {
         return Err(write_status(&mut rt.stderr()));
     }
     housekeeping.begin();
-    server.serve_reported(u64::MAX, &mut housekeeping);
-    Ok(())
+    Ok(housekeeping)
 }
 
 // Tells what failed, and gives the exit status.
@@ -121,6 +159,26 @@ fn failed<T>(rt: &HostRuntime, what: &str, answer: io::Result<T>) -> Result<T, u
             Err(IO_FAILED)
         }
     }
+}
+
+// Who is told what the daemon does: it counts, answers lines of commands, and logs them.
+fn open_observer<'a>(
+    rt: &'a HostRuntime,
+    alloc: Global,
+    clocks: &'a HostClocks,
+    prepared: &Prepared,
+) -> Result<DaemonObserver<'a>, u8> {
+    let answers = answers_file(rt, &prepared.configuration)?;
+    let Ok(log) = Log::new(alloc, rt.stderr()) else {
+        return Err(memory_status(&mut rt.stderr()));
+    };
+    Ok(Counting {
+        counts: Counts::new(),
+        inner: Both {
+            first: answers,
+            second: CommandLog::new(log, clocks, prepared.customers),
+        },
+    })
 }
 
 // Who answers lines of commands, into a new file where the configuration names one.
@@ -138,19 +196,18 @@ fn answers_file(rt: &HostRuntime, configuration: &Configuration) -> Result<Answe
 fn clock_source<'a>(
     rt: &'a HostRuntime,
     clocks: &'a HostClocks,
-    configuration: &Configuration,
-    follower: Option<Follower>,
-    loaded: &Loaded,
+    prepared: &mut Prepared,
 ) -> Result<ClockSource<'a, &'a HostRuntime>, u8> {
-    match (&configuration.clock, follower) {
-        (ConfiguredClock::Daemon(daemon), Some(follower)) => {
-            let address = daemon.source.socket_address();
-            let socket = failed(rt, "clock.source", connected(rt, address))?;
-            let followed = FollowedClock::new(socket, rt, clocks, follower);
-            Ok(ClockSource::Followed(followed))
-        }
-        _ => Ok(ClockSource::Fixed(loaded.reference)),
-    }
+    let ConfiguredClock::Daemon(daemon) = &prepared.configuration.clock else {
+        return Ok(ClockSource::Fixed(prepared.loaded.reference));
+    };
+    let address = daemon.source.socket_address();
+    let Some(follower) = prepared.follower.take() else {
+        return Ok(ClockSource::Fixed(prepared.loaded.reference));
+    };
+    let socket = failed(rt, "clock.source", connected(rt, address))?;
+    let followed = FollowedClock::new(socket, rt, clocks, follower);
+    Ok(ClockSource::Followed(followed))
 }
 
 // A socket that is connected to an address and does not wait.
@@ -161,77 +218,50 @@ fn connected(rt: &HostRuntime, address: SocketAddrV4) -> io::Result<UdpSocket> {
     Ok(socket)
 }
 
-// The socket of the daemon, and what is known of it.
-#[derive(Drop)]
-struct Opened {
-    socket: UdpSocket,
-    // Its own address.
-    local: SocketAddrV4,
-    // Before which reading of the monotonic clock nothing had come, if that is known.
-    empty: Option<u64>,
-    // The size of its receive buffer, as the kernel counts.
-    buffer: u32,
+// What is known of the queue of a socket that is opened from now on.
+fn watch_from_now(
+    rt: &HostRuntime,
+    clocks: &HostClocks,
+    configuration: &Configuration,
+) -> QueueWatch {
+    let mut watch = QueueWatch::new(configuration.longest_wait);
+    let now = clocks.read(&rt);
+    // What stands in the queue of a socket that was handed down may have come long ago.
+    if matches!(configuration.listen, Listen::Bound(_)) {
+        watch.saw(0, now);
+    }
+    watch
 }
 
-impl Opened {
-    // Opens the socket, with its time limit and its receive buffer.
-    fn new(
-        rt: &HostRuntime,
-        clocks: &HostClocks,
-        configuration: &Configuration,
-    ) -> Result<Opened, u8> {
-        let before = clocks.read(&rt);
-        let (made, empty) = match configuration.listen {
-            Listen::Bound(endpoint) => (bound(rt, endpoint.socket_address()), Some(before)),
-            // What stands in its queue may have come long ago.
-            Listen::Inherited => (handed_down(rt), None),
-        };
-        let socket = failed(rt, "listen", made)?;
-        let limit = Duration::from_millis(LONGEST_WAIT);
-        failed(rt, "listen", socket.set_read_timeout(Some(limit)))?;
-        // A socket that was handed down keeps its buffer, which may be larger than this process could have it made.
-        if empty.is_some() {
-            let set = set_receive_buffer(&socket, configuration.receive_buffer);
-            failed(rt, "receive_buffer", set)?;
-        }
-        let buffer = failed(rt, "receive_buffer", receive_buffer(&socket))?;
-        let local = match failed(rt, "listen", socket.local_addr())? {
-            SocketAddr::V4(local) => local,
-            SocketAddr::V6(_) => {
-                let _ = writeln!(rt.stderr(), "listen: an IPv4 socket is wanted");
-                return Err(IO_FAILED);
-            }
-        };
-        Ok(Opened {
-            socket,
-            local,
-            empty,
-            buffer,
-        })
-    }
+// The socket that is bound as the configuration says, or that was handed down.
+fn open_socket(rt: &HostRuntime, listen: Listen) -> Result<UdpSocket, u8> {
+    let made = match listen {
+        Listen::Bound(endpoint) => bound(rt, endpoint.socket_address()),
+        Listen::Inherited => handed_down(rt),
+    };
+    failed(rt, "listen", made)
+}
 
-    // The port over the socket, which passes on what can have waited for less than so many nanoseconds.
-    fn port<'a>(
-        self,
-        rt: &'a HostRuntime,
-        clocks: &'a HostClocks,
-        longest_wait: u64,
-        room: Vec<u8>,
-    ) -> FreshPort<QueuedUdp<'a, &'a HostRuntime, HostRuntime>>
-        ensures { result.failures ≡ 0 }
-    {
-        let mut watch = QueueWatch::new(longest_wait);
-        if let Some(empty) = self.empty {
-            watch.saw(0, empty);
+// Gives the socket its time limit and its receive buffer, and tells what is known of it.
+fn set_up(
+    rt: &HostRuntime,
+    socket: &UdpSocket,
+    configuration: &Configuration,
+) -> Result<BoundAt, u8> {
+    let limit = Duration::from_millis(LONGEST_WAIT);
+    failed(rt, "listen", socket.set_read_timeout(Some(limit)))?;
+    // A socket that was handed down keeps its buffer, which may be larger than this process could have it made.
+    if matches!(configuration.listen, Listen::Bound(_)) {
+        let set = set_receive_buffer(socket, configuration.receive_buffer);
+        failed(rt, "receive_buffer", set)?;
+    }
+    let buffer = failed(rt, "receive_buffer", receive_buffer(socket))?;
+    match failed(rt, "listen", socket.local_addr())? {
+        SocketAddr::V4(local) => Ok(BoundAt { local, buffer }),
+        SocketAddr::V6(_) => {
+            let _ = writeln!(rt.stderr(), "listen: an IPv4 socket is wanted");
+            Err(IO_FAILED)
         }
-        let bound = BoundAt {
-            local: self.local,
-            buffer: self.buffer,
-        };
-        FreshPort::new(
-            QueuedUdp::new(self.socket, bound, rt, clocks, rt, room),
-            watch,
-        )
     }
 }
 

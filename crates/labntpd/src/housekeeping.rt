@@ -4,14 +4,13 @@ use crate::assembly::Daemon;
 use crate::files::CommandsFault;
 use labntpd_configuration::Configuration;
 use labntpd_configuration::command_line::VERSION;
-use labntpd_host::{ClockSource, HostClocks, Log, queue_state, replace_file};
+use labntpd_host::{BoundAt, ClockSource, HostClocks, Log, queue_state, replace_file};
 use ntp_host::moment_now;
 use ntp_reports::{Ask, ClockGauges, Gauges, Kind, LineAllowance, write_statistics};
 use ntp_server::Reporter;
 use ntp_time::Moment;
 use std::alloc::{AllocError, Global};
 use std::io::{Stderr, Write};
-use std::net::SocketAddrV4;
 use std::time::{SystemTime, UNIX_EPOCH};
 
 /// A second, a minute's seconds, and how many seconds lie between two writings of the statistics and between two totals (profile).
@@ -34,12 +33,10 @@ pub(crate) const SOCKETS_ROOM: usize = 65_536;
 /// What is known of a daemon when it begins to serve.
 #[derive(Clone, Copy)]
 pub struct Begun {
-    /// Its own address.
-    pub local: SocketAddrV4,
+    /// Its own address, and the receive buffer that the kernel gave.
+    pub bound: BoundAt,
     /// The receive buffer that its configuration wants, in octets.
     pub wanted_buffer: u32,
-    /// The one that the kernel gave, as it counts.
-    pub given_buffer: u32,
     /// How many customers it has.
     pub customers: u64,
     /// The SHA-256 digests of its configuration file and of its register file.
@@ -124,9 +121,8 @@ impl<'a> Housekeeping<'a> {
     /// Logs with what the daemon begins.
     pub fn begin(&mut self) {
         let Begun {
-            local,
+            bound: BoundAt { local, buffer },
             wanted_buffer,
-            given_buffer,
             customers,
             digests: [configuration, register],
         } = self.begun;
@@ -142,7 +138,7 @@ impl<'a> Housekeeping<'a> {
         let line = self.log.begin();
         let _ = write!(
             line,
-            "receive buffer: {wanted_buffer} octets wanted, {given_buffer} given, as the kernel counts"
+            "receive buffer: {wanted_buffer} octets wanted, {buffer} given, as the kernel counts"
         );
         self.log.end();
     }
@@ -221,7 +217,7 @@ impl<'a> Housekeeping<'a> {
 
     // Writes the statistics, where there is a file for them.
     fn write_statistics(&mut self, server: &Daemon<'_>, clock: ClockGauges) {
-        if let Some(state) = queue_state(self.rt, self.begun.local, &mut self.sockets) {
+        if let Some(state) = queue_state(self.rt, self.begun.bound.local, &mut self.sockets) {
             self.drops = state.drops;
         }
         let Some((path, beside)) = &self.statistics else {

@@ -60,6 +60,3 @@ fn text_status<F: Write>(word: &str, faults: &mut F) -> u8
     let _ = writeln!(faults, "register: {word}");
     TEXT_FAULTY
 }
-
-#[cfg(test)]
-mod tests;

@@ -131,6 +131,3 @@ fn tell<F: Write>(fault: ReplayFault, faults: &mut F) -> u8
         }
     }
 }
-
-#[cfg(test)]
-mod tests;

@@ -110,6 +110,3 @@ impl<'a> Words<'a> {
         if self.rest.is_empty() { Some(()) } else { None }
     }
 }
-
-#[cfg(test)]
-mod tests;

@@ -5,8 +5,6 @@
 #![tactic(auto)]
 
 mod laws;
-#[cfg(test)]
-mod tests;
 mod window;
 
 pub use laws::{a_tally_tells_all, every_tally_is_of_a_list};

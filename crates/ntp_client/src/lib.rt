@@ -10,8 +10,6 @@ mod pairing;
 mod query;
 mod sample;
 mod taken;
-#[cfg(test)]
-mod tests;
 
 pub use client::{Client, Outgoing};
 pub use laws::a_sample_is_an_authentic_answer;

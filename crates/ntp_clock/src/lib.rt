@@ -9,8 +9,6 @@ mod follower;
 mod growing;
 mod limits;
 mod state;
-#[cfg(test)]
-mod tests;
 
 pub use answer::ClockAnswer;
 pub use follower::Follower;

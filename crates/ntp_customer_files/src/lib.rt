@@ -6,8 +6,6 @@ mod fault_lines;
 mod fault_words;
 mod file_text;
 mod loading;
-#[cfg(test)]
-mod tests;
 
 pub use commands::{apply_commands, commands_step};
 pub use fault_lines::FaultLines;

@@ -10,8 +10,6 @@ mod memory_queue;
 mod queue_event;
 mod queue_watch;
 mod queued_port;
-#[cfg(test)]
-mod tests;
 
 pub use fresh_port::FreshPort;
 pub use memory_queue::{Due, MemoryQueue};

@@ -6,8 +6,6 @@ mod hashing;
 mod key;
 mod laws;
 mod reply;
-#[cfg(test)]
-mod tests;
 mod verifying;
 
 pub use hashing::digest;

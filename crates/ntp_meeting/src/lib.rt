@@ -1,10 +1,8 @@
 //! That client and server meet: laws about a client's own request, the server's answer to it, and what the client takes
-//! that answer for where it comes unchanged. It has no code but tests, so there is no wrong body to try.
+//! that answer for where it comes unchanged. It has no code, so there is no wrong body to try.
 #![tactic(auto)]
 
 mod laws;
-#[cfg(test)]
-mod tests;
 
 pub use laws::{
     a_request_is_a_signed_query, a_time_reply_is_a_sample,

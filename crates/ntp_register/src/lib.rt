@@ -9,8 +9,6 @@ mod address;
 mod commands;
 mod refusal;
 mod store;
-#[cfg(test)]
-mod tests;
 
 pub use address::Address;
 pub use ntp_customer::{Customer, NumberedKey};

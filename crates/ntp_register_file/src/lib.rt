@@ -5,8 +5,6 @@ mod customers;
 mod fault;
 mod form;
 mod register_reader;
-#[cfg(test)]
-mod tests;
 
 pub use fault::RegisterFault;
 pub use register_reader::{read_reference, read_register};

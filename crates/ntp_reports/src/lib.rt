@@ -10,8 +10,6 @@ mod kinds;
 mod line_allowance;
 mod stamps;
 mod statistics;
-#[cfg(test)]
-mod tests;
 
 pub use answer_lines::AnswerLines;
 pub use both::Both;

@@ -6,13 +6,9 @@ mod digests;
 mod fields;
 mod laws;
 mod malformed;
-#[cfg(test)]
-mod plain;
 mod request;
 mod splitting;
 mod tail;
-#[cfg(test)]
-mod tests;
 mod writing;
 
 pub use digests::Digest;

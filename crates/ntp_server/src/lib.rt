@@ -4,8 +4,6 @@
 mod memory;
 mod reporter;
 mod server;
-#[cfg(test)]
-mod tests;
 
 pub use memory::{MemoryCommands, MemoryObserver, MemoryStates};
 pub use reporter::{NoReports, Reporter};

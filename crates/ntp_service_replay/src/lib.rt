@@ -4,8 +4,6 @@
 
 mod engine;
 mod faults;
-#[cfg(test)]
-mod faulty;
 mod lines;
 mod replaying;
 mod watch;

@@ -73,6 +73,3 @@ pub fn replay<A: Allocator + Copy, R: Read, W: Write>(
     }
     Err(engine.fault(ReplayFaultKind::Read))
 }
-
-#[cfg(test)]
-mod tests;

@@ -130,6 +130,3 @@ impl<W: Write> Watched<W> {
         self.note(given)
     }
 }
-
-#[cfg(test)]
-mod tests;

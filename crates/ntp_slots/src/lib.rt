@@ -10,8 +10,6 @@ mod new_stamps;
 mod no_memory;
 mod slot;
 mod slots;
-#[cfg(test)]
-mod tests;
 
 pub use laws::{
     at_most_one_has_a_receive_stamp, recent_ones_suffice, saved_ones_stay_saved,

@@ -33,35 +33,3 @@ pub fn near(stamp: Stamp, pivot: Moment) -> Option<Moment>
     };
     Some(Moment { era, stamp })
 }
-
-#[cfg(test)]
-mod tests {
-    use super::*;
-
-    // The moment of an era with a stamp.
-    fn moment(era: u32, stamp: u64) -> Moment {
-        Moment {
-            era,
-            stamp: Stamp(stamp),
-        }
-    }
-
-    #[test]
-    fn differences_across_an_era(rt: HostRuntime) {
-        assert_eq!(rt; difference(Stamp(1), Stamp(u64::MAX)), 2);
-        assert_eq!(rt; difference(Stamp(u64::MAX), Stamp(1)), -2);
-    }
-
-    #[test]
-    fn moments_near_another(rt: HostRuntime) {
-        let late = 0xffff_ffff_0000_0000;
-        let early = 0x0000_0001_0000_0000;
-        assert_eq!(rt; near(Stamp(early), moment(0, late)), Some(moment(1, early)));
-        assert_eq!(rt; near(Stamp(late), moment(1, early)), Some(moment(0, late)));
-        assert_eq!(rt; near(Stamp(late), moment(0, 0)), None);
-        assert_eq!(rt; near(Stamp(early), moment(u32::MAX, late)), None);
-        // Half an era apart it is the moment before.
-        let half = 0x8000_0000_0000_0000;
-        assert_eq!(rt; near(Stamp(half), moment(1, 0)), Some(moment(0, half)));
-    }
-}

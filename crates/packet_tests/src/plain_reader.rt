@@ -1,7 +1,7 @@
-//! A plain reader, for tests alone. It is slow, and takes the definitions by their words: which places
+//! A plain reader of datagrams. It is slow, and takes the definitions by their words: which places
 //! whole fields lead to, and what stands at the last of them.
-use crate::{Fields, Malformed, Tail, read_request};
 use arrayvec::ArrayVec;
+use ntp_request::{Fields, Malformed, Tail, read_request};
 
 /// How many octets the longest generated datagram has.
 const MOST_OCTETS: usize = 130;
@@ -10,13 +10,13 @@ const MOST_OCTETS: usize = 130;
 const MOST_PLACE: u16 = 130;
 
 /// The lengths that are written into generated fields.
-pub const LENGTHS: [u16; 11] = [0, 4, 12, 15, 16, 18, 20, 28, 64, 0xfffc, 0xffff];
+pub(crate) const LENGTHS: [u16; 11] = [0, 4, 12, 15, 16, 18, 20, 28, 64, 0xfffc, 0xffff];
 
 /// Those of them that a field may have in so short a datagram.
-pub const WHOLE_LENGTHS: [u16; 4] = [16, 20, 28, 64];
+pub(crate) const WHOLE_LENGTHS: [u16; 4] = [16, 20, 28, 64];
 
 /// Whether both readers read the same of octets with such fields, cut at each length from 48 octets on.
-pub fn agrees_on(lengths: &[u16]) -> bool {
+pub(crate) fn agrees_on(lengths: &[u16]) -> bool {
     let octets = generated(lengths);
     (48..MOST_OCTETS + 1).all(|length| agrees(&octets[..length]))
 }
@@ -130,8 +130,8 @@ fn tail_of(rest: &[u8]) -> Option<Tail<'_>> {
     }
 }
 
-// The fields, spelled one behind another.
-fn spelled(fields: Fields) -> ArrayVec<u8, 1024> {
+/// The fields, spelled one behind another.
+pub(crate) fn spelled(fields: Fields) -> ArrayVec<u8, 1024> {
     let mut octets = ArrayVec::new();
     for (kind, value) in fields {
         let [_, _, _, _, _, _, high, low] = (value.len() + 4).to_be_bytes();

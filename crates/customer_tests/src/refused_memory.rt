@@ -1,4 +1,7 @@
-use super::*;
+//! That the allocator refuses what it is told to refuse, and counts.
+
+use refusing::Refusing;
+use std::alloc::{AllocError, Allocator};
 
 // A list that has to grow more than once.
 fn grown<A: Allocator>(alloc: A) -> Result<usize, AllocError> {

@@ -1,34 +1,17 @@
 //! Register files of every form, with the answers that the format and TOML's standard give.
 
-use crate::{RegisterFault, read_reference, read_register};
+use crate::register_text::EXAMPLE;
 use ntp_events::{Command, LineFault};
 use ntp_mac::{Algorithm, Key};
 use ntp_register::Address;
-use ntp_reply::Reference;
-use ntp_time::{Short, Stamp};
+use ntp_register_file::{RegisterFault, read_reference, read_register};
 use std::alloc::{AllocError, Global};
 use std::num::NonZero;
+use std::process::Abort;
 use std::test::Fail;
+use worked_data::reference;
 
-// The text of `examples/register.toml`.
-const EXAMPLE: &str = r#"reference = "0001ec00000000000000104e495354ec00000000000000"
-
-[[customer]]
-address = "192.0.2.10"
-number = 7
-algorithm = "md5"
-key = "6b6579"
-budget = 10
-
-[[customer]]
-address = "192.0.2.20"
-number = 8
-algorithm = "sha1"
-key = "6f74686572"
-budget = 10
-"#;
-
-// The same document with its customers in an array, the reference behind them, and no line feed at the end.
+// The document of the example with its customers in an array, the reference behind them, and no line feed at the end.
 const INLINE: &str = r#"customer = [
     { address = "192.0.2.10", number = 7, algorithm = "md5", key = "6b6579", budget = 10 },
     { budget = 10, key = "6f74686572", algorithm = "sha1", number = 8, address = "192.0.2.20" }, # the second
@@ -123,15 +106,7 @@ fn has_faults(
 
 #[test]
 fn one_document_in_four_forms(rt: HostRuntime) -> Result<(), Fail> {
-    let state = Reference::new(
-        0,
-        1,
-        -20,
-        Short(0),
-        Short(16),
-        *b"NIST",
-        Stamp(0xec00_0000_0000_0000),
-    )?;
+    let state = reference()?;
     let expected = customers()?;
     for text in [EXAMPLE, INLINE, QUOTED, SPACED] {
         let commands = read_register(rt.alloc(), text)?;
@@ -220,22 +195,30 @@ fn top_levels(rt: HostRuntime) {
     }
 }
 
+// The readers find these faults, or none, in files with one of these lines in place of a key of the customer.
+fn have_faults(
+    rt: &impl Abort,
+    alloc: Global,
+    files: &[(usize, &str)],
+    register: RegisterFault,
+    reference: Option<RegisterFault>,
+) -> Result<(), AllocError> {
+    for (place, instead) in files {
+        let text = file_with(alloc, *place, instead)?;
+        let has_faults = has_faults(text.as_str(), Some(register), reference, alloc);
+        assert!(rt; has_faults, "of {instead}");
+    }
+    Ok(())
+}
+
 #[test]
 fn each_key_of_a_customer_missing_or_doubled(rt: HostRuntime) -> Result<(), Fail> {
-    let shape = Some(RegisterFault::Shape);
-    let toml = Some(RegisterFault::Toml);
+    let alloc = rt.alloc();
     for (place, line) in CUSTOMER.iter().enumerate() {
-        let missing = file_with(rt.alloc(), place, "")?;
-        assert!(rt;
-            has_faults(missing.as_str(), shape, None, rt.alloc()),
-            "without {line}"
-        );
-        let twice = format!(in rt.alloc(); "{line}\n{line}")?;
-        let doubled = file_with(rt.alloc(), place, twice.as_str())?;
-        assert!(rt;
-            has_faults(doubled.as_str(), toml, toml, rt.alloc()),
-            "twice {line}"
-        );
+        have_faults(&rt, alloc, &[(place, "")], RegisterFault::Shape, None)?;
+        let twice = format!(in alloc; "{line}\n{line}")?;
+        let toml = RegisterFault::Toml;
+        have_faults(&rt, alloc, &[(place, twice.as_str())], toml, Some(toml))?;
     }
     Ok(())
 }
@@ -259,32 +242,35 @@ fn each_other_type_at_each_key(rt: HostRuntime) -> Result<(), Fail> {
         ("key", 0),
         ("budget", 1),
     ];
-    let shape = Some(RegisterFault::Shape);
     for (kind, value) in values.iter().enumerate() {
         for (place, (name, own)) in keys.iter().enumerate() {
-            let line = format!(in rt.alloc(); "{name} = {value}")?;
-            let text = file_with(rt.alloc(), place, line.as_str())?;
             if kind != *own {
-                assert!(rt;
-                    has_faults(text.as_str(), shape, None, rt.alloc()),
-                    "of {line}"
-                );
+                let line = format!(in rt.alloc(); "{name} = {value}")?;
+                let files = [(place, line.as_str())];
+                have_faults(&rt, rt.alloc(), &files, RegisterFault::Shape, None)?;
             }
         }
+    }
+    Ok(())
+}
+
+#[test]
+fn each_other_type_at_the_top_level(rt: HostRuntime) -> Result<(), Fail> {
+    let shape = Some(RegisterFault::Shape);
+    for (value, is_text, is_array) in [
+        ("\"7\"", true, false),
+        ("7", false, false),
+        ("7.0", false, false),
+        ("true", false, false),
+        ("1979-05-27", false, false),
+        ("[7]", false, true),
+        ("{ x = 7 }", false, false),
+    ] {
         let reference = format!(in rt.alloc(); "reference = {value}")?;
-        if kind != 0 {
-            assert!(rt;
-                has_faults(reference.as_str(), shape, shape, rt.alloc()),
-                "of {reference}"
-            );
-        }
         let customer = format!(in rt.alloc(); "{REFERENCE}customer = {value}")?;
-        if kind != 5 {
-            assert!(rt;
-                has_faults(customer.as_str(), shape, shape, rt.alloc()),
-                "of {customer}"
-            );
-        }
+        let is_shape = |text: &str| has_faults(text, shape, shape, rt.alloc());
+        assert!(rt; is_text || is_shape(reference.as_str()), "of {reference}");
+        assert!(rt; is_array || is_shape(customer.as_str()), "of {customer}");
     }
     Ok(())
 }
@@ -305,14 +291,8 @@ fn customers_that_make_no_document(rt: HostRuntime) -> Result<(), Fail> {
         (4, "budget = 10 20"),
         (4, "budget = 10\n[customer]"),
     ];
-    let toml = Some(RegisterFault::Toml);
-    for (place, instead) in files {
-        let text = file_with(rt.alloc(), place, instead)?;
-        assert!(rt;
-            has_faults(text.as_str(), toml, toml, rt.alloc()),
-            "of {instead}"
-        );
-    }
+    let toml = RegisterFault::Toml;
+    have_faults(&rt, rt.alloc(), &files, toml, Some(toml))?;
     Ok(())
 }
 
@@ -332,86 +312,89 @@ fn customers_of_another_form(rt: HostRuntime) -> Result<(), Fail> {
         (4, "budget = 10\n[[customer]]"),
         (1, "number = 0\nx = 1"),
     ];
-    let shape = Some(RegisterFault::Shape);
-    for (place, instead) in files {
-        let text = file_with(rt.alloc(), place, instead)?;
-        assert!(rt;
-            has_faults(text.as_str(), shape, None, rt.alloc()),
-            "of {instead}"
-        );
+    have_faults(&rt, rt.alloc(), &files, RegisterFault::Shape, None)?;
+    Ok(())
+}
+
+// The readers find this fault in the value of the key in files with one of these lines in place of it.
+fn have_a_faulty_value(
+    rt: &impl Abort,
+    place: usize,
+    fault: LineFault,
+    lines: &[&str],
+    alloc: Global,
+) -> Result<(), AllocError> {
+    let entry = RegisterFault::Entry { place: 0, fault };
+    for line in lines {
+        have_faults(rt, alloc, &[(place, line)], entry, None)?;
     }
     Ok(())
 }
 
 #[test]
 fn customers_with_a_faulty_value(rt: HostRuntime) -> Result<(), Fail> {
-    let files = [
-        (0, "address = \"\"", LineFault::Address),
-        (0, "address = \"192.0.2\"", LineFault::Address),
-        (0, "address = \"192.0.2.300\"", LineFault::Address),
-        (0, "address = \"192.0.02.10\"", LineFault::Address),
-        (0, "address = \"192.0.2.10 \"", LineFault::Address),
-        (1, "number = 0", LineFault::Number),
-        (1, "number = -0", LineFault::Number),
-        (1, "number = -7", LineFault::Number),
-        (1, "number = 65536", LineFault::Number),
-        (1, "number = 65543", LineFault::Number),
-        (1, "number = 9223372036854775807", LineFault::Number),
-        (1, "number = -9223372036854775808", LineFault::Number),
-        (2, "algorithm = \"\"", LineFault::Algorithm),
-        (2, "algorithm = \"sha2\"", LineFault::Algorithm),
-        (2, "algorithm = \"MD5\"", LineFault::Algorithm),
-        (3, "key = \"\"", LineFault::KeyText),
-        (3, "key = \"6b657\"", LineFault::KeyText),
-        (3, "key = \"6b657g\"", LineFault::KeyText),
-        (
-            3,
-            "key = \"000102030405060708090a0b0c0d0e0f101112131415161718191a1b1c1d1e1f20\"",
-            LineFault::KeyText,
-        ),
-        (4, "budget = 0", LineFault::Budget),
-        (4, "budget = -1", LineFault::Budget),
-        (4, "budget = 0x10000", LineFault::Budget),
-        (0, "address = \"x\"\n", LineFault::Address),
+    let addresses = [
+        "address = \"\"",
+        "address = \"192.0.2\"",
+        "address = \"192.0.2.300\"",
+        "address = \"192.0.02.10\"",
+        "address = \"192.0.2.10 \"",
+        "address = \"x\"\n",
     ];
-    for (place, instead, fault) in files {
-        let text = file_with(rt.alloc(), place, instead)?;
-        let entry = Some(RegisterFault::Entry { place: 0, fault });
-        assert!(rt;
-            has_faults(text.as_str(), entry, None, rt.alloc()),
-            "of {instead}"
-        );
+    let numbers = [
+        "number = 0",
+        "number = -0",
+        "number = -7",
+        "number = 65536",
+        "number = 65543",
+        "number = 9223372036854775807",
+        "number = -9223372036854775808",
+    ];
+    let algorithms = [
+        "algorithm = \"\"",
+        "algorithm = \"sha2\"",
+        "algorithm = \"MD5\"",
+    ];
+    let keys = [
+        "key = \"\"",
+        "key = \"6b657\"",
+        "key = \"6b657g\"",
+        "key = \"000102030405060708090a0b0c0d0e0f101112131415161718191a1b1c1d1e1f20\"",
+    ];
+    let budgets = ["budget = 0", "budget = -1", "budget = 0x10000"];
+    for (place, fault, lines) in [
+        (0, LineFault::Address, addresses.as_slice()),
+        (1, LineFault::Number, &numbers),
+        (2, LineFault::Algorithm, &algorithms),
+        (3, LineFault::KeyText, &keys),
+        (4, LineFault::Budget, &budgets),
+    ] {
+        have_a_faulty_value(&rt, place, fault, lines, rt.alloc())?;
     }
     Ok(())
 }
 
+/// The octets of the longest key.
+const LONGEST_KEY: [u8; 32] = [
+    0, 1, 2, 3, 4, 5, 6, 7, 8, 9, 10, 11, 12, 13, 14, 15, 16, 17, 18, 19, 20, 21, 22, 23, 24, 25,
+    26, 27, 28, 29, 30, 31,
+];
+
 #[test]
 fn values_at_their_limits(rt: HostRuntime) -> Result<(), Fail> {
-    let octets = [
-        0, 1, 2, 3, 4, 5, 6, 7, 8, 9, 10, 11, 12, 13, 14, 15, 16, 17, 18, 19, 20, 21, 22, 23, 24,
-        25, 26, 27, 28, 29, 30, 31,
-    ];
-    let key = Key::new(Algorithm::Md5, b"key")?;
-    let files = [
-        (1, "number = 1", enrolment(10, 1, key, 10)?),
-        (1, "number = 65_535", enrolment(10, 65_535, key, 10)?),
-        (4, "budget = 1", enrolment(10, 7, key, 1)?),
-        (4, "budget = 0xFFFF", enrolment(10, 7, key, 65_535)?),
-        (0, "address = \"192.0.2.255\"", enrolment(255, 7, key, 10)?),
-        (
-            3,
-            "key = \"00\"",
-            enrolment(10, 7, Key::new(Algorithm::Md5, &[0])?, 10)?,
-        ),
-        (
-            3,
-            "key = \"000102030405060708090a0b0c0d0e0f101112131415161718191a1b1c1d1e1f\"",
-            enrolment(10, 7, Key::new(Algorithm::Md5, &octets)?, 10)?,
-        ),
-    ];
-    for (place, instead, expected) in files {
+    let longest = "key = \"000102030405060708090a0b0c0d0e0f101112131415161718191a1b1c1d1e1f\"";
+    for (place, instead, last, number, key, budget) in [
+        (1, "number = 1", 10, 1, b"key".as_slice(), 10),
+        (1, "number = 65_535", 10, 65_535, b"key", 10),
+        (4, "budget = 1", 10, 7, b"key", 1),
+        (4, "budget = 0xFFFF", 10, 7, b"key", 65_535),
+        (0, "address = \"192.0.2.255\"", 255, 7, b"key", 10),
+        (3, "key = \"00\"", 10, 7, b"\0", 10),
+        (3, longest, 10, 7, &LONGEST_KEY, 10),
+    ] {
         let text = file_with(rt.alloc(), place, instead)?;
         let commands = read_register(rt.alloc(), text.as_str())?;
+        let expected = enrolment(last, number, Key::new(Algorithm::Md5, key)?, budget)?;
         assert!(rt;
             commands.as_slice() == [expected].as_slice(),
             "of {instead}"

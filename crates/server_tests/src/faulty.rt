@@ -1,4 +1,4 @@
-//! A reader or a writer for tests: it gives or takes one octet at a call, counts its calls, and fails at one.
+//! A reader or a writer that gives or takes one octet at a call, counts its calls, and fails at one.
 ghost use Rattle.std.specs.Prelude.{◌≡◌, IfOk, IfSome};
 
 use std::io::{self, ErrorKind, Read, Write};

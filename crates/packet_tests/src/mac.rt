@@ -1,6 +1,6 @@
 //! Vectors from outside, and what no clause says.
 
-use crate::{Algorithm, Digest, Key, KeyFault, Reply, add_nak, digest, seal, verifies};
+use ntp_mac::{Algorithm, Digest, Key, KeyFault, Reply, add_nak, digest, seal, verifies};
 use ntp_packet::read_header;
 use ntp_request::read_request;
 use std::test::Fail;
@@ -35,45 +35,33 @@ const SIGNED_BY_SHA1: [u8; 88] = [
 // The texts of RFC 1321, A.5, each as a key and the octets behind it.
 #[test]
 fn digests_of_md5(rt: HostRuntime) -> Result<(), Fail> {
-    let vectors = [
-        (
-            "a",
-            "",
-            *b"\x0c\xc1\x75\xb9\xc0\xf1\xb6\xa8\x31\xc3\x99\xe2\x69\x77\x26\x61",
-        ),
-        (
-            "a",
-            "bc",
-            *b"\x90\x01\x50\x98\x3c\xd2\x4f\xb0\xd6\x96\x3f\x7d\x28\xe1\x7f\x72",
-        ),
+    for (key, octets, expected) in [
+        ("a", "", 0x0cc1_75b9_c0f1_b6a8_31c3_99e2_6977_2661u128),
+        ("a", "bc", 0x9001_5098_3cd2_4fb0_d696_3f7d_28e1_7f72),
         (
             "message",
             " digest",
-            *b"\xf9\x6b\x69\x7d\x7c\xb7\x93\x8d\x52\x5a\x2f\x31\xaa\xf1\x61\xd0",
+            0xf96b_697d_7cb7_938d_525a_2f31_aaf1_61d0,
         ),
         (
             "abcdefghijklm",
             "nopqrstuvwxyz",
-            *b"\xc3\xfc\xd3\xd7\x61\x92\xe4\x00\x7d\xfb\x49\x6c\xca\x67\xe1\x3b",
+            0xc3fc_d3d7_6192_e400_7dfb_496c_ca67_e13b,
         ),
         (
             "ABCDEFGHIJKLMNOPQRSTUVWXYZabcdef",
             "ghijklmnopqrstuvwxyz0123456789",
-            *b"\xd1\x74\xab\x98\xd2\x77\xd9\xf5\xa5\x61\x1c\x2c\x9f\x41\x9d\x9f",
+            0xd174_ab98_d277_d9f5_a561_1c2c_9f41_9d9f,
         ),
         (
             "1234567890",
             "1234567890123456789012345678901234567890123456789012345678901234567890",
-            *b"\x57\xed\xf4\xa2\x2b\xe3\xc9\x55\xac\x49\xda\x2e\x21\x07\xb6\x7a",
+            0x57ed_f4a2_2be3_c955_ac49_da2e_2107_b67a,
         ),
-    ];
-    for (key, octets, expected) in vectors {
+    ] {
         let key = Key::new(Algorithm::Md5, key.as_bytes())?;
-        assert_eq!(rt;
-            digest(&key, octets.as_bytes()),
-            Digest::Md5(expected),
-            "of {octets}"
-        );
+        let expected = Digest::Md5(expected.to_be_bytes());
+        assert_eq!(rt; digest(&key, octets.as_bytes()), expected, "of {octets}");
     }
     Ok(())
 }
@@ -81,7 +69,7 @@ fn digests_of_md5(rt: HostRuntime) -> Result<(), Fail> {
 // The texts of the examples for FIPS 180-4, each as a key and the octets behind it.
 #[test]
 fn digests_of_sha1(rt: HostRuntime) -> Result<(), Fail> {
-    let vectors = [
+    for (key, octets, expected) in [
         (
             "a",
             "bc",
@@ -92,8 +80,7 @@ fn digests_of_sha1(rt: HostRuntime) -> Result<(), Fail> {
             "efghfghighijhijkijkljklmklmnlmnomnopnopq",
             *b"\x84\x98\x3e\x44\x1c\x3b\xd2\x6e\xba\xae\x4a\xa1\xf9\x51\x29\xe5\xe5\x46\x70\xf1",
         ),
-    ];
-    for (key, octets, expected) in vectors {
+    ] {
         let key = Key::new(Algorithm::Sha1, key.as_bytes())?;
         assert_eq!(rt;
             digest(&key, octets.as_bytes()),
@@ -106,10 +93,14 @@ fn digests_of_sha1(rt: HostRuntime) -> Result<(), Fail> {
 
 #[test]
 fn keys_of_1_to_32_octets(rt: HostRuntime) {
-    assert_eq!(rt; Key::new(Algorithm::Md5, &[]), Err(KeyFault::Empty));
-    assert_eq!(rt; Key::new(Algorithm::Md5, &[7; 33]), Err(KeyFault::TooLong));
-    assert!(rt; Key::new(Algorithm::Md5, &[7; 32]).is_ok());
-    assert!(rt; Key::new(Algorithm::Sha1, &[7]).is_ok());
+    for (algorithm, octets, fault) in [
+        (Algorithm::Md5, [].as_slice(), Some(KeyFault::Empty)),
+        (Algorithm::Md5, &[7; 33], Some(KeyFault::TooLong)),
+        (Algorithm::Md5, &[7; 32], None),
+        (Algorithm::Sha1, &[7], None),
+    ] {
+        assert_eq!(rt; Key::new(algorithm, octets).err(), fault);
+    }
 }
 
 #[test]
@@ -120,45 +111,78 @@ fn a_key_is_printed_without_its_octets(rt: HostRuntime) -> Result<(), Fail> {
     Ok(())
 }
 
+// A time reply, sealed.
+fn sealed(algorithm: Algorithm, key: &[u8], number: u16) -> Result<Reply, Fail> {
+    let mut reply = Reply::from_header(&read_header(&HEADER).ok_or("no header")?);
+    seal(&Key::new(algorithm, key)?, number, &mut reply);
+    Ok(reply)
+}
+
 #[test]
 fn sealed_replies(rt: HostRuntime) -> Result<(), Fail> {
-    let header = read_header(&HEADER).ok_or("no header")?;
-    let mut reply = Reply::from_header(&header);
-    seal(&Key::new(Algorithm::Md5, b"key")?, 7, &mut reply);
-    assert_eq!(rt; &reply.octets()[..48], HEADER.as_slice());
-    let mac = b"\0\0\0\x07\x7b\xcf\xfc\xfd\x4b\xb6\x86\x4e\xdc\x41\x08\x77\x39\x9f\x16\xc8";
-    assert_eq!(rt; &reply.octets()[48..], mac.as_slice());
-    let mut reply = Reply::from_header(&header);
-    seal(&Key::new(Algorithm::Sha1, b"other")?, 0x0108, &mut reply);
-    let mac =
+    let md5 = b"\0\0\0\x07\x7b\xcf\xfc\xfd\x4b\xb6\x86\x4e\xdc\x41\x08\x77\x39\x9f\x16\xc8";
+    let sha1 =
         b"\0\0\x01\x08\xe8\xb5\x74\x13\x65\x9e\x04\xa8\xf6\xd2\xf1\xd4\x76\x28\xaf\xad\xe1\x8c\x62\x83";
-    assert_eq!(rt; &reply.octets()[48..], mac.as_slice());
-    let mut reply = Reply::from_header(&header);
+    for (algorithm, key, number, mac) in [
+        (Algorithm::Md5, b"key".as_slice(), 7, md5.as_slice()),
+        (Algorithm::Sha1, b"other", 0x0108, sha1),
+    ] {
+        let reply = sealed(algorithm, key, number)?;
+        assert!(rt; reply.octets().starts_with(&HEADER));
+        assert_eq!(rt; reply.octets().get(48..), Some(mac));
+    }
+    Ok(())
+}
+
+#[test]
+fn a_crypto_nak_has_four_octets_of_zero(rt: HostRuntime) -> Result<(), Fail> {
+    let mut reply = Reply::from_header(&read_header(&HEADER).ok_or("no header")?);
     add_nak(&mut reply);
-    assert_eq!(rt; &reply.octets()[48..], [0; 4].as_slice());
+    assert_eq!(rt; reply.octets().get(48..), Some([0; 4].as_slice()));
     Ok(())
 }
 
 #[test]
 fn replies_of_at_most_72_octets(rt: HostRuntime) {
-    assert!(rt; Reply::from_octets(&[1; 72]).is_some());
-    assert!(rt; Reply::from_octets(&[1; 73]).is_none());
-    assert!(rt; Reply::from_octets(&[1; 48]) == Reply::from_octets(&[1; 48]));
-    assert!(rt; Reply::from_octets(&[1; 48]) != Reply::from_octets(&[1; 49]));
+    for (octets, is_reply) in [([1; 72].as_slice(), true), (&[1; 73], false)] {
+        assert_eq!(rt; Reply::from_octets(octets).is_some(), is_reply);
+    }
+}
+
+#[test]
+fn replies_are_equal_where_their_octets_are(rt: HostRuntime) {
+    let reply = Reply::from_octets(&[1; 48]);
+    assert!(rt; reply == Reply::from_octets(&[1; 48]));
+    assert!(rt; reply != Reply::from_octets(&[1; 49]));
+}
+
+// Whether a request is signed by a key.
+fn is_signed(request: &[u8], algorithm: Algorithm, key: &[u8], number: u16) -> Result<bool, Fail> {
+    let key = Key::new(algorithm, key)?;
+    Ok(verifies(&key, number, &read_request(request)?))
 }
 
 #[test]
 fn signed_requests(rt: HostRuntime) -> Result<(), Fail> {
-    let key = Key::new(Algorithm::Md5, b"key")?;
-    let request = read_request(&SIGNED_BY_MD5)?;
-    assert!(rt; verifies(&key, 7, &request));
-    assert!(rt; !verifies(&key, 8, &request));
-    assert!(rt; !verifies(&Key::new(Algorithm::Md5, b"other")?, 7, &request));
-    assert!(rt; !verifies(&Key::new(Algorithm::Sha1, b"key")?, 7, &request));
+    for (algorithm, key, number, expected) in [
+        (Algorithm::Md5, b"key".as_slice(), 7, true),
+        (Algorithm::Md5, b"key", 8, false),
+        (Algorithm::Md5, b"other", 7, false),
+        (Algorithm::Sha1, b"key", 7, false),
+    ] {
+        assert_eq!(rt;
+            is_signed(&SIGNED_BY_MD5, algorithm, key, number)?,
+            expected
+        );
+    }
+    assert!(rt; is_signed(&SIGNED_BY_SHA1, Algorithm::Sha1, b"other", 8)?);
+    Ok(())
+}
+
+#[test]
+fn a_forged_request_is_not_signed(rt: HostRuntime) -> Result<(), Fail> {
     let mut forged = SIGNED_BY_MD5;
     forged[83] ^= 1;
-    assert!(rt; !verifies(&key, 7, &read_request(&forged)?));
-    let key = Key::new(Algorithm::Sha1, b"other")?;
-    assert!(rt; verifies(&key, 8, &read_request(&SIGNED_BY_SHA1)?));
+    assert!(rt; !is_signed(&forged, Algorithm::Md5, b"key", 7)?);
     Ok(())
 }

@@ -1,22 +1,21 @@
 //! Values from the rule in words: the count before an event is that of the newest events in its window.
-use crate::Window;
+
+use ntp_budget::Window;
 
 #[test]
 fn first_event_of_a_window_has_none_before_it(rt: HostRuntime) {
     let mut window = Window::new();
-    assert_eq!(rt; window.charge(5), 0);
-    assert_eq!(rt; window.charge(5), 1);
-    assert_eq!(rt; window.charge(5), 2);
-    assert_eq!(rt; window.charge(6), 0);
-    assert_eq!(rt; window.charge(6), 1);
+    for (at, before) in [(5, 0), (5, 1), (5, 2), (6, 0), (6, 1)] {
+        assert_eq!(rt; window.charge(at), before);
+    }
 }
 
 #[test]
 fn window_that_comes_back_is_a_new_count(rt: HostRuntime) {
     let mut window = Window::default();
-    assert_eq!(rt; window.charge(1), 0);
-    assert_eq!(rt; window.charge(2), 0);
-    assert_eq!(rt; window.charge(1), 0);
+    for at in [1, 2, 1] {
+        assert_eq!(rt; window.charge(at), 0);
+    }
 }
 
 #[test]

@@ -1,17 +1,18 @@
 //! What is written, and each call once with its answer.
 
-use crate::{
+use ntp_events::{Arrival, LineFault, LineOutcome, Observer, Sending, TurnOutcome};
+use ntp_mac::Reply;
+use ntp_register::Refusal;
+use ntp_reply::{Answer, Reason};
+use ntp_reports::{
     AnswerLines, Ask, Both, ClockGauges, Counting, Counts, Gauges, Kind, LineAllowance,
     write_statistics,
 };
-use ntp_events::{Arrival, LineFault, LineOutcome, Observer, Sending, TurnOutcome};
-use ntp_mac::Reply;
-use ntp_register::{Address, Refusal};
-use ntp_reply::{Answer, Reason};
 use ntp_request::Malformed;
-use ntp_time::{Moment, Short, Stamp};
+use ntp_time::{Short, Stamp};
 use refusing::{Broken, Refusing};
 use std::test::Fail;
+use worked_data::{CUSTOMER, moment};
 
 // What is written of counts in which each metric has a number of its own.
 const STATISTICS: &str = r#"# HELP labntp_answers_total Answers to datagrams.
@@ -93,13 +94,10 @@ labntp_build_info{version="0.1.0"} 1
 fn answered(answer: Answer, sending: Sending) -> TurnOutcome {
     TurnOutcome::Answered {
         arrival: Arrival {
-            address: Address([192, 0, 2, 10]),
+            address: CUSTOMER,
             port: 123,
             length: 68,
-            receipt: Moment {
-                era: 0,
-                stamp: Stamp(1),
-            },
+            receipt: moment(1),
         },
         answer,
         sending,
@@ -125,21 +123,26 @@ fn time(receive: u64, transmit: u64) -> Option<TurnOutcome> {
 
 // Tells an observer of turns with a reply.
 fn hear_of_replies<O: Observer>(observer: &mut O) -> Option<()> {
-    // The departure of the same reply: at once, later, and in the next era.
-    observer.turn(&time(7, 7)?);
-    observer.turn(&time(7, 8)?);
-    observer.turn(&time(u64::MAX, 1)?);
-    // That of an earlier reply: a little before, and in the era before.
-    observer.turn(&time(7, 6)?);
-    observer.turn(&time(1, u64::MAX)?);
-    for _ in 0..4 {
-        observer.turn(&answered(Answer::Rate(reply(0, 0)?), Sending::Sent));
+    for (receive, transmit) in [
+        // The departure of the same reply: at once, later, and in the next era.
+        (7, 7),
+        (7, 8),
+        (u64::MAX, 1),
+        // That of an earlier reply: a little before, and in the era before.
+        (7, 6),
+        (1, u64::MAX),
+    ] {
+        observer.turn(&time(receive, transmit)?);
     }
-    for _ in 0..5 {
-        observer.turn(&answered(Answer::Deny(reply(0, 0)?), Sending::NotSent));
-    }
-    for _ in 0..6 {
-        observer.turn(&answered(Answer::Nak(reply(0, 0)?), Sending::Sent));
+    for (times, answer, sending) in [
+        (4, Answer::Rate(reply(0, 0)?), Sending::Sent),
+        (5, Answer::Deny(reply(0, 0)?), Sending::NotSent),
+        (6, Answer::Nak(reply(0, 0)?), Sending::Sent),
+    ] {
+        let outcome = answered(answer, sending);
+        for _ in 0..times {
+            observer.turn(&outcome);
+        }
     }
     Some(())
 }

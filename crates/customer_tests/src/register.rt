@@ -1,0 +1,201 @@
+//! What no contract says: that commands succeed; and worked orders, each with its answer.
+
+use ntp_mac::{Algorithm, Key, KeyFault};
+use ntp_register::{Address, NumberedKey, Refusal, Register};
+use std::alloc::Global;
+use std::marker::Model;
+use std::process::Abort;
+use std::test::Fail;
+
+const A: Address = Address([192, 0, 2, 10]);
+
+const B: Address = Address([192, 0, 2, 20]);
+
+// A register whose customers and holders agree.
+#[derive(Drop)]
+struct Agreeing {
+    register: Register,
+}
+
+impl Model for Agreeing {
+    ghost use Rattle.ntp_register.specs.Registry.{Registry, Agrees};
+    ghost use Rattle.ntp_register.specs.Codes.{coded_registry};
+
+    ghost Value = { Registry };
+
+    ghost coded = { coded_registry };
+
+    ghost view = { λ a. a.register };
+
+    ghost invariant = { λ a. Agrees a.register };
+}
+
+// What is ordered of a register.
+#[derive(Clone, Copy)]
+enum Order {
+    Enrol,
+    Rollover,
+    Retire,
+    Revoke,
+}
+
+impl Agreeing {
+    fn new(alloc: Global) -> Agreeing {
+        Agreeing {
+            register: Register::new(alloc),
+        }
+    }
+
+    // What an order of an address with a number, which is not 0, is answered. A budget is 10.
+    fn answer(
+        &mut self,
+        rt: &impl Abort,
+        order: Order,
+        address: Address,
+        number: u16,
+        key: Key,
+    ) -> Result<(), Refusal> {
+        assert!(rt; number > 0);
+        match order {
+            Order::Enrol => self.register.enrol(address, number, key, 10),
+            Order::Rollover => self.register.rollover(address, number, key),
+            Order::Retire => self.register.retire(address, number),
+            Order::Revoke => self.register.revoke(address),
+        }
+    }
+}
+
+// The number, the key and the budget of the customer at A, where it is enrolled, and whether it has room for a further key.
+fn terms(register: &Register) -> Option<(u16, Key, u16, bool)> {
+    let customer = register.customer(A)?;
+    if customer.is_enrolled() {
+        let key = *customer.key();
+        Some((
+            customer.number(),
+            key,
+            customer.budget(),
+            customer.has_room(),
+        ))
+    } else {
+        None
+    }
+}
+
+// Its key under a number.
+fn key_for(register: &Register, number: u16) -> Option<Key> {
+    let customer = register.customer(A)?;
+    if customer.is_enrolled() {
+        customer.key_for(number).copied()
+    } else {
+        None
+    }
+}
+
+// What it holds under a number of a MAC.
+fn held(register: &Register, number: u32) -> Option<NumberedKey> {
+    let customer = register.customer(A)?;
+    if customer.is_enrolled() {
+        customer.held(number).copied()
+    } else {
+        None
+    }
+}
+
+fn key() -> Result<Key, KeyFault> {
+    Key::new(Algorithm::Md5, b"key")
+}
+
+// Each order with its address and number, its answer, and who then holds the number.
+type Row = (Order, Address, u16, Result<(), Refusal>, Option<Address>);
+
+// Orders with a key are answered so, one after another.
+fn answers(rt: &impl Abort, register: &mut Agreeing, key: Key, rows: &[Row]) {
+    for (order, address, number, answer, holder) in rows {
+        let answered = register.answer(rt, *order, *address, *number, key);
+        assert_eq!(rt;
+            (answered, register.register.holder(*number)),
+            (*answer, *holder)
+        );
+    }
+}
+
+#[test]
+fn refusals_come_in_their_order(rt: HostRuntime) -> Result<(), Fail> {
+    let key = key()?;
+    let mut register = Agreeing::new(rt.alloc());
+    let rows = [
+        (Order::Enrol, A, 7, Ok(()), Some(A)),
+        (Order::Enrol, A, 7, Err(Refusal::AlreadyEnrolled), Some(A)),
+        (Order::Enrol, B, 7, Err(Refusal::KeyTaken), Some(A)),
+        (Order::Revoke, A, 7, Ok(()), None),
+        (Order::Revoke, A, 7, Err(Refusal::NotEnrolled), None),
+        (Order::Revoke, B, 7, Err(Refusal::NotEnrolled), None),
+        (Order::Enrol, B, 7, Ok(()), Some(B)),
+        (Order::Enrol, A, 7, Err(Refusal::KeyTaken), Some(B)),
+        (Order::Enrol, A, 8, Ok(()), Some(A)),
+    ];
+    answers(&rt, &mut register, key, &rows);
+    Ok(())
+}
+
+#[test]
+fn changes_of_keys_are_refused_in_their_order(rt: HostRuntime) -> Result<(), Fail> {
+    let key = key()?;
+    let mut register = Agreeing::new(rt.alloc());
+    let rows = [
+        (Order::Rollover, A, 7, Err(Refusal::NotEnrolled), None),
+        (Order::Retire, A, 7, Err(Refusal::NotEnrolled), None),
+        (Order::Enrol, A, 7, Ok(()), Some(A)),
+        (Order::Enrol, B, 8, Ok(()), Some(B)),
+        (Order::Rollover, A, 7, Err(Refusal::SameNumber), Some(A)),
+        (Order::Rollover, A, 8, Err(Refusal::KeyTaken), Some(B)),
+        (Order::Retire, A, 8, Err(Refusal::NotHeld), Some(B)),
+        (Order::Retire, A, 7, Err(Refusal::OnlyKey), Some(A)),
+        (Order::Rollover, A, 9, Ok(()), Some(A)),
+        (Order::Rollover, A, 9, Err(Refusal::SameNumber), Some(A)),
+        (Order::Rollover, A, 8, Err(Refusal::RoomFull), Some(B)),
+        (Order::Retire, A, 8, Err(Refusal::NotHeld), Some(B)),
+        (Order::Revoke, A, 7, Ok(()), None),
+        (Order::Rollover, A, 9, Err(Refusal::NotEnrolled), None),
+        (Order::Retire, A, 9, Err(Refusal::NotEnrolled), None),
+    ];
+    answers(&rt, &mut register, key, &rows);
+    Ok(())
+}
+
+#[test]
+fn a_customer_has_what_it_was_enrolled_with(rt: HostRuntime) -> Result<(), Fail> {
+    let key = key()?;
+    let mut register = Register::new(rt.alloc());
+    assert!(rt; register.customer(A).is_none());
+    assert_eq!(rt; register.enrol(A, 65535, key, 1), Ok(()));
+    assert_eq!(rt; terms(&register), Some((65535, key, 1, true)));
+    assert_eq!(rt; register.revoke(A), Ok(()));
+    assert!(rt; register.customer_mut(A).is_some());
+    assert_eq!(rt; terms(&register), None);
+    Ok(())
+}
+
+#[test]
+fn a_key_comes_and_the_older_one_goes(rt: HostRuntime) -> Result<(), Fail> {
+    let key = key()?;
+    let newer = Key::new(Algorithm::Sha1, b"newer")?;
+    let mut it = Agreeing::new(rt.alloc());
+    answers(&rt, &mut it, key, &[(Order::Enrol, A, 7, Ok(()), Some(A))]);
+    answers(
+        &rt,
+        &mut it,
+        newer,
+        &[(Order::Rollover, A, 9, Ok(()), Some(A))],
+    );
+    assert_eq!(rt; it.register.holder(7), Some(A));
+    assert_eq!(rt; terms(&it.register), Some((7, key, 10, false)));
+    assert_eq!(rt; key_for(&it.register, 9), Some(newer));
+    assert_eq!(rt; held(&it.register, 7), Some(NumberedKey { number: 7, key }));
+    assert_eq!(rt; held(&it.register, 65536 + 7), None);
+    answers(&rt, &mut it, key, &[(Order::Retire, A, 7, Ok(()), None)]);
+    assert_eq!(rt; terms(&it.register), Some((9, newer, 10, true)));
+    assert_eq!(rt; key_for(&it.register, 7), None);
+    answers(&rt, &mut it, key, &[(Order::Enrol, B, 7, Ok(()), Some(B))]);
+    Ok(())
+}

@@ -1,0 +1,295 @@
+//! Worked exchanges with a server. The digests are those of Python's `hashlib.md5` over the key `key` and
+//! the 48 octets before them.
+ghost use Rattle.std.specs.Prelude.{◌≤◌};
+
+use crate::packets::{moment, packet, stamps};
+use ntp_client::{Client, Distrust, Sample, Taken};
+use ntp_mac::{Algorithm, Key};
+use ntp_request::Malformed;
+use ntp_time::Stamp;
+use std::process::Abort;
+use std::test::Fail;
+
+/// The transmit stamp of the first request.
+const T: u64 = 0xec00_0010_8000_0000;
+
+/// When the server got it.
+const R: u64 = 0xec00_0010_9000_0000;
+
+/// When the server's reply departed, as the reply itself tells it.
+const DEPARTURE: u64 = 0xec00_0010_9000_0100;
+
+/// When the reply arrived.
+const ARRIVAL: u64 = 0xec00_0010_a000_0000;
+
+/// The digest of the first request.
+const REQUEST_DIGEST: u128 = 0xc54a_79b8_7ff9_9597_5180_769b_dd0a_5236;
+
+/// The first four words of a request, and of a reply of version 4 from a primary server.
+const REQUEST: u128 = 0x2300_0600_0000_0000_0000_0000_0000_0000;
+
+const SERVER: u128 = 0x2401_06ec_0000_0000_0000_0010_4e49_5354;
+
+/// The digest of the reply with these words and T, R and the departure.
+const DIGEST: u128 = 0xb26e_5765_47e4_15eb_d846_1f86_4849_12fe;
+
+/// The transmit stamp of the second request, and when an interleaved reply to it arrived.
+const NEXT_T: u64 = 0xec00_0011_8000_0000;
+
+const NEXT_ARRIVAL: u64 = 0xec00_0011_a000_0000;
+
+/// The first four words of a kiss-o'-death, with its code.
+const RATE: u128 = 0xe400_0600_0000_0000_0000_0000_5241_5445;
+
+const DENY: u128 = 0xe400_0600_0000_0000_0000_0000_4445_4e59;
+
+// A new client with the key number 7.
+fn client() -> Result<Client, Fail> {
+    Ok(Client::new(Key::new(Algorithm::Md5, b"key")?, 7))
+}
+
+// The same, which has made the first request.
+fn asked() -> Result<Client, Fail> {
+    let mut client = client()?;
+    let _request = client.request(moment(T));
+    Ok(client)
+}
+
+// A request with these stamps.
+fn query(origin: u64, receive: u64, transmit: u64, digest: u128) -> [u8; 68] {
+    packet(
+        [REQUEST, stamps(0, origin), stamps(receive, transmit)],
+        digest,
+    )
+}
+
+// A reply of a server, whose clock was set at the stamp ec00000000000000, with these first words and these stamps.
+fn reply(words: u128, origin: u64, receive: u64, transmit: u64, digest: u128) -> [u8; 68] {
+    let set = 0xec00_0000_0000_0000;
+    packet(
+        [words, stamps(set, origin), stamps(receive, transmit)],
+        digest,
+    )
+}
+
+// The reply to the first request.
+fn first_reply() -> [u8; 68] {
+    reply(SERVER, T, R, DEPARTURE, DIGEST)
+}
+
+// An interleaved reply to the second request, which tells when the first one departed.
+fn interleaved_reply() -> [u8; 68] {
+    reply(
+        SERVER,
+        ARRIVAL,
+        0xec00_0011_9000_0000,
+        0xec00_0010_9000_0180,
+        0xfb0a_d8a5_6707_77ce_79f6_9302_9cc5_eb80,
+    )
+}
+
+// A kiss-o'-death to the first request.
+fn kiss(words: u128, digest: u128) -> [u8; 68] {
+    packet([words, stamps(0, T), stamps(0, T)], digest)
+}
+
+// The sample of the first request, by a departure that a reply tells.
+fn sample(departure: u64, interleaved: bool) -> Taken {
+    Taken::Sample(Sample {
+        t1: Stamp(T),
+        t2: Stamp(R),
+        t3: Stamp(departure),
+        t4: Stamp(ARRIVAL),
+        interleaved,
+    })
+}
+
+// After its first request a client takes these octets so; and then the reply to that is still a sample.
+fn takes(rt: &impl Abort, octets: &[u8], expected: Taken) -> Result<(), Fail> {
+    let mut client = asked()?;
+    assert_eq!(rt; client.take(octets, moment(ARRIVAL)), expected);
+    let taken = client.take(&first_reply(), moment(ARRIVAL));
+    assert_eq!(rt; taken, sample(DEPARTURE, false), "after {expected:?}");
+    Ok(())
+}
+
+// After its first request a client refuses these octets so.
+fn refuses(rt: &impl Abort, octets: &[u8], why: Distrust) -> Result<(), Fail> {
+    takes(rt, octets, Taken::Refused(why))
+}
+
+#[test]
+fn an_exchange_and_an_interleaved_one(rt: HostRuntime) -> Result<(), Fail> {
+    let mut client = client()?;
+    let second_digest = 0xff09_9f8a_9ae2_53f3_a818_3e89_2fcd_9325;
+    for (transmit, request, reply, arrival, taken) in [
+        (
+            T,
+            query(0, 0, T, REQUEST_DIGEST),
+            first_reply(),
+            ARRIVAL,
+            sample(DEPARTURE, false),
+        ),
+        (
+            NEXT_T,
+            query(R, ARRIVAL, NEXT_T, second_digest),
+            interleaved_reply(),
+            NEXT_ARRIVAL,
+            sample(0xec00_0010_9000_0180, true),
+        ),
+    ] {
+        let made = client.request(moment(transmit));
+        assert_eq!(rt; made.octets(), request.as_slice());
+        assert_eq!(rt; client.take(&reply, moment(arrival)), taken);
+    }
+    let taken = client.take(&interleaved_reply(), moment(NEXT_ARRIVAL));
+    assert_eq!(rt; taken, Taken::Refused(Distrust::NothingAsked));
+    Ok(())
+}
+
+#[test]
+fn an_exchange_is_carried_by_one_request(rt: HostRuntime) -> Result<(), Fail> {
+    let mut client = asked()?;
+    let taken = client.take(&first_reply(), moment(ARRIVAL));
+    assert_eq!(rt; taken, sample(DEPARTURE, false));
+    let _second = client.request(moment(NEXT_T));
+    let third = client.request(moment(T));
+    assert_eq!(rt; third.octets(), query(0, 0, T, REQUEST_DIGEST).as_slice());
+    let taken = client.take(&interleaved_reply(), moment(NEXT_ARRIVAL));
+    assert_eq!(rt; taken, Taken::Refused(Distrust::Origin));
+    Ok(())
+}
+
+#[test]
+fn nothing_is_taken_before_a_request(rt: HostRuntime) -> Result<(), Fail> {
+    let taken = client()?.take(&first_reply(), moment(ARRIVAL));
+    assert_eq!(rt; taken, Taken::Refused(Distrust::NothingAsked));
+    Ok(())
+}
+
+#[test]
+fn what_is_no_reply_is_refused(rt: HostRuntime) -> Result<(), Fail> {
+    refuses(&rt, &[0; 47], Distrust::Malformed(Malformed::Short))?;
+    refuses(&rt, &query(0, 0, T, REQUEST_DIGEST), Distrust::Mode)?;
+    let digest = 0x7bcf_fcfd_4bb6_864e_dc41_0877_399f_16c8;
+    let version_3 = 0x1c01_06ec_0000_0000_0000_0010_4e49_5354;
+    refuses(
+        &rt,
+        &reply(version_3, T, R, DEPARTURE, digest),
+        Distrust::Version,
+    )?;
+    let digest = 0xae48_aadb_72a1_5387_7128_f6c7_d744_95d7;
+    refuses(
+        &rt,
+        &reply(SERVER, R, R, DEPARTURE, digest),
+        Distrust::Origin,
+    )
+}
+
+// The first octets of a packet, as if the rest had been cut off.
+fn cut(octets: &[u8; 68], len: usize) -> &[u8]
+    requires { len ≤ 68 }
+{
+    &octets[..len]
+}
+
+// The reply to the first request with another key number below 256.
+fn renumbered(number: u8) -> [u8; 68] {
+    let mut octets = first_reply();
+    octets[51] = number;
+    octets
+}
+
+#[test]
+fn what_is_not_authentic_is_refused(rt: HostRuntime) -> Result<(), Fail> {
+    refuses(&rt, cut(&first_reply(), 48), Distrust::Unsigned)?;
+    refuses(&rt, cut(&renumbered(1), 52), Distrust::Unsigned)?;
+    takes(&rt, cut(&renumbered(0), 52), Taken::Nak)?;
+    let forged = reply(SERVER, T, R, DEPARTURE, DIGEST ^ 1);
+    refuses(&rt, &forged, Distrust::Mac)
+}
+
+#[test]
+fn replies_with_no_time_are_refused(rt: HostRuntime) -> Result<(), Fail> {
+    let digest = 0x600f_2e68_3305_9d39_4640_7627_9ae8_18b8;
+    refuses(
+        &rt,
+        &reply(SERVER, T, 0, DEPARTURE, digest),
+        Distrust::Stamps,
+    )?;
+    // From a server whose clock is unsynchronised: leap 3, stratum 0 and no reference identifier.
+    let words = 0xe400_06ec_0000_0000_0000_0010_0000_0000;
+    let digest = 0xc602_af80_14c0_53b9_0082_70a8_701e_4e93;
+    refuses(
+        &rt,
+        &reply(words, T, R, DEPARTURE, digest),
+        Distrust::Unsynchronised,
+    )
+}
+
+#[test]
+fn a_deny_leaves_the_request_open(rt: HostRuntime) -> Result<(), Fail> {
+    takes(&rt, cut(&kiss(DENY, 0), 48), Taken::Deny)
+}
+
+#[test]
+fn a_rate_ends_the_request(rt: HostRuntime) -> Result<(), Fail> {
+    let rate = kiss(RATE, 0x5cc5_bdaa_8b50_2fef_0193_f560_3208_e8b7);
+    let mut client = asked()?;
+    for (octets, taken) in [
+        (rate, Taken::Rate),
+        (rate, Taken::Refused(Distrust::NothingAsked)),
+        (first_reply(), Taken::Refused(Distrust::NothingAsked)),
+    ] {
+        assert_eq!(rt; client.take(&octets, moment(ARRIVAL)), taken);
+    }
+    Ok(())
+}
+
+// A sample of the first request by the three later stamps, in units of 2^-32 seconds after the first.
+fn later(t2: u64, t3: u64, t4: u64) -> Sample {
+    Sample {
+        t1: Stamp(T),
+        t2: Stamp(T.wrapping_add(t2)),
+        t3: Stamp(T.wrapping_add(t3)),
+        t4: Stamp(T.wrapping_add(t4)),
+        interleaved: false,
+    }
+}
+
+// Two samples of the exchanges above.
+const BASIC: [u64; 3] = [0x1000_0000, 0x1000_0100, 0x2000_0000];
+
+const INTERLEAVED: [u64; 3] = [0x1000_0000, 0x1000_0180, 0x2000_0000];
+
+// A server whose clock is two and a half seconds behind, and a quarter of a second on the way.
+const BEHIND: [u64; 3] = [0xffff_fffd_a000_0000, 0xffff_fffd_a000_0000, 0x4000_0000];
+
+// Half a unit behind, which is less than half a nanosecond.
+const HALF_BEHIND: [u64; 3] = [0, 0, 1];
+
+#[test]
+fn offset_and_delay(rt: HostRuntime) {
+    for ([t2, t3, t4], offset_twice, delay) in [
+        (BASIC, 256, 536_870_656),
+        (INTERLEAVED, 384, 536_870_528),
+    ] {
+        let sample = later(t2, t3, t4);
+        assert_eq!(rt; sample.offset_twice(), offset_twice);
+        assert_eq!(rt; sample.delay(), delay);
+    }
+}
+
+#[test]
+fn offset_and_delay_are_printed(rt: HostRuntime) -> Result<(), Fail> {
+    for ([t2, t3, t4], printed) in [
+        (BASIC, "offset 0.000000030 s, delay 0.124999940 s"),
+        (INTERLEAVED, "offset 0.000000045 s, delay 0.124999911 s"),
+        (BEHIND, "offset -2.500000000 s, delay 0.250000000 s"),
+        (HALF_BEHIND, "offset 0.000000000 s, delay 0.000000000 s"),
+    ] {
+        let text = format!(in rt.alloc(); "{}", later(t2, t3, t4))?;
+        assert_eq!(rt; text.as_str(), printed);
+    }
+    Ok(())
+}

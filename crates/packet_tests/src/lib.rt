@@ -1,0 +1,22 @@
+//! Tests of the crates from time up to a client and the clock that it follows, one module for each: `ntp_time`, `ntp_budget`,
+//! `ntp_slots`, `ntp_request`, `ntp_mac`, `ntp_client` and `ntp_clock`. They stand here since a crate with tests is proved twice.
+#![tactic(auto)]
+
+#[cfg(test)]
+mod budget;
+#[cfg(test)]
+mod client;
+#[cfg(test)]
+mod clock;
+#[cfg(test)]
+mod mac;
+#[cfg(test)]
+mod packets;
+#[cfg(test)]
+mod plain_reader;
+#[cfg(test)]
+mod request;
+#[cfg(test)]
+mod slots;
+#[cfg(test)]
+mod time;

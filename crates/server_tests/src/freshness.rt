@@ -1,0 +1,136 @@
+//! What comes of whole stretches of time, by a queue in memory whose datagrams and readings are written down here: each is
+//! reckoned by hand, in milliseconds.
+
+use ntp_events::Arrival;
+use ntp_freshness::{Due, FreshPort, MemoryQueue, QueueWatch};
+use ntp_service_serve::{Port, TimedPort};
+use std::alloc::Allocator;
+use std::test::Fail;
+use worked_data::{CUSTOMER, moment};
+
+/// A datagram may have waited for less than 250 ms.
+const LONGEST: u64 = 250_000_000;
+
+// A datagram that comes so many milliseconds after the clock began, from a UDP port.
+fn due(milliseconds: u32, port: u16) -> Due {
+    Due {
+        at: u64::from(milliseconds) * 1_000_000,
+        arrival: Arrival {
+            address: CUSTOMER,
+            port,
+            length: 48,
+            receipt: moment(0),
+        },
+    }
+}
+
+// A port over a queue to which datagrams come, each after so many milliseconds and from a UDP port, beside a clock that shows
+// these milliseconds.
+fn port<A: Allocator + Copy>(
+    alloc: A,
+    coming: &[(u32, u16)],
+    readings: &[u32],
+) -> Result<FreshPort<MemoryQueue<A>>, Fail> {
+    let mut dues = Vec::new(alloc);
+    for (at, port) in coming {
+        dues.push(due(*at, *port))?;
+    }
+    let mut ticks = Vec::new(alloc);
+    for reading in readings {
+        ticks.push(u64::from(*reading) * 1_000_000)?;
+    }
+    let queue = MemoryQueue::new(alloc, dues, ticks, 1_000)?;
+    Ok(FreshPort::new(queue, QueueWatch::new(LONGEST)))
+}
+
+// The UDP port of the next datagram that may be answered, where one comes in time.
+fn next<A: Allocator>(port: &mut FreshPort<MemoryQueue<A>>) -> Result<Option<u16>, &'static str> {
+    if port.failures() > 0 {
+        return Err("a call failed");
+    }
+    match port.receive_in_time(&mut [0; 1025]) {
+        None => Ok(None),
+        Some(Ok(arrival)) => Ok(Some(arrival.port)),
+        Some(Err(_)) => Err("nothing was received"),
+    }
+}
+
+#[test]
+fn what_waited_while_the_process_was_stopped_is_dropped(rt: HostRuntime) -> Result<(), Fail> {
+    let coming = [
+        (200, 0),
+        (500, 1),
+        (800, 2),
+        (1_100, 3),
+        (1_400, 4),
+        (1_700, 5),
+        (2_000, 6),
+        (2_300, 7),
+        (2_600, 8),
+        (2_900, 9),
+        (5_150, 10),
+    ];
+    // Ten takes at 5,100 ms, after a stop of five seconds, and one later.
+    let readings = [
+        0, 100, 5_100, 5_100, 5_100, 5_100, 5_100, 5_100, 5_100, 5_100, 5_100, 5_100, 5_200,
+    ];
+    let mut port = port(rt.alloc(), &coming, &readings)?;
+    for (expected, stale) in [(None, 0), (Some(10), 10), (None, 10)] {
+        assert_eq!(rt; next(&mut port), Ok(expected));
+        assert_eq!(rt; port.stale(), stale);
+    }
+    Ok(())
+}
+
+// How many are passed on in so many calls, and how many are dropped.
+fn passed_on<A: Allocator>(
+    port: &mut FreshPort<MemoryQueue<A>>,
+    calls: u32,
+) -> Result<(usize, u64), &'static str> {
+    let mut passed_on = 0usize;
+    for _ in 0..calls {
+        if next(port)?.is_some() {
+            passed_on = passed_on.saturating_add(1);
+        }
+    }
+    Ok((passed_on, port.stale()))
+}
+
+// The same of two hundred datagrams, one each 10 ms, of which so many always wait.
+fn passed_on_in_overload<A: Allocator + Copy>(
+    alloc: A,
+    waiting: u16,
+) -> Result<(usize, u64), Fail> {
+    let mut coming = [(0, 0); 200];
+    let mut readings = [0; 201];
+    for number in 0..200u16 {
+        let place = usize::from(number);
+        coming[place] = (1 + u32::from(number.saturating_sub(waiting)) * 10, number);
+        readings[place + 1] = 10 + u32::from(number) * 10;
+    }
+    Ok(passed_on(&mut port(alloc, &coming, &readings)?, 200)?)
+}
+
+#[test]
+fn overload_is_answered_where_the_queue_is_taken_out_in_time(rt: HostRuntime) -> Result<(), Fail> {
+    // The queue is never seen empty. Three datagrams that a look finds are taken out 30 ms later.
+    assert_eq!(rt; passed_on_in_overload(rt.alloc(), 3)?, (200, 0));
+    // Thirty are taken out 300 ms later. Nothing had come at 0 ms; the 25th datagram is in hand at 250 ms.
+    assert_eq!(rt; passed_on_in_overload(rt.alloc(), 30)?, (24, 176));
+    Ok(())
+}
+
+#[test]
+fn sparse_datagrams_are_answered(rt: HostRuntime) -> Result<(), Fail> {
+    let mut coming = [(0, 0); 20];
+    for second in 0..20u16 {
+        coming[usize::from(second)] = (u32::from(second) * 1_000 + 950, second);
+    }
+    let mut readings = [0; 250];
+    for wait in 0..250u16 {
+        readings[usize::from(wait)] = u32::from(wait) * 100;
+    }
+    let mut port = port(rt.alloc(), &coming, &readings)?;
+    assert_eq!(rt; passed_on(&mut port, 230), Ok((20, 0)));
+    Ok(())
+}

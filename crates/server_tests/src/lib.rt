@@ -1,0 +1,16 @@
+//! Tests of the crates of which programs are made, one module for each: `ntp_service_replay`, `labntp_command_line`,
+//! `ntp_freshness`, `ntp_server` and `ntp_reports`. They stand here since a crate with tests is proved twice.
+#![tactic(auto)]
+
+#[cfg(test)]
+mod command_line;
+#[cfg(test)]
+mod faulty;
+#[cfg(test)]
+mod freshness;
+#[cfg(test)]
+mod replay;
+#[cfg(test)]
+mod reports;
+#[cfg(test)]
+mod server;

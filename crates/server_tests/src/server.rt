@@ -1,0 +1,307 @@
+//! What no contract says of a server: what three turns come to with commands between them, to the octet, that serving takes
+//! no memory where no commands change, that commands are carried out while nothing comes, when the source of the clock's
+//! state is given time, and when a reporter is shown the server. The digests are those of Python's `hashlib.md5` over the
+//! key `key` and the octets before the key number.
+ghost use Rattle.std.specs.Prelude.{◌≡◌};
+
+use ntp_events::{Arrival, LineOutcome, Observation, Sending, TurnOutcome};
+use ntp_mac::Reply;
+use ntp_register::Address;
+use ntp_reply::{Answer, Reason, Reference};
+use ntp_server::{
+    MemoryCommands, MemoryObserver, MemoryStates, NoReports, Reporter, Server, Totals,
+};
+use ntp_service_run::Service;
+use ntp_service_serve::{FixedReference, MemoryPort, Port, PortFault, ReferenceSource, TimedPort};
+use ntp_time::{Moment, Stamp};
+use refusing::Refusing;
+use std::alloc::Allocator;
+use std::process::Abort;
+use std::test::Fail;
+use worked_data::{CUSTOMER, FIRST_QUERY, FIRST_REPLY, SECOND_QUERY, moment, reference, turn};
+
+/// A commands file, and the same with a line more.
+const ENROLMENT: &[u8] = b"enrol 192.0.2.10 7 md5 6b6579 10\n";
+
+const REVOCATION: &[u8] = b"enrol 192.0.2.10 7 md5 6b6579 10\nrevoke 192.0.2.10\n";
+
+/// The refusal of the second query.
+const DENIAL: &[u8] = b"\xe4\x00\x06\x00\
+    \x00\x00\x00\x00\x00\x00\x00\x00DENY\x00\x00\x00\x00\x00\x00\x00\x00\
+    \xec\x00\x00\x11\x80\x00\x00\x00\x00\x00\x00\x00\x00\x00\x00\x00\xec\x00\x00\x11\x80\x00\x00\x00";
+
+/// When three datagrams come.
+const FIRST_RECEIPT: u64 = 0xec00_000f_9000_0000;
+
+const SECOND_RECEIPT: u64 = 0xec00_0010_9000_0000;
+
+const THIRD_RECEIPT: u64 = 0xec00_0011_9000_0000;
+
+// What a server did.
+fn totals(arrivals: u64, sent: u64, departed: u64) -> Totals {
+    Totals {
+        arrivals,
+        sent,
+        departed,
+    }
+}
+
+// What an observer is told of a datagram of 68 octets that was answered.
+fn answered(port: u16, receipt: u64, answer: Answer, sending: Sending) -> Observation {
+    let arrival = Arrival {
+        address: CUSTOMER,
+        port,
+        length: 68,
+        receipt: moment(receipt),
+    };
+    Observation::Turn(TurnOutcome::Answered {
+        arrival,
+        answer,
+        sending,
+    })
+}
+
+// What it is told of a line that was carried out.
+fn done(number: u64) -> Observation {
+    Observation::Line {
+        number,
+        outcome: LineOutcome::Done,
+    }
+}
+
+// What a reporter was shown: when the datagram came, and how many lines of the commands file were applied by then.
+#[derive(Drop)]
+struct Shown(Vec<(Option<Moment>, u64)>);
+
+impl<P, C, R, O, A: Allocator> Reporter<Server<P, C, R, O, A>> for Shown {
+    fn report(&mut self, server: &Server<P, C, R, O, A>, receipt: Option<Moment>) {
+        let _ = self.0.push((receipt, server.applied));
+    }
+}
+
+// A state that is in force for ever, which counts how often it was given time.
+#[derive(Drop)]
+struct Tended {
+    reference: Reference,
+    times: u64,
+}
+
+impl ReferenceSource for Tended {
+    fn in_force(&mut self, _receipt: Option<Moment>) -> Reference {
+        self.reference
+    }
+
+    fn tend(&mut self) {
+        self.times = self.times.saturating_add(1);
+    }
+}
+
+// A port to which the customer's octets come: from a UDP port, at a stamp.
+fn port<A: Allocator + Copy>(
+    alloc: A,
+    coming: &[(u16, u64, &[u8])],
+) -> Result<MemoryPort<A>, Fail> {
+    let mut turns = Vec::new(alloc);
+    for (port, receipt, octets) in coming {
+        turns.push(turn(alloc, *port, *receipt, octets, true)?)?;
+    }
+    Ok(MemoryPort::new(alloc, turns)?)
+}
+
+// A commands file that is looked at so often: what it has then, or nothing where it is as it was.
+fn commands<A: Allocator + Copy>(
+    alloc: A,
+    files: &[Option<&[u8]>],
+) -> Result<MemoryCommands<A>, Fail> {
+    let mut looks = Vec::new(alloc);
+    for file in files {
+        let look = match file {
+            Some(octets) => Some(octets.to_vec(alloc)?),
+            None => None,
+        };
+        looks.push(look)?;
+    }
+    Ok(MemoryCommands::new(looks))
+}
+
+// A server that knows nobody, whose observer has room for so many observations.
+fn server<P: Drop, R: Drop, A: Allocator + Copy>(
+    alloc: A,
+    port: P,
+    commands: MemoryCommands<A>,
+    reference: R,
+    room: usize,
+) -> Result<Server<P, MemoryCommands<A>, R, MemoryObserver<A>, A>, Fail> {
+    Ok(Server {
+        port,
+        commands,
+        applied: 0,
+        reference,
+        observer: MemoryObserver::new(alloc, room)?,
+        service: Service::new(alloc),
+    })
+}
+
+// What a server does in so many turns, between which it is shown to a reporter.
+fn served<P: TimedPort, R: ReferenceSource, A: Allocator + Copy, Q>(
+    rt: &impl Abort,
+    server: &mut Server<P, MemoryCommands<A>, R, MemoryObserver<A>, A>,
+    turns: u64,
+    reporter: &mut Q,
+) -> Totals
+where
+    Q: Reporter<Server<P, MemoryCommands<A>, R, MemoryObserver<A>, A>>,
+{
+    assert!(rt; server.port.failures() == 0);
+    server.serve_reported(turns, reporter)
+}
+
+// What is told of a datagram before the enrolment, of one behind it, and of one behind the revocation.
+fn told_of_three_turns() -> Result<[Observation; 5], Fail> {
+    let reply = Reply::from_octets(FIRST_REPLY).ok_or("no reply")?;
+    let denial = Reply::from_octets(DENIAL).ok_or("no denial")?;
+    let saved = Stamp(SECOND_RECEIPT);
+    let silence = Answer::Silent(Reason::Unregistered);
+    Ok([
+        answered(5001, FIRST_RECEIPT, silence, Sending::NoReply),
+        done(1),
+        answered(
+            5002,
+            SECOND_RECEIPT,
+            Answer::Time { reply, saved },
+            Sending::Noted,
+        ),
+        done(2),
+        answered(5003, THIRD_RECEIPT, Answer::Deny(denial), Sending::Sent),
+    ])
+}
+
+#[test]
+fn commands_are_carried_out_before_the_datagram_is_answered(rt: HostRuntime) -> Result<(), Fail> {
+    let alloc = rt.alloc();
+    let coming = [
+        (5001, FIRST_RECEIPT, FIRST_QUERY),
+        (5002, SECOND_RECEIPT, FIRST_QUERY),
+        (5003, THIRD_RECEIPT, SECOND_QUERY),
+    ];
+    let looks = [None, Some(ENROLMENT), Some(REVOCATION)];
+    let fixed = FixedReference(reference()?);
+    let told = told_of_three_turns()?;
+    let mut server = server(
+        alloc,
+        port(alloc, &coming)?,
+        commands(alloc, &looks)?,
+        fixed,
+        5,
+    )?;
+    let mut shown = Shown(Vec::new(alloc));
+    assert_eq!(rt; served(&rt, &mut server, 3, &mut shown), totals(3, 2, 1));
+    assert_eq!(rt; server.applied, 2);
+    let lines_applied = [
+        (Some(moment(FIRST_RECEIPT)), 0),
+        (Some(moment(SECOND_RECEIPT)), 1),
+        (Some(moment(THIRD_RECEIPT)), 2),
+    ];
+    assert_eq!(rt; shown.0.as_slice(), lines_applied.as_slice());
+    assert!(rt; !server.observer.has_missed());
+    assert_eq!(rt; server.observer.seen(), told.as_slice());
+    Ok(())
+}
+
+#[test]
+fn serving_takes_no_memory_where_no_commands_change(rt: HostRuntime) -> Result<(), Fail> {
+    let memory = Refusing::new(rt.alloc());
+    let coming = [
+        (5001, SECOND_RECEIPT, FIRST_QUERY),
+        (5002, THIRD_RECEIPT, SECOND_QUERY),
+    ];
+    let port = port(&memory, &coming)?;
+    let commands = commands(&memory, &[Some(ENROLMENT)])?;
+    let mut states = Vec::new(&memory);
+    states.push(reference()?)?;
+    let states = MemoryStates::new(states, reference()?);
+    let mut server = server(&memory, port, commands, states, 2)?;
+    assert_eq!(rt;
+        served(&rt, &mut server, 1, &mut NoReports),
+        totals(1, 1, 1)
+    );
+    let before = memory.calls();
+    memory.refuse_all();
+    assert_eq!(rt;
+        served(&rt, &mut server, 2, &mut NoReports),
+        totals(1, 1, 1)
+    );
+    assert_eq!(rt; memory.calls(), before);
+    assert!(rt; server.observer.has_missed());
+    assert_eq!(rt; server.observer.seen().len(), 2);
+    Ok(())
+}
+
+// A port to which nothing comes: so many waits end with none, and then no datagram can be received.
+#[derive(Drop)]
+struct Quiet {
+    waits: u8,
+    failed: u64,
+}
+
+impl Port for Quiet {
+    ghost failure_count = { λ p. p.failed };
+
+    fn receive(&mut self, _datagram: &mut [u8; 1025]) -> Result<Arrival, PortFault> {
+        self.failed += 1;
+        Err(PortFault::Receive)
+    }
+
+    fn now(&mut self) -> Moment {
+        moment(0)
+    }
+
+    fn send(&mut self, _address: Address, _port: u16, _reply: &[u8]) -> Result<(), PortFault> {
+        self.failed += 1;
+        Err(PortFault::Send)
+    }
+
+    fn failures(&self) -> u64 {
+        self.failed
+    }
+}
+
+impl TimedPort for Quiet {
+    fn receive_in_time(&mut self, datagram: &mut [u8; 1025]) -> Option<Result<Arrival, PortFault>> {
+        if self.waits > 0 {
+            self.waits -= 1;
+            return None;
+        }
+        Some(self.receive(datagram))
+    }
+}
+
+#[test]
+fn commands_are_carried_out_while_nothing_comes(rt: HostRuntime) -> Result<(), Fail> {
+    let alloc = rt.alloc();
+    let commands = commands(alloc, &[Some(ENROLMENT), Some(REVOCATION)])?;
+    let quiet = Quiet {
+        waits: 2,
+        failed: 0,
+    };
+    let tended = Tended {
+        reference: reference()?,
+        times: 0,
+    };
+    let mut server = server(alloc, quiet, commands, tended, 3)?;
+    let mut shown = Shown(Vec::new(alloc));
+    assert_eq!(rt; served(&rt, &mut server, 1, &mut shown), totals(0, 0, 0));
+    assert_eq!(rt; server.applied, 2);
+    assert_eq!(rt; server.reference.times, 2);
+    assert_eq!(rt;
+        shown.0.as_slice(),
+        [(None, 1), (None, 2), (None, 2)].as_slice()
+    );
+    let told = [
+        done(1),
+        done(2),
+        Observation::Turn(TurnOutcome::NothingReceived),
+    ];
+    assert_eq!(rt; server.observer.seen(), told.as_slice());
+    Ok(())
+}

@@ -1,5 +1,5 @@
 //! A server and a client meet in this process.
-ghost use Rattle.std.specs.Prelude.{◌≡◌};
+ghost use Rattle.std.specs.Prelude.{◌≡◌, ◌≢◌};
 ghost use Rattle.ntp_loopback.specs.Words.{HasMet};
 
 use labntp_command_line::{DONE, memory_status, socket_status, write_status};
@@ -22,11 +22,18 @@ pub fn loopback_status<R: Net + Clock, A: Allocator + Copy, W: Write, F: Write>(
 {
     match meet(rt, alloc, turns, out) {
         Ok(()) => DONE,
-        Err(LoopbackFault::NoMemory) => memory_status(faults),
-        Err(LoopbackFault::Socket) => socket_status(faults),
-        Err(LoopbackFault::Write) => write_status(faults),
+        Err(fault) => fault_status(fault, faults),
     }
 }
 
-#[cfg(test)]
-mod tests;
+// Tells why they met no longer, and gives the exit status.
+fn fault_status<F: Write>(fault: LoopbackFault, faults: &mut F) -> u8
+    ensures memory { fault ≡ LoopbackFault.NoMemory → result ≡ 4 }
+    ensures fails { result ≢ DONE }
+{
+    match fault {
+        LoopbackFault::NoMemory => memory_status(faults),
+        LoopbackFault::Socket => socket_status(faults),
+        LoopbackFault::Write => write_status(faults),
+    }
+}

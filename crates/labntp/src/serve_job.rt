@@ -94,6 +94,3 @@ fn server<'a, R: Files + Clock, F: Write>(
         service,
     }
 }
-
-#[cfg(test)]
-mod tests;

@@ -8,7 +8,7 @@ use std::alloc::{AllocError, Global};
 pub const VERSION: &str = "0.1.0";
 
 /// What the words of a command line ask for.
-#[derive(Clone, Copy, Debug, PartialEq, Eq)]
+#[derive(Clone, Copy)]
 pub struct Asked<'a> {
     /// Whether the files are only to be checked, and nothing is to be served.
     pub check: bool,

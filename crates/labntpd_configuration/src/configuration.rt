@@ -6,7 +6,7 @@ use std::net::{Ipv4Addr, SocketAddrV4};
 use std::num::NonZero;
 
 /// What a configuration file says. Each number is in the range that its key has (profile).
-#[derive(Debug, PartialEq, Eq, Drop)]
+#[derive(Drop)]
 pub struct Configuration {
     /// Where datagrams are received.
     pub listen: Listen,
@@ -27,7 +27,7 @@ pub struct Configuration {
 }
 
 /// Where datagrams are received.
-#[derive(Clone, Copy, Debug, PartialEq, Eq)]
+#[derive(Clone, Copy)]
 pub enum Listen {
     /// At a socket that is bound here.
     Bound(Endpoint),
@@ -36,7 +36,7 @@ pub enum Listen {
 }
 
 /// An address with a UDP port.
-#[derive(Clone, Copy, Debug, PartialEq, Eq)]
+#[derive(Clone, Copy)]
 pub struct Endpoint {
     /// The IPv4 address.
     pub address: Address,
@@ -53,7 +53,7 @@ impl Endpoint {
 }
 
 /// What is asked how good the host's clock is.
-#[derive(Debug, PartialEq, Eq, Drop)]
+#[derive(Drop)]
 pub enum ClockSource {
     /// Nothing: replies tell the reference state of the register file.
     Fixed,
@@ -62,7 +62,7 @@ pub enum ClockSource {
 }
 
 /// The daemon that keeps the host's clock, how it is asked, and when it is believed.
-#[derive(Debug, PartialEq, Eq, Drop)]
+#[derive(Drop)]
 pub struct ClockDaemon {
     /// Where it answers queries.
     pub source: Endpoint,

@@ -6,7 +6,7 @@ use std::fmt;
 
 /// The first thing that is wrong with a configuration file (profile): with its text, with the keys of its top level and
 /// then of `[clock]`, each in the order of their octets, then with a setting, in their order; or want of memory.
-#[derive(Debug, PartialEq, Eq, Drop)]
+#[derive(Drop)]
 pub enum ConfigurationFault {
     /// The text is no TOML document, which shows in this line, counted from 1.
     Toml { line: u64 },

@@ -9,8 +9,6 @@ mod fault;
 mod key_file;
 mod setting;
 mod settings;
-#[cfg(test)]
-mod tests;
 mod values;
 
 pub use configuration::{ClockDaemon, ClockSource, Configuration, Endpoint, Listen};

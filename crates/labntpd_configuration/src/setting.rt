@@ -6,7 +6,7 @@ use std::fmt;
 
 /// A key of a configuration file, in the order in which they are documented and looked at (profile). Those from
 /// `Source` on stand in the table `[clock]`.
-#[derive(Clone, Copy, Debug, PartialEq, Eq)]
+#[derive(Clone, Copy)]
 pub enum Setting {
     Listen,
     Register,

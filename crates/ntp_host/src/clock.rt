@@ -42,6 +42,3 @@ fn moment_at(time: SystemTime) -> Moment
     let seconds = i128::from(since_1970.as_secs());
     Moment::from_unix(seconds, since_1970.subsec_nanos()).unwrap_or(UNREAD)
 }
-
-#[cfg(test)]
-mod tests;

@@ -169,6 +169,3 @@ impl<'a, R: Files, A: Allocator + Copy> CommandsSource<A> for CommandsFile<'a, R
         self.read_whole(alloc, version?)
     }
 }
-
-#[cfg(test)]
-mod tests;

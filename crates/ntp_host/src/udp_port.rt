@@ -100,6 +100,3 @@ impl<C: Clock + Drop> TimedPort for UdpPort<C> {
         }
     }
 }
-
-#[cfg(test)]
-mod tests;

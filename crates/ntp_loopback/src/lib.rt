@@ -3,8 +3,6 @@
 
 mod meeting;
 mod pair;
-#[cfg(test)]
-mod tests;
 mod words;
 
 pub use meeting::{LoopbackFault, meet};

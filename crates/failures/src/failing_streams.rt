@@ -3,7 +3,7 @@
 
 use crate::fail_after::FailAfter;
 use crate::first_answers::{are_first_answers, ended_lines};
-use ntp_service::{ReplayFault, ReplayFaultKind, Watched, replay};
+use ntp_service_replay::{ReplayFault, ReplayFaultKind, Watched, replay};
 use std::alloc::{AllocError, Global};
 use std::test::Fail;
 use worked_data::{ANSWERS, SCRIPT};

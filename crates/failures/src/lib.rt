@@ -4,8 +4,6 @@
 #[cfg(test)]
 mod fail_after;
 #[cfg(test)]
-mod failing_ports;
-#[cfg(test)]
 mod failing_streams;
 #[cfg(test)]
 mod first_answers;
@@ -16,4 +14,10 @@ mod refused_calls;
 #[cfg(test)]
 mod refused_enrolments;
 #[cfg(test)]
+mod refused_rollovers;
+#[cfg(test)]
 mod registers;
+#[cfg(test)]
+mod turns;
+#[cfg(test)]
+mod twin;

@@ -6,29 +6,36 @@ use crate::refused_calls::{
     answer_refused, event_refused, port_refused, replay_refused, run_refused, slots_refused,
 };
 use crate::refused_enrolments::{again_refused, first_refused, line_refused};
+use crate::refused_rollovers::{rollover_line_refused, rollover_refused};
 use crate::registers::{next_refused, revoked_refused};
+use ntp_register::Refusal;
+use refusing::Refusing;
 use std::alloc::Global;
 use std::process::Abort;
 use std::test::Fail;
 
 // More allocations than any call here asks for.
-const MOST: usize = 1000;
+const MOST: u64 = 1000;
 
-// A call that takes memory.
+/// A call that takes memory.
 #[derive(Clone, Copy, Debug)]
-enum Call {
+pub(crate) enum Call {
     Slots,
     Event,
     Answer,
     Port,
     Run,
     Replay,
-    Commands,
-    // Enrolments: of a first customer, of a revoked one, and both in a register that is compared with plain maps.
+    /// Enrolments of a commands file.
+    Lines,
+    /// Enrolments: of a first customer, of a revoked one, and both in a register that is compared with plain maps.
     First,
     Again,
     Next { count: u8 },
     Revoked,
+    /// A rollover among so many customers, and one of a commands file.
+    Rollover { count: u16 },
+    RolloverLine { count: u16 },
 }
 
 /// What was refused memory.
@@ -40,7 +47,43 @@ pub(crate) enum Refused {
     /// In a replay a line or its answer, or the event on a line.
     Line,
     Event,
-    Enrolment,
+    /// An enrolment or a rollover.
+    Command,
+}
+
+// The calls, each with the kinds of what it is refused in turn.
+const CALLS: [(Call, &[Refused]); 13] = [
+    (Call::Slots, &[Refused::Call]),
+    (Call::Event, &[Refused::Call]),
+    (Call::Answer, &[Refused::Call]),
+    (Call::Port, &[Refused::Call]),
+    (Call::Run, &[Refused::Call, Refused::Command]),
+    (
+        Call::Replay,
+        &[Refused::Line, Refused::Event, Refused::Command],
+    ),
+    (Call::Lines, &[Refused::Command]),
+    (Call::First, &[Refused::Command]),
+    (Call::Again, &[Refused::Command]),
+    (Call::Next { count: 0 }, &[Refused::Command]),
+    (Call::Next { count: 1 }, &[Refused::Command]),
+    (Call::Next { count: 9 }, &[Refused::Command]),
+    (Call::Revoked, &[Refused::Command]),
+];
+
+/// What was refused, where an enrolment or a rollover has this end.
+pub(crate) fn command_refused(
+    rt: &impl Abort,
+    memory: &Refusing<Global>,
+    end: Result<(), Refusal>,
+) -> Refused {
+    let (refused, wanted) = if memory.refused() == 0 {
+        (Refused::Nothing, Ok(()))
+    } else {
+        (Refused::Command, Err(Refusal::NoMemory))
+    };
+    assert!(rt; end == wanted);
+    refused
 }
 
 // Makes a call while the nth allocation is refused. Nothing but what was refused is missing from what it gives.
@@ -52,72 +95,36 @@ fn refused_in(rt: &impl Abort, alloc: Global, call: Call, n: u64) -> Result<Refu
         Call::Port => port_refused(rt, alloc, n),
         Call::Run => run_refused(rt, alloc, n),
         Call::Replay => Ok(replay_refused(rt, alloc, n)),
-        Call::Commands => line_refused(rt, alloc, n),
+        Call::Lines => line_refused(rt, alloc, n),
         Call::First => first_refused(rt, alloc, n),
         Call::Again => again_refused(rt, alloc, n),
         Call::Next { count } => next_refused(rt, alloc, count, n),
         Call::Revoked => revoked_refused(rt, alloc, n),
+        Call::Rollover { count } => rollover_refused(rt, alloc, count, n),
+        Call::RolloverLine { count } => rollover_line_refused(rt, alloc, count, n),
     }
 }
 
-// Makes a call with the first allocation refused, then with the second, and so on, until nothing was refused. Before,
-// each of these kinds was.
-fn are_refused(rt: &impl Abort, alloc: Global, call: Call, kinds: &[Refused]) -> Result<(), Fail> {
+/// Makes a call with the first allocation refused, then with the second, and so on, until nothing was refused. What was,
+/// in that order.
+pub(crate) fn refusals(rt: &impl Abort, alloc: Global, call: Call) -> Result<Vec<Refused>, Fail> {
     let mut seen = Vec::new(alloc);
-    for n in 1..=MOST as u64 {
-        let refused = refused_in(rt, alloc, call, n)?;
-        if refused == Refused::Nothing {
-            break;
+    for n in 1..=MOST {
+        match refused_in(rt, alloc, call, n)? {
+            Refused::Nothing => return Ok(seen),
+            refused => seen.push(refused)?,
         }
-        seen.push(refused)?;
     }
-    assert!(rt; seen.len() < MOST, "{call:?} never came to its end");
-    for kind in kinds {
-        assert!(rt; seen.contains(kind), "{call:?}: {kind:?}");
+    Err(Fail::from("a call never came to its end"))
+}
+
+#[test]
+fn each_call_tells_what_was_refused(rt: HostRuntime) -> Result<(), Fail> {
+    for (call, kinds) in CALLS {
+        let seen = refusals(&rt, rt.alloc(), call)?;
+        for kind in kinds {
+            assert!(rt; seen.contains(kind), "{call:?}: {kind:?}");
+        }
     }
     Ok(())
-}
-
-#[test]
-fn what_changes_nothing_wants_memory_or_is_right(rt: HostRuntime) -> Result<(), Fail> {
-    are_refused(&rt, rt.alloc(), Call::Slots, &[Refused::Call])?;
-    are_refused(&rt, rt.alloc(), Call::Event, &[Refused::Call])?;
-    are_refused(&rt, rt.alloc(), Call::Answer, &[Refused::Call])?;
-    are_refused(&rt, rt.alloc(), Call::Port, &[Refused::Call])
-}
-
-#[test]
-fn a_run_is_refused_as_a_whole_or_its_enrolment_is(rt: HostRuntime) -> Result<(), Fail> {
-    let kinds = [Refused::Call, Refused::Enrolment];
-    are_refused(&rt, rt.alloc(), Call::Run, &kinds)
-}
-
-#[test]
-fn a_replay_stops_or_its_enrolment_is_refused(rt: HostRuntime) -> Result<(), Fail> {
-    let kinds = [Refused::Line, Refused::Event, Refused::Enrolment];
-    are_refused(&rt, rt.alloc(), Call::Replay, &kinds)
-}
-
-#[test]
-fn a_line_refused_for_memory_is_told_and_counts_as_applied(rt: HostRuntime) -> Result<(), Fail> {
-    are_refused(&rt, rt.alloc(), Call::Commands, &[Refused::Enrolment])
-}
-
-#[test]
-fn a_refused_enrolment_leaves_its_number_free(rt: HostRuntime) -> Result<(), Fail> {
-    are_refused(&rt, rt.alloc(), Call::First, &[Refused::Enrolment])
-}
-
-#[test]
-fn a_refused_enrolment_keeps_what_was_counted(rt: HostRuntime) -> Result<(), Fail> {
-    are_refused(&rt, rt.alloc(), Call::Again, &[Refused::Enrolment])
-}
-
-#[test]
-fn a_refused_enrolment_changes_nothing(rt: HostRuntime) -> Result<(), Fail> {
-    let kinds = [Refused::Enrolment];
-    are_refused(&rt, rt.alloc(), Call::Next { count: 0 }, &kinds)?;
-    are_refused(&rt, rt.alloc(), Call::Next { count: 1 }, &kinds)?;
-    are_refused(&rt, rt.alloc(), Call::Next { count: 9 }, &kinds)?;
-    are_refused(&rt, rt.alloc(), Call::Revoked, &kinds)
 }

@@ -3,7 +3,9 @@
 use crate::first_answers::{UNENROLLED_ANSWERS, are_first_answers};
 use crate::refused::Refused;
 use ntp_admin::{Event, LineFault, NoMemory, parse_event, print_answer};
-use ntp_service::{MemoryPort, ReplayFaultKind, Service, Turn, Watched, replay};
+use ntp_service_replay::{ReplayFaultKind, Watched, replay};
+use ntp_service_run::Service;
+use ntp_service_serve::{MemoryPort, Turn};
 use ntp_slots::Slots;
 use ntp_time::Stamp;
 use refusing::Refusing;
@@ -89,9 +91,7 @@ pub(crate) fn run_refused(rt: &impl Abort, alloc: Global, n: u64) -> Result<Refu
     memory.refuse_none();
     let (outcomes, answers, refused) = match end {
         Err(_) => (service.run(&events)?, ANSWERS, Refused::Call),
-        Ok(outcomes) if memory.refused() > 0 => {
-            (outcomes, UNENROLLED_ANSWERS, Refused::Enrolment)
-        }
+        Ok(outcomes) if memory.refused() > 0 => { (outcomes, UNENROLLED_ANSWERS, Refused::Command) }
         Ok(outcomes) => (outcomes, ANSWERS, Refused::Nothing),
     };
     assert!(rt; printed(alloc, &outcomes)?.as_str() == answers);
@@ -108,7 +108,7 @@ pub(crate) fn replay_refused(rt: &impl Abort, alloc: Global, n: u64) -> Refused 
     let written = writer.into_inner();
     let Err(fault) = end else {
         let (answers, refused) = if memory.refused() > 0 {
-            (UNENROLLED_ANSWERS, Refused::Enrolment)
+            (UNENROLLED_ANSWERS, Refused::Command)
         } else {
             (ANSWERS, Refused::Nothing)
         };

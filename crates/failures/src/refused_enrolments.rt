@@ -1,12 +1,12 @@
 //! Enrolments while one allocation is refused: a refused one leaves the address, the number and all counts as they were.
 
-use crate::refused::Refused;
+use crate::refused::{Refused, command_refused};
 use ntp_admin::Command;
 use ntp_customer_files::commands_step;
 use ntp_mac::{Algorithm, Key};
 use ntp_register::{Address, Refusal, Register};
 use ntp_reply::{Answer, Reason};
-use ntp_service::Service;
+use ntp_service_run::Service;
 use refusing::Refusing;
 use std::alloc::{Allocator, Global};
 use std::num::NonZero;
@@ -15,20 +15,6 @@ use std::test::Fail;
 use worked_data::{CUSTOMER, moment, reference};
 
 const NEIGHBOUR: Address = Address([192, 0, 2, 20]);
-
-/// What was refused, where an enrolment has this end.
-pub(crate) fn enrolment_refused(
-    rt: &impl Abort,
-    memory: &Refusing<Global>,
-    end: Result<(), Refusal>,
-) -> Refused {
-    if memory.refused() == 0 {
-        assert!(rt; end == Ok(()));
-        return Refused::Nothing;
-    }
-    assert!(rt; end == Err(Refusal::NoMemory));
-    Refused::Enrolment
-}
 
 /// Enrols the customer in an empty register. Where that was refused, the customer is unknown, and a neighbour can be
 /// enrolled with the number.
@@ -44,11 +30,11 @@ pub(crate) fn first_refused(rt: &impl Abort, alloc: Global, n: u64) -> Result<Re
     assert!(rt; register.holder(7).is_some() == is_enrolled);
     assert!(rt; register.customer(CUSTOMER).is_some() == is_enrolled);
     assert!(rt; register.enrol(NEIGHBOUR, 7, other, 10).is_err() == is_enrolled);
-    Ok(enrolment_refused(rt, &memory, end))
+    Ok(command_refused(rt, &memory, end))
 }
 
-// What an enrolment is answered.
-fn enrol<A: Allocator + Copy>(
+/// What an enrolment is answered.
+pub(crate) fn enrol<A: Allocator + Copy>(
     service: &mut Service<A>,
     address: Address,
     number: u16,
@@ -96,7 +82,7 @@ pub(crate) fn again_refused(rt: &impl Abort, alloc: Global, n: u64) -> Result<Re
     let end = enrol(&mut service, CUSTOMER, 7)?;
     memory.refuse_none();
     assert!(rt; is_denied(rt, &mut service)? == end.is_ok());
-    Ok(enrolment_refused(rt, &memory, end))
+    Ok(command_refused(rt, &memory, end))
 }
 
 // Two enrolments.
@@ -117,8 +103,8 @@ pub(crate) fn line_refused(rt: &impl Abort, alloc: Global, n: u64) -> Result<Ref
     let first = enrol(&mut service, CUSTOMER, 7)?.is_ok();
     let second = enrol(&mut service, NEIGHBOUR, 8)?.is_ok();
     let (fault, refused) = match (first, second) {
-        (true, false) => ("commands: line 1: no-memory\n", Refused::Enrolment),
-        (false, true) => ("commands: line 2: no-memory\n", Refused::Enrolment),
+        (true, false) => ("commands: line 1: no-memory\n", Refused::Command),
+        (false, true) => ("commands: line 2: no-memory\n", Refused::Command),
         (false, false) => ("", Refused::Nothing),
         (true, true) => ("no line was carried out", Refused::Call),
     };

@@ -1,80 +1,53 @@
-//! A worked example as texts: the script, and what is written for it.
+//! A worked example: the lines of a script, and the answer lines.
 
-use crate::rows::Row;
-use ntp_admin::{Event, LineFault, parse_event};
-use ntp_service::{ReplayFault, ReplayFaultKind};
-use std::alloc::{AllocError, Global};
+use ntp_admin::{Event, Outcome, is_passed_over, parse_event, print_answer};
+use ntp_service_run::Service;
+use std::alloc::{Allocator, Global};
+use std::rt::Files;
+use std::{fs, io};
 
-/// A script, and what is written for it.
+/// A script, and its answers.
 #[derive(Drop)]
-pub struct Example {
-    /// What it shows.
-    pub name: &'static str,
-    /// The lines.
-    pub script: String,
-    /// The answer lines.
-    pub written: String,
-    /// The fault of the line behind the last answered one, where it has one.
-    pub fault: Option<LineFault>,
+pub(crate) struct Example {
+    script: String,
+    answers: String,
 }
 
 impl Example {
-    /// One without lines.
-    pub fn new(alloc: Global, name: &'static str) -> Example {
-        Example {
-            name,
-            script: String::new(alloc),
-            written: String::new(alloc),
-            fault: None,
-        }
-    }
-
-    /// The example that a row is.
-    pub fn of(alloc: Global, row: &Row) -> Result<Example, AllocError> {
-        let mut example = Example::new(alloc, row.name);
-        for (line, answer) in row.lines {
-            example.push(line, answer)?;
-        }
-        if let Some((line, fault)) = row.faulty {
-            push_line(&mut example.script, line)?;
-            example.fault = Some(fault);
-        }
-        Ok(example)
-    }
-
-    /// Appends a line and its answer.
-    pub fn push(&mut self, line: &str, answer: &str) -> Result<(), AllocError> {
-        push_line(&mut self.script, line)?;
-        push_line(&mut self.written, answer)
-    }
-
-    /// How the replay of the script is to end. Each line before a faulty one has one answer line.
-    pub fn end(&self) -> Result<(), ReplayFault> {
-        let Some(fault) = self.fault else {
-            return Ok(());
-        };
-        let answered = self.written.as_str().lines().count() as u64;
-        Err(ReplayFault {
-            line: answered.saturating_add(1),
-            kind: ReplayFaultKind::Line(fault),
+    /// The example with a name, of the folder that the program runs in.
+    pub(crate) fn read<R: Files + AllocGlobal>(rt: &R, name: &str) -> io::Result<Example> {
+        Ok(Example {
+            script: fs::read_to_string(rt, format!(in rt.alloc(); "{name}.script")?)?,
+            answers: fs::read_to_string(rt, format!(in rt.alloc(); "{name}.answers")?)?,
         })
     }
 
-    /// The events of the script, up to the first line that spells none, and the fault of that line.
-    pub fn events(&self, alloc: Global) -> Result<(Vec<Event>, Option<LineFault>), AllocError> {
+    /// The events of the script, or none where a line spells none.
+    pub(crate) fn events<A: Allocator + Copy>(&self, alloc: A) -> Option<Vec<Event<A>, A>> {
         let mut events = Vec::new(alloc);
         for line in self.script.as_str().lines() {
-            match parse_event(alloc, line) {
-                Ok(event) => events.push(event)?,
-                Err(fault) => return Ok((events, Some(fault))),
+            if !is_passed_over(line.as_bytes()) {
+                events.push(parse_event(alloc, line).ok()?).ok()?;
             }
         }
-        Ok((events, None))
+        Some(events)
     }
-}
 
-// Appends a line to a text.
-fn push_line(text: &mut String, line: &str) -> Result<(), AllocError> {
-    text.push_str(line)?;
-    text.push('\n')
+    /// Whether the lines that are printed for outcomes are the answers.
+    pub(crate) fn is_told(&self, alloc: Global, outcomes: &[Outcome]) -> Option<bool> {
+        let mut answers = self.answers.as_str().lines();
+        for outcome in outcomes {
+            let line = print_answer(alloc, outcome).ok()?;
+            if line.as_str().strip_suffix('\n') != answers.next() {
+                return Some(false);
+            }
+        }
+        Some(answers.next().is_none())
+    }
+
+    /// Whether a run of the events is told as it is worked.
+    pub(crate) fn is_run(&self, alloc: Global) -> Option<bool> {
+        let outcomes = Service::new(alloc).run(&self.events(alloc)?).ok()?;
+        self.is_told(alloc, &outcomes)
+    }
 }

@@ -1,0 +1,117 @@
+//! Rollovers while one allocation is refused, in registers of 1 to 64 customers, so that in some the map of numbers has to
+//! grow: a refused rollover changes nothing. And retirements, which ask for no memory.
+
+use crate::refused::{Call, Refused, command_refused, refusals};
+use crate::refused_enrolments::enrol;
+use crate::twin::{Twin, address_at};
+use ntp_admin::parse_command;
+use ntp_customer_files::commands_step;
+use ntp_register::Refusal;
+use ntp_service_run::Service;
+use refusing::Refusing;
+use std::alloc::{Allocator, Global};
+use std::process::Abort;
+use std::test::Fail;
+
+// How many customers there are at most.
+const MOST_CUSTOMERS: u16 = 64;
+
+// The number that is rolled over to. Nobody holds it before, and none above it.
+const NEW: u16 = 100;
+
+// Whether it is told as it is to be who holds a number, and which of the first customers has a key with it.
+fn is_told_of<A: Allocator + Copy>(twin: &Twin<A>, count: u16, number: u16) -> bool {
+    twin.is_held(number) && (0..count).all(|place| twin.has_own_key(address_at(place), number))
+}
+
+// The same of each number, and what the first customers have.
+fn are_told<A: Allocator + Copy>(twin: &Twin<A>, count: u16) -> bool {
+    (0..count).all(|place| twin.is_told(address_at(place), place))
+        && (0..=NEW).all(|number| is_told_of(twin, count, number))
+}
+
+/// Rolls the first of so many customers over. Where that was refused, nothing changed, and the same rollover succeeds.
+pub(crate) fn rollover_refused(
+    rt: &impl Abort,
+    alloc: Global,
+    count: u16,
+    n: u64,
+) -> Result<Refused, Fail> {
+    let memory = Refusing::new(alloc);
+    let mut twin = Twin::with_first(&memory, alloc, count)?;
+    memory.refuse_nth(n);
+    let end = twin.rollover(address_at(0), NEW)?;
+    memory.refuse_none();
+    assert!(rt; are_told(&twin, count));
+    let refused = command_refused(rt, &memory, end);
+    if refused == Refused::Command {
+        assert_eq!(rt; twin.rollover(address_at(0), NEW)?, Ok(()));
+        assert!(rt; are_told(&twin, count));
+    }
+    Ok(refused)
+}
+
+/// Applies a commands file with a rollover of the first of so many customers, twice. Where that was refused, it is told
+/// once, and not tried again.
+pub(crate) fn rollover_line_refused(
+    rt: &impl Abort,
+    alloc: Global,
+    count: u16,
+    n: u64,
+) -> Result<Refused, Fail> {
+    let octets = b"rollover 10.0.0.1 100 md5 6b6579\n";
+    let memory = Refusing::new(alloc);
+    let mut service = Service::new(&memory);
+    for place in 0..count {
+        enrol(&mut service, address_at(place), place.saturating_add(1))??;
+    }
+    let mut told = Vec::new(alloc);
+    memory.refuse_nth(n);
+    let applied = commands_step(&mut service, octets, 0, &mut told);
+    memory.refuse_none();
+    assert_eq!(rt; applied, 1);
+    assert_eq!(rt; commands_step(&mut service, octets, 1, &mut told), 1);
+    let end = service.command(&parse_command("retire 10.0.0.1 100")?);
+    let (refused, fault, wanted) = if memory.refused() == 0 {
+        (Refused::Nothing, "", Ok(()))
+    } else {
+        (
+            Refused::Command,
+            "commands: line 1: no-memory\n",
+            Err(Refusal::NotHeld),
+        )
+    };
+    assert!(rt; told.as_slice() == fault.as_bytes());
+    assert_eq!(rt; end, wanted);
+    Ok(refused)
+}
+
+#[test]
+fn a_refused_rollover_changes_nothing(rt: HostRuntime) -> Result<(), Fail> {
+    let mut growing = 0u16;
+    for count in 1..=MOST_CUSTOMERS {
+        let refused = refusals(&rt, rt.alloc(), Call::Rollover { count })?;
+        let lines = refusals(&rt, rt.alloc(), Call::RolloverLine { count })?;
+        assert_eq!(rt; lines.len(), refused.len());
+        growing = growing.saturating_add(u16::from(!refused.is_empty()));
+    }
+    assert!(rt; 0 < growing && growing < MOST_CUSTOMERS);
+    Ok(())
+}
+
+#[test]
+fn a_retirement_asks_for_no_memory(rt: HostRuntime) -> Result<(), Fail> {
+    for count in 1..=MOST_CUSTOMERS {
+        for (number, other) in [(1, NEW), (NEW, 1)] {
+            let memory = Refusing::new(rt.alloc());
+            let mut twin = Twin::with_first(&memory, rt.alloc(), count)?;
+            assert_eq!(rt; twin.rollover(address_at(0), NEW)?, Ok(()));
+            let before = memory.calls();
+            memory.refuse_all();
+            assert_eq!(rt; twin.retire(address_at(0), number, other)?, Ok(()));
+            assert_eq!(rt; memory.calls(), before);
+            assert!(rt; are_told(&twin, count));
+        }
+    }
+    Ok(())
+}

@@ -1,0 +1,47 @@
+"""What a process has started, what that has used, and its end."""
+import contextlib
+import os
+import signal
+
+TICKS = os.sysconf("SC_CLK_TCK")
+
+
+class Table:
+    """All processes as they are now: whose child each is, and how many seconds of processors it and its ended children have used."""
+
+    def __init__(self):
+        self.parent, self.own, self.children = {}, {}, {}
+        for name in filter(str.isdigit, os.listdir("/proc")):
+            with contextlib.suppress(OSError):
+                with open(f"/proc/{name}/stat") as it:
+                    fields = it.read().rpartition(")")[2].split()
+                self.parent[int(name)] = int(fields[1])
+                self.own[int(name)] = sum(map(int, fields[11:15])) / TICKS
+        for child, parent in self.parent.items():
+            self.children.setdefault(parent, []).append(child)
+
+    def used(self, process):
+        """How many seconds of processors a process and all that it has started have used."""
+        total, left = 0, [process]
+        while left:
+            it = left.pop()
+            total += self.own.get(it, 0)
+            left += self.children.get(it, [])
+        return total
+
+
+def children():
+    """The processes that this one has started, or was given when those that started them ended."""
+    return Table().children.get(os.getpid(), [])
+
+
+def end_all():
+    """Ends all that was started, and what that has started."""
+    while True:
+        for it in children():
+            with contextlib.suppress(ProcessLookupError):
+                os.kill(it, signal.SIGKILL)
+        try:
+            os.waitpid(-1, 0)
+        except ChildProcessError:
+            return

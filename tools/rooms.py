@@ -1,0 +1,158 @@
+"""The crates of the repository, and rooms in which the toolchain works on several of them side by side.
+
+`rt` lets one run at a time into a crate, and holds the crates below it too, so in one tree two checks that stand on one crate follow one
+another. A room is a small tree of its own, with the sources of one crate and of those below it, and with what was kept of them before.
+"""
+import contextlib
+import os
+import re
+import shutil
+import tempfile
+import threading
+from concurrent.futures import FIRST_COMPLETED, ThreadPoolExecutor, wait
+
+TOP = os.path.dirname(os.path.dirname(os.path.realpath(__file__)))
+# What a crate's folder has beside `out` that a check reads.
+PARTS = ("src", "specs", "proofs")
+
+
+def crates_of(top=TOP):
+    """Each crate that crates.txt lists, with those of the repository that it stands on by name, lowest first."""
+    with open(f"{top}/crates.txt", encoding="utf-8") as it:
+        lines = [line.partition("#")[0] for line in it]
+    found = dict(re.match(r"\s*(\w+)[^:]*:(.*)", line).groups() for line in lines if ":" in line)
+    direct = {name: [it for it in words.split() if it in found] for name, words in found.items()}
+    return {name: direct[name] for name in sorted(direct, key=lambda it: len(below(it, direct)))}
+
+
+def below(name, crates):
+    """All crates that a crate stands on, without itself."""
+    found, left = set(), [*crates[name]]
+    while left:
+        it = left.pop()
+        if it not in found:
+            found.add(it)
+            left += crates[it]
+    return found
+
+
+def is_program(name, top=TOP):
+    return os.path.exists(f"{top}/crates/{name}/src/main.rt")
+
+
+def lines_of(name, top=TOP):
+    """How many lines a check of the crate reads of its own: a measure of how long it takes."""
+    count = 0
+    for part in PARTS:
+        for at, _, files in os.walk(f"{top}/crates/{name}/{part}"):
+            for file in files:
+                with open(f"{at}/{file}", "rb") as it:
+                    count += it.read().count(b"\n")
+    return count
+
+
+def longest_chain(tasks, weights):
+    """For each task the weight of the longest chain of tasks that begins with it. `tasks` has for each those that it waits for."""
+    chain = dict.fromkeys(tasks, 0)
+
+    def after(task):
+        if not chain[task]:
+            chain[task] = weights[task] + max([after(it) for it, waits in tasks.items() if task in waits], default=0)
+        return chain[task]
+
+    return {it: after(it) for it in tasks}
+
+
+def in_lanes(tasks, weights, work, lanes):
+    """Calls work(task, jobs) for each task once those that it waits for have ended well, so many at a time, first those with the longest
+    chain behind them; a processor that no other task wants is a job more, and the longest chain of all has two. Returns the tasks that
+    ended well."""
+    chain = longest_chain(tasks, weights)
+    left, running, well, ended = sorted(tasks, key=lambda it: -chain[it]), {}, set(), set()
+    with ThreadPoolExecutor(lanes) as pool:
+        while left or running:
+            for task in [it for it in left if any(below in ended - well for below in tasks[it])]:
+                left.remove(task)
+                ended.add(task)
+            ready = [it for it in left if all(below in well for below in tasks[it])]
+            for at, task in enumerate(ready):
+                idle = lanes - sum(jobs for _, jobs in running.values())
+                if idle > 0:
+                    left.remove(task)
+                    is_longest = chain[task] >= max([chain[it] for it in left] + [chain[it] for it, _ in running.values()], default=0)
+                    jobs = max(min(2, lanes) if is_longest else 1, idle // (len(ready) - at))
+                    running[pool.submit(work, task, jobs)] = task, jobs
+            if not running:
+                continue
+            for it in wait(running, return_when=FIRST_COMPLETED).done:
+                task, _ = running.pop(it)
+                ended.add(task)
+                if it.result():
+                    well.add(task)
+    return well
+
+
+def link_tree(source, target):
+    """Copies a folder by hard links, or by copies where the file system has none."""
+
+    def link(one, other):
+        try:
+            os.link(one, other)
+        except OSError:
+            shutil.copy2(one, other)
+
+    shutil.copytree(source, target, copy_function=link, dirs_exist_ok=True)
+
+
+@contextlib.contextmanager
+def room(name, crates, top=TOP, kept="moved"):
+    """The root of a tree of its own for one crate, over what is kept of those below it. What is kept of the crate itself is `moved` there
+    and back at the end, `copied`, or `left`."""
+    with tempfile.TemporaryDirectory(prefix=f"room-{name}-") as root:
+        for it in [name, *below(name, crates)]:
+            for part in PARTS:
+                if os.path.isdir(f"{top}/crates/{it}/{part}"):
+                    shutil.copytree(f"{top}/crates/{it}/{part}", f"{root}/crates/{it}/{part}")
+            if it != name and os.path.isdir(f"{top}/crates/{it}/out/rlib"):
+                link_tree(f"{top}/crates/{it}/out/rlib", f"{root}/crates/{it}/out/rlib")
+        for file in ("crates.txt", "HANDLES"):
+            if os.path.isfile(f"{top}/{file}"):
+                shutil.copy(f"{top}/{file}", root)
+        keep_only([name, *below(name, crates)], root)
+        there, here = f"{top}/crates/{name}/out", f"{root}/crates/{name}/out"
+        try:
+            if kept != "left" and os.path.isdir(there):
+                {"moved": shutil.move, "copied": shutil.copytree}[kept](there, here)
+            yield root
+        finally:
+            if kept == "moved" and os.path.isdir(here):
+                shutil.rmtree(there, ignore_errors=True)
+                shutil.move(here, there)
+
+
+def keep_only(names, root):
+    """Leaves only these crates in the crates.txt of a room."""
+    with open(f"{root}/crates.txt", encoding="utf-8") as it:
+        lines = it.readlines()
+    with open(f"{root}/crates.txt", "w", encoding="utf-8") as it:
+        it.writelines(line for line in lines if re.match(r"\s*(\w+)", line) and re.match(r"\s*(\w+)", line)[1] in names)
+
+
+class Ticker:
+    """Calls something every so many seconds until it is left."""
+
+    def __init__(self, seconds, call):
+        self.seconds, self.call, self.ended = seconds, call, threading.Event()
+        self.thread = threading.Thread(target=self.run, daemon=True)
+
+    def run(self):
+        while not self.ended.wait(self.seconds):
+            self.call()
+
+    def __enter__(self):
+        self.thread.start()
+        return self
+
+    def __exit__(self, *_):
+        self.ended.set()
+        self.thread.join()

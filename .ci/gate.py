@@ -1,22 +1,24 @@
 #!/usr/bin/env python3
-"""The merge gate: what `rt ci` does, with an end to its must-fail edits; then the programs from outside.
+"""The merge gate.
 
-    .ci/run                         from the top or elsewhere
-    GATE_MINUTES=20 .ci/run         takes up no must-fail edit later than 20 minutes after the start, in place of 100
+    .ci/run              from the top or elsewhere
+    .ci/run --whole      tries every wrong body
 
 1. What docs/ say of the sources that is counted or drawn: `tests/belief --check` and `tests/crates --check`, a case each.
-2. What `rt ci` does (.ci/proofs.py): each proof, then the must-fail edits until the minutes are over, then each test and each program.
-3. tests/program and tests/clients over labntp, and tests/daemon over labntpd, as they were built. Where chronyd or ntpdig is not on
-   the path, Debian's packages are fetched into a directory that is removed again; nothing is installed.
+2. `rt ci`, the toolchain's gate: every proof and test from nothing, the wrong bodies of must-fail/, and each program by two compilers.
+3. `tests/run`: both programs, as they were built, from outside.
+4. `tools/wrong_bodies`: those of wrong-bodies/, many in one check. All with `--whole`; else those of the crates that changed since the last
+   whole run, and a tenth of the others, another one each day.
 
-The last line is `N passed, M failed`, or `N passed, M failed, K skipped` where K edits and cases were not tried. Status 0 only where
-nothing failed. An interrupt ends all that was started; the next `rt ci` gives back what earlier runs kept.
+Where `rt ci` says nothing for ten seconds, a line tells what it is at. At the end a table tells what took how long. The last line is
+`N passed, M failed`, or `N passed, M failed, K skipped`. Status 0 only where nothing failed. An interrupt ends all that was started; the
+next `rt ci` gives back what earlier runs kept.
 """
-import contextlib
 import ctypes
-import glob
+import datetime
 import os
 import re
+import resource
 import shutil
 import signal
 import subprocess
@@ -26,162 +28,145 @@ import threading
 import time
 import traceback
 
-# Nothing is written into the toolchain's folder, nor into this one.
+# Nothing is written beside the sources.
 sys.dont_write_bytecode = True
-sys.path.insert(0, os.path.dirname(os.path.realpath(__file__)))
-from processes import end_all
-from proofs import NOT_TRIED
-
 TOP = os.path.dirname(os.path.dirname(os.path.realpath(__file__)))
-# What compares pages with the sources, and how many seconds each may take.
-COMPARED, COMPARE_LIMIT = ("belief", "crates"), 60
-# Which program is judged by which tests.
-JUDGED = {"program": "labntp", "clients": "labntp", "daemon": "labntpd"}
-MINUTES = float(os.environ.get("GATE_MINUTES") or 100)
-# How many seconds the tests of a program may take, and the fetching of the clients.
-LIMITS = {"program": 300, "clients": 900, "daemon": 1200}
-FETCH_LIMIT = 120
-# A busy host may hold up a process for longer than these tests allow: a case that fails is made again.
-OPTIONS = {"daemon": ["--tries", "3"]}
-PACKAGES = ("chrony", "ntpsec-ntpdig", "python3-ntp")
+sys.path.insert(0, f"{TOP}/tools")
+from processes import Table, end_all
+from rooms import Ticker, crates_of
+
+# What compares pages with the sources.
+COMPARED = ("belief", "crates")
+# After how many seconds without a line one tells how far it is.
+SILENCE = 10
+COUNTS = re.compile(r"(\d+) passed, (\d+) failed(?:, (\d+) skipped)?")
 # What prctl takes: a process gets the orphans of what it started; a process is ended with the one that started it.
 PR_SET_PDEATHSIG, PR_SET_CHILD_SUBREAPER = 1, 36
 
 
-def run_limited(words, seconds, environment=None, is_kept_back=lambda line: False):
-    """Runs a command and passes on what it prints, but the lines kept back, and returns all its lines, and its status or none where it
-    took longer than so many seconds (None: however long)."""
-    how = {"stdin": subprocess.DEVNULL, "stdout": subprocess.PIPE, "stderr": subprocess.STDOUT, "errors": "replace"}
-    with subprocess.Popen(words, env=environment, start_new_session=True, **how) as started:
-        ended, is_late = threading.Event(), threading.Event()
-
-        def end():
-            is_late.set()
-            # Asked first, so that it ends what it has started itself.
-            for number, patience in ((signal.SIGTERM, 10), (signal.SIGKILL, 0)):
-                with contextlib.suppress(ProcessLookupError):
-                    os.killpg(started.pid, number)
-                if ended.wait(patience):
-                    break
-
-        timer, lines = threading.Timer(seconds or 0, end), []
-        if seconds:
-            timer.start()
-        for line in started.stdout:
-            lines.append(line.rstrip("\n"))
-            if not is_kept_back(lines[-1]):
-                print(line, end="", flush=True)
-        status = started.wait()
-        ended.set()
-        timer.cancel()
-    return lines, None if is_late.is_set() else status
+def used():
+    """How many seconds of processors all that was started and has ended has used."""
+    it = resource.getrusage(resource.RUSAGE_CHILDREN)
+    return it.ru_utime + it.ru_stime
 
 
-def proofs():
-    """Runs .ci/proofs.py and returns how many of its cases passed, failed and were not tried, and its status."""
-    counts = re.compile(r"(\d+) passed, (\d+) failed")
-    lines, status = run_limited([sys.executable, f"{TOP}/.ci/proofs.py", f"{MINUTES:g}"], None, is_kept_back=counts.fullmatch)
-    counted = next(filter(None, map(counts.fullmatch, reversed(lines))), None)
-    passed, failed = map(int, counted.groups()) if counted else (0, 1)
-    left = sum(it.endswith(NOT_TRIED) for it in lines)
-    return passed - left, failed, left, status
+class Checks:
+    """The toolchain's checks of this gate: which run now, and how many seconds of processors those of each crate have used."""
 
+    def __init__(self):
+        self.seen = {}
 
-def cases(name, environment=None):
-    """Runs tests/NAME over its program and returns how many of its cases passed, failed and were passed over."""
-    print(f"== tests/{name}", flush=True)
-    seconds, program = LIMITS[name], JUDGED[name]
-    words = [f"{TOP}/tests/{name}", *OPTIONS.get(name, []), f"{TOP}/crates/{program}/out/{program}"]
-    lines, status = run_limited(words, seconds, environment)
-    passed, failed, over = (sum(it.startswith(word) for it in lines) for word in ("ok ", "FAILED ", "passed over "))
-    if status is None:
-        print(f"tests/{name} had not ended after {seconds} seconds", flush=True)
-    elif status and not failed or passed + failed == 0:
-        print(f"tests/{name} ended with status {status}", flush=True)
-    is_odd = status is None or status and not failed or passed + failed == 0
-    return passed, failed + bool(is_odd), over
+    def look(self):
+        """Notes what runs, and returns it in words."""
+        table, now = Table(), {}
+        for process in table.parent:
+            what = self.what(process)
+            if what:
+                now[process] = what
+        for process, what in now.items():
+            # A check may work in copies of itself, which are its children.
+            if table.parent[process] not in now:
+                self.seen[process, what] = max(self.seen.get((process, what), 0), table.used(process))
+        return sorted({f"{crate}{'' if kind == 'proof' else ', its tests' if kind == 'tests' else ', a wrong body'}" for crate, kind in now.values()})
 
-
-def compared(name):
-    """Whether tests/NAME finds the pages to be what it would write."""
-    print(f"== tests/{name} --check", flush=True)
-    _, status = run_limited([f"{TOP}/tests/{name}", "--check"], COMPARE_LIMIT)
-    if status is None:
-        print(f"tests/{name} had not ended after {COMPARE_LIMIT} seconds", flush=True)
-    return status == 0
-
-
-def answers(words, environment):
-    """Whether a client starts here: unpacked without the packages that it depends on it may not."""
-    how = {"stdin": subprocess.DEVNULL, "stdout": subprocess.DEVNULL, "stderr": subprocess.DEVNULL}
-    try:
-        return subprocess.run(words, env=environment, timeout=20, **how).returncode == 0
-    except (OSError, subprocess.TimeoutExpired):
-        return False
-
-
-def fetch_clients(folder):
-    """Unpacks Debian's packages of the clients there, as tests/clients says."""
-    end = time.monotonic() + FETCH_LIMIT
-    for package in PACKAGES:
-        how = {"cwd": folder, "stdin": subprocess.DEVNULL, "stdout": subprocess.PIPE, "stderr": subprocess.STDOUT, "errors": "replace"}
+    @staticmethod
+    def what(process):
+        """Which crate a process checks, and as what, if it is such a check."""
         try:
-            ran = subprocess.run(["apt-get", "download", package], timeout=max(1, end - time.monotonic()), **how)
-            why = ran.stdout.strip().split("\n")[-1] if ran.returncode else ""
-        except FileNotFoundError:
-            why = "there is no apt-get"
-        except subprocess.TimeoutExpired:
-            why = f"not within {FETCH_LIMIT} seconds"
-        if why:
-            print(f"{package} was not fetched: {why}", flush=True)
-            continue
-        for file in glob.glob(f"{glob.escape(folder)}/{package}_*.deb"):
-            to = {"chrony": "chrony"}.get(package, "ntpsec")
-            subprocess.run(["dpkg", "-x", file, f"{folder}/{to}"], stdin=subprocess.DEVNULL, timeout=60)
-    for file in glob.glob(f"{glob.escape(folder)}/ntpsec/usr/lib/*-linux-gnu/ntp/libntpc.so*"):
-        with contextlib.suppress(OSError):
-            shutil.copy(file, f"{folder}/ntpsec/usr/lib/python3/dist-packages/ntp/", follow_symlinks=False)
-    # What does not start is not left there, so that its cases are passed over.
-    environment = {**os.environ, "PYTHONPATH": f"{folder}/ntpsec/usr/lib/python3/dist-packages"}
-    for file, word in (("chrony/usr/sbin/chronyd", "--version"), ("ntpsec/usr/bin/ntpdig", "--version")):
-        if os.path.exists(f"{folder}/{file}") and not answers([f"{folder}/{file}", word], environment):
-            print(f"{os.path.basename(file)} was fetched and does not start here", flush=True)
-            os.remove(f"{folder}/{file}")
+            with open(f"/proc/{process}/cmdline", "rb") as it:
+                words = it.read().decode(errors="replace").split("\0")
+            inside = os.readlink(f"/proc/{process}/cwd")
+        except OSError:
+            return None
+        is_ours = inside.startswith((f"{TOP}/", f"{tempfile.gettempdir()}/"))
+        if not is_ours or "--crate-name" not in words or os.path.basename(words[0]) != "rattle":
+            return None
+        kind = "wrong" if "--only" in words or "rt-edit-" in inside else "tests" if "--test" in words else "proof"
+        return words[words.index("--crate-name") + 1], kind
+
+    def table(self):
+        """A line for each crate: the seconds of its proof, its tests and its wrong bodies, those with most first."""
+        sums = {}
+        for (_, (crate, kind)), seconds in self.seen.items():
+            sums.setdefault(crate, dict.fromkeys(("proof", "tests", "wrong"), 0))[kind] += seconds
+        yield f"{'seconds of a processor':24}{'proof':>8}{'tests':>8}{'wrong bodies':>14}"
+        for crate, each in sorted(sums.items(), key=lambda it: -sum(it[1].values())):
+            yield f"{crate:24}{each['proof']:8.0f}{each['tests']:8.0f}{each['wrong']:14.0f}"
 
 
-@contextlib.contextmanager
-def clients():
-    """The environment in which the tests find the clients: those on the path or fetched ones."""
-    path = os.environ.get("PATH", os.defpath) + ":/usr/sbin"
-    if os.environ.get("PEERS") or all(shutil.which(it, path=path) for it in ("chronyd", "ntpdig")):
-        yield None
-        return
-    with tempfile.TemporaryDirectory(prefix="clients-") as folder:
-        os.chmod(folder, 0o755)
-        fetch_clients(folder)
-        yield {**os.environ, "PEERS": folder}
+class Gate:
+    """What the gate has counted so far, and how long each part took."""
+
+    def __init__(self):
+        self.begun, self.last_line = time.monotonic(), time.monotonic()
+        self.passed = self.failed = self.skipped = 0
+        self.parts, self.proved, self.checks, self.printing = [], 0, Checks(), threading.Lock()
+
+    def say(self, line):
+        with self.printing:
+            self.last_line = time.monotonic()
+            print(line, flush=True)
+
+    def tell_how_far(self):
+        running = self.checks.look()
+        if time.monotonic() - self.last_line < SILENCE:
+            return
+        now, left = ", ".join(running), len(crates_of()) - self.proved
+        passed = int(time.monotonic() - self.begun)
+        self.say(f"gate: {passed // 60}:{passed % 60:02} minutes; {left} crates left to prove; now {now or 'no check'}")
+
+    def part(self, name, words):
+        """Runs a part, passes on what it prints but its counts, and counts it. Without a line of counts it is a case."""
+        self.say(f"== {name}")
+        clock, processors, counted = time.monotonic(), used(), None
+        how = {"stdin": subprocess.DEVNULL, "stdout": subprocess.PIPE, "stderr": subprocess.STDOUT, "errors": "replace"}
+        with subprocess.Popen(words, **how) as started:
+            for line in started.stdout:
+                counts = COUNTS.fullmatch(line.strip())
+                counted = counts or counted
+                self.proved += bool(re.fullmatch(r"rt: \w+ proved", line.strip()))
+                if not counts:
+                    self.say(line.rstrip("\n"))
+        well = started.returncode == 0
+        some = [int(it or 0) for it in counted.groups()] if counted else [well, not well, 0]
+        # A part that fails has a failure, whatever it counted.
+        some[1] = max(some[1], not well)
+        self.passed, self.failed, self.skipped = self.passed + some[0], self.failed + some[1], self.skipped + some[2]
+        self.parts.append((name, time.monotonic() - clock, used() - processors, some))
+        return well
+
+    def show(self):
+        for line in self.checks.table():
+            self.say(line)
+        self.say(f"{'part':24}{'minutes':>9}{'of a processor':>16}{'passed':>8}{'failed':>8}{'skipped':>8}")
+        for name, clock, processors, (passed, failed, skipped) in self.parts:
+            self.say(f"{name:24}{clock / 60:9.1f}{processors / 60:16.1f}{passed:8}{failed:8}{skipped:8}")
+        clock, processors = (sum(it[at] for it in self.parts) for at in (1, 2))
+        self.say(f"{'in all':24}{clock / 60:9.1f}{processors / 60:16.1f}   on {len(os.sched_getaffinity(0))} processors, load {os.getloadavg()[2]:.1f}")
+        self.say(f"{self.passed} passed, {self.failed} failed" + (f", {self.skipped} skipped" if self.skipped else ""))
 
 
-def gate():
+def gate(is_whole):
     """The whole gate, and its status."""
-    pages = [compared(name) for name in COMPARED]
-    passed, failed, skipped, status = proofs()
-    passed, failed = passed + sum(pages), failed + pages.count(False)
-    with clients() as environment:
-        for name, program in JUDGED.items():
-            # (rt ci puts aside what was there, so it has built what is there)
-            if not os.path.isfile(f"{TOP}/crates/{program}/out/{program}"):
-                print(f"tests/{name} was not run, for want of a program that is proved", flush=True)
-                continue
-            some = cases(name, environment)
-            passed, failed, skipped = passed + some[0], failed + some[1], skipped + some[2]
-    print(f"{passed} passed, {failed} failed" + (f", {skipped} skipped" if skipped else ""), flush=True)
-    return status or (1 if failed else 0)
+    it = Gate()
+    with Ticker(SILENCE / 4, it.tell_how_far):
+        for name in COMPARED:
+            it.part(f"tests/{name} --check", [f"{TOP}/tests/{name}", "--check"])
+        is_proved = it.part("rt ci", ["rt", "ci"])
+        if is_proved:
+            it.part("tests/run", [f"{TOP}/tests/run"])
+            # The digests are those of the last whole run in which every wrong body was refused.
+            some = ["--write-digests"] if is_whole else ["--tenth", str(datetime.date.today().timetuple().tm_yday % 10)]
+            it.part("tools/wrong_bodies", [f"{TOP}/tools/wrong_bodies", *some])
+        else:
+            it.say("the programs and the wrong bodies of wrong-bodies/ were not tried, since not all is proved")
+    it.show()
+    return 1 if it.failed else 0
 
 
 # ---- Its end
 
-def beneath(room):
+def beneath(room, is_whole):
     """The process that does the work; the one above it waits."""
     ctypes.CDLL(None).prctl(PR_SET_PDEATHSIG, signal.SIGKILL, 0, 0, 0)
     for it in (signal.SIGTERM, signal.SIGHUP):
@@ -191,7 +176,7 @@ def beneath(room):
     os.environ["TMPDIR"] = tempfile.tempdir = room
     status = 1
     try:
-        status = gate()
+        status = gate(is_whole)
     except BaseException:
         traceback.print_exc()
     finally:
@@ -199,7 +184,10 @@ def beneath(room):
         os._exit(status)
 
 
-def main():
+def main(words):
+    if words not in ([], ["--whole"]):
+        print(__doc__)
+        return 0 if words in (["-h"], ["--help"]) else 2
     os.chdir(TOP)
     ctypes.CDLL(None).prctl(PR_SET_CHILD_SUBREAPER, 1, 0, 0, 0)
     room = tempfile.mkdtemp(prefix="gate-")
@@ -217,7 +205,7 @@ def main():
             signal.signal(it, interrupted)
         started = os.fork()
         if not started:
-            beneath(room)
+            beneath(room, bool(words))
         ended = os.waitstatus_to_exitcode(os.waitpid(started, 0)[1])
         return ended if ended >= 0 else 128 - ended
     finally:
@@ -226,4 +214,4 @@ def main():
 
 
 if __name__ == "__main__":
-    sys.exit(main())
+    sys.exit(main(sys.argv[1:]))

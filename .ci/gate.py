@@ -32,7 +32,7 @@ import traceback
 sys.dont_write_bytecode = True
 TOP = os.path.dirname(os.path.dirname(os.path.realpath(__file__)))
 sys.path.insert(0, f"{TOP}/tools")
-from processes import Table, end_all
+from processes import Table, end_all, take_orphans
 from rooms import Ticker, crates_of
 
 # What compares pages with the sources.
@@ -40,8 +40,8 @@ COMPARED = ("belief", "crates")
 # After how many seconds without a line one tells how far it is.
 SILENCE = 10
 COUNTS = re.compile(r"(\d+) passed, (\d+) failed(?:, (\d+) skipped)?")
-# What prctl takes: a process gets the orphans of what it started; a process is ended with the one that started it.
-PR_SET_PDEATHSIG, PR_SET_CHILD_SUBREAPER = 1, 36
+# What prctl takes: a process is ended with the one that started it.
+PR_SET_PDEATHSIG = 1
 
 
 def used():
@@ -155,7 +155,6 @@ def gate(is_whole):
         is_proved = it.part("rt ci", ["rt", "ci"])
         if is_proved:
             it.part("tests/run", [f"{TOP}/tests/run"])
-            # The digests are those of the last whole run in which every wrong body was refused.
             some = ["--write-digests"] if is_whole else ["--tenth", str(datetime.date.today().timetuple().tm_yday % 10)]
             it.part("tools/wrong_bodies", [f"{TOP}/tools/wrong_bodies", *some])
         else:
@@ -189,7 +188,7 @@ def main(words):
         print(__doc__)
         return 0 if words in (["-h"], ["--help"]) else 2
     os.chdir(TOP)
-    ctypes.CDLL(None).prctl(PR_SET_CHILD_SUBREAPER, 1, 0, 0, 0)
+    take_orphans()
     room = tempfile.mkdtemp(prefix="gate-")
     # What is run as nobody lies below.
     os.chmod(room, 0o711)

@@ -1,9 +1,12 @@
 """What a process has started, what that has used, and its end."""
 import contextlib
+import ctypes
 import os
 import signal
 
 TICKS = os.sysconf("SC_CLK_TCK")
+# What prctl takes: a process gets the orphans of what it started.
+PR_SET_CHILD_SUBREAPER = 36
 
 
 class Table:
@@ -33,6 +36,11 @@ class Table:
 def children():
     """The processes that this one has started, or was given when those that started them ended."""
     return Table().children.get(os.getpid(), [])
+
+
+def take_orphans():
+    """From now on this process is given what outlives those that it started, so that `end_all` finds it."""
+    ctypes.CDLL(None).prctl(PR_SET_CHILD_SUBREAPER, 1, 0, 0, 0)
 
 
 def end_all():

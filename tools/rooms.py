@@ -7,6 +7,7 @@ import contextlib
 import os
 import re
 import shutil
+import subprocess
 import tempfile
 import threading
 from concurrent.futures import FIRST_COMPLETED, ThreadPoolExecutor, wait
@@ -38,6 +39,10 @@ def below(name, crates):
 
 def is_program(name, top=TOP):
     return os.path.exists(f"{top}/crates/{name}/src/main.rt")
+
+
+def has_tests(name, top=TOP):
+    return subprocess.run(["grep", "-rqE", r"^ *#\[test\]", f"{top}/crates/{name}/src"]).returncode == 0
 
 
 def lines_of(name, top=TOP):

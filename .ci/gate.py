@@ -4,7 +4,8 @@
     .ci/run              from the top or elsewhere
     .ci/run --whole      tries every wrong body
 
-1. What docs/ say of the sources that is counted or drawn: `tests/belief --check` and `tests/crates --check`, a case each.
+1. What the pages say of the sources that is counted, drawn or named: `tests/belief --check`, `tests/crates --check` and `tests/pages --check`, a
+   case each.
 2. `rt ci`, the toolchain's gate: every proof and test from nothing, the wrong bodies of must-fail/, and each program by two compilers.
 3. `tests/run`: both programs, as they were built, from outside.
 4. `tools/wrong_bodies`: those of wrong-bodies/, many in one check. All with `--whole`; else those of the crates that changed since the last
@@ -36,7 +37,7 @@ from processes import Table, end_all, take_orphans
 from rooms import Ticker, crates_of
 
 # What compares pages with the sources.
-COMPARED = ("belief", "crates")
+COMPARED = ("belief", "crates", "pages")
 # After how many seconds without a line one tells how far it is.
 SILENCE = 10
 COUNTS = re.compile(r"(\d+) passed, (\d+) failed(?:, (\d+) skipped)?")

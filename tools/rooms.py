@@ -112,7 +112,7 @@ def link_tree(source, target):
 @contextlib.contextmanager
 def room(name, crates, top=TOP, kept="moved"):
     """The root of a tree of its own for one crate, over what is kept of those below it. What is kept of the crate itself is `moved` there
-    and back at the end, `copied`, or `left`."""
+    and back at the end, `copied`, or `left`: then a check there begins with nothing."""
     with tempfile.TemporaryDirectory(prefix=f"room-{name}-") as root:
         for it in [name, *below(name, crates)]:
             for part in PARTS:
@@ -126,7 +126,12 @@ def room(name, crates, top=TOP, kept="moved"):
         keep_only([name, *below(name, crates)], root)
         there, here = f"{top}/crates/{name}/out", f"{root}/crates/{name}/out"
         try:
-            if kept != "left" and os.path.isdir(there):
+            if kept == "left":
+                # The toolchain begins with what any checkout kept of the same sources, and else with what is kept here.
+                os.makedirs(f"{here}/incremental")
+                with open(f"{root}/crates/{name}/src/room", "w", encoding="utf-8") as it:
+                    it.write(root)
+            elif os.path.isdir(there):
                 {"moved": shutil.move, "copied": shutil.copytree}[kept](there, here)
             yield root
         finally:

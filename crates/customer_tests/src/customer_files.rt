@@ -15,6 +15,7 @@ use ntp_service_run::Service;
 use refusing::{Broken, Refusing};
 use std::alloc::{AllocError, Allocator, Global};
 use std::io::{self, ErrorKind, Write};
+use std::process::Abort;
 use std::test::Fail;
 use worked_data::reference;
 
@@ -67,30 +68,31 @@ fn told_step<O: Observer>(
     apply_commands(service, octets, applied, observer)
 }
 
+// Just these lines were told of faults.
+fn assert_told(rt: &impl Abort, faults: &Vec<u8>, lines: &[u8]) {
+    assert_eq!(rt; faults.as_slice(), lines);
+}
+
+// The lines that are due are applied, and what is told of them.
+fn apply_due(rt: &impl Abort, service: &mut Service, faults: &mut Vec<u8>) {
+    assert_eq!(rt; step(service, UNFINISHED, 0, faults), 4);
+    assert_told(rt, faults, b"commands: line 4: address\n");
+    faults.clear();
+    assert_eq!(rt; step(service, FINISHED, 4, faults), 5);
+    assert_told(rt, faults, b"");
+}
+
 #[test]
 fn due_lines_are_applied_once(rt: HostRuntime) {
     let mut service = Service::new(rt.alloc());
     let mut faults = Vec::new(rt.alloc());
-    let applied = step(&mut service, UNFINISHED, 0, &mut faults);
-    assert_eq!(rt; applied, 4);
-    assert_eq!(rt;
-        faults.as_slice(),
-        b"commands: line 4: address\n".as_slice()
-    );
-
-    faults.clear();
-    let applied = step(&mut service, FINISHED, applied, &mut faults);
-    assert_eq!(rt; applied, 5);
-    assert!(rt; faults.is_empty());
-
-    assert_eq!(rt;
-        ordered(&mut service, A),
-        Some(Err(Refusal::AlreadyEnrolled))
-    );
-    assert_eq!(rt;
-        ordered(&mut service, B),
-        Some(Err(Refusal::AlreadyEnrolled))
-    );
+    apply_due(&rt, &mut service, &mut faults);
+    for line in [A, B] {
+        assert_eq!(rt;
+            ordered(&mut service, line),
+            Some(Err(Refusal::AlreadyEnrolled))
+        );
+    }
 }
 
 #[test]
@@ -141,24 +143,28 @@ fn refusals_are_told(rt: HostRuntime) {
     }
 }
 
+// An enrolment of a commands file is refused memory, and then stands there once more while there is some.
+fn enrol_without_memory(
+    rt: &impl Abort,
+    memory: &Refusing<Global>,
+    service: &mut Service<&Refusing<Global>>,
+    faults: &mut Vec<u8>,
+) {
+    let octets = b"enrol 192.0.2.10 7 md5 6b6579 10\n";
+    memory.refuse_all();
+    assert_eq!(rt; step(service, octets, 0, faults), 1);
+    assert_told(rt, faults, b"commands: line 1: no-memory\n");
+    memory.refuse_none();
+    assert_eq!(rt; step(service, octets, 1, faults), 1);
+    assert_told(rt, faults, b"commands: line 1: no-memory\n");
+}
+
 #[test]
 fn an_enrolment_without_memory_is_told_and_not_tried_again(rt: HostRuntime) {
     let memory = Refusing::new(rt.alloc());
     let mut service = Service::new(&memory);
     let mut faults = Vec::new(rt.alloc());
-    let octets = b"enrol 192.0.2.10 7 md5 6b6579 10\n";
-    memory.refuse_all();
-    assert_eq!(rt; step(&mut service, octets, 0, &mut faults), 1);
-    assert_eq!(rt;
-        faults.as_slice(),
-        b"commands: line 1: no-memory\n".as_slice()
-    );
-    memory.refuse_none();
-    assert_eq!(rt; step(&mut service, octets, 1, &mut faults), 1);
-    assert_eq!(rt;
-        faults.as_slice(),
-        b"commands: line 1: no-memory\n".as_slice()
-    );
+    enrol_without_memory(&rt, &memory, &mut service, &mut faults);
     assert_eq!(rt; ordered(&mut service, A), Some(Ok(())));
 }
 

@@ -1,34 +1,14 @@
 //! What no contract says: that commands succeed; and worked orders, each with its answer.
 
 use ntp_mac::{Algorithm, Key, KeyFault};
-use ntp_register::{Address, NumberedKey, Refusal, Register};
-use std::alloc::Global;
-use std::marker::Model;
+use ntp_register::{Address, Customer, NumberedKey, Refusal, Register};
 use std::process::Abort;
 use std::test::Fail;
+use worked_data::Agreeing;
 
 const A: Address = Address([192, 0, 2, 10]);
 
 const B: Address = Address([192, 0, 2, 20]);
-
-// A register whose customers and holders agree.
-#[derive(Drop)]
-struct Agreeing {
-    register: Register,
-}
-
-impl Model for Agreeing {
-    ghost use Rattle.ntp_register.specs.Registry.{Registry, Agrees};
-    ghost use Rattle.ntp_register.specs.Codes.{coded_registry};
-
-    ghost Value = { Registry };
-
-    ghost coded = { coded_registry };
-
-    ghost view = { λ a. a.register };
-
-    ghost invariant = { λ a. Agrees a.register };
-}
 
 // What is ordered of a register.
 #[derive(Clone, Copy)]
@@ -39,35 +19,27 @@ enum Order {
     Revoke,
 }
 
-impl Agreeing {
-    fn new(alloc: Global) -> Agreeing {
-        Agreeing {
-            register: Register::new(alloc),
-        }
-    }
-
-    // What an order of an address with a number, which is not 0, is answered. A budget is 10.
-    fn answer(
-        &mut self,
-        rt: &impl Abort,
-        order: Order,
-        address: Address,
-        number: u16,
-        key: Key,
-    ) -> Result<(), Refusal> {
-        assert!(rt; number > 0);
-        match order {
-            Order::Enrol => self.register.enrol(address, number, key, 10),
-            Order::Rollover => self.register.rollover(address, number, key),
-            Order::Retire => self.register.retire(address, number),
-            Order::Revoke => self.register.revoke(address),
-        }
+// What an order of an address with a number, which is not 0, is answered. A budget is 10.
+fn answer(
+    rt: &impl Abort,
+    register: &mut Agreeing,
+    order: Order,
+    address: Address,
+    number: u16,
+    key: Key,
+) -> Result<(), Refusal> {
+    assert!(rt; number > 0);
+    match order {
+        Order::Enrol => register.enrol(address, number, key),
+        Order::Rollover => register.rollover(address, number, key),
+        Order::Retire => register.retire(address, number),
+        Order::Revoke => register.revoke(address),
     }
 }
 
-// The number, the key and the budget of the customer at A, where it is enrolled, and whether it has room for a further key.
-fn terms(register: &Register) -> Option<(u16, Key, u16, bool)> {
-    let customer = register.customer(A)?;
+// The number, the key and the budget of a customer, where it is enrolled, and whether it has room for a further key.
+fn terms(customer: Option<&Customer>) -> Option<(u16, Key, u16, bool)> {
+    let customer = customer?;
     if customer.is_enrolled() {
         let key = *customer.key();
         Some((
@@ -82,8 +54,8 @@ fn terms(register: &Register) -> Option<(u16, Key, u16, bool)> {
 }
 
 // Its key under a number.
-fn key_for(register: &Register, number: u16) -> Option<Key> {
-    let customer = register.customer(A)?;
+fn key_for(customer: Option<&Customer>, number: u16) -> Option<Key> {
+    let customer = customer?;
     if customer.is_enrolled() {
         customer.key_for(number).copied()
     } else {
@@ -92,8 +64,8 @@ fn key_for(register: &Register, number: u16) -> Option<Key> {
 }
 
 // What it holds under a number of a MAC.
-fn held(register: &Register, number: u32) -> Option<NumberedKey> {
-    let customer = register.customer(A)?;
+fn held(customer: Option<&Customer>, number: u32) -> Option<NumberedKey> {
+    let customer = customer?;
     if customer.is_enrolled() {
         customer.held(number).copied()
     } else {
@@ -110,12 +82,9 @@ type Row = (Order, Address, u16, Result<(), Refusal>, Option<Address>);
 
 // Orders with a key are answered so, one after another.
 fn answers(rt: &impl Abort, register: &mut Agreeing, key: Key, rows: &[Row]) {
-    for (order, address, number, answer, holder) in rows {
-        let answered = register.answer(rt, *order, *address, *number, key);
-        assert_eq!(rt;
-            (answered, register.register.holder(*number)),
-            (*answer, *holder)
-        );
+    for (order, address, number, expected, holder) in rows {
+        let answered = answer(rt, register, *order, *address, *number, key);
+        assert_eq!(rt; (answered, register.holder(*number)), (*expected, *holder));
     }
 }
 
@@ -169,10 +138,10 @@ fn a_customer_has_what_it_was_enrolled_with(rt: HostRuntime) -> Result<(), Fail>
     let mut register = Register::new(rt.alloc());
     assert!(rt; register.customer(A).is_none());
     assert_eq!(rt; register.enrol(A, 65535, key, 1), Ok(()));
-    assert_eq!(rt; terms(&register), Some((65535, key, 1, true)));
+    assert_eq!(rt; terms(register.customer(A)), Some((65535, key, 1, true)));
     assert_eq!(rt; register.revoke(A), Ok(()));
     assert!(rt; register.customer_mut(A).is_some());
-    assert_eq!(rt; terms(&register), None);
+    assert_eq!(rt; terms(register.customer(A)), None);
     Ok(())
 }
 
@@ -188,14 +157,17 @@ fn a_key_comes_and_the_older_one_goes(rt: HostRuntime) -> Result<(), Fail> {
         newer,
         &[(Order::Rollover, A, 9, Ok(()), Some(A))],
     );
-    assert_eq!(rt; it.register.holder(7), Some(A));
-    assert_eq!(rt; terms(&it.register), Some((7, key, 10, false)));
-    assert_eq!(rt; key_for(&it.register, 9), Some(newer));
-    assert_eq!(rt; held(&it.register, 7), Some(NumberedKey { number: 7, key }));
-    assert_eq!(rt; held(&it.register, 65536 + 7), None);
+    assert_eq!(rt; it.holder(7), Some(A));
+    assert_eq!(rt; terms(it.customer(A)), Some((7, key, 10, false)));
+    assert_eq!(rt; key_for(it.customer(A), 9), Some(newer));
+    assert_eq!(rt;
+        held(it.customer(A), 7),
+        Some(NumberedKey { number: 7, key })
+    );
+    assert_eq!(rt; held(it.customer(A), 65536 + 7), None);
     answers(&rt, &mut it, key, &[(Order::Retire, A, 7, Ok(()), None)]);
-    assert_eq!(rt; terms(&it.register), Some((9, newer, 10, true)));
-    assert_eq!(rt; key_for(&it.register, 7), None);
+    assert_eq!(rt; terms(it.customer(A)), Some((9, newer, 10, true)));
+    assert_eq!(rt; key_for(it.customer(A), 7), None);
     answers(&rt, &mut it, key, &[(Order::Enrol, B, 7, Ok(()), Some(B))]);
     Ok(())
 }

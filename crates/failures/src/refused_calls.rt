@@ -9,10 +9,10 @@ use ntp_service_serve::{MemoryPort, Turn};
 use ntp_slots::Slots;
 use ntp_time::Stamp;
 use refusing::Refusing;
-use std::alloc::Global;
+use std::alloc::{Allocator, Global};
 use std::process::Abort;
 use std::test::Fail;
-use worked_data::{ANSWERS, CUSTOMER, SCRIPT, events, moment, printed};
+use worked_data::{ANSWERS, CUSTOMER, SCRIPT, events, moment, printed, run};
 
 // What was refused a call that tells it by `NoMemory`, and else is right.
 fn call_refused(
@@ -81,21 +81,51 @@ pub(crate) fn port_refused(rt: &impl Abort, alloc: Global, n: u64) -> Result<Ref
     Ok(call_refused(rt, &memory, end))
 }
 
+// The lines of what a run is answered, where it was not refused as a whole.
+fn lines_of_run<A: Allocator + Copy>(
+    alloc: Global,
+    service: &mut Service<A>,
+    events: &[Event<A>],
+) -> Result<Option<String>, Fail> {
+    match run(service, events) {
+        Ok(outcomes) => Ok(Some(printed(alloc, &outcomes)?)),
+        Err(NoMemory) => Ok(None),
+    }
+}
+
+// Runs the exchange while the nth allocation is refused, and once more where that was refused as a whole.
+fn run_exchange<'a>(
+    rt: &impl Abort,
+    memory: &'a Refusing<Global>,
+    service: &mut Service<&'a Refusing<Global>>,
+    events: &[Event<&'a Refusing<Global>>],
+    alloc: Global,
+    n: u64,
+) -> Result<Refused, Fail> {
+    memory.refuse_nth(n);
+    let lines = lines_of_run(alloc, service, events)?;
+    memory.refuse_none();
+    let (lines, answers, refused) = match lines {
+        None => (
+            lines_of_run(alloc, service, events)?,
+            ANSWERS,
+            Refused::Call,
+        ),
+        Some(lines) if memory.refused() > 0 => {
+            (Some(lines), UNENROLLED_ANSWERS, Refused::Command)
+        }
+        Some(lines) => (Some(lines), ANSWERS, Refused::Nothing),
+    };
+    assert!(rt; lines.as_deref() == Some(answers));
+    Ok(refused)
+}
+
 /// A run that is refused as a whole leaves the service as before: the same events are then answered as the first ones.
 pub(crate) fn run_refused(rt: &impl Abort, alloc: Global, n: u64) -> Result<Refused, Fail> {
     let memory = Refusing::new(alloc);
     let events = events(&memory)?;
     let mut service = Service::new(&memory);
-    memory.refuse_nth(n);
-    let end = service.run(&events);
-    memory.refuse_none();
-    let (outcomes, answers, refused) = match end {
-        Err(_) => (service.run(&events)?, ANSWERS, Refused::Call),
-        Ok(outcomes) if memory.refused() > 0 => { (outcomes, UNENROLLED_ANSWERS, Refused::Command) }
-        Ok(outcomes) => (outcomes, ANSWERS, Refused::Nothing),
-    };
-    assert!(rt; printed(alloc, &outcomes)?.as_str() == answers);
-    Ok(refused)
+    run_exchange(rt, &memory, &mut service, &events, alloc, n)
 }
 
 /// A replay that stops has answered the lines before, and one that goes on has been refused the enrolment alone.

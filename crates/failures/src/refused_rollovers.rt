@@ -2,16 +2,16 @@
 //! grow: a refused rollover changes nothing. And retirements, which ask for no memory.
 
 use crate::refused::{Call, Refused, command_refused, refusals};
-use crate::refused_enrolments::enrol;
+use crate::refused_enrolments::{enrol, step};
 use crate::twin::{Twin, address_at};
 use ntp_admin::parse_command;
-use ntp_customer_files::commands_step;
 use ntp_register::Refusal;
 use ntp_service_run::Service;
 use refusing::Refusing;
-use std::alloc::{Allocator, Global};
+use std::alloc::{AllocError, Allocator, Global};
 use std::process::Abort;
 use std::test::Fail;
+use worked_data::ordered;
 
 // How many customers there are at most.
 const MOST_CUSTOMERS: u16 = 64;
@@ -39,17 +39,31 @@ pub(crate) fn rollover_refused(
 ) -> Result<Refused, Fail> {
     let memory = Refusing::new(alloc);
     let mut twin = Twin::with_first(&memory, alloc, count)?;
+    roll_first(rt, &memory, &mut twin, count, n)
+}
+
+// Rolls the first of the customers of a register over while the nth allocation is refused.
+fn roll_first(
+    rt: &impl Abort,
+    memory: &Refusing<Global>,
+    twin: &mut Twin<&Refusing<Global>>,
+    count: u16,
+    n: u64,
+) -> Result<Refused, Fail> {
     memory.refuse_nth(n);
     let end = twin.rollover(address_at(0), NEW)?;
     memory.refuse_none();
-    assert!(rt; are_told(&twin, count));
-    let refused = command_refused(rt, &memory, end);
+    assert!(rt; are_told(twin, count));
+    let refused = command_refused(rt, memory, end);
     if refused == Refused::Command {
         assert_eq!(rt; twin.rollover(address_at(0), NEW)?, Ok(()));
-        assert!(rt; are_told(&twin, count));
+        assert!(rt; are_told(twin, count));
     }
     Ok(refused)
 }
+
+// A commands file that rolls the first customer over.
+const ROLLOVER: &[u8] = b"rollover 10.0.0.1 100 md5 6b6579\n";
 
 /// Applies a commands file with a rollover of the first of so many customers, twice. Where that was refused, it is told
 /// once, and not tried again.
@@ -59,19 +73,36 @@ pub(crate) fn rollover_line_refused(
     count: u16,
     n: u64,
 ) -> Result<Refused, Fail> {
-    let octets = b"rollover 10.0.0.1 100 md5 6b6579\n";
     let memory = Refusing::new(alloc);
     let mut service = Service::new(&memory);
-    for place in 0..count {
-        enrol(&mut service, address_at(place), place.saturating_add(1))??;
-    }
+    enrol_first(&mut service, count)?;
     let mut told = Vec::new(alloc);
+    apply_rollover(rt, &memory, &mut service, &mut told, n)
+}
+
+// Enrols so many customers.
+fn enrol_first<A: Allocator + Copy>(service: &mut Service<A>, count: u16) -> Result<(), Fail> {
+    for place in 0..count {
+        enrol(service, address_at(place), place.saturating_add(1))?;
+    }
+    Ok(())
+}
+
+// Applies that file, the first time while the nth allocation is refused.
+fn apply_rollover(
+    rt: &impl Abort,
+    memory: &Refusing<Global>,
+    service: &mut Service<&Refusing<Global>>,
+    told: &mut Vec<u8>,
+    n: u64,
+) -> Result<Refused, Fail> {
+    let retirement = parse_command("retire 10.0.0.1 100")?;
     memory.refuse_nth(n);
-    let applied = commands_step(&mut service, octets, 0, &mut told);
+    let applied = step(service, ROLLOVER, 0, told);
     memory.refuse_none();
     assert_eq!(rt; applied, 1);
-    assert_eq!(rt; commands_step(&mut service, octets, 1, &mut told), 1);
-    let end = service.command(&parse_command("retire 10.0.0.1 100")?);
+    assert_eq!(rt; step(service, ROLLOVER, 1, told), 1);
+    let end = ordered(service, &retirement);
     let (refused, fault, wanted) = if memory.refused() == 0 {
         (Refused::Nothing, "", Ok(()))
     } else {
@@ -99,18 +130,31 @@ fn a_refused_rollover_changes_nothing(rt: HostRuntime) -> Result<(), Fail> {
     Ok(())
 }
 
+// Takes a number of the first of so many customers, which has two.
+fn retire_without_memory(
+    rt: &impl Abort,
+    memory: &Refusing<Global>,
+    twin: &mut Twin<&Refusing<Global>>,
+    number: u16,
+    other: u16,
+) -> Result<(), AllocError> {
+    assert_eq!(rt; twin.rollover(address_at(0), NEW)?, Ok(()));
+    let before = memory.calls();
+    memory.refuse_all();
+    assert_eq!(rt; twin.retire(address_at(0), number, other)?, Ok(()));
+    assert_eq!(rt; memory.calls(), before);
+    Ok(())
+}
+
 #[test]
 fn a_retirement_asks_for_no_memory(rt: HostRuntime) -> Result<(), Fail> {
     for count in 1..=MOST_CUSTOMERS {
         for (number, other) in [(1, NEW), (NEW, 1)] {
             let memory = Refusing::new(rt.alloc());
             let mut twin = Twin::with_first(&memory, rt.alloc(), count)?;
-            assert_eq!(rt; twin.rollover(address_at(0), NEW)?, Ok(()));
-            let before = memory.calls();
-            memory.refuse_all();
-            assert_eq!(rt; twin.retire(address_at(0), number, other)?, Ok(()));
-            assert_eq!(rt; memory.calls(), before);
+            let end = retire_without_memory(&rt, &memory, &mut twin, number, other);
             assert!(rt; are_told(&twin, count));
+            end?;
         }
     }
     Ok(())

@@ -1,32 +1,61 @@
 //! Registers beside plain maps: ten thousand customers, and enrolments whose memory is refused.
+ghost use Rattle.std.specs.Prelude.{◌<◌};
 
 use crate::refused::{Refused, command_refused};
 use crate::twin::{Twin, address_at};
 use refusing::Refusing;
-use std::alloc::Global;
+use std::alloc::{AllocError, Allocator, Global};
 use std::process::Abort;
 use std::test::Fail;
+
+// Enrols an address with a number, by which both are then told.
+fn enrol_and_compare(
+    rt: &impl Abort,
+    twin: &mut Twin<Global>,
+    place: u16,
+    number: u16,
+) -> Result<(), AllocError>
+    requires { 0 < number }
+{
+    assert_eq!(rt; twin.enrol(address_at(place), number)?, Ok(()));
+    assert!(rt; twin.is_told(address_at(place), number));
+    Ok(())
+}
+
+// Revokes an address with a number, as both are then told.
+fn revoke_and_compare(
+    rt: &impl Abort,
+    twin: &mut Twin<Global>,
+    place: u16,
+    number: u16,
+) -> Result<(), AllocError> {
+    assert_eq!(rt; twin.revoke(address_at(place), number)?, Ok(()));
+    assert!(rt; twin.is_told(address_at(place), number));
+    Ok(())
+}
+
+// Enrols ten thousand addresses, revokes every other one, and enrols these again, each with another number.
+fn ten_thousand(rt: &impl Abort, twin: &mut Twin<Global>) -> Result<(), AllocError> {
+    for place in 0..10_000u16 {
+        enrol_and_compare(rt, twin, place, place + 1)?;
+    }
+    for half in 0..5_000u16 {
+        revoke_and_compare(rt, twin, 2 * half, 2 * half + 1)?;
+    }
+    for half in 0..5_000u16 {
+        let place = 2 * half;
+        enrol_and_compare(rt, twin, place, place + 30_000)?;
+        assert!(rt; twin.is_told(address_at(place), place + 1));
+    }
+    Ok(())
+}
 
 #[test]
 fn ten_thousand_customers_are_told_as_by_plain_maps(rt: HostRuntime) -> Result<(), Fail> {
     let mut twin = Twin::new(rt.alloc(), rt.alloc())?;
-    for place in 0..10_000u16 {
-        assert_eq!(rt; twin.enrol(address_at(place), place + 1)?, Ok(()));
-        assert!(rt; twin.is_told(address_at(place), place + 1));
-    }
-    for half in 0..5_000u16 {
-        let place = 2 * half;
-        assert_eq!(rt; twin.revoke(address_at(place), place + 1)?, Ok(()));
-        assert!(rt; twin.is_told(address_at(place), place + 1));
-    }
-    for half in 0..5_000u16 {
-        let place = 2 * half;
-        assert_eq!(rt; twin.enrol(address_at(place), place + 30_000)?, Ok(()));
-        assert!(rt; twin.is_told(address_at(place), place + 30_000));
-        assert!(rt; twin.is_told(address_at(place), place + 1));
-    }
+    let end = ten_thousand(&rt, &mut twin);
     assert!(rt; twin.are_told(10_001));
-    Ok(())
+    Ok(end?)
 }
 
 // Enrols an address while the nth allocation is refused. Where one was, nothing changed, and the same enrolment then
@@ -68,7 +97,13 @@ pub(crate) fn next_refused(
 pub(crate) fn revoked_refused(rt: &impl Abort, alloc: Global, n: u64) -> Result<Refused, Fail> {
     let memory = Refusing::new(alloc);
     let mut twin = Twin::with_first(&memory, alloc, 9)?;
+    revoke_first(&mut twin)?;
+    place_refused(rt, &memory, &mut twin, 0, n)
+}
+
+// Revokes the first of nine, and has another one take its place among the holders.
+fn revoke_first<A: Allocator + Copy>(twin: &mut Twin<A>) -> Result<(), Fail> {
     twin.revoke(address_at(0), 1)??;
     twin.enrol(address_at(9), 10)??;
-    place_refused(rt, &memory, &mut twin, 0, n)
+    Ok(())
 }

@@ -2,33 +2,61 @@
 ghost use Rattle.std.specs.Prelude.{◌<◌};
 
 use ntp_mac::{Algorithm, Key};
-use ntp_register::{Address, Refusal, Register};
+use ntp_register::{Address, Refusal};
 use std::alloc::{AllocError, Allocator, Global};
 use std::collections::BTreeMap;
-use std::marker::Model;
 use std::test::Fail;
+use worked_data::Agreeing;
+
+// What is to be in a register.
+#[derive(Drop)]
+struct Plain {
+    // The number of the older key of each address that was ever enrolled, if it is enrolled now.
+    customers: BTreeMap<Address, Option<u16>>,
+    holders: BTreeMap<u16, Address>,
+}
+
+impl Plain {
+    // Notes the number of the older key of an address, or that it has none.
+    fn set_older(&mut self, address: Address, older: Option<u16>) -> Result<(), AllocError> {
+        self.customers.insert(address, older)?;
+        Ok(())
+    }
+
+    // Notes who holds a number.
+    fn set_holder(&mut self, number: u16, address: Address) -> Result<(), AllocError> {
+        self.holders.insert(number, address)?;
+        Ok(())
+    }
+
+    // Notes that nobody holds a number.
+    fn free(&mut self, number: u16) {
+        self.holders.remove(&number);
+    }
+
+    // Notes both of an address that is enrolled.
+    fn enrol(&mut self, address: Address, number: u16) -> Result<(), AllocError> {
+        self.set_older(address, Some(number))?;
+        self.set_holder(number, address)
+    }
+
+    // What an address has.
+    fn older(&self, address: Address) -> Option<Option<u16>> {
+        self.customers.get(&address).copied()
+    }
+
+    // Who holds a number.
+    fn holder(&self, number: u16) -> Option<Address> {
+        self.holders.get(&number).copied()
+    }
+}
 
 /// A register, and what is to be in it.
 #[derive(Drop)]
 pub(crate) struct Twin<A: Allocator> {
-    register: Register<A>,
-    // The number of the older key of each address that was ever enrolled, if it is enrolled now.
-    customers: BTreeMap<Address, Option<u16>>,
-    holders: BTreeMap<u16, Address>,
+    register: Agreeing<A>,
+    plain: Plain,
     key: Key,
-}
-
-impl<A: Allocator> Model for Twin<A> {
-    ghost use Rattle.ntp_register.specs.Registry.{Registry, Agrees};
-    ghost use Rattle.ntp_register.specs.Codes.{coded_registry};
-
-    ghost Value = { Registry };
-
-    ghost coded = { coded_registry };
-
-    ghost view = { λ t. t.register };
-
-    ghost invariant = { λ t. Agrees t.register };
 }
 
 /// Addresses that are told apart by the two octets in the middle.
@@ -40,21 +68,30 @@ pub(crate) fn address_at(place: u16) -> Address {
 impl<A: Allocator + Copy> Twin<A> {
     /// An empty one.
     pub(crate) fn new(alloc: A, plain: Global) -> Result<Twin<A>, Fail> {
+        let key = Key::new(Algorithm::Md5, b"key")?;
         Ok(Twin {
-            register: Register::new(alloc),
-            customers: BTreeMap::new(plain),
-            holders: BTreeMap::new(plain),
-            key: Key::new(Algorithm::Md5, b"key")?,
+            register: Agreeing::new(alloc),
+            plain: Plain {
+                customers: BTreeMap::new(plain),
+                holders: BTreeMap::new(plain),
+            },
+            key,
         })
     }
 
     /// One with the first customers, so many of them, each with its place and one as its number.
     pub(crate) fn with_first(alloc: A, plain: Global, count: u16) -> Result<Twin<A>, Fail> {
         let mut twin = Twin::new(alloc, plain)?;
-        for place in 0..count {
-            twin.enrol(address_at(place), place + 1)??;
-        }
+        twin.enrol_first(count)?;
         Ok(twin)
+    }
+
+    // Enrols the first customers.
+    fn enrol_first(&mut self, count: u16) -> Result<(), Fail> {
+        for place in 0..count {
+            self.enrol(address_at(place), place + 1)??;
+        }
+        Ok(())
     }
 
     /// Enrols an address in both, if the register has the memory.
@@ -65,10 +102,9 @@ impl<A: Allocator + Copy> Twin<A> {
     ) -> Result<Result<(), Refusal>, AllocError>
         requires { 0 < number }
     {
-        let end = self.register.enrol(address, number, self.key, 10);
+        let end = self.register.enrol(address, number, self.key);
         if end.is_ok() {
-            self.customers.insert(address, Some(number))?;
-            self.holders.insert(number, address)?;
+            self.plain.enrol(address, number)?;
         }
         Ok(end)
     }
@@ -81,8 +117,8 @@ impl<A: Allocator + Copy> Twin<A> {
     ) -> Result<Result<(), Refusal>, AllocError> {
         let end = self.register.revoke(address);
         if end.is_ok() {
-            self.customers.insert(address, None)?;
-            self.holders.remove(&number);
+            self.plain.set_older(address, None)?;
+            self.plain.free(number);
         }
         Ok(end)
     }
@@ -97,7 +133,7 @@ impl<A: Allocator + Copy> Twin<A> {
     {
         let end = self.register.rollover(address, number, self.key);
         if end.is_ok() {
-            self.holders.insert(number, address)?;
+            self.plain.set_holder(number, address)?;
         }
         Ok(end)
     }
@@ -111,8 +147,8 @@ impl<A: Allocator + Copy> Twin<A> {
     ) -> Result<Result<(), Refusal>, AllocError> {
         let end = self.register.retire(address, number);
         if end.is_ok() {
-            self.customers.insert(address, Some(other))?;
-            self.holders.remove(&number);
+            self.plain.set_older(address, Some(other))?;
+            self.plain.free(number);
         }
         Ok(end)
     }
@@ -129,12 +165,12 @@ impl<A: Allocator + Copy> Twin<A> {
 
     // Whether it is told as it is to be what an address has.
     fn is_known(&self, address: Address) -> bool {
-        self.number_at(address) == self.customers.get(&address).copied()
+        self.number_at(address) == self.plain.older(address)
     }
 
     /// Whether it is told as it is to be who holds a number.
     pub(crate) fn is_held(&self, number: u16) -> bool {
-        self.register.holder(number) == self.holders.get(&number).copied()
+        self.register.holder(number) == self.plain.holder(number)
     }
 
     /// Whether an address has a key with a number just where it is to hold that.
@@ -143,7 +179,7 @@ impl<A: Allocator + Copy> Twin<A> {
             Some(customer) => customer.is_enrolled() && customer.key_for(number).is_some(),
             None => false,
         };
-        has_key == (self.holders.get(&number) == Some(&address))
+        has_key == (self.plain.holder(number) == Some(address))
     }
 
     /// Whether what is asked of an address and of a number is answered as it is to be.
@@ -156,10 +192,11 @@ impl<A: Allocator + Copy> Twin<A> {
         (0..addresses).all(|place| self.is_told(address_at(place), place))
             && self.is_told(Address([192, 0, 2, 10]), u16::MAX)
             && self
+                .plain
                 .holders
                 .iter()
                 .all(|(number, address)| self.is_told(*address, *number))
-            && self.held() == self.holders.len()
+            && self.held() == self.plain.holders.len()
     }
 
     // How many numbers have a holder.

@@ -61,9 +61,10 @@ fn load<R: Files>(files: &R, alloc: Global, path: &str) -> Result<Loaded, LoadFa
 
 // Why a register file could not be read.
 fn unread(error: &io::Error) -> LoadFault {
-    match error.kind() {
-        ErrorKind::OutOfMemory => LoadFault::Register(RegisterFault::NoMemory),
-        _ => LoadFault::Read,
+    if error.kind() == ErrorKind::OutOfMemory {
+        LoadFault::Register(RegisterFault::NoMemory)
+    } else {
+        LoadFault::Read
     }
 }
 

@@ -4,7 +4,7 @@ use crate::counting::Counting;
 use ntp_host::{CommandsFile, EachMillisecond};
 use ntp_service_serve::CommandsSource;
 use ntp_time::{Moment, Stamp};
-use std::alloc::Allocator;
+use std::alloc::{Allocator, Global};
 use std::cell::Cell;
 use std::fs::{self, Files};
 use std::io;
@@ -99,6 +99,20 @@ pub fn show_calls(rt: &HostRuntime) -> io::Result<()> {
     show_looks(rt, &mut file, &calls, "longer", &later)
 }
 
+// How many octets looks with these receipts give first, if they give any.
+fn first_given<R: Files>(
+    alloc: Global,
+    file: &mut CommandsFile<'_, R>,
+    receipts: &[Option<Moment>],
+) -> Option<usize> {
+    for receipt in receipts {
+        if let Some(octets) = file.look(alloc, *receipt) {
+            return Some(octets.len());
+        }
+    }
+    None
+}
+
 // Prints what looks with these receipts give first, or how many calls they took.
 fn show_looks<R: Files>(
     rt: &HostRuntime,
@@ -108,10 +122,8 @@ fn show_looks<R: Files>(
     receipts: &[Option<Moment>],
 ) -> io::Result<()> {
     calls.set(0);
-    for receipt in receipts {
-        if let Some(octets) = file.look(rt.alloc(), *receipt) {
-            return println!(rt; "{what}: {} octets", octets.len());
-        }
+    match first_given(rt.alloc(), file, receipts) {
+        Some(octets) => println!(rt; "{what}: {octets} octets"),
+        None => println!(rt; "{what}: nothing, calls {}", calls.get()),
     }
-    println!(rt; "{what}: nothing, calls {}", calls.get())
 }

@@ -1,5 +1,6 @@
 //! The customer, and the state of the clock by which it is answered.
 
+use crate::plain_calls::ordered;
 use ntp_admin::parse_command;
 use ntp_register::Address;
 use ntp_reply::Reference;
@@ -16,8 +17,9 @@ const ENROLMENT: &str = "enrol 192.0.2.10 7 md5 6b6579 10";
 
 /// A service that knows the customer, and nobody else.
 pub fn enrolled_service<A: Allocator + Copy>(alloc: A) -> Result<Service<A>, Fail> {
+    let command = parse_command(ENROLMENT)?;
     let mut service = Service::new(alloc);
-    service.command(&parse_command(ENROLMENT)?)?;
+    ordered(&mut service, &command)?;
     Ok(service)
 }
 

@@ -1,17 +1,18 @@
 //! A client, with its request and what it takes for a reply.
-ghost use Rattle.std.specs.Prelude.{◌≡◌, ◌<◌, List, ℕ, Some, Ok};
+ghost use Rattle.std.specs.Prelude.{◌≡◌, ◌↔◌, ◌<◌, List, ℕ, Some, Ok};
 ghost use Rattle.ntp_request.specs.FirstCase.{decided};
 ghost use Rattle.ntp_mac.specs.Reading.{reading_of};
 ghost use Rattle.ntp_client.specs.State.{new_client, IsClient};
 ghost use Rattle.ntp_client.specs.Query.{query_octets, next_query, after_query};
 ghost use Rattle.ntp_client.specs.Taking.{taken_for, after_taken};
+ghost use Rattle.ntp_client.specs.Sample.{IsSample};
 ghost use Rattle.ntp_client.specs.Judging.{packet_steps};
 
 use crate::exchange::{Exchange, Outstanding};
 use crate::judging::judge;
 use crate::pairing::exchange_of;
 use crate::query::{query_header, transmit_of};
-use crate::{Distrust, Taken};
+use crate::{Distrust, Sample, Taken};
 use ntp_mac::{Key, Reply, seal};
 use ntp_request::{Request, read_request};
 use ntp_time::Moment;
@@ -85,10 +86,12 @@ impl Client {
     /// 4. the kiss `RATE`; an unsynchronised clock or a stamp of unknown time: refused;
     /// 5. otherwise a sample.
     ///
-    /// A sample and a `RATE` end the request. All else leaves the client as it is.
+    /// A sample and a `RATE` end the request. All else leaves the client as it is. So a sample comes exactly from an
+    /// authentic reply of a synchronised clock to the request that waits (RFC 5905, 8; RFC 9769, 2).
     #[must_use]
     pub fn take(&mut self, octets: &[u8], at: Moment) -> Taken
         ensures first { result ≡ taken_for self.old octets.now at }
+        ensures sample { (sample : Sample) → (result ≡ Taken.Sample sample) ↔ IsSample self.old octets.now at sample }
         ensures after { self.new ≡ after_taken self.old octets.now at result }
         ensures client { IsClient self.new }
     {

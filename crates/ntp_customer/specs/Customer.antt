@@ -113,8 +113,9 @@ module _ {C : Type 0} where
 abbrev pub new_customer : Enrolment → CustomerState
 new_customer e = customer_from (tally []) e
 
--- what holds of each account: its count is such as some queries leave, and its exchanges are apart (profile)
+-- what holds of each account: its keys have different numbers, its count is such as some queries leave, and its exchanges are apart (profile)
 pub record IsAccount (a : Account) : Type 0 where
+  pub keys : HasKeys a.enrolment
   pub queries : IsTally a.queries
   pub saved : AreSaved a.exchanges
 

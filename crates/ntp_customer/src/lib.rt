@@ -4,7 +4,9 @@
 
 mod account;
 mod customer;
+mod laws;
 mod numbered_key;
 
 pub use customer::Customer;
+pub use laws::a_customer_has_a_past;
 pub use numbered_key::NumberedKey;

@@ -6,12 +6,10 @@ mod answers;
 mod deciding;
 mod departing;
 mod exchanging;
-mod laws;
 mod refusing;
 mod signed_queries;
 
 pub use answers::{Answer, Reason};
 pub use deciding::{answer, answer_octets};
 pub use departing::depart;
-pub use laws::a_customer_has_a_past;
 pub use ntp_reply_packets::{BadReference, Kiss, Reference};

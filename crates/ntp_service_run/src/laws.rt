@@ -17,8 +17,8 @@ ghost use Rattle.ntp_events.specs.declared.outcome.Outcome.{Outcome};
 ghost use Rattle.ntp_service_run.specs.Events.{own};
 ghost use Rattle.ntp_service_run.specs.Model.{life_of, answer_to, after, says_after};
 ghost use Rattle.ntp_service_run.specs.Headline.{StandsFor, Tells, IsEnrolledWith, kept, told_to};
-ghost use Rattle.ntp_service_run.specs.Forgery.{at_genuine, genuine, without_refusals};
-ghost use Rattle.ntp_service_run.specs.Bound.{RepliesAreFew};
+ghost use Rattle.ntp_service_run.specs.Forgery.{at_genuine, genuine, without_refusals, TellsWithoutForgeries};
+ghost use Rattle.ntp_service_run.specs.Bound.{RepliesAreFew, TellsFew};
 
 use std::alloc::Allocator;
 
@@ -78,4 +78,18 @@ pub fn forged_datagrams_change_nothing<A: Allocator>()
 /// begin.
 pub fn replies_in_a_window_are_few<A: Allocator>()
     ensures { (life : Life) (events : List (Event A)) → RepliesAreFew life events (says_after life events) }
+{}
+
+/// No forgery is felt: where a service told its events the outcomes that the headline says, as `Service::run` and the loop of a server do, each
+/// address was told at its genuine events what the model gives to these alone.
+pub fn no_forgery_is_felt<A: Allocator>()
+    ensures { (history events : List (Event A)) (outcomes : List Outcome) (service : Registry)
+        → Tells history events outcomes service → TellsWithoutForgeries history events outcomes }
+{}
+
+/// Few replies are told: where a service told its events the outcomes that the headline says, as `Service::run` and the loop of a server do, the
+/// replies to each address in a window are few.
+pub fn few_replies_are_told<A: Allocator>()
+    ensures { (history events : List (Event A)) (outcomes : List Outcome) (service : Registry)
+        → Tells history events outcomes service → TellsFew history events outcomes }
 {}

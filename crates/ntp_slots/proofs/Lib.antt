@@ -3,3 +3,4 @@ pub mod Changes
 pub mod Saved
 mod NewStamps
 mod Places
+mod Listed

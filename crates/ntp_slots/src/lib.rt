@@ -8,6 +8,7 @@
 mod laws;
 mod new_stamps;
 mod no_memory;
+mod saved_stamps;
 mod slot;
 mod slots;
 

@@ -1,7 +1,9 @@
 use Rattle.std.proofs.Common.{◌≡◌, Some, refl, sym, ◌∙◌, arith}
 use Rattle.ntp_mac.proofs.ReadAs.{answers-so}
 use Rattle.ntp_request.proofs.Octets.{AreOctets}
+use Rattle.ntp_client.specs.State.{IsClient}
 use Rattle.ntp_client.proofs.Takings.{read-taken}
+use Rattle.ntp_client.proofs.Samples.{sample-given, given-taken}
 use Rattle.ntp_client.proofs.client.Client.take.Goals as goal
 
 pub returns-in-Ok-clause-first : goal.returns-in-Ok-clause-first
@@ -23,3 +25,13 @@ returns-in-Err-clause-first c =
     let is = answers-so c.args.octets.now c.read_request.result are c.read_request.ensures.only c.read_request.ensures.exact in
     let there : c.args.self.now.outstanding ≡ Some c.in-Some.asked = rw (← c.self.view_is) c.in-Some.is in
     rw (there, sym is ∙ c.in-Err.is) refl
+
+pub returns-in-Ok-clause-sample : goal.returns-in-Ok-clause-sample
+returns-in-Ok-clause-sample c = λ s.
+    let are : AreOctets c.args.octets.now = λ i. omega (arith, c.type_inv.octets i) in
+    let first = returns-in-Ok-clause-first c in
+    let client = c.args.self.now in
+    let is_client : IsClient client = rw (← c.self.view_is) c.self.invariant in (
+      λ is. sample-given client c.args.octets.now c.args.at s are (sym first ∙ is),
+      λ given. first ∙ given-taken client c.args.octets.now c.args.at s is_client are given,
+    )

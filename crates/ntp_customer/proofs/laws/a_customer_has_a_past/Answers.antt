@@ -4,7 +4,7 @@ use Rattle.ntp_budget.proofs.Tallies.{tally-of_some_list}
 use Rattle.ntp_slots.proofs.Recents.{recent-all}
 use Rattle.ntp_customer.specs.Customer.{Account, IsAccount}
 use Rattle.ntp_customer.specs.Past.{Past, short}
-use Rattle.ntp_reply.proofs.laws.a_customer_has_a_past.Goals as goal
+use Rattle.ntp_customer.proofs.laws.a_customer_has_a_past.Goals as goal
 
 -- a customer, by its account
 had : (account : Option Account) (refusals : Tally) → IsTally refusals → IfSome account IsAccount

@@ -8,8 +8,8 @@ use crate::starting::Prepared;
 use labntp_command_line::{DONE, IO_FAILED, memory_status, write_status};
 use labntpd_configuration::{ClockSource as ConfiguredClock, Configuration, Listen};
 use labntpd_host::{
-    BoundAt, ClockSource, FollowedClock, HostClocks, Log, QueuedUdp, bound, has_standard_streams,
-    inherited, receive_buffer, set_receive_buffer,
+    BoundAt, ClockSource, FollowedClock, HostClocks, LONGEST_WAIT, Log, QueuedUdp, bound,
+    has_standard_streams, inherited, receive_buffer, set_receive_buffer, set_send_buffer,
 };
 use ntp_freshness::{FreshPort, QueueWatch};
 use ntp_host::EachMillisecond;
@@ -21,10 +21,6 @@ use std::io::{self, ErrorKind, Stderr, Write};
 use std::net::{Ipv4Addr, SocketAddr, SocketAddrV4, UdpSocket};
 use std::time::Duration;
 use std::{env, process};
-
-/// How long one wait for a datagram lasts at most, in thousandths of a second: so soon is a command carried out that is
-/// written while nobody asks (profile).
-const LONGEST_WAIT: u64 = 100;
 
 /// A server of the daemon.
 pub type Daemon<'a> = Server<
@@ -242,18 +238,20 @@ fn open_socket(rt: &HostRuntime, listen: Listen) -> Result<UdpSocket, u8> {
     failed(rt, "listen", made)
 }
 
-// Gives the socket its time limit and its receive buffer, and tells what is known of it.
+// Gives the socket its time limit and its buffers, and tells what is known of it.
 fn set_up(
     rt: &HostRuntime,
     socket: &UdpSocket,
     configuration: &Configuration,
 ) -> Result<BoundAt, u8> {
-    let limit = Duration::from_millis(LONGEST_WAIT);
+    let limit = Duration::from_millis(u64::from(LONGEST_WAIT));
     failed(rt, "listen", socket.set_read_timeout(Some(limit)))?;
-    // A socket that was handed down keeps its buffer, which may be larger than this process could have it made.
+    // A socket that was handed down keeps its buffers, which may be larger than this process could have them made.
     if matches!(configuration.listen, Listen::Bound(_)) {
         let set = set_receive_buffer(socket, configuration.receive_buffer);
         failed(rt, "receive_buffer", set)?;
+        let set = set_send_buffer(socket, configuration.send_buffer);
+        failed(rt, "send_buffer", set)?;
     }
     let buffer = failed(rt, "receive_buffer", receive_buffer(socket))?;
     match failed(rt, "listen", socket.local_addr())? {

@@ -39,6 +39,7 @@ settings_of configuration = record {
   answers = option_map string_bytes configuration.answers;
   statistics = option_map string_bytes configuration.statistics;
   receive_buffer = configuration.receive_buffer;
+  send_buffer = configuration.send_buffer;
   longest_wait = configuration.longest_wait;
   clock = clock_of configuration.clock;
 }

@@ -98,6 +98,7 @@ pub record Settings : Type 0 where
   pub answers : Option (List ℕ)
   pub statistics : Option (List ℕ)
   pub receive_buffer : ℕ
+  pub send_buffer : ℕ
   pub longest_wait : ℕ
   pub clock : Option Daemon
 
@@ -109,7 +110,8 @@ settings_in document = do
   commands ← required setting.Commands path_of document
   answers ← optional setting.Answers path_of document
   statistics ← optional setting.Statistics path_of document
-  receive_buffer ← with_default 8388608 setting.ReceiveBuffer (whole_of 65536 1073741823) document
+  receive_buffer ← with_default 524288 setting.ReceiveBuffer (whole_of 65536 1073741823) document
+  send_buffer ← with_default 1048576 setting.SendBuffer (whole_of 65536 1073741823) document
   longest_wait ← with_default 250000000 setting.LongestWait (seconds_of nanoseconds 150000000 60000000000) document
   table ← required setting.Clock as_table document
   clock ← clock_in table
@@ -120,6 +122,7 @@ settings_in document = do
     answers = answers;
     statistics = statistics;
     receive_buffer = receive_buffer;
+    send_buffer = send_buffer;
     longest_wait = longest_wait;
     clock = clock;
   })
@@ -134,5 +137,6 @@ pub record HasDaemonRanges (daemon : Daemon) : Type 0 where
 -- the ranges of the numbers of a configuration: octets, nanoseconds, and those for a daemon (profile)
 pub record HasRanges (settings : Settings) : Type 0 where
   pub receive_buffer : (65536 ≤ settings.receive_buffer) × (settings.receive_buffer ≤ 1073741823)
+  pub send_buffer : (65536 ≤ settings.send_buffer) × (settings.send_buffer ≤ 1073741823)
   pub longest_wait : (150000000 ≤ settings.longest_wait) × (settings.longest_wait ≤ 60000000000)
   pub clock : IfSome settings.clock HasDaemonRanges

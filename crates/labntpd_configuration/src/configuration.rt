@@ -20,6 +20,8 @@ pub struct Configuration {
     pub statistics: Option<String>,
     /// The size that the socket's receive buffer is to have, in octets: 65,536 to 1,073,741,823.
     pub receive_buffer: u32,
+    /// The size that its send buffer is to have, in octets, in the same range.
+    pub send_buffer: u32,
     /// How long a datagram may have waited for an answer, in nanoseconds: 0.15 to 60 s.
     pub longest_wait: u64,
     /// What is asked how good the host's clock is.

@@ -12,13 +12,14 @@ use std::alloc::{AllocError, Global};
 use toml::Table;
 
 /// The keys of the top level, and those of the table `[clock]` (profile).
-const KEYS: [Setting; 8] = [
+const KEYS: [Setting; 9] = [
     Setting::Listen,
     Setting::Register,
     Setting::Commands,
     Setting::Answers,
     Setting::Statistics,
     Setting::ReceiveBuffer,
+    Setting::SendBuffer,
     Setting::LongestWait,
     Setting::Clock,
 ];
@@ -129,6 +130,7 @@ fn owned(alloc: Global, settings: Settings<'_>) -> Result<Configuration, AllocEr
         answers: owned_path(alloc, settings.answers)?,
         statistics: owned_path(alloc, settings.statistics)?,
         receive_buffer: settings.receive_buffer,
+        send_buffer: settings.send_buffer,
         longest_wait: settings.longest_wait,
         clock: owned_clock(alloc, settings.clock)?,
     })

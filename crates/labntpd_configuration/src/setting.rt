@@ -14,6 +14,7 @@ pub enum Setting {
     Answers,
     Statistics,
     ReceiveBuffer,
+    SendBuffer,
     LongestWait,
     Clock,
     Source,
@@ -38,6 +39,7 @@ impl Setting {
             Setting::Answers => "answers",
             Setting::Statistics => "statistics",
             Setting::ReceiveBuffer => "receive_buffer",
+            Setting::SendBuffer => "send_buffer",
             Setting::LongestWait => "longest_wait",
             Setting::Clock => "clock",
             Setting::Source => "source",
@@ -62,7 +64,9 @@ impl Setting {
             | Setting::Answers
             | Setting::Statistics
             | Setting::KeyFile => "the path of a file is wanted",
-            Setting::ReceiveBuffer => "a whole number of octets from 65536 to 1073741823 is wanted",
+            Setting::ReceiveBuffer | Setting::SendBuffer => {
+                "a whole number of octets from 65536 to 1073741823 is wanted"
+            }
             Setting::LongestWait => "a number of seconds from 0.15 to 60 is wanted",
             Setting::Clock => "a table is wanted",
             Setting::Source => {
@@ -86,6 +90,7 @@ impl Setting {
             | Setting::Answers
             | Setting::Statistics
             | Setting::ReceiveBuffer
+            | Setting::SendBuffer
             | Setting::LongestWait
             | Setting::Clock => false,
             Setting::Source

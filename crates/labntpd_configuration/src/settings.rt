@@ -31,6 +31,7 @@ pub(crate) struct Settings<'a> {
     pub(crate) answers: Option<&'a str>,
     pub(crate) statistics: Option<&'a str>,
     pub(crate) receive_buffer: u32,
+    pub(crate) send_buffer: u32,
     pub(crate) longest_wait: u64,
     pub(crate) clock: Option<ClockSettings<'a>>,
 }
@@ -48,6 +49,7 @@ impl<'a> Model for Settings<'a> {
       answers = option_map (λ path. path.now) settings.answers;
       statistics = option_map (λ path. path.now) settings.statistics;
       receive_buffer = settings.receive_buffer;
+      send_buffer = settings.send_buffer;
       longest_wait = settings.longest_wait;
       clock = settings.clock;
     } };
@@ -127,13 +129,15 @@ const MOST_STEP: Span = Span {
     most: 3_600_000_000_000,
 };
 
-/// The receive buffer where none is given, and its range, in octets. The kernel doubles what it is asked for, and
+/// The buffers of the socket where none is given, and their range, in octets. The kernel doubles what it is asked for, and
 /// counts in 31 bits.
-const RECEIVE_BUFFER: u32 = 8_388_608;
+const RECEIVE_BUFFER: u32 = 524_288;
 
-const LEAST_RECEIVE_BUFFER: u32 = 65_536;
+const SEND_BUFFER: u32 = 1_048_576;
 
-const MOST_RECEIVE_BUFFER: u32 = 1_073_741_823;
+const LEAST_BUFFER: u32 = 65_536;
+
+const MOST_BUFFER: u32 = 1_073_741_823;
 
 /// The settings of a document, or the first fault in them.
 pub(crate) fn settings_in(document: &Table) -> Result<Settings<'_>, ConfigurationFault>
@@ -146,7 +150,8 @@ pub(crate) fn settings_in(document: &Table) -> Result<Settings<'_>, Configuratio
         commands: path(document, Setting::Commands)?,
         answers: optional_path(document, Setting::Answers)?,
         statistics: optional_path(document, Setting::Statistics)?,
-        receive_buffer: receive_buffer(document)?,
+        receive_buffer: buffer(document, Setting::ReceiveBuffer, RECEIVE_BUFFER)?,
+        send_buffer: buffer(document, Setting::SendBuffer, SEND_BUFFER)?,
         longest_wait: seconds(document, Setting::LongestWait, &LONGEST_WAIT)?,
         clock: clock_in(clock_table(document)?)?,
     })
@@ -242,17 +247,17 @@ fn algorithm(clock: &Table) -> Result<Algorithm, ConfigurationFault>
     algorithm_of(required(clock, setting)?).ok_or(ConfigurationFault::Wanted { setting })
 }
 
-// The size of the receive buffer.
-fn receive_buffer(document: &Table) -> Result<u32, ConfigurationFault>
+// The size of a buffer of the socket.
+fn buffer(document: &Table, setting: Setting, default: u32) -> Result<u32, ConfigurationFault>
+    requires { (65536 ≤ default) × (default ≤ 1073741823) }
     ensures range { IfOk result (λ octets. (65536 ≤ octets) × (octets ≤ 1073741823)) }
-    ensures value { result ≡ with_default 8388608 Setting.ReceiveBuffer (whole_of 65536 1073741823) (table_view document.now) }
+    ensures value { result ≡ with_default default setting (whole_of 65536 1073741823) (table_view document.now) }
 {
-    let setting = Setting::ReceiveBuffer;
     match value_at(document, setting) {
-        None => Ok(RECEIVE_BUFFER),
-        Some(value) => whole_of(value, LEAST_RECEIVE_BUFFER, MOST_RECEIVE_BUFFER).ok_or(
-            ConfigurationFault::Wanted { setting },
-        ),
+        None => Ok(default),
+        Some(value) => whole_of(value, LEAST_BUFFER, MOST_BUFFER).ok_or(ConfigurationFault::Wanted {
+            setting,
+        }),
     }
 }
 

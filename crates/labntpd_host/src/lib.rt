@@ -12,6 +12,6 @@ mod whole_file;
 pub use followed_clock::{ClockSource, FollowedClock};
 pub use kernel_queue::{QueueState, queue_state};
 pub use log::{Log, has_standard_streams};
-pub use queued_udp::{BoundAt, HostClocks, QueuedUdp};
-pub use socket::{bound, inherited, receive_buffer, set_receive_buffer};
+pub use queued_udp::{BoundAt, HostClocks, LONGEST_WAIT, QueuedUdp};
+pub use socket::{bound, inherited, receive_buffer, set_receive_buffer, set_send_buffer};
 pub use whole_file::replace_file;

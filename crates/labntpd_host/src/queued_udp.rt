@@ -1,9 +1,10 @@
 //! A port over a UDP socket whose queue can be asked.
 
-ghost use Rattle.std.specs.Prelude.{◌≡◌};
+ghost use Rattle.std.specs.Prelude.{◌≡◌, ◌≤◌};
 ghost use Rattle.ntp_host.specs.Failures.{udp_failures};
 
 use crate::kernel_queue::{most_datagrams, queue_state};
+use crate::socket::{AtOnce, drop_at_once, send_at_once};
 use libc::net::{POLLIN, poll};
 use libc::types::pollfd;
 use ntp_freshness::QueuedPort;
@@ -17,8 +18,9 @@ use std::net::{SocketAddrV4, UdpSocket};
 use std::os::fd::AsRawFd;
 use std::time::Clock;
 
-/// How long one wait for a datagram lasts at most where another socket may end it, in thousandths of a second (profile).
-const LONGEST_WAIT: i32 = 100;
+/// How long one wait for a datagram lasts at most, in thousandths of a second: so soon is a command carried out that is written
+/// while nobody asks, and so old is what is known of the queue when the program is stopped then (profile).
+pub const LONGEST_WAIT: u16 = 20;
 
 /// What the parts of the daemon tell each other of the host's clocks.
 #[derive(Drop)]
@@ -64,7 +66,8 @@ pub struct BoundAt {
     pub buffer: u32,
 }
 
-/// The calls of a port over one bound UDP socket, which tell of its queue too.
+/// The calls of a port over one bound UDP socket, which tell of its queue too. No reply waits for room in the send buffer: one
+/// that would is not sent.
 #[derive(Drop)]
 pub struct QueuedUdp<'a, C: Clock + Copy + Drop, R: Files> {
     port: UdpPort<C>,
@@ -79,6 +82,9 @@ pub struct QueuedUdp<'a, C: Clock + Copy + Drop, R: Files> {
     shown: Option<Moment>,
     // Whether a reply was sent since then, and nothing was received.
     has_sent: bool,
+    failures: u64,
+    would_wait: u64,
+    ghost counted: { udp_failures port ≤ failures },
 }
 
 impl<'a, C: Clock + Copy + Drop, R: Files> QueuedUdp<'a, C, R> {
@@ -92,7 +98,7 @@ impl<'a, C: Clock + Copy + Drop, R: Files> QueuedUdp<'a, C, R> {
         files: &'a R,
         room: Vec<u8>,
     ) -> QueuedUdp<'a, C, R>
-        ensures { udp_failures result.port ≡ 0 }
+        ensures { result.failures ≡ 0 }
     {
         QueuedUdp {
             descriptor: socket.as_raw_fd(),
@@ -104,14 +110,21 @@ impl<'a, C: Clock + Copy + Drop, R: Files> QueuedUdp<'a, C, R> {
             room,
             shown: None,
             has_sent: false,
+            failures: 0,
+            would_wait: 0,
         }
+    }
+
+    /// How many replies were not sent since they would have waited for room in the send buffer, as far as the number can count.
+    pub fn would_wait(&self) -> u64 {
+        self.would_wait
     }
 
     // Waits at this socket and at the one at which something is expected. Whether a datagram may have come here.
     fn has_come(&self, expected: i32) -> bool {
         let mut waits = [readable(self.descriptor), readable(expected)];
         // Where the call failed, the port waits as it always does.
-        poll(&mut waits, LONGEST_WAIT) < 0 || waits[0].revents != 0
+        poll(&mut waits, i32::from(LONGEST_WAIT)) < 0 || waits[0].revents != 0
     }
 }
 
@@ -136,11 +149,15 @@ fn readable(descriptor: i32) -> pollfd {
 }
 
 impl<'a, C: Clock + Copy + Drop, R: Files> Port for QueuedUdp<'a, C, R> {
-    ghost failure_count = { λ queued. udp_failures queued.port };
+    ghost failure_count = { λ queued. queued.failures };
 
     fn receive(&mut self, datagram: &mut [u8; 1025]) -> Result<Arrival, PortFault> {
         self.has_sent = false;
-        self.port.receive(datagram)
+        let received = self.port.receive(datagram);
+        if received.is_err() {
+            self.failures += 1;
+        }
+        received
     }
 
     /// What the host's clock shows. Just after a reply was sent it gives the middle between what the clock showed before it and what
@@ -156,13 +173,20 @@ impl<'a, C: Clock + Copy + Drop, R: Files> Port for QueuedUdp<'a, C, R> {
     }
 
     fn send(&mut self, address: Address, port: u16, reply: &[u8]) -> Result<(), PortFault> {
-        let sent = self.port.send(address, port, reply);
-        self.has_sent = sent.is_ok();
-        sent
+        let sent = send_at_once(self.descriptor, reply, address, port);
+        self.has_sent = matches!(sent, AtOnce::Taken);
+        if self.has_sent {
+            return Ok(());
+        }
+        if matches!(sent, AtOnce::WouldWait) {
+            self.would_wait = self.would_wait.saturating_add(1);
+        }
+        self.failures += 1;
+        Err(PortFault::Send)
     }
 
     fn failures(&self) -> u64 {
-        self.port.failures()
+        self.failures
     }
 }
 
@@ -174,7 +198,11 @@ impl<'a, C: Clock + Copy + Drop, R: Files> TimedPort for QueuedUdp<'a, C, R> {
         if expected >= 0 && !self.has_come(expected) {
             return None;
         }
-        self.port.receive_in_time(datagram)
+        let received = self.port.receive_in_time(datagram);
+        if let Some(Err(_)) = &received {
+            self.failures += 1;
+        }
+        received
     }
 }
 
@@ -197,5 +225,9 @@ impl<'a, C: Clock + Copy + Drop, R: Files> QueuedPort for QueuedUdp<'a, C, R> {
 
     fn take_in_time(&mut self, datagram: &mut [u8; 1025]) -> Option<Result<Arrival, PortFault>> {
         self.receive_in_time(datagram)
+    }
+
+    fn drop_next(&mut self) -> bool {
+        drop_at_once(self.descriptor)
     }
 }

@@ -1,7 +1,13 @@
 //! The sockets of the daemon.
+ghost use Rattle.libc.specs.Net.{SockOption};
 
-use libc::net::{SO_RCVBUF, SOL_SOCKET, getsockopt, setsockopt};
-use os::FromRawFd;
+use libc::EAGAIN;
+use libc::net::{
+    AF_INET, MSG_DONTWAIT, MSG_NOSIGNAL, SO_RCVBUF, SO_SNDBUF, SOL_SOCKET, getsockopt, recv,
+    sendto, setsockopt,
+};
+use ntp_register::Address;
+use os::{FromRawFd, errno};
 use std::io::{self, ErrorKind};
 use std::net::{Net, SocketAddrV4, UdpSocket};
 use std::os::fd::AsRawFd;
@@ -24,9 +30,21 @@ pub fn inherited() -> io::Result<UdpSocket> {
 
 /// Asks for a receive buffer of so many octets.
 pub fn set_receive_buffer(socket: &UdpSocket, octets: u32) -> io::Result<()> {
+    set_option(socket, SO_RCVBUF, octets)
+}
+
+/// Asks for a send buffer of so many octets.
+pub fn set_send_buffer(socket: &UdpSocket, octets: u32) -> io::Result<()> {
+    set_option(socket, SO_SNDBUF, octets)
+}
+
+// Sets an option of a socket to a number.
+fn set_option(socket: &UdpSocket, name: i32, number: u32) -> io::Result<()>
+    requires { SockOption 1 name }
+{
     let mut value = [0; 16];
-    value[..4].copy_from_slice(&octets.to_ne_bytes());
-    let status = unsafe { setsockopt(socket.as_raw_fd(), SOL_SOCKET, SO_RCVBUF, &value, 4) };
+    value[..4].copy_from_slice(&number.to_ne_bytes());
+    let status = unsafe { setsockopt(socket.as_raw_fd(), SOL_SOCKET, name, &value, 4) };
     if status == 0 {
         Ok(())
     } else {
@@ -53,4 +71,47 @@ pub fn receive_buffer(socket: &UdpSocket) -> io::Result<u32> {
     } else {
         Err(io::Error::from(ErrorKind::Other))
     }
+}
+
+/// How many octets of an address the kernel reads: those of a `sockaddr_in` (ip(7)).
+const ADDRESS_OCTETS: u32 = 16;
+
+/// What came of a datagram that was to be sent at once.
+#[derive(Clone, Copy)]
+pub(crate) enum AtOnce {
+    /// The kernel took the whole datagram.
+    Taken,
+    /// It would have waited for room in the send buffer.
+    WouldWait,
+    /// It was not taken for another reason, or not as a whole.
+    Failed,
+}
+
+/// Sends a datagram to an address and a UDP port, where that needs no waiting.
+pub(crate) fn send_at_once(descriptor: i32, octets: &[u8], address: Address, port: u16) -> AtOnce {
+    let target = socket_address(address, port);
+    let flags = MSG_NOSIGNAL | MSG_DONTWAIT;
+    let sent = unsafe { sendto(descriptor, octets, flags, &target, ADDRESS_OCTETS) };
+    if sent == octets.len() as isize {
+        AtOnce::Taken
+    } else if sent < 0 && errno() == EAGAIN {
+        AtOnce::WouldWait
+    } else {
+        AtOnce::Failed
+    }
+}
+
+// An address and a UDP port as the kernel takes them: a `sockaddr_in` in front (ip(7)).
+fn socket_address(address: Address, port: u16) -> [u8; 128] {
+    let mut target = [0; 128];
+    target[..2].copy_from_slice(&(AF_INET as u16).to_ne_bytes());
+    target[2..4].copy_from_slice(&port.to_be_bytes());
+    target[4..8].copy_from_slice(&address.0);
+    target
+}
+
+/// Takes a datagram that has come, and drops it. Whether one was there.
+pub(crate) fn drop_at_once(descriptor: i32) -> bool {
+    let mut first = [0];
+    unsafe { recv(descriptor, &mut first, MSG_DONTWAIT) >= 0 }
 }

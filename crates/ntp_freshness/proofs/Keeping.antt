@@ -1,12 +1,12 @@
 -- What is kept goes on to be that of a history.
-use Rattle.std.proofs.Common.{◌≡◌, ℕ, zero, suc, ◌≤◌, List, [], ◌∷◌, ◌++◌, length, refl, ap, subst, arith, length-append}
+use Rattle.std.proofs.Common.{◌≡◌, ℕ, zero, suc, ◌≤◌, List, [], ◌∷◌, ◌++◌, length, refl, subst, arith, length-append}
 use Rattle.std.specs.Prelude.{All}
 use Rattle.ntp_freshness.specs.declared.queue_event.QueueEvent.{QueueEvent}
 use Rattle.ntp_freshness.specs.declared.queue_event.QueueEvent.TheVariants.{Held, Taken, Read}
 use Rattle.ntp_freshness.specs.declared.queue_watch.QueueWatch.{QueueWatch}
 use Rattle.ntp_freshness.specs.Freshness.{moment_of, MayBeAnswered}
 use Rattle.ntp_freshness.specs.Watch.{Watches}
-use Rattle.ntp_freshness.specs.Fresh.{StandsFor, Take, AreStale, history_before, history_after, counted_on}
+use Rattle.ntp_freshness.specs.Fresh.{StandsFor, Dropped, AreStale, history_dropped, counted_on}
 
 All-cons : {X : Type 0} (P : X → Type 0) (x : X) (xs : List X) → P x → All P xs → All P (x ∷ xs)
 All-cons P x xs here rest zero d below = here
@@ -46,16 +46,14 @@ pub MayBeAnswered-along : (longest most : ℕ) (history : List QueueEvent) (now 
     → MayBeAnswered most history now
 MayBeAnswered-along longest most history now same may = subst (λ n. MayBeAnswered n history now) same may
 
--- one more that may not be answered
-pub AreStale-append : (longest : ℕ) (h k : List QueueEvent) (taken : List Take) (take : Take) → AreStale longest h taken k
-    → (MayBeAnswered longest (history_before take k) take.now → ⊥)
-    → AreStale longest h (taken ++ take ∷ []) (history_after take k)
-AreStale-append longest h k [] take stale not =
-    ((λ may. not (rw stale may)), ap (history_after take) stale)
-AreStale-append longest h k (first ∷ taken) take stale not =
-    (stale.0, AreStale-append longest (history_after first h) k taken take stale.1 not)
+-- these, and then those
+pub AreStale-append : (longest : ℕ) (h k m : List QueueEvent) (first second : List Dropped) → AreStale longest h first k
+    → AreStale longest k second m → AreStale longest h (first ++ second) m
+AreStale-append longest h k m [] second a b = subst (λ xs. AreStale longest xs second m) a b
+AreStale-append longest h k m (one ∷ first) second a b =
+    (a.0, AreStale-append longest (history_dropped one h) k m first second a.1 b)
 
--- it is counted
-pub counted-append : (s t : ℕ) (taken : List Take) (take : Take) → t ≡ counted_on s (length taken)
-    → counted_on t 1 ≡ counted_on s (length (taken ++ take ∷ []))
-counted-append s t taken take counted = omega (arith, counted, length-append taken (take ∷ []))
+-- are counted
+pub counted-append : (s t v : ℕ) (first second : List Dropped) → t ≡ counted_on s (length first) → v ≡ counted_on t (length second)
+    → v ≡ counted_on s (length (first ++ second))
+counted-append s t v first second a b = omega (arith, a, b, length-append first second)

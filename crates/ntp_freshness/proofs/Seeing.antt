@@ -4,7 +4,7 @@ use Rattle.ntp_events.specs.declared.observation.Arrival.{Arrival}
 use Rattle.ntp_service_serve.specs.declared.port.PortFault.{PortFault}
 use Rattle.ntp_freshness.specs.declared.queue_event.QueueEvent.{QueueEvent}
 use Rattle.ntp_freshness.specs.declared.queue_event.QueueEvent.TheVariants.{Read}
-use Rattle.ntp_freshness.specs.Queue.{last_reading, SeesMore, ReadsClock, Tells, seen_in_count, seen_in_look, seen_in_wait}
+use Rattle.ntp_freshness.specs.Queue.{last_reading, SeesMore, ReadsClock, Tells, seen_in_count, seen_in_look, seen_in_wait, seen_in_drop}
 use Rattle.ntp_freshness.specs.Fresh.{IsSeenFrom}
 
 -- nothing was seen
@@ -52,6 +52,14 @@ keeps-look false shown told = refl
 pub seen-in_look : (reading : ℕ) (q r : Option (List QueueEvent)) (b : Bool) (h : List QueueEvent) → Tells q r (seen_in_look b)
     → IsSeenFrom reading reading q r h (seen_in_look b reading ++ h)
 seen-in_look reading q r b h tells = seen-in_call reading q r (seen_in_look b) h (keeps-look b) tells
+
+keeps-drop : (b : Bool) (shown : ℕ) (told : List QueueEvent) → last_reading (seen_in_drop b shown ++ told) ≡ last_reading told
+keeps-drop true shown told = refl
+keeps-drop false shown told = refl
+
+pub seen-in_drop : (reading : ℕ) (q r : Option (List QueueEvent)) (b : Bool) (h : List QueueEvent) → Tells q r (seen_in_drop b)
+    → IsSeenFrom reading reading q r h (seen_in_drop b reading ++ h)
+seen-in_drop reading q r b h tells = seen-in_call reading q r (seen_in_drop b) h (keeps-drop b) tells
 
 keeps-wait : (received : Option (Result Arrival PortFault)) (shown : ℕ) (told : List QueueEvent)
     → last_reading (seen_in_wait received shown ++ told) ≡ last_reading told

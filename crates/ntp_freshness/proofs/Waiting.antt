@@ -5,8 +5,9 @@ use Rattle.ntp_service_serve.specs.declared.port.PortFault.{PortFault}
 use Rattle.ntp_freshness.specs.declared.queue_event.QueueEvent.{QueueEvent}
 use Rattle.ntp_freshness.specs.declared.queue_event.QueueEvent.TheVariants.{Held, Taken, Read}
 use Rattle.ntp_freshness.specs.Freshness.{takes, MayBeAnswered}
-use Rattle.ntp_freshness.specs.Fresh.{Take, history_before, history_after, AreStale, PassesOn, ReceivesFresh}
+use Rattle.ntp_freshness.specs.Fresh.{Take, history_before, history_after, Dropped, InHand, Swept, history_dropped, IsStale, AreStale, PassesOn, ReceivesFresh}
 use Rattle.ntp_freshness.proofs.Seeing.{IsSeenFrom-same, IsSeenFrom-more}
+use Rattle.ntp_freshness.proofs.Keeping.{AreStale-append}
 
 takes-append : (xs ys : List QueueEvent) → takes (xs ++ ys) ≡ takes xs + takes ys
 takes-append [] ys = omega arith
@@ -32,6 +33,25 @@ history_after-earlier : (take : Take) (seen history : List QueueEvent) (quiet : 
 unfolding earlier
 history_after-earlier take seen history quiet = ap (λ xs. Read take.now ∷ (Taken take.at ∷ xs)) (append_assoc take.seen seen history)
 
+-- one that was dropped, before which more was seen
+earlier_dropped : Dropped → (seen : List QueueEvent) → takes seen ≡ 0 → Dropped
+earlier_dropped (InHand take) seen quiet = InHand (earlier take seen quiet)
+earlier_dropped (Swept events calm at) seen quiet = Swept (events ++ seen) (quiet-append events seen calm quiet) at
+
+history_dropped-earlier : (one : Dropped) (seen history : List QueueEvent) (quiet : takes seen ≡ 0)
+    → history_dropped (earlier_dropped one seen quiet) history ≡ history_dropped one (seen ++ history)
+unfolding earlier_dropped
+history_dropped-earlier (InHand take) seen history quiet = history_after-earlier take seen history quiet
+history_dropped-earlier (Swept events calm at) seen history quiet = ap (λ xs. Taken at ∷ xs) (append_assoc events seen history)
+
+IsStale-earlier : (longest : ℕ) (one : Dropped) (seen history : List QueueEvent) (quiet : takes seen ≡ 0)
+    → IsStale longest (seen ++ history) one → IsStale longest history (earlier_dropped one seen quiet)
+unfolding earlier_dropped earlier
+IsStale-earlier longest (InHand take) seen history quiet stale =
+    λ may. stale (subst (λ xs. MayBeAnswered longest xs take.now) (history_before-earlier take seen history quiet) may)
+IsStale-earlier longest (Swept events calm at) seen history quiet stale =
+    λ may. stale (subst (λ xs. MayBeAnswered longest xs at) (append_assoc events seen history) may)
+
 -- what is passed on, where more was seen before
 PassesOn-earlier : (longest : ℕ) (seen history after : List QueueEvent) (result : Option (Result Arrival PortFault)) → takes seen ≡ 0
     → PassesOn longest (seen ++ history) result after → PassesOn longest history result after
@@ -48,13 +68,13 @@ PassesOn-earlier longest seen history after (Some (Ok arrival)) quiet passed = (
 
 -- what is dropped, and then passed on, where more was seen before
 record Goes (longest : ℕ) (history after : List QueueEvent) (count : ℕ) (result : Option (Result Arrival PortFault)) : Type 0 where
-  dropped : List Take
+  dropped : List Dropped
   between : List QueueEvent
   stale : AreStale longest history dropped between
   passed_on : PassesOn longest between result after
   as_many : length dropped ≡ count
 
-Goes-earlier : (longest : ℕ) (seen history between after : List QueueEvent) (dropped : List Take)
+Goes-earlier : (longest : ℕ) (seen history between after : List QueueEvent) (dropped : List Dropped)
     (result : Option (Result Arrival PortFault)) → takes seen ≡ 0 → AreStale longest (seen ++ history) dropped between
     → PassesOn longest between result after → Goes longest history after (length dropped) result
 unfolding earlier
@@ -65,22 +85,16 @@ Goes-earlier longest seen history between after [] result quiet stale passed = r
   passed_on = PassesOn-earlier longest seen history after result quiet (subst (λ xs. PassesOn longest xs result after) stale passed);
   as_many = refl;
 }
-Goes-earlier longest seen history between after (take ∷ dropped) result quiet stale passed = record {
-  dropped = earlier take seen quiet ∷ dropped;
+Goes-earlier longest seen history between after (one ∷ dropped) result quiet stale passed = record {
+  dropped = earlier_dropped one seen quiet ∷ dropped;
   between = between;
   stale = (
-    (λ may. stale.0 (subst (λ xs. MayBeAnswered longest xs take.now) (history_before-earlier take seen history quiet) may)),
-    subst (λ xs. AreStale longest xs dropped between) (sym (history_after-earlier take seen history quiet)) stale.1,
+    IsStale-earlier longest one seen history quiet stale.0,
+    subst (λ xs. AreStale longest xs dropped between) (sym (history_dropped-earlier one seen history quiet)) stale.1,
   );
   passed_on = passed;
   as_many = refl;
 }
-
-AreStale-append : (longest : ℕ) (h k m : List QueueEvent) (first second : List Take) → AreStale longest h first k
-    → AreStale longest k second m → AreStale longest h (first ++ second) m
-AreStale-append longest h k m [] second a b = subst (λ xs. AreStale longest xs second m) a b
-AreStale-append longest h k m (take ∷ first) second a b =
-    (a.0, AreStale-append longest (history_after take h) k m first second a.1 b)
 
 -- nothing was passed on, and then this
 pub ReceivesFresh-more : (longest a b c : ℕ) (q r u : Option (List QueueEvent)) (s t v : ℕ) (h k m : List QueueEvent)

@@ -30,11 +30,27 @@ history_before take history = take.seen ++ history
 abbrev pub history_after : Take → List QueueEvent → List QueueEvent
 history_after take history = Read take.now ∷ (Taken take.at ∷ history_before take history)
 
--- these were taken, one after another, and none of them may be answered (profile)
-abbrev pub AreStale : ℕ → List QueueEvent → List Take → List QueueEvent → Type 0
+-- a datagram that was dropped: one that was taken; or one that was swept out, with what was seen since the take before it, newest first,
+-- which is no take, and with what the clock had shown when the call began that swept it out (profile)
+pub data Dropped : Type 0 where
+  InHand : Take → Dropped
+  Swept : (seen : List QueueEvent) → takes seen ≡ 0 → ℕ → Dropped
+
+-- the history with it (profile)
+abbrev pub history_dropped : Dropped → List QueueEvent → List QueueEvent
+history_dropped (InHand take) history = history_after take history
+history_dropped (Swept seen quiet at) history = Taken at ∷ (seen ++ history)
+
+-- it may not be answered: once it is in hand, or already when the call begins that sweeps it out (profile)
+abbrev pub IsStale : ℕ → List QueueEvent → Dropped → Type 0
+IsStale longest history (InHand take) = MayBeAnswered longest (history_before take history) take.now → ⊥
+IsStale longest history (Swept seen quiet at) = MayBeAnswered longest (seen ++ history) at → ⊥
+
+-- these were dropped, one after another, and none of them may be answered (profile)
+abbrev pub AreStale : ℕ → List QueueEvent → List Dropped → List QueueEvent → Type 0
 AreStale longest history [] after = after ≡ history
-AreStale longest history (take ∷ taken) after =
-    (MayBeAnswered longest (history_before take history) take.now → ⊥) × AreStale longest (history_after take history) taken after
+AreStale longest history (dropped ∷ more) after =
+    IsStale longest history dropped × AreStale longest (history_dropped dropped history) more after
 
 -- nothing was taken (profile)
 abbrev pub NothingTaken : List QueueEvent → List QueueEvent → Type 0
@@ -67,7 +83,7 @@ IsSeenFrom reading now old new history after = IsShown reading old → IsShown n
 -- from the queue of a port were taken some datagrams that may not be answered, which are dropped and counted, and then what is passed on (profile)
 pub record ReceivesFresh (longest : ℕ) (reading now : ℕ) (old new : Option (List QueueEvent)) (stale_before stale_after : ℕ)
     (history after : List QueueEvent) (result : Option (Result Arrival PortFault)) : Type 0 where
-  pub dropped : List Take
+  pub dropped : List Dropped
   pub between : List QueueEvent
   pub stale : AreStale longest history dropped between
   pub passed_on : PassesOn longest between result after

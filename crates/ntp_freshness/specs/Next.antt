@@ -5,7 +5,7 @@ use Rattle.ntp_freshness.specs.declared.queue_watch.QueueWatch.{QueueWatch}
 use Rattle.ntp_freshness.specs.declared.fresh_port.Next.{Next}
 use Rattle.ntp_freshness.specs.declared.fresh_port.Next.TheVariants.{Nothing, Fault, Fresh, Stale}
 use Rattle.ntp_freshness.specs.Freshness.{takes, MayBeAnswered}
-use Rattle.ntp_freshness.specs.Fresh.{StandsFor, Take, history_before, history_after, AreStale, NothingTaken, counted_on, IsSeenFrom}
+use Rattle.ntp_freshness.specs.Fresh.{StandsFor, Take, Dropped, history_before, history_after, AreStale, NothingTaken, counted_on, IsSeenFrom}
 
 -- what was taken, and how many datagrams were dropped before and after
 abbrev pub ComesTo : ℕ → List QueueEvent → Next → List QueueEvent → ℕ → ℕ → Type 0
@@ -43,6 +43,6 @@ pub record Drops (longest : ℕ) (reading now : ℕ) (old new : Option (List Que
   pub after : List QueueEvent
   pub stands : StandsFor watch now after
   pub seen : IsSeenFrom reading now old new history after
-  pub dropped : List Take
+  pub dropped : List Dropped
   pub stale : AreStale longest history dropped after
   pub counted : t ≡ counted_on s (length dropped)

@@ -39,6 +39,11 @@ seen_in_wait None shown = Held 0 shown ∷ []
 seen_in_wait (Some (Ok arrival)) shown = Taken shown ∷ []
 seen_in_wait (Some (Err fault)) shown = []
 
+-- what a call tells that drops the next datagram, or could not (profile)
+abbrev pub seen_in_drop : Bool → ℕ → List QueueEvent
+seen_in_drop true shown = Taken shown ∷ []
+seen_in_drop false shown = []
+
 -- that was seen by a call that began when the clock had shown its last reading, or later (profile)
 abbrev pub Tells : Option (List QueueEvent) → Option (List QueueEvent) → (ℕ → List QueueEvent) → Type 0
 Tells old None seen = Unit {0}

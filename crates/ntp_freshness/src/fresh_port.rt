@@ -6,7 +6,7 @@ ghost use Rattle.ntp_freshness.specs.declared.queue_event.QueueEvent.{QueueEvent
 ghost use Rattle.ntp_freshness.specs.Freshness.{moment_of, IsInOrder};
 ghost use Rattle.ntp_freshness.specs.Watch.{Watches, longest_of};
 ghost use Rattle.ntp_freshness.specs.Fresh.{StandsFor, ReceivesFresh, IsShown};
-ghost use Rattle.ntp_freshness.specs.Next.{TakesNext, LooksOn, failures_in};
+ghost use Rattle.ntp_freshness.specs.Next.{TakesNext, LooksOn, Drops, failures_in};
 
 use crate::queue_watch::QueueWatch;
 use crate::queued_port::QueuedPort;
@@ -19,11 +19,15 @@ use ntp_time::Moment;
 /// (profile).
 const LOOK_PERIOD: u64 = 100_000;
 
-/// How many datagrams are dropped in one call at most, so that there is time to look at something else (profile).
-const MOST_DROPPED: u32 = 1_024;
+/// How many times the queue is swept in one call at most, so that there is time to look at something else (profile).
+const MOST_SWEEPS: u32 = 4;
 
 /// A port that passes on only datagrams that can have waited in the queue of another port for less than a given time; it drops
 /// and counts the others, which are no events (profile).
+///
+/// Where one is too old, so are those behind it that were in the queue when it was looked at last: these are swept out, one
+/// after another, and neither the clock nor the queue is asked in between. So what came after that look is reached
+/// soonest.
 ///
 /// The other port's waits have to end well within that time: else a datagram that came during a long wait is dropped.
 #[derive(Drop)]
@@ -89,7 +93,7 @@ impl<P: QueuedPort> FreshPort<P> {
     }
 
     /// Receives a datagram that may be answered, where one comes in time: those that may not be answered, and come before it, are
-    /// dropped and counted. Nothing where none did, or where too many were dropped.
+    /// dropped and counted. Nothing where none did, or where the queue was swept several times.
     ///
     /// Whatever history the watch stood for, it goes on to stand for one more, with which this is so; and where the other port
     /// tells what it saw, it is just that.
@@ -105,12 +109,12 @@ impl<P: QueuedPort> FreshPort<P> {
             × ReceivesFresh (longest_of self.old.watch) self.old.reading self.new.reading
             (P.history self.old.port) (P.history self.new.port) self.old.stale self.new.stale history after result }
     {
-        for _ in 0..MOST_DROPPED {
+        for _ in 0..MOST_SWEEPS {
             match self.take_next(datagram) {
                 Next::Nothing => return None,
                 Next::Fault(fault) => return Some(Err(fault)),
                 Next::Fresh(arrival) => return Some(Ok(arrival)),
-                Next::Stale => {}
+                Next::Stale => self.sweep(),
             }
         }
         None
@@ -151,6 +155,43 @@ impl<P: QueuedPort> FreshPort<P> {
                 Next::Stale
             }
         }
+    }
+
+    // Drops what was in the queue when it was looked at last, as long as it may not be answered.
+    fn sweep(&mut self)
+        ensures reading { self.new.reading ≡ self.old.reading }
+        ensures failures { self.new.failures ≡ self.old.failures }
+        ensures longest { longest_of self.new.watch ≡ longest_of self.old.watch }
+        ensures drops { (history : List QueueEvent) → StandsFor self.old.watch self.old.reading history
+            → Drops (longest_of self.old.watch) self.old.reading self.new.reading
+            (P.history self.old.port) (P.history self.new.port) self.old.stale self.new.stale self.new.watch history }
+    {
+        for _ in 0..self.watch.waiting() {
+            if !self.drop_next() {
+                return;
+            }
+        }
+    }
+
+    // Drops the next datagram, where it may not be answered by what is known. Whether it did.
+    fn drop_next(&mut self) -> bool
+        ensures reading { self.new.reading ≡ self.old.reading }
+        ensures failures { self.new.failures ≡ self.old.failures }
+        ensures longest { longest_of self.new.watch ≡ longest_of self.old.watch }
+        ensures drops { (history : List QueueEvent) → StandsFor self.old.watch self.old.reading history
+            → Drops (longest_of self.old.watch) self.old.reading self.new.reading
+            (P.history self.old.port) (P.history self.new.port) self.old.stale self.new.stale self.new.watch history }
+    {
+        let stale = self.stale;
+        if self.watch.is_fresh(self.reading) {
+            return false;
+        }
+        let has_dropped = self.port.drop_next();
+        if has_dropped {
+            self.watch.took();
+            self.stale = stale.saturating_add(1);
+        }
+        has_dropped
     }
 
     // Looks at the queue where it is time to, once in a ten-thousandth of a second at most.

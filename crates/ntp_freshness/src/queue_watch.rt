@@ -78,6 +78,11 @@ impl QueueWatch {
         self.is_known_within(now, self.longest)
     }
 
+    // How many datagrams that were in the queue when it was looked at may still be in it; 0 where that is not waited for.
+    pub(crate) fn waiting(&self) -> u64 {
+        self.waiting
+    }
+
     // Whether it is time to look whether the queue is empty.
     pub(crate) fn is_due(&self, now: u64) -> bool {
         !self.is_known_within(now, self.longest / PARTS)

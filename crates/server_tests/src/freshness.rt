@@ -70,10 +70,9 @@ fn what_waited_while_the_process_was_stopped_is_dropped(rt: HostRuntime) -> Resu
         (2_900, 9),
         (5_150, 10),
     ];
-    // Ten takes at 5,100 ms, after a stop of five seconds, and one later.
-    let readings = [
-        0, 100, 5_100, 5_100, 5_100, 5_100, 5_100, 5_100, 5_100, 5_100, 5_100, 5_100, 5_200,
-    ];
+    // Two takes at 5,100 ms, after a stop of five seconds, and one later. Before the second the nine that are left are counted,
+    // and behind it eight are swept out.
+    let readings = [0, 100, 5_100, 5_100, 5_200];
     let mut port = port(rt.alloc(), &coming, &readings)?;
     for (expected, stale) in [(None, 0), (Some(10), 10), (None, 10)] {
         assert_eq!(rt; next(&mut port), Ok(expected));
@@ -112,11 +111,13 @@ fn passed_on_in_overload<A: Allocator + Copy>(
 }
 
 #[test]
-fn overload_is_answered_where_the_queue_is_taken_out_in_time(rt: HostRuntime) -> Result<(), Fail> {
+fn overload_is_answered_by_what_came_behind_the_stale_ones(rt: HostRuntime) -> Result<(), Fail> {
     // The queue is never seen empty. Three datagrams that a look finds are taken out 30 ms later.
     assert_eq!(rt; passed_on_in_overload(rt.alloc(), 3)?, (200, 0));
-    // Thirty are taken out 300 ms later. Nothing had come at 0 ms; the 25th datagram is in hand at 250 ms.
-    assert_eq!(rt; passed_on_in_overload(rt.alloc(), 30)?, (24, 176));
+    // Thirty would be taken out 300 ms later. Nothing had come at 0 ms, and thirty were counted at 80 ms. The 25th datagram is in
+    // hand at 250 ms: it is dropped, and so are the 13 of the thirty behind it. What comes next came after 80 ms. The 17 that
+    // wait then are counted; at 330 ms one is dropped, and the nine that are left of them. Six wait then, and are in time.
+    assert_eq!(rt; passed_on_in_overload(rt.alloc(), 30)?, (176, 24));
     Ok(())
 }
 

@@ -5,7 +5,9 @@ use crate::files::CommandsFault;
 use labntpd_configuration::Configuration;
 use labntpd_configuration::command_line::VERSION;
 use labntpd_host::{BoundAt, ClockSource, HostClocks, Log, queue_state, replace_file};
+use ntp_clock::Reading;
 use ntp_host::moment_now;
+use ntp_reply::Reference;
 use ntp_reports::{Ask, ClockGauges, Gauges, Kind, LineAllowance, write_statistics};
 use ntp_server::Reporter;
 use ntp_time::Moment;
@@ -24,6 +26,12 @@ const TOTALS_PERIOD: u64 = 3_600;
 
 /// The leap indicator of an unsynchronised clock (RFC 5905, 7.3).
 const UNSYNCHRONISED_LEAP: u8 = 3;
+
+/// The leap indicator where no leap second is announced (RFC 5905, 7.3).
+const NO_LEAP: u8 = 0;
+
+/// After how many seconds a clock's daemon that has not answered yet is told as such (profile).
+const CLOCK_PATIENCE: u64 = 2;
 
 /// How much room the statistics have, and a part of the kernel's list of sockets, in octets.
 const STATISTICS_ROOM: usize = 16_384;
@@ -46,7 +54,7 @@ pub struct Begun {
 // What was told of last.
 #[derive(Clone, Copy)]
 struct Told {
-    is_synchronised: Option<bool>,
+    clock: Option<Reference>,
     stale: u64,
     commands: Option<CommandsFault>,
     has_answers: bool,
@@ -107,7 +115,7 @@ impl<'a> Housekeeping<'a> {
             statistics_due: 0,
             totals_due: TOTALS_PERIOD,
             told: Told {
-                is_synchronised: None,
+                clock: None,
                 stale: 0,
                 commands: None,
                 has_answers: true,
@@ -144,15 +152,20 @@ impl<'a> Housekeeping<'a> {
     }
 
     // What is done once a second.
-    fn each_second(&mut self, server: &Daemon<'_>, ticks: u64) {
-        let clock = moment_now(self.rt);
-        let gauges = clock_gauges(&server.reference, ticks, clock);
-        self.tell_clock(&gauges);
+    fn each_second(&mut self, server: &Daemon<'_>) {
+        let now = Reading {
+            clock: moment_now(self.rt),
+            ticks: self.clocks.read(&self.rt),
+        };
+        let state = server.reference.state(now);
+        if self.is_clock_known(&server.reference) {
+            self.tell_clock(&state);
+        }
         self.tell_stale(server.port.stale());
         self.tell_files(server);
         if self.seconds >= self.statistics_due {
             self.statistics_due = self.seconds.saturating_add(STATISTICS_PERIOD);
-            self.write_statistics(server, gauges);
+            self.write_statistics(server, clock_gauges(&server.reference, &state, now.ticks));
         }
         if self.seconds >= self.totals_due {
             self.totals_due = self.seconds.saturating_add(TOTALS_PERIOD);
@@ -160,22 +173,54 @@ impl<'a> Housekeeping<'a> {
         }
     }
 
-    // Logs that the clock is synchronised from now on, or is no longer.
-    fn tell_clock(&mut self, gauges: &ClockGauges) {
-        let is_synchronised = Some(gauges.is_synchronised);
-        if self.told.is_synchronised == is_synchronised {
-            return;
+    // Whether the state of the clock can be told. A daemon that was just asked may not have answered yet.
+    fn is_clock_known(&self, source: &ClockSource<'_, &HostRuntime>) -> bool {
+        match source {
+            ClockSource::Fixed(_) => true,
+            ClockSource::Followed(followed) => followed.has_answered()
+                || self.seconds >= CLOCK_PATIENCE,
         }
-        self.told.is_synchronised = is_synchronised;
+    }
+
+    // Logs that the clock is synchronised, or is not, from now on; and of one that is, what has changed of its stratum, of its
+    // reference, and of the leap second that it announces.
+    fn tell_clock(&mut self, state: &Reference) {
+        let told = self.told.clock.replace(*state);
+        if is_synchronised(state) {
+            let told = told.filter(is_synchronised);
+            if told.is_none_or(|it| it.stratum() != state.stratum() || it.id() != state.id()) {
+                self.tell_reference(state);
+            }
+            let leap = told.map_or(NO_LEAP, |it| it.leap());
+            if leap != state.leap() {
+                self.tell_leap(state.leap());
+            }
+        } else if told.is_none_or(|it| is_synchronised(&it)) && self.may_say() {
+            let _ = write!(self.log.begin(), "clock: not synchronised");
+            self.log.end();
+        }
+    }
+
+    // Logs which clock the host's follows.
+    fn tell_reference(&mut self, state: &Reference) {
         if !self.may_say() {
             return;
         }
-        let line = self.log.begin();
-        let _ = if gauges.is_synchronised {
-            write!(line, "clock: synchronised, stratum {}", gauges.stratum)
-        } else {
-            write!(line, "clock: not synchronised")
-        };
+        let [a, b, c, d] = state.id();
+        let _ = write!(
+            self.log.begin(),
+            "clock: synchronised, stratum {}, reference {a:02x}{b:02x}{c:02x}{d:02x}",
+            state.stratum()
+        );
+        self.log.end();
+    }
+
+    // Logs which leap second is announced.
+    fn tell_leap(&mut self, leap: u8) {
+        if !self.may_say() {
+            return;
+        }
+        let _ = write!(self.log.begin(), "clock: {}", leap_word(leap));
         self.log.end();
     }
 
@@ -288,7 +333,7 @@ impl<'a, 'b> Reporter<Daemon<'b>> for Housekeeping<'a> {
             .saturating_add(1)
             .saturating_mul(SECOND_NANOS)
             .saturating_add(started);
-        self.each_second(server, ticks);
+        self.each_second(server);
     }
 }
 
@@ -314,20 +359,35 @@ fn written_word(is_well: bool) -> &'static str {
 }
 
 // What is told of the clock in the statistics.
-fn clock_gauges(source: &ClockSource<'_, &HostRuntime>, ticks: u64, clock: Moment) -> ClockGauges {
-    let (reference, age) = match source {
-        ClockSource::Fixed(reference) => (*reference, None),
-        ClockSource::Followed(followed) => {
-            let follower = followed.follower();
-            (follower.in_force(ticks, clock), follower.age(ticks))
-        }
+fn clock_gauges(
+    source: &ClockSource<'_, &HostRuntime>,
+    state: &Reference,
+    ticks: u64,
+) -> ClockGauges {
+    let age = match source {
+        ClockSource::Fixed(_) => None,
+        ClockSource::Followed(followed) => followed.follower().age(ticks),
     };
     ClockGauges {
-        is_synchronised: reference.leap() != UNSYNCHRONISED_LEAP,
+        is_synchronised: is_synchronised(state),
         age,
-        stratum: reference.stratum(),
-        leap: reference.leap(),
-        root_dispersion: reference.root_dispersion(),
+        stratum: state.stratum(),
+        leap: state.leap(),
+        root_dispersion: state.root_dispersion(),
+    }
+}
+
+// Whether a state is that of a synchronised clock.
+fn is_synchronised(state: &Reference) -> bool {
+    state.leap() != UNSYNCHRONISED_LEAP
+}
+
+// What is told of a leap indicator of a synchronised clock (RFC 5905, 7.3).
+fn leap_word(leap: u8) -> &'static str {
+    match leap {
+        NO_LEAP => "no leap second is announced",
+        1 => "a leap second is announced: the last minute of the day has 61 seconds",
+        _ => "a leap second is announced: the last minute of the day has 59 seconds",
     }
 }
 

@@ -1,8 +1,8 @@
 //! The state of the clock, from the register file or from the host's clock daemon.
 
 use crate::queued_udp::HostClocks;
-use ntp_client::Taken;
-use ntp_clock::{Follower, reference_unsynchronised};
+use ntp_client::{Distrust, Taken};
+use ntp_clock::{Follower, Reading, is_read, reference_unsynchronised, reference_where_read};
 use ntp_host::moment_now;
 use ntp_reply::Reference;
 use ntp_service_serve::ReferenceSource;
@@ -10,9 +10,6 @@ use ntp_time::Moment;
 use std::net::UdpSocket;
 use std::os::fd::AsRawFd;
 use std::time::Clock;
-
-/// How long after a request the next one is sent, in nanoseconds: a second (profile).
-const PERIOD: u64 = 1_000_000_000;
 
 /// How long an answer is looked for in each turn, and ends a wait, in nanoseconds: 20 thousandths of a second (profile).
 const PATIENCE: u64 = 20_000_000;
@@ -22,6 +19,11 @@ const LATER_PERIOD: u64 = 10_000_000;
 
 /// How many datagrams are taken at one look at most (profile).
 const MOST_ANSWERS: usize = 8;
+
+/// How long the reading of both clocks may take, in nanoseconds, and how often they are read at most to find such a reading (profile).
+const LONGEST_READING: u64 = 100_000;
+
+const MOST_READINGS: usize = 8;
 
 /// The host's clock daemon, which is asked once a second for the state of its clock (RFC 5905, 7.3).
 ///
@@ -33,11 +35,19 @@ pub struct FollowedClock<'a, C: Clock + Copy + Drop> {
     clock: C,
     clocks: &'a HostClocks,
     follower: Follower,
-    // When the daemon was asked last, if it was.
+    // When the daemon was asked last, if it was since the host's clock was set.
     asked: Option<u64>,
     is_outstanding: bool,
     // When an answer was looked for last.
     looked: u64,
+    has_answered: bool,
+}
+
+// A reading of both clocks, and how long it took, in nanoseconds.
+#[derive(Clone, Copy)]
+struct TimedReading {
+    reading: Reading,
+    took: u64,
 }
 
 impl<'a, C: Clock + Copy + Drop> FollowedClock<'a, C> {
@@ -56,6 +66,7 @@ impl<'a, C: Clock + Copy + Drop> FollowedClock<'a, C> {
             asked: None,
             is_outstanding: false,
             looked: 0,
+            has_answered: false,
         }
     }
 
@@ -64,41 +75,105 @@ impl<'a, C: Clock + Copy + Drop> FollowedClock<'a, C> {
         &self.follower
     }
 
-    // Asks where it is time to, and takes what has come.
-    fn exchange(&mut self, ticks: u64) {
-        let since = match self.asked {
-            Some(asked) => ticks.saturating_sub(asked),
-            None => PERIOD,
-        };
-        if since >= PERIOD {
-            self.ask(ticks);
-        } else if self.is_outstanding && self.is_time_to_look(ticks, since) {
-            self.looked = ticks;
-            self.take_answers();
-            if self.is_outstanding && since >= PATIENCE {
-                self.clocks.expected.set(-1);
+    /// Whether the daemon has told the state of its clock at all, were it that this is not synchronised.
+    pub fn has_answered(&self) -> bool {
+        self.has_answered
+    }
+
+    // What both clocks show together; nothing where the host's could not be read. Where the process was held up between their
+    // readings, they are read again.
+    fn reading(&self) -> Option<Reading> {
+        let mut best = self.timed_reading();
+        for _ in 1..MOST_READINGS {
+            if best.took <= LONGEST_READING {
+                break;
             }
+            let next = self.timed_reading();
+            if next.took < best.took {
+                best = next;
+            }
+        }
+        Some(best.reading).filter(|it| is_read(it.clock))
+    }
+
+    // Reads the host's clock between two readings of the ticks.
+    fn timed_reading(&self) -> TimedReading {
+        let before = self.clocks.read(&self.clock);
+        let clock = moment_now(&self.clock);
+        let took = self.clocks.read(&self.clock).saturating_sub(before);
+        let ticks = before.saturating_add(took / 2);
+        TimedReading {
+            reading: Reading { clock, ticks },
+            took,
         }
     }
 
-    // Whether an answer is looked for, so long after the request.
+    // Looks whether the host's clock was set, where a reading shows it. That may be one in which the process was held up, so the clocks
+    // are read anew.
+    fn glance(&mut self, shown: Reading) {
+        if !is_read(shown.clock) || !self.follower.is_set_since(shown) {
+            return;
+        }
+        if let Some(now) = self.reading() {
+            self.look(now);
+        }
+    }
+
+    // Looks whether the host's clock was set. Where it was, no answer is waited for, and the daemon is asked again at once.
+    fn look(&mut self, now: Reading) {
+        if self.follower.look(now) {
+            self.asked = None;
+            self.expect_nothing();
+        }
+    }
+
+    // No answer is waited for.
+    fn expect_nothing(&mut self) {
+        self.is_outstanding = false;
+        self.clocks.expected.set(-1);
+    }
+
+    // Asks where it is time to, and takes what has come.
+    fn exchange(&mut self, ticks: u64) {
+        match self.asked {
+            Some(asked) if ticks.saturating_sub(asked) < self.follower.period(ticks) => {
+                self.look_for_answer(ticks, ticks.saturating_sub(asked));
+            }
+            _ => self.ask(ticks),
+        }
+    }
+
+    // Takes what has come so long after the question, where an answer is waited for and it is time to look for it.
+    fn look_for_answer(&mut self, ticks: u64, since: u64) {
+        if !self.is_outstanding || !self.is_time_to_look(ticks, since) {
+            return;
+        }
+        self.looked = ticks;
+        self.take_answers();
+        if self.is_outstanding && since >= PATIENCE {
+            self.clocks.expected.set(-1);
+        }
+    }
+
+    // Whether an answer is looked for, so long after the question.
     fn is_time_to_look(&self, ticks: u64, since: u64) -> bool {
         since < PATIENCE || ticks.saturating_sub(self.looked) >= LATER_PERIOD
     }
 
-    // Sends a request. One that cannot be sent is sent again a second later.
+    // Sends a question. One that cannot be sent is sent again when the next one is due.
     fn ask(&mut self, ticks: u64) {
-        // What came too late for the last request is taken before it is given up.
+        // What came too late for the last question is taken before it is given up.
         self.take_answers();
         self.asked = Some(ticks);
-        let request = self.follower.request(moment_now(&self.clock));
-        self.is_outstanding = self.socket.send(request.octets()).is_ok();
-        let expected = if self.is_outstanding {
-            self.socket.as_raw_fd()
-        } else {
-            -1
+        self.expect_nothing();
+        let Some(now) = self.reading() else {
+            return;
         };
-        self.clocks.expected.set(expected);
+        let request = self.follower.request(now);
+        if self.socket.send(request.octets()).is_ok() {
+            self.is_outstanding = true;
+            self.clocks.expected.set(self.socket.as_raw_fd());
+        }
     }
 
     // Takes what has come, until an answer is among it.
@@ -108,31 +183,47 @@ impl<'a, C: Clock + Copy + Drop> FollowedClock<'a, C> {
             let Ok(length) = self.socket.recv(&mut octets) else {
                 return;
             };
-            let clock = moment_now(&self.clock);
-            let ticks = self.clocks.read(&self.clock);
-            let taken = self.follower.take(&octets[..length], clock, ticks);
-            if matches!(taken, Taken::Sample(_)) {
-                self.is_outstanding = false;
-                self.clocks.expected.set(-1);
+            let Some(now) = self.reading() else {
+                return;
+            };
+            self.look(now);
+            let taken = self.follower.take(&octets[..length], now);
+            if is_answer(taken) {
+                self.has_answered |= taken != Taken::Rate;
+                self.expect_nothing();
                 return;
             }
         }
     }
 }
 
+// Whether octets were taken for the daemon's answer to the question.
+fn is_answer(taken: Taken) -> bool {
+    matches!(
+        taken,
+        Taken::Sample(_) | Taken::Rate | Taken::Refused(Distrust::Unsynchronised)
+    )
+}
+
 impl<'a, C: Clock + Copy + Drop> ReferenceSource for FollowedClock<'a, C> {
     /// The state that the daemon's last answer gives by now.
     fn in_force(&mut self, receipt: Option<Moment>) -> Reference {
         let ticks = self.clocks.ticks.get();
+        let Some(clock) = receipt else {
+            self.exchange(ticks);
+            return reference_unsynchronised();
+        };
+        // The ticks were read just after the receipt, and before anything that the exchange does.
+        let received = Reading { clock, ticks };
+        self.glance(received);
         self.exchange(ticks);
-        match receipt {
-            Some(receipt) => self.follower.in_force(self.clocks.ticks.get(), receipt),
-            None => reference_unsynchronised(),
-        }
+        self.follower.in_force(received)
     }
 
     fn tend(&mut self) {
         let ticks = self.clocks.read(&self.clock);
+        let clock = moment_now(&self.clock);
+        self.glance(Reading { clock, ticks });
         self.exchange(ticks);
     }
 }
@@ -146,11 +237,27 @@ pub enum ClockSource<'a, C: Clock + Copy + Drop> {
     Followed(FollowedClock<'a, C>),
 }
 
+impl<'a, C: Clock + Copy + Drop> ClockSource<'a, C> {
+    /// The state of the clock by a reading of the host's clocks.
+    pub fn state(&self, now: Reading) -> Reference {
+        let state = match self {
+            ClockSource::Fixed(reference) => *reference,
+            ClockSource::Followed(followed) => followed.follower.in_force(now),
+        };
+        reference_where_read(now.clock, state)
+    }
+}
+
 impl<'a, C: Clock + Copy + Drop> ReferenceSource for ClockSource<'a, C> {
+    /// The state that replies tell: of a turn whose clock could not be read, that of an unsynchronised one.
     fn in_force(&mut self, receipt: Option<Moment>) -> Reference {
-        match self {
+        let state = match self {
             ClockSource::Fixed(reference) => *reference,
             ClockSource::Followed(followed) => followed.in_force(receipt),
+        };
+        match receipt {
+            Some(clock) => reference_where_read(clock, state),
+            None => state,
         }
     }
 

@@ -1,12 +1,15 @@
 -- The reference state that replies tell, by the last answer of the host's clock daemon.
-use Rattle.std.specs.Prelude.{ℕ, pos, neg_ℤ, ◌+◌, ◌-◌, ◌*◌, ◌^◌, ◌-ℤ◌, ◌*ℤ◌, min, unsigned_abs, Bool, false, not, ◌&&◌, ◌==◌, nat_lt, nat_le, int_le, if◌then◌else◌, Option, Some, None, [], ◌∷◌}
+use Rattle.std.specs.Prelude.{ℕ, ℤ, pos, neg_ℤ, ◌+◌, ◌-◌, ◌*◌, ◌^◌, ◌*ℤ◌, min, unsigned_abs, Bool, false, not, ◌&&◌, ◌==◌, nat_lt, nat_le, int_le, if◌then◌else◌, Option, Some, None, [], ◌∷◌}
 use Rattle.std.specs.Int.{div_ceil}
 use Rattle.ntp_time.specs.declared.moment.Moment.{Moment}
+use Rattle.ntp_time.specs.Moment.{units}
 use Rattle.ntp_time.specs.Difference.{difference}
 use Rattle.ntp_packet.specs.Header.{no_short, no_stamp}
 use Rattle.ntp_reply_packets.specs.Reference.{ReferenceState, reference_of}
 use Rattle.ntp_clock.specs.declared.answer.ClockAnswer.{ClockAnswer}
 use Rattle.ntp_clock.specs.declared.limits.ClockLimits.{ClockLimits}
+use Rattle.ntp_clock.specs.declared.reading.Reading.{Reading}
+use Rattle.ntp_clock.specs.Reading.{apart}
 
 -- the state of an unsynchronised clock: leap 3, stratum 16 and the greatest dispersion, 16 seconds (RFC 5905, 7.2, 7.3; its precision
 -- of 2^-20 seconds: profile)
@@ -14,7 +17,15 @@ abbrev pub unsynchronised : ReferenceState
 unsynchronised =
     reference_of 3 16 (neg_ℤ (pos 20)) no_short (record { 0 = 16 * 2 ^ 16 }) (0 ∷ 0 ∷ 0 ∷ 0 ∷ []) no_stamp
 
--- how long ago an answer came, in nanoseconds (profile)
+-- a moment is one that the host's clock showed: the first one of era 0 stands for a clock that could not be read (profile)
+abbrev pub is_read : Moment → Bool
+is_read clock = not (units clock == 0)
+
+-- the state that is told in a turn whose clock showed a moment: unsynchronised, where it could not be read (profile)
+abbrev pub where_read : Moment → ReferenceState → ReferenceState
+where_read clock state = if is_read clock then state else unsynchronised
+
+-- how long ago the question of an answer left, in nanoseconds (profile)
 abbrev pub age : ClockAnswer → ℕ → ℕ
 age a ticks = ticks - a.ticks
 
@@ -27,55 +38,68 @@ offset_size a = div_ceil (unsigned_abs a.offset_twice) (2 ^ 17)
 unfoldable pub drift : ℕ → ℕ
 drift nanos = div_ceil (nanos * 15 * 2 ^ 16) (10 ^ 15)
 
--- the root dispersion some time after an answer: that of the answer has grown by the size of the offset and by the drift, to the most
--- that a packet can tell (RFC 5905, 11.2; to the most: profile)
-abbrev pub dispersion : ClockAnswer → ℕ → ℕ
-dispersion a ticks = min (2 ^ 32 - 1) (a.state.root_dispersion.0 + offset_size a + drift (age a ticks))
+-- how far the host's clock was set since the daemon last showed an update, in units of 2^-16 seconds and rounded up (profile)
+abbrev pub set_by : ClockAnswer → Reading → ℕ
+set_by a now = div_ceil (apart a.base now) (2 ^ 16 * 10 ^ 9)
 
--- the state of an answer with that dispersion (profile)
-abbrev pub grown : ClockAnswer → ℕ → ReferenceState
-grown a ticks = reference_of a.state.leap a.state.stratum a.state.precision a.state.root_delay (record { 0 = dispersion a ticks })
-    a.state.id a.state.reference
+-- the root dispersion some time after an answer: that of the answer has grown by the size of the offset, by the drift and by how far the
+-- clock was set, to the most that a packet can tell (RFC 5905, 11.2; set, to the most: profile)
+abbrev pub dispersion : ClockAnswer → Reading → ℕ
+dispersion a now = min (2 ^ 32 - 1) (a.state.root_dispersion.0 + offset_size a + drift (age a now.ticks) + set_by a now)
+
+-- the precision that is told of the host's clock is never better than 2^-16 seconds (profile)
+unfoldable pub precision_told : ℤ → ℤ
+precision_told p = if int_le p (neg_ℤ (pos 16)) then neg_ℤ (pos 16) else p
+
+-- the state of an answer with that dispersion and precision (profile)
+abbrev pub grown : ClockAnswer → Reading → ReferenceState
+grown a now = reference_of a.state.leap a.state.stratum (precision_told a.state.precision) a.state.root_delay
+    (record { 0 = dispersion a now }) a.state.id a.state.reference
 
 -- twice the root distance, which is half the root delay and the root dispersion, in units of 2^-16 seconds (RFC 5905, 11.2)
-abbrev pub root_distance_twice : ClockAnswer → ℕ → ℕ
-root_distance_twice a ticks = a.state.root_delay.0 + 2 * dispersion a ticks
+abbrev pub root_distance_twice : ClockAnswer → Reading → ℕ
+root_distance_twice a now = a.state.root_delay.0 + 2 * dispersion a now
 
 -- an answer is young (profile)
-abbrev pub is_young : ClockLimits → ClockAnswer → ℕ → Bool
-is_young limits a ticks = nat_lt (age a ticks) limits.valid_for
+abbrev pub is_young : ClockLimits → ClockAnswer → Reading → Bool
+is_young limits a now = nat_lt (age a now.ticks) limits.valid_for
 
 -- its clock is synchronised (RFC 5905, 7.3)
 abbrev pub is_synchronised : ReferenceState → Bool
 is_synchronised s = not (s.leap == 3) && nat_le 1 s.stratum && nat_le s.stratum 15
 
 -- its clock was set, and not long ago by the host's clock (profile)
-abbrev pub was_set_lately : ClockLimits → ClockAnswer → Moment → Bool
-was_set_lately limits a clock =
-    not (a.state.reference.0 == 0) && int_le (difference clock.stamp a.state.reference) (pos (limits.most_reference_age * 2 ^ 32))
+abbrev pub was_set_lately : ClockLimits → ClockAnswer → Reading → Bool
+was_set_lately limits a now =
+    not (a.state.reference.0 == 0)
+    && int_le (difference now.clock.stamp a.state.reference) (pos (limits.most_reference_age * 2 ^ 32))
+
+-- it does not say that its clock was set after it left: not by more than a step may be (RFC 5905, A.5.1.1; than a step: profile). Either
+-- side counts in units of 2^-32 nanoseconds
+abbrev pub is_past : ClockLimits → ClockAnswer → Bool
+is_past limits a = int_le (difference a.state.reference a.sent *ℤ pos (10 ^ 9)) (pos (limits.most_step * 2 ^ 32))
 
 -- its root distance by now is within the limit (profile)
-abbrev pub is_near : ClockLimits → ClockAnswer → ℕ → Bool
-is_near limits a ticks = nat_le (root_distance_twice a ticks) (2 * limits.most_root_distance.0)
+abbrev pub is_near : ClockLimits → ClockAnswer → Reading → Bool
+is_near limits a now = nat_le (root_distance_twice a now) (2 * limits.most_root_distance.0)
 
--- the host's clock has gone on as the monotonic one since the answer came: it was not stepped by more than the limit (profile). Either
--- side counts in units of 2^-32 nanoseconds
-abbrev pub went_on : ClockLimits → ClockAnswer → ℕ → Moment → Bool
-went_on limits a ticks clock =
-    nat_le (unsigned_abs (difference clock.stamp a.clock.stamp *ℤ pos (10 ^ 9) -ℤ pos (age a ticks * 2 ^ 32))) (limits.most_step * 2 ^ 32)
+-- the host's clock was not set by more than a step may be, since the daemon last showed an update (profile). Either side counts in units
+-- of 2^-32 nanoseconds
+abbrev pub went_on : ClockLimits → ClockAnswer → Reading → Bool
+went_on limits a now = nat_le (apart a.base now) (limits.most_step * 2 ^ 32)
 
--- an answer is believed, at so many ticks of the monotonic clock and a moment of the host's (profile)
-abbrev pub is_believed : ClockLimits → ClockAnswer → ℕ → Moment → Bool
-is_believed limits a ticks clock =
-    is_young limits a ticks && is_synchronised a.state && was_set_lately limits a clock && is_near limits a ticks
-    && went_on limits a ticks clock
+-- an answer is believed, by a reading of the host's clocks (profile)
+abbrev pub is_believed : ClockLimits → ClockAnswer → Reading → Bool
+is_believed limits a now =
+    is_young limits a now && is_synchronised a.state && was_set_lately limits a now && is_past limits a && is_near limits a now
+    && went_on limits a now
 
 -- an answer was learned, and is believed (profile)
-abbrev pub is_followed : ClockLimits → Option ClockAnswer → ℕ → Moment → Bool
-is_followed limits None ticks clock = false
-is_followed limits (Some a) ticks clock = is_believed limits a ticks clock
+abbrev pub is_followed : ClockLimits → Option ClockAnswer → Reading → Bool
+is_followed limits None now = false
+is_followed limits (Some a) now = is_believed limits a now
 
 -- the state that replies tell: the grown one of an answer that is believed, or unsynchronised (profile)
-abbrev pub in_force : ClockLimits → Option ClockAnswer → ℕ → Moment → ReferenceState
-in_force limits None ticks clock = unsynchronised
-in_force limits (Some a) ticks clock = if is_believed limits a ticks clock then grown a ticks else unsynchronised
+abbrev pub in_force : ClockLimits → Option ClockAnswer → Reading → ReferenceState
+in_force limits None now = unsynchronised
+in_force limits (Some a) now = if is_believed limits a now then grown a now else unsynchronised

@@ -1,2 +1,4 @@
+pub mod Reading
+pub mod Watching
 pub mod InForce
 pub mod Learning

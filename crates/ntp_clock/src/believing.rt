@@ -1,43 +1,34 @@
 //! Whether an answer is believed.
 ghost use Rattle.std.specs.Prelude.{◌≡◌};
-ghost use Rattle.ntp_clock.specs.InForce.{is_young, is_synchronised, was_set_lately, is_near, went_on, is_believed};
+ghost use Rattle.ntp_clock.specs.InForce.{is_young, is_synchronised, was_set_lately, is_past, is_near, went_on, is_believed};
 
 use crate::growing::{age, root_distance_twice};
+use crate::reading::{SECOND_UNITS, apart, nano_units};
 use crate::state::UNSYNCHRONISED_LEAP;
-use crate::{ClockAnswer, ClockLimits};
+use crate::{ClockAnswer, ClockLimits, Reading};
 use ntp_reply_packets::Reference;
-use ntp_time::{Moment, difference};
+use ntp_time::difference;
 
 /// The highest stratum of a synchronised clock (RFC 5905, 7.3).
 const HIGHEST_STRATUM: u8 = 15;
 
-/// How many units of 2^-32 seconds a second has (RFC 5905, 6).
-const SECOND_UNITS: i128 = 1 << 32;
-
-/// How many nanoseconds a second has.
-const SECOND_NANOS: i128 = 1_000_000_000;
-
-// Whether an answer is believed, at so many ticks of the monotonic clock and a moment of the host's.
-pub(crate) fn is_believed(
-    limits: &ClockLimits,
-    answer: &ClockAnswer,
-    ticks: u64,
-    clock: Moment,
-) -> bool
-    ensures { result ≡ is_believed limits.now answer.now ticks clock }
+// Whether an answer is believed, by a reading of the host's clocks.
+pub(crate) fn is_believed(limits: &ClockLimits, answer: &ClockAnswer, now: Reading) -> bool
+    ensures { result ≡ is_believed limits.now answer.now now }
 {
-    is_young(limits, answer, ticks)
+    is_young(limits, answer, now)
         && is_synchronised(&answer.state)
-        && was_set_lately(limits, answer, clock)
-        && is_near(limits, answer, ticks)
-        && went_on(limits, answer, ticks, clock)
+        && was_set_lately(limits, answer, now)
+        && is_past(limits, answer)
+        && is_near(limits, answer, now)
+        && went_on(limits, answer, now)
 }
 
 // Whether an answer is young.
-fn is_young(limits: &ClockLimits, answer: &ClockAnswer, ticks: u64) -> bool
-    ensures { result ≡ is_young limits.now answer.now ticks }
+fn is_young(limits: &ClockLimits, answer: &ClockAnswer, now: Reading) -> bool
+    ensures { result ≡ is_young limits.now answer.now now }
 {
-    age(answer, ticks) < limits.valid_for
+    age(answer, now.ticks) < limits.valid_for
 }
 
 // Whether a state is that of a synchronised clock.
@@ -49,26 +40,31 @@ fn is_synchronised(state: &Reference) -> bool
 }
 
 // Whether the clock of an answer was set, and not long ago by the host's clock.
-fn was_set_lately(limits: &ClockLimits, answer: &ClockAnswer, clock: Moment) -> bool
-    ensures { result ≡ was_set_lately limits.now answer.now clock }
+fn was_set_lately(limits: &ClockLimits, answer: &ClockAnswer, now: Reading) -> bool
+    ensures { result ≡ was_set_lately limits.now answer.now now }
 {
     let set = answer.state.reference();
-    let since = i128::from(difference(clock.stamp, set));
+    let since = i128::from(difference(now.clock.stamp, set));
     set.0 != 0 && since <= i128::from(limits.most_reference_age) * SECOND_UNITS
 }
 
-// Whether the root distance of an answer is within the limit.
-fn is_near(limits: &ClockLimits, answer: &ClockAnswer, ticks: u64) -> bool
-    ensures { result ≡ is_near limits.now answer.now ticks }
+// Whether the clock of an answer was not set after the answer left, by more than a step may be.
+fn is_past(limits: &ClockLimits, answer: &ClockAnswer) -> bool
+    ensures { result ≡ is_past limits.now answer.now }
 {
-    root_distance_twice(answer, ticks) <= 2 * u64::from(limits.most_root_distance.0)
+    nano_units(answer.state.reference(), answer.sent) <= i128::from(limits.most_step) * SECOND_UNITS
 }
 
-// Whether the host's clock went on as the monotonic one since an answer came.
-fn went_on(limits: &ClockLimits, answer: &ClockAnswer, ticks: u64, clock: Moment) -> bool
-    ensures { result ≡ went_on limits.now answer.now ticks clock }
+// Whether the root distance of an answer is within the limit.
+fn is_near(limits: &ClockLimits, answer: &ClockAnswer, now: Reading) -> bool
+    ensures { result ≡ is_near limits.now answer.now now }
 {
-    let shown = i128::from(difference(clock.stamp, answer.clock.stamp)) * SECOND_NANOS;
-    let gone = i128::from(age(answer, ticks)) * SECOND_UNITS;
-    (shown - gone).abs() <= i128::from(limits.most_step) * SECOND_UNITS
+    root_distance_twice(answer, now) <= 2 * u64::from(limits.most_root_distance.0)
+}
+
+// Whether the host's clock was not set by more than a step may be, since the daemon last showed an update.
+fn went_on(limits: &ClockLimits, answer: &ClockAnswer, now: Reading) -> bool
+    ensures { result ≡ went_on limits.now answer.now now }
+{
+    apart(answer.base, now) <= u128::from(limits.most_step) << 32
 }

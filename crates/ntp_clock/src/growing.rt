@@ -1,11 +1,15 @@
 //! How the dispersion of an answer grows.
 ghost use Rattle.std.specs.Prelude.{◌≡◌, ◌^◌, ◌<◌, ◌≤◌};
-ghost use Rattle.ntp_clock.specs.InForce.{age, offset_size, drift, dispersion, root_distance_twice};
+ghost use Rattle.ntp_clock.specs.InForce.{age, offset_size, drift, set_by, dispersion, root_distance_twice};
 
-use crate::ClockAnswer;
+use crate::reading::apart;
+use crate::{ClockAnswer, Reading};
 
 /// How many units of 2^-33 seconds a unit of 2^-16 seconds has.
 const SHORT_HALF_UNITS: u128 = 1 << 17;
+
+/// How many units of 2^-32 nanoseconds a unit of 2^-16 seconds has.
+const SHORT_NANO_UNITS: u128 = 1_000_000_000 << 16;
 
 /// The nanoseconds in which a clock drifts by `DRIFT_UNITS`: 15 parts in a million (RFC 5905, 7.2), in
 /// units of 2^-16 seconds, are 15 · 2^16 in 10^15 nanoseconds, or 6 in 5^14.
@@ -14,7 +18,7 @@ const DRIFT_NANOS: u64 = 6_103_515_625;
 /// How many units of 2^-16 seconds a clock drifts by in `DRIFT_NANOS`.
 const DRIFT_UNITS: u64 = 6;
 
-// How long ago an answer came, in nanoseconds.
+// How long ago the question of an answer left, in nanoseconds.
 pub(crate) fn age(answer: &ClockAnswer, ticks: u64) -> u64
     ensures { result ≡ age answer.now ticks }
 {
@@ -22,20 +26,21 @@ pub(crate) fn age(answer: &ClockAnswer, ticks: u64) -> u64
 }
 
 // The root dispersion some time after an answer, in units of 2^-16 seconds.
-pub(crate) fn dispersion(answer: &ClockAnswer, ticks: u64) -> u32
-    ensures { result ≡ dispersion answer.now ticks }
+pub(crate) fn dispersion(answer: &ClockAnswer, now: Reading) -> u32
+    ensures { result ≡ dispersion answer.now now }
 {
     let told = u128::from(answer.state.root_dispersion().0);
-    let grown = told + offset_size(answer) + u128::from(drift(age(answer, ticks)));
+    let drift = u128::from(drift(age(answer, now.ticks)));
+    let grown = told + offset_size(answer) + drift + set_by(answer, now);
     grown.min(u128::from(u32::MAX)) as u32
 }
 
 // Twice the root distance some time after an answer, in units of 2^-16 seconds.
-pub(crate) fn root_distance_twice(answer: &ClockAnswer, ticks: u64) -> u64
-    ensures { result ≡ root_distance_twice answer.now ticks }
+pub(crate) fn root_distance_twice(answer: &ClockAnswer, now: Reading) -> u64
+    ensures { result ≡ root_distance_twice answer.now now }
 {
     let delay = u64::from(answer.state.root_delay().0);
-    delay + 2 * u64::from(dispersion(answer, ticks))
+    delay + 2 * u64::from(dispersion(answer, now))
 }
 
 // The size of an answer's offset, in units of 2^-16 seconds and rounded up.
@@ -47,6 +52,14 @@ fn offset_size(answer: &ClockAnswer) -> u128
         .offset_twice
         .unsigned_abs()
         .div_ceil(SHORT_HALF_UNITS)
+}
+
+// How far the host's clock was set since the daemon last showed an update, in units of 2^-16 seconds and rounded up.
+fn set_by(answer: &ClockAnswer, now: Reading) -> u128
+    ensures value { result ≡ set_by answer.now now }
+    ensures most { result ≤ 2 ^ 98 }
+{
+    apart(answer.base, now).div_ceil(SHORT_NANO_UNITS)
 }
 
 // How far a clock may drift in so many nanoseconds, in units of 2^-16 seconds and rounded up. Whole times of

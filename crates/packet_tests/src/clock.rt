@@ -2,8 +2,12 @@
 
 use crate::packets::{moment, packet};
 use ntp_client::{Distrust, Taken};
-use ntp_clock::{ClockAnswer, ClockLimits, Follower, reference_unsynchronised, state_in_force};
-use ntp_mac::{Algorithm, Key};
+use ntp_clock::{
+    ClockAnswer, ClockLimits, Follower, Reading, reference_unsynchronised, reference_where_read,
+    state_in_force,
+};
+use ntp_mac::{Algorithm, Key, Reply, seal};
+use ntp_packet::{Header, read_header};
 use ntp_reply_packets::{BadReference, Reference};
 use ntp_time::{Short, Stamp};
 use std::test::Fail;
@@ -21,6 +25,9 @@ const SECOND: u64 = 1_000_000_000;
 
 /// A second in units of 2^-32 seconds.
 const UNITS: u64 = 1 << 32;
+
+/// A thousandth of a second in nanoseconds.
+const MILLISECOND: u64 = 1_000_000;
 
 /// When a request left and when the answer of chronyd 4.3, which followed another chronyd, came. Twice the offset is
 /// 296,323 - 99,762 = 196,561 units of 2^-32 s, or 1.5 units of 2^-16 s.
@@ -49,12 +56,12 @@ const HEADER_UNSYNCHRONISED: [u128; 3] = [
 
 const DIGEST_UNSYNCHRONISED: u128 = 0xed2c_6099_5a3a_3c07_398e_fcc0_b091_7556;
 
-// The state that chronyd told, with another dispersion.
+// The state that chronyd told, with another dispersion, and with the best precision that is told.
 fn state_of_chronyd(dispersion: u32) -> Result<Reference, BadReference> {
     Reference::new(
         0,
         4,
-        -25,
+        -16,
         Short(1),
         Short(dispersion),
         [127, 0, 0, 1],
@@ -62,16 +69,38 @@ fn state_of_chronyd(dispersion: u32) -> Result<Reference, BadReference> {
     )
 }
 
-// One that has asked nothing.
-fn follower() -> Result<Follower, Fail> {
-    Ok(Follower::new(Key::new(Algorithm::Md5, b"key")?, 7, LIMITS))
+// What the clocks showed so many seconds after the request left, which was at one second of the ticks.
+fn seconds_later(seconds: u64) -> Reading {
+    Reading {
+        clock: moment(ASKED.wrapping_add(seconds.wrapping_mul(UNITS))),
+        ticks: SECOND.wrapping_add(seconds.wrapping_mul(SECOND)),
+    }
 }
 
-// One that has the first answer of chronyd, which came at one second of the ticks.
+// What they showed when the host's clock showed this stamp.
+fn at(stamp: u64) -> Reading {
+    let units = u128::from(stamp.wrapping_sub(ASKED));
+    let nanos = (units * u128::from(SECOND)) >> 32;
+    Reading {
+        clock: moment(stamp),
+        ticks: SECOND.wrapping_add(nanos as u64),
+    }
+}
+
+fn key() -> Result<Key, Fail> {
+    Ok(Key::new(Algorithm::Md5, b"key")?)
+}
+
+// One that has asked nothing.
+fn follower() -> Result<Follower, Fail> {
+    Ok(Follower::new(key()?, 7, LIMITS))
+}
+
+// One that has the first answer of chronyd.
 fn following() -> Result<Follower, Fail> {
     let mut follower = follower()?;
-    let _request = follower.request(moment(ASKED));
-    match follower.take(&packet(HEADER, DIGEST), moment(ANSWERED), SECOND) {
+    let _request = follower.request(at(ASKED));
+    match follower.take(&packet(HEADER, DIGEST), at(ANSWERED)) {
         Taken::Sample(_) => Ok(follower),
         _ => Err(Fail::from("no sample")),
     }
@@ -80,9 +109,10 @@ fn following() -> Result<Follower, Fail> {
 #[test]
 fn before_an_answer_nothing_is_known(rt: HostRuntime) -> Result<(), Fail> {
     let follower = follower()?;
-    let state = follower.in_force(SECOND, moment(ANSWERED));
+    let state = follower.in_force(at(ANSWERED));
     assert_eq!(rt; state, reference_unsynchronised());
     assert_eq!(rt; follower.age(SECOND), None);
+    assert!(rt; !follower.is_set_since(at(ANSWERED)));
     Ok(())
 }
 
@@ -90,7 +120,7 @@ fn before_an_answer_nothing_is_known(rt: HostRuntime) -> Result<(), Fail> {
 fn chronyd_is_followed(rt: HostRuntime) -> Result<(), Fail> {
     let follower = following()?;
     assert!(rt; follower.learned().is_some());
-    assert!(rt; follower.is_followed(SECOND, moment(ANSWERED)));
+    assert!(rt; follower.is_followed(at(ANSWERED)));
     assert_eq!(rt; follower.age(11 * SECOND), Some(10 * SECOND));
     for (seconds, state) in [
         // 1 as told, and 1.5 for the offset, rounded up.
@@ -100,8 +130,7 @@ fn chronyd_is_followed(rt: HostRuntime) -> Result<(), Fail> {
         // 16 s later it is not believed.
         (16, reference_unsynchronised()),
     ] {
-        let clock = moment(ANSWERED + seconds * UNITS);
-        assert_eq!(rt; follower.in_force(SECOND + seconds * SECOND, clock), state);
+        assert_eq!(rt; follower.in_force(seconds_later(seconds)), state);
     }
     Ok(())
 }
@@ -109,15 +138,190 @@ fn chronyd_is_followed(rt: HostRuntime) -> Result<(), Fail> {
 #[test]
 fn chronyd_that_follows_nothing_is_not_followed(rt: HostRuntime) -> Result<(), Fail> {
     let mut follower = following()?;
-    let _request = follower.request(moment(ASKED_AGAIN));
+    let _request = follower.request(at(ASKED_AGAIN));
     let answer = packet(HEADER_UNSYNCHRONISED, DIGEST_UNSYNCHRONISED);
-    let taken = follower.take(&answer, moment(ANSWERED_AGAIN), 2 * SECOND);
+    let taken = follower.take(&answer, at(ANSWERED_AGAIN));
     assert_eq!(rt; taken, Taken::Refused(Distrust::Unsynchronised));
     assert!(rt; follower.learned().is_none());
-    let later = moment(ANSWERED + 10 * UNITS);
-    assert!(rt; !follower.is_followed(11 * SECOND, later));
-    let state = follower.in_force(11 * SECOND, later);
-    assert_eq!(rt; state, reference_unsynchronised());
+    let later = seconds_later(10);
+    assert!(rt; !follower.is_followed(later));
+    assert_eq!(rt; follower.in_force(later), reference_unsynchronised());
+    Ok(())
+}
+
+// A host whose clock is set, and a daemon that reads it and tells a dispersion of 200.
+#[derive(Drop)]
+struct Host {
+    follower: Follower,
+    // How far the clock was set, in units of 2^-32 s, modulo 2^64.
+    set: u64,
+}
+
+impl Host {
+    fn new() -> Result<Host, Fail> {
+        Ok(Host {
+            follower: follower()?,
+            set: 0,
+        })
+    }
+
+    // What the clocks show so many seconds after the first question.
+    fn reading(&self, seconds: u64) -> Reading {
+        let Reading { clock, ticks } = seconds_later(seconds);
+        Reading {
+            clock: moment(clock.stamp.0.wrapping_add(self.set)),
+            ticks,
+        }
+    }
+
+    // A question, and what its answer with this reference time is taken for.
+    fn ask(&mut self, seconds: u64, set: u64) -> Result<Taken, Fail> {
+        let now = self.reading(seconds);
+        let question = self.follower.request(now);
+        let Some(asked) = read_header(question.octets()) else {
+            return Err(Fail::from("no header"));
+        };
+        let stamps = [Stamp(set), asked.transmit(), now.clock.stamp];
+        let answer = answer_of(stamps, now.clock.stamp)?;
+        Ok(self.follower.take(answer.octets(), now))
+    }
+
+    // The root dispersion that a reply tells so many seconds after the first question.
+    fn dispersion(&self, seconds: u64) -> u32 {
+        let state = self.follower.in_force(self.reading(seconds));
+        state.root_dispersion().0
+    }
+}
+
+// An answer: its reference time, its origin and its receipt, and when it left.
+fn answer_of(stamps: [Stamp; 3], sent: Stamp) -> Result<Reply, Fail> {
+    let [set, asked, came] = stamps;
+    let (delay, dispersion) = (Short(1), Short(200));
+    let header = Header::new(
+        0, 4, 4, 2, 6, -20, delay, dispersion, *b"TEST", set, asked, came, sent,
+    );
+    signed(&header)
+}
+
+// A header, signed by the daemon.
+fn signed(header: &Header) -> Result<Reply, Fail> {
+    let mut reply = Reply::from_header(header);
+    seal(&key()?, 7, &mut reply);
+    Ok(reply)
+}
+
+#[test]
+fn a_clock_that_was_set_waits_for_an_update(rt: HostRuntime) -> Result<(), Fail> {
+    let hour = 3_600 * UNITS;
+    let quarter = UNITS / 4;
+    for (name, set, told) in [
+        ("by 2 s", 2 * UNITS, FAR),
+        ("by 3,600 s", hour, FAR),
+        ("back by 2 s", (2 * UNITS).wrapping_neg(), FAR),
+        ("back by 3,600 s", hour.wrapping_neg(), FAR),
+        // 0.25 · 2^16 more.
+        ("by 0.25 s", quarter, 200 + 16_384),
+        ("back by 0.25 s", quarter.wrapping_neg(), 200 + 16_384),
+    ] {
+        let mut host = Host::new()?;
+        let _taken = host.ask(0, ASKED - 10 * UNITS)?;
+        assert_eq!(rt; host.dispersion(0), 200, "{name}: before");
+        assert_eq!(rt; host.dispersion(1), 201, "{name}: a second later");
+        host.set = set;
+        assert_eq!(rt; host.dispersion(0), told, "{name}: at once");
+        let _taken = host.ask(1, ASKED - 10 * UNITS)?;
+        assert_eq!(rt; host.dispersion(1), told, "{name}: the same reference time");
+        let _taken = host.ask(2, ASKED - 5 * UNITS)?;
+        assert_eq!(rt; host.dispersion(2), told, "{name}: one before that");
+        let now = host.reading(3).clock.stamp.0;
+        let _taken = host.ask(3, now.wrapping_sub(UNITS / 2))?;
+        assert_eq!(rt; host.dispersion(3), 200, "{name}: an update");
+    }
+    Ok(())
+}
+
+#[test]
+fn the_first_answer_behind_a_step_shows_no_update(rt: HostRuntime) -> Result<(), Fail> {
+    let mut host = Host::new()?;
+    let _taken = host.ask(0, ASKED - 10 * UNITS)?;
+    host.set = 2 * UNITS;
+    let now = host.reading(1).clock.stamp.0;
+    let _taken = host.ask(1, now)?;
+    assert_eq!(rt; host.dispersion(1), FAR);
+    let _taken = host.ask(2, now.wrapping_add(UNITS))?;
+    assert_eq!(rt; host.dispersion(2), 200);
+    Ok(())
+}
+
+#[test]
+fn there_and_back_costs_nothing(rt: HostRuntime) -> Result<(), Fail> {
+    let mut host = Host::new()?;
+    let _taken = host.ask(0, ASKED - 10 * UNITS)?;
+    host.set = 60 * UNITS;
+    assert!(rt; host.follower.look(host.reading(1)));
+    assert_eq!(rt; host.dispersion(1), FAR);
+    host.set = 0;
+    assert!(rt; host.follower.look(host.reading(1)));
+    assert_eq!(rt; host.dispersion(1), 201);
+    let _taken = host.ask(2, ASKED - 10 * UNITS)?;
+    assert_eq!(rt; host.dispersion(2), 200);
+    Ok(())
+}
+
+#[test]
+fn a_step_within_an_exchange_refuses_the_answer(rt: HostRuntime) -> Result<(), Fail> {
+    let mut follower = follower()?;
+    let _request = follower.request(at(ASKED));
+    let mut set = at(ANSWERED);
+    set.ticks = set.ticks.wrapping_sub(2 * MILLISECOND);
+    let taken = follower.take(&packet(HEADER, DIGEST), set);
+    assert_eq!(rt; taken, Taken::Refused(Distrust::NothingAsked));
+    assert!(rt; follower.learned().is_none());
+    Ok(())
+}
+
+#[test]
+fn a_late_answer_is_no_answer_to_the_next_question(rt: HostRuntime) -> Result<(), Fail> {
+    let mut follower = follower()?;
+    let _request = follower.request(at(ASKED));
+    let _request = follower.request(seconds_later(1));
+    let taken = follower.take(&packet(HEADER, DIGEST), seconds_later(1));
+    assert_eq!(rt; taken, Taken::Refused(Distrust::Origin));
+    Ok(())
+}
+
+#[test]
+fn a_rate_slows_the_questions_for_an_hour(rt: HostRuntime) -> Result<(), Fail> {
+    let mut follower = follower()?;
+    assert_eq!(rt; follower.period(SECOND), SECOND);
+    let question = follower.request(at(ASKED));
+    let Some(asked) = read_header(question.octets()) else {
+        return Err(Fail::from("no header"));
+    };
+    let kiss = Header::blank(4, 4)
+        .with_leap(3)
+        .with_reference_id(*b"RATE")
+        .with_origin(asked.transmit());
+    let kiss = signed(&kiss)?;
+    assert_eq!(rt; follower.take(kiss.octets(), at(ASKED)), Taken::Rate);
+    for (ticks, period) in [
+        (SECOND, 8 * SECOND),
+        (3_601 * SECOND - 1, 8 * SECOND),
+        (3_601 * SECOND, SECOND),
+    ] {
+        assert_eq!(rt; follower.period(ticks), period, "{ticks}");
+    }
+    Ok(())
+}
+
+#[test]
+fn a_clock_that_was_not_read_is_unsynchronised(rt: HostRuntime) -> Result<(), Fail> {
+    let state = state_of_chronyd(3)?;
+    assert_eq!(rt;
+        reference_where_read(moment(0), state),
+        reference_unsynchronised()
+    );
+    assert_eq!(rt; reference_where_read(moment(1), state), state);
     Ok(())
 }
 
@@ -140,11 +344,16 @@ fn answer(
 ) -> Result<ClockAnswer, BadReference> {
     let delay = Short(root_delay);
     let state = Reference::new(leap, stratum, -20, delay, Short(200), *b"TEST", Stamp(set))?;
+    let base = Reading {
+        clock: moment(CAME),
+        ticks: 100 * SECOND,
+    };
     Ok(ClockAnswer {
         state,
         offset_twice,
-        clock: moment(CAME),
-        ticks: 100 * SECOND,
+        sent: Stamp(CAME),
+        ticks: base.ticks,
+        base,
     })
 }
 
@@ -152,7 +361,7 @@ fn answer(
 fn dispersion(answer: &ClockAnswer, nanos: u64, units: u64) -> u32 {
     let ticks = (100 * SECOND).wrapping_add(nanos);
     let clock = moment(CAME.wrapping_add(units));
-    let state = state_in_force(&LIMITS, Some(answer), ticks, clock);
+    let state = state_in_force(&LIMITS, Some(answer), Reading { clock, ticks });
     state.root_dispersion().0
 }
 
@@ -167,6 +376,24 @@ fn answers_at_the_limits(rt: HostRuntime) -> Result<(), Fail> {
         ("a greater delay", 0, 2, 130_521, set, TWICE_1_MS, FAR),
         ("set before that", 0, 2, 130_520, set - 1, TWICE_1_MS, FAR),
         ("never set", 0, 2, 0, 0, TWICE_1_MS, FAR),
+        (
+            "set 0.5 s later",
+            0,
+            2,
+            0,
+            CAME + UNITS / 2,
+            TWICE_1_MS,
+            276,
+        ),
+        (
+            "set still later",
+            0,
+            2,
+            0,
+            CAME + UNITS / 2 + 1,
+            TWICE_1_MS,
+            FAR,
+        ),
         ("unsynchronised", 3, 16, 0, set, TWICE_1_MS, FAR),
     ] {
         let answer = answer(leap, stratum, delay, set, offset_twice)?;
@@ -187,11 +414,13 @@ fn clocks_at_the_limits(rt: HostRuntime) -> Result<(), Fail> {
     let half = UNITS / 2;
     for (name, nanos, units, expected) in [
         ("at once", 0, 0, 266),
-        ("just young", 16 * SECOND - 1, 16 * UNITS, 282),
+        // 1 for a nanosecond by which the clocks went apart.
+        ("just young", 16 * SECOND - 1, 16 * UNITS, 283),
         ("old", 16 * SECOND, 16 * UNITS, FAR),
-        ("put forward by 0.5 s", nanos, units + half, 276),
+        // The dispersion has grown by 0.5 s too.
+        ("put forward by 0.5 s", nanos, units + half, 276 + 32_768),
         ("forward by more", nanos, units + half + 1, FAR),
-        ("put back by 0.5 s", nanos, units - half, 276),
+        ("put back by 0.5 s", nanos, units - half, 276 + 32_768),
         ("back by more", nanos, units - half - 1, FAR),
     ] {
         assert_eq!(rt; dispersion(&answer, nanos, units), expected, "{name}");

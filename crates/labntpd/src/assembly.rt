@@ -2,22 +2,24 @@
 ghost use Rattle.std.specs.Prelude.{◌≡◌, IfOk};
 
 use crate::command_log::CommandLog;
-use crate::files::{Answering, InspectedFile};
+use crate::files::{Answering, DaemonCommands, HeldCommands, begin_commands};
 use crate::housekeeping::{Begun, Housekeeping, SOCKETS_ROOM};
-use crate::starting::Prepared;
+use crate::receiving::Patience;
+use crate::starting::{Beginning, Prepared};
 use labntp_command_line::{DONE, IO_FAILED, memory_status, write_status};
 use labntpd_configuration::{ClockSource as ConfiguredClock, Configuration, Listen};
 use labntpd_host::{
     BoundAt, ClockSource, FollowedClock, HostClocks, LONGEST_WAIT, Log, QueuedUdp, bound,
-    has_standard_streams, inherited, receive_buffer, set_receive_buffer, set_send_buffer,
+    emptied_file, has_standard_streams, inherited, receive_buffer, set_receive_buffer,
+    set_send_buffer,
 };
 use ntp_freshness::{FreshPort, QueueWatch};
 use ntp_host::EachMillisecond;
 use ntp_reports::{AnswerLines, Both, Counting, Counts};
 use ntp_server::Server;
 use std::alloc::Global;
-use std::fs::{self, File};
-use std::io::{self, ErrorKind, Stderr, Write};
+use std::fs::File;
+use std::io::{self, ErrorKind, LineWriter, Stderr, Write};
 use std::net::{Ipv4Addr, SocketAddr, SocketAddrV4, UdpSocket};
 use std::time::Duration;
 use std::{env, process};
@@ -25,7 +27,7 @@ use std::{env, process};
 /// A server of the daemon.
 pub type Daemon<'a> = Server<
     DaemonPort<'a>,
-    EachMillisecond<InspectedFile<'a, HostRuntime>>,
+    DaemonCommands<'a, HostRuntime>,
     ClockSource<'a, &'a HostRuntime>,
     DaemonObserver<'a>,
     Global,
@@ -34,17 +36,35 @@ pub type Daemon<'a> = Server<
 // Where its datagrams come from, and who is told what it does.
 type DaemonPort<'a> = FreshPort<QueuedUdp<'a, &'a HostRuntime, HostRuntime>>;
 
-type DaemonObserver<'a> = Counting<Both<Answering<File>, CommandLog<'a, Stderr>>>;
+type DaemonObserver<'a> = Counting<Both<Answering<LineWriter<File>>, CommandLog<'a, Stderr>>>;
 
 /// Serves by what was prepared, for ever. Gives the exit status where that cannot begin; a fault is told in one line on
 /// standard error.
-pub fn serve_status(rt: &HostRuntime, alloc: Global, mut prepared: Prepared) -> u8 {
+pub fn serve_status(rt: &HostRuntime, alloc: Global, prepared: Prepared) -> u8 {
     if !has_standard_streams() {
         return write_status(&mut rt.stderr());
     }
+    let Prepared {
+        configuration,
+        mut beginning,
+    } = prepared;
+    // It is judged before anything is written.
+    let path = configuration.commands.as_str();
+    let commands = match begin_commands(rt, alloc, path, &mut rt.stderr()) {
+        Ok(commands) => commands,
+        Err(status) => return status,
+    };
     let clocks = HostClocks::new();
-    match Parts::open(rt, alloc, &clocks, &mut prepared) {
-        Ok(parts) => serve(rt, alloc, &clocks, prepared, parts),
+    match Parts::open(rt, alloc, &clocks, &configuration, &mut beginning) {
+        Ok(parts) => serve(
+            rt,
+            alloc,
+            &clocks,
+            &configuration,
+            beginning,
+            commands,
+            parts,
+        ),
         Err(status) => status,
     }
 }
@@ -64,15 +84,16 @@ impl<'a> Parts<'a> {
         rt: &'a HostRuntime,
         alloc: Global,
         clocks: &'a HostClocks,
-        prepared: &mut Prepared,
+        configuration: &Configuration,
+        beginning: &mut Beginning,
     ) -> Result<Parts<'a>, u8>
         ensures { IfOk result (λ parts. parts.port.failures ≡ 0) }
     {
-        let watch = watch_from_now(rt, clocks, &prepared.configuration);
-        let socket = open_socket(rt, prepared.configuration.listen)?;
-        let bound = set_up(rt, &socket, &prepared.configuration)?;
-        let reference = clock_source(rt, clocks, prepared)?;
-        let observer = open_observer(rt, alloc, clocks, prepared)?;
+        let watch = watch_from_now(rt, clocks, configuration);
+        let socket = open_socket(rt, configuration.listen)?;
+        let bound = set_up(rt, &socket, configuration)?;
+        let reference = clock_source(rt, clocks, configuration, beginning)?;
+        let observer = open_observer(rt, alloc, clocks, configuration, beginning)?;
         let Ok(room) = Vec::with_capacity(alloc, SOCKETS_ROOM) else {
             return Err(memory_status(&mut rt.stderr()));
         };
@@ -91,37 +112,38 @@ fn serve(
     rt: &HostRuntime,
     alloc: Global,
     clocks: &HostClocks,
-    prepared: Prepared,
+    configuration: &Configuration,
+    beginning: Beginning,
+    commands: HeldCommands<'_, HostRuntime>,
     parts: Parts<'_>,
 ) -> u8
     requires { parts.port.failures ≡ 0 }
 {
-    let Prepared {
-        configuration,
+    let Beginning {
         loaded,
         customers,
         digests,
         ..
-    } = prepared;
+    } = beginning;
     let begun = Begun {
         bound: parts.bound,
         wanted_buffer: configuration.receive_buffer,
         customers,
         digests,
     };
-    let mut housekeeping = match begin(rt, alloc, clocks, &configuration, begun) {
-        Ok(housekeeping) => housekeeping,
+    let mut patience = match begin(rt, alloc, clocks, configuration, begun) {
+        Ok(housekeeping) => Patience::new(housekeeping),
         Err(status) => return status,
     };
     let mut server: Daemon<'_> = Server {
         port: parts.port,
-        commands: EachMillisecond::new(InspectedFile::new(rt, &configuration.commands)),
+        commands: EachMillisecond::new(commands),
         applied: 0,
         reference: parts.reference,
         observer: parts.observer,
         service: loaded.service,
     };
-    server.serve_reported(u64::MAX, &mut housekeeping);
+    server.serve_reported(u64::MAX, &mut patience);
     DONE
 }
 
@@ -162,9 +184,10 @@ fn open_observer<'a>(
     rt: &'a HostRuntime,
     alloc: Global,
     clocks: &'a HostClocks,
-    prepared: &Prepared,
+    configuration: &Configuration,
+    beginning: &Beginning,
 ) -> Result<DaemonObserver<'a>, u8> {
-    let answers = answers_file(rt, &prepared.configuration)?;
+    let answers = answers_file(rt, alloc, configuration)?;
     let Ok(log) = Log::new(alloc, rt.stderr()) else {
         return Err(memory_status(&mut rt.stderr()));
     };
@@ -172,18 +195,23 @@ fn open_observer<'a>(
         counts: Counts::new(),
         inner: Both {
             first: answers,
-            second: CommandLog::new(log, clocks, prepared.customers),
+            second: CommandLog::new(log, clocks, beginning.customers),
         },
     })
 }
 
-// Who answers lines of commands, into a new file where the configuration names one.
-fn answers_file(rt: &HostRuntime, configuration: &Configuration) -> Result<Answering<File>, u8> {
+// Who answers lines of commands, into a file that is made empty, where the configuration names one. Each line is written in one piece.
+fn answers_file(
+    rt: &HostRuntime,
+    alloc: Global,
+    configuration: &Configuration,
+) -> Result<Answering<LineWriter<File>>, u8> {
     match &configuration.answers {
         None => Ok(Answering(None)),
         Some(path) => {
-            let file = failed(rt, path.as_str(), fs::create(rt, path.as_str()))?;
-            Ok(Answering(Some(AnswerLines::new(file))))
+            let file = failed(rt, path.as_str(), emptied_file(rt, path.as_str()))?;
+            let lines = failed(rt, path.as_str(), LineWriter::new(alloc, file))?;
+            Ok(Answering(Some(AnswerLines::new(lines))))
         }
     }
 }
@@ -192,14 +220,15 @@ fn answers_file(rt: &HostRuntime, configuration: &Configuration) -> Result<Answe
 fn clock_source<'a>(
     rt: &'a HostRuntime,
     clocks: &'a HostClocks,
-    prepared: &mut Prepared,
+    configuration: &Configuration,
+    beginning: &mut Beginning,
 ) -> Result<ClockSource<'a, &'a HostRuntime>, u8> {
-    let ConfiguredClock::Daemon(daemon) = &prepared.configuration.clock else {
-        return Ok(ClockSource::Fixed(prepared.loaded.reference));
+    let ConfiguredClock::Daemon(daemon) = &configuration.clock else {
+        return Ok(ClockSource::Fixed(beginning.loaded.reference));
     };
     let address = daemon.source.socket_address();
-    let Some(follower) = prepared.follower.take() else {
-        return Ok(ClockSource::Fixed(prepared.loaded.reference));
+    let Some(follower) = beginning.follower.take() else {
+        return Ok(ClockSource::Fixed(beginning.loaded.reference));
     };
     let socket = failed(rt, "clock.source", connected(rt, address))?;
     let followed = FollowedClock::new(socket, rt, clocks, follower);
@@ -232,7 +261,7 @@ fn watch_from_now(
 // The socket that is bound as the configuration says, or that was handed down.
 fn open_socket(rt: &HostRuntime, listen: Listen) -> Result<UdpSocket, u8> {
     let made = match listen {
-        Listen::Bound(endpoint) => bound(rt, endpoint.socket_address()),
+        Listen::Bound(endpoint) => bind(rt, endpoint.socket_address()),
         Listen::Inherited => handed_down(rt),
     };
     failed(rt, "listen", made)
@@ -263,14 +292,33 @@ fn set_up(
     }
 }
 
+// A socket at an address, where none was handed down to this process: that one would never be read.
+fn bind(rt: &HostRuntime, address: SocketAddrV4) -> io::Result<UdpSocket> {
+    match env::var(rt, "LISTEN_FDS") {
+        Ok(_) if is_ours(rt) => {
+            let fault = "a socket was handed down (LISTEN_FDS): \"inherited\" is wanted";
+            Err(io::Error::new(ErrorKind::InvalidInput, fault))
+        }
+        _ => bound(rt, address),
+    }
+}
+
 // The socket that was handed down to this process, and to no other.
 fn handed_down(rt: &HostRuntime) -> io::Result<UdpSocket> {
-    let is_ours = is_number(rt, "LISTEN_PID", process::id(rt.process()));
-    if is_ours && is_number(rt, "LISTEN_FDS", 1) {
-        inherited()
-    } else {
-        Err(io::Error::from(ErrorKind::NotFound))
+    if !is_ours(rt) {
+        let fault = "LISTEN_PID, the number of this process, is wanted: no socket is there";
+        return Err(io::Error::new(ErrorKind::InvalidInput, fault));
     }
+    if !is_number(rt, "LISTEN_FDS", 1) {
+        let fault = "LISTEN_FDS = 1, for one socket that was handed down, is wanted";
+        return Err(io::Error::new(ErrorKind::InvalidInput, fault));
+    }
+    inherited()
+}
+
+// Whether what the environment says of sockets is meant for this process.
+fn is_ours(rt: &HostRuntime) -> bool {
+    is_number(rt, "LISTEN_PID", process::id(rt.process()))
 }
 
 // Whether a word of the environment is this number.

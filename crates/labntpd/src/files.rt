@@ -1,88 +1,119 @@
-//! The commands file, of which it is kept what is wrong with it, and the answers file, which a configuration may leave out.
+//! The commands file, which is held to what was applied of it, and the answers file, which a configuration may leave out.
 
-use ntp_customer_files::MOST_FILE_OCTETS;
+use crate::starting::unread_status;
+use labntp_command_line::{TEXT_FAULTY, memory_status};
+use ntp_customer_files::{AdmitFault, MOST_FILE_OCTETS};
 use ntp_events::{LineOutcome, Observer, TurnOutcome};
-use ntp_host::CommandsFile;
+use ntp_host::{CommandsFile, EachMillisecond};
 use ntp_reports::AnswerLines;
-use ntp_service_serve::CommandsSource;
-use ntp_time::Moment;
-use std::alloc::Allocator;
+use ntp_server::AdmittedCommands;
+use std::alloc::Global;
+use std::fmt;
 use std::fs::Files;
 use std::io::Write;
+
+/// From how many octets on a commands file is told to be nearly full: 80 in 100 of the most (profile).
+const NEARLY_FULL_OCTETS: usize = 838_860;
+
+/// A commands file that is held to what was applied of it.
+pub type HeldCommands<'a, R> = AdmittedCommands<CommandsFile<'a, R>, Global>;
+
+/// The commands of the daemon.
+pub type DaemonCommands<'a, R> = EachMillisecond<HeldCommands<'a, R>>;
 
 /// Why nothing of a commands file is carried out.
 #[derive(Clone, Copy, PartialEq, Eq)]
 pub enum CommandsFault {
     /// There is none, it is no regular file, or it cannot be read.
     Unreadable,
-    /// It has more octets than may be read.
-    TooLong,
-    /// It is not UTF-8.
-    NotUtf8,
-    /// It has fewer complete lines than were applied.
-    LostLines,
+    /// It was read, and may not be carried out.
+    NotAdmitted(AdmitFault),
 }
 
-/// A commands file that is inspected whenever it is read.
-#[derive(Drop)]
-pub struct InspectedFile<'a, R: Files> {
-    file: CommandsFile<'a, R>,
-    // What was wrong with its octets when they were last read, and how many complete lines they were.
-    fault: Option<CommandsFault>,
-    lines: u64,
-}
-
-impl<'a, R: Files> InspectedFile<'a, R> {
-    /// The file at a path, of which nothing was read yet.
-    pub fn new(files: &'a R, path: &'a str) -> InspectedFile<'a, R> {
-        InspectedFile {
-            file: CommandsFile::new(files, path, MOST_FILE_OCTETS as u32),
-            fault: None,
-            lines: 0,
-        }
-    }
-
-    /// What is wrong with it, where so many of its lines were applied.
-    pub fn fault(&self, applied: u64) -> Option<CommandsFault> {
-        if !self.file.is_read() {
+impl CommandsFault {
+    /// What is wrong with a commands file by now, if anything.
+    pub fn of<R: Files>(commands: &HeldCommands<'_, R>) -> Option<CommandsFault> {
+        if !commands.source().is_read() {
             return Some(CommandsFault::Unreadable);
         }
-        if self.fault.is_none() && self.lines < applied {
-            return Some(CommandsFault::LostLines);
-        }
-        self.fault
-    }
-}
-
-impl<'a, R: Files, A: Allocator + Copy> CommandsSource<A> for InspectedFile<'a, R> {
-    fn look(&mut self, alloc: A, receipt: Option<Moment>) -> Option<Vec<u8, A>> {
-        let octets = self.file.look(alloc, receipt)?;
-        self.fault = fault_in(&octets);
-        self.lines = complete_lines(&octets);
-        Some(octets)
-    }
-}
-
-// What is wrong with the octets of a commands file.
-fn fault_in(octets: &[u8]) -> Option<CommandsFault> {
-    if octets.len() > MOST_FILE_OCTETS {
-        Some(CommandsFault::TooLong)
-    } else if str::from_utf8(octets).is_err() {
-        Some(CommandsFault::NotUtf8)
-    } else {
-        None
-    }
-}
-
-// How many lines end with a line feed.
-fn complete_lines(octets: &[u8]) -> u64 {
-    let mut lines = 0u64;
-    for octet in octets {
-        if *octet == b'\n' {
-            lines = lines.saturating_add(1);
+        match commands.fault() {
+            None => None,
+            Some(fault) => Some(CommandsFault::NotAdmitted(fault)),
         }
     }
-    lines
+}
+
+/// What the log tells of it.
+impl fmt::Display for CommandsFault {
+    fn fmt<W: fmt::Write>(&self, f: &mut fmt::Formatter<W>) -> fmt::Result {
+        match self {
+            CommandsFault::Unreadable => return f.write_str("cannot be read"),
+            CommandsFault::NotAdmitted(AdmitFault::TooLong) => {
+                f.write_str("has more than 1,048,576 octets")?;
+            }
+            CommandsFault::NotAdmitted(AdmitFault::NotUtf8) => f.write_str("is not UTF-8")?,
+            CommandsFault::NotAdmitted(AdmitFault::OtherLine(number)) => {
+                write!(f, "line {number} is not the one that was applied")?;
+            }
+            CommandsFault::NotAdmitted(AdmitFault::NoMemory) => {
+                f.write_str("there is no memory for it")?;
+            }
+        }
+        f.write_str("; no line is carried out")
+    }
+}
+
+/// Whether a commands file of so many octets is nearly full.
+pub fn is_nearly_full(octets: usize) -> bool {
+    octets >= NEARLY_FULL_OCTETS
+}
+
+/// Tells that a commands file is nearly full.
+pub fn write_nearly_full<W: Write>(out: &mut W, octets: usize) {
+    let _ = write!(
+        out,
+        "has {octets} of at most {MOST_FILE_OCTETS} octets; with more no line is carried out"
+    );
+}
+
+/// The commands file at a path, read for the first time. A fault is told in one line to `faults`, and gives the exit status.
+pub fn begin_commands<'a, R: Files, F: Write>(
+    files: &'a R,
+    alloc: Global,
+    path: &'a str,
+    faults: &mut F,
+) -> Result<HeldCommands<'a, R>, u8> {
+    let mut file = CommandsFile::new(files, path, MOST_FILE_OCTETS as u32);
+    let octets: Vec<u8> = match file.begin(alloc) {
+        Ok(octets) => octets,
+        Err(error) => return Err(unread_status(path, &error, faults)),
+    };
+    let line = line_without_text(&octets);
+    match AdmittedCommands::begun(file, alloc, octets) {
+        Ok(commands) => Ok(commands),
+        Err(AdmitFault::NoMemory) => Err(memory_status(faults)),
+        Err(AdmitFault::TooLong) => {
+            let _ = writeln!(
+                faults,
+                "{path}: at most {MOST_FILE_OCTETS} octets are wanted"
+            );
+            Err(TEXT_FAULTY)
+        }
+        Err(_) => {
+            let _ = writeln!(faults, "{path}: line {line}: this is no UTF-8");
+            Err(TEXT_FAULTY)
+        }
+    }
+}
+
+/// The number of the first line, counted from 1, that is no UTF-8; that of the last one where all are.
+pub fn line_without_text(octets: &[u8]) -> u64 {
+    let valid = match str::from_utf8(octets) {
+        Ok(_) => octets.len(),
+        Err(error) => error.valid_up_to(),
+    };
+    let line_feeds = octets.iter().take(valid).filter(|octet| **octet == b'\n');
+    line_feeds.count() as u64 + 1
 }
 
 /// Writes answers where there is a file for them.

@@ -1,7 +1,7 @@
 //! What the daemon does beside serving: statistics and its log.
 
 use crate::assembly::Daemon;
-use crate::files::CommandsFault;
+use crate::files::{CommandsFault, is_nearly_full, write_nearly_full};
 use labntpd_configuration::Configuration;
 use labntpd_configuration::command_line::VERSION;
 use labntpd_host::{BoundAt, ClockSource, HostClocks, Log, queue_state, replace_file};
@@ -12,6 +12,7 @@ use ntp_reports::{Ask, ClockGauges, Gauges, Kind, LineAllowance, write_statistic
 use ntp_server::Reporter;
 use ntp_time::Moment;
 use std::alloc::{AllocError, Global};
+use std::fmt::Display;
 use std::io::{Stderr, Write};
 use std::time::{SystemTime, UNIX_EPOCH};
 
@@ -57,6 +58,7 @@ struct Told {
     clock: Option<Reference>,
     stale: u64,
     commands: Option<CommandsFault>,
+    is_nearly_full: bool,
     has_answers: bool,
     has_statistics: bool,
 }
@@ -118,6 +120,7 @@ impl<'a> Housekeeping<'a> {
                 clock: None,
                 stale: 0,
                 commands: None,
+                is_nearly_full: false,
                 has_answers: true,
                 has_statistics: true,
             },
@@ -237,11 +240,16 @@ impl<'a> Housekeeping<'a> {
 
     // Logs that the commands file or the answers file fails from now on, or does no longer.
     fn tell_files(&mut self, server: &Daemon<'_>) {
-        let fault = server.commands.inner().fault(server.applied);
+        let commands = server.commands.inner();
+        let fault = CommandsFault::of(commands);
         if fault != self.told.commands {
             self.told.commands = fault;
-            self.tell_file("commands", fault.is_none(), commands_word(fault));
+            match fault {
+                None => self.tell_file("commands", true, "is read again"),
+                Some(fault) => self.tell_file("commands", false, fault),
+            }
         }
+        self.tell_nearly_full(commands.length());
         let has_answers = !server.observer.inner.first.has_failed();
         if has_answers != self.told.has_answers {
             self.told.has_answers = has_answers;
@@ -249,8 +257,37 @@ impl<'a> Housekeeping<'a> {
         }
     }
 
+    // Logs that the commands file, which has so many octets, is nearly full from now on.
+    fn tell_nearly_full(&mut self, octets: usize) {
+        let is_nearly_full = is_nearly_full(octets);
+        if is_nearly_full && !self.told.is_nearly_full && self.may_say() {
+            let line = self.log.begin();
+            let _ = write!(line, "commands file: ");
+            write_nearly_full(line, octets);
+            self.log.end();
+        }
+        self.told.is_nearly_full = is_nearly_full;
+    }
+
+    /// Logs that many receives have failed one after another, or that this has ended.
+    pub fn tell_receiving(&mut self, is_well: bool) {
+        if !self.may_say() {
+            return;
+        }
+        let line = self.log.begin();
+        let _ = if is_well {
+            write!(line, "receive: no call fails any longer")
+        } else {
+            write!(
+                line,
+                "receive: a hundred calls failed one after another; a pause follows each"
+            )
+        };
+        self.log.end();
+    }
+
     // Logs and counts that a file fails from now on, or logs that it does no longer.
-    fn tell_file(&mut self, name: &str, is_well: bool, how: &str) {
+    fn tell_file<D: Display + Drop>(&mut self, name: &str, is_well: bool, how: D) {
         if !is_well {
             self.unreadable = self.unreadable.saturating_add(1);
         }
@@ -334,18 +371,6 @@ impl<'a, 'b> Reporter<Daemon<'b>> for Housekeeping<'a> {
             .saturating_mul(SECOND_NANOS)
             .saturating_add(started);
         self.each_second(server);
-    }
-}
-
-// What is told of a commands file.
-fn commands_word(fault: Option<CommandsFault>) -> &'static str {
-    match fault {
-        None => "is read again",
-        Some(CommandsFault::Unreadable) => "cannot be read",
-        Some(CommandsFault::TooLong) => "has more than 1,048,576 octets; no line is carried out",
-        Some(CommandsFault::NotUtf8) => "is not UTF-8; no line is carried out",
-        Some(CommandsFault::LostLines) =>
-            "has fewer lines than were applied; no line is carried out",
     }
 }
 

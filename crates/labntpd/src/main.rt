@@ -5,11 +5,16 @@ mod assembly;
 mod command_log;
 mod files;
 mod housekeeping;
+mod places;
+mod receiving;
+mod register_faults;
 mod starting;
 
 use assembly::serve_status;
 use clap::error::ErrorKind;
+use files::{begin_commands, is_nearly_full, write_nearly_full};
 use labntp_command_line::{DONE, memory_status, unread_status, write_status};
+use labntpd_configuration::Configuration;
 use labntpd_configuration::command_line::{Asked, parse};
 use starting::prepare;
 use std::io::Write;
@@ -46,6 +51,22 @@ fn job_status(rt: &HostRuntime, check: bool, config: &str) -> u8 {
     };
     if !check {
         return serve_status(rt, rt.alloc(), prepared);
+    }
+    check_status(rt, &prepared.configuration)
+}
+
+// Reads the commands file too, and says that all is well.
+fn check_status(rt: &HostRuntime, configuration: &Configuration) -> u8 {
+    let mut faults = rt.stderr();
+    let path = configuration.commands.as_str();
+    let octets = match begin_commands(rt, rt.alloc(), path, &mut faults) {
+        Ok(commands) => commands.length(),
+        Err(status) => return status,
+    };
+    if is_nearly_full(octets) {
+        let _ = write!(faults, "{path}: ");
+        write_nearly_full(&mut faults, octets);
+        let _ = writeln!(faults);
     }
     if writeln!(rt.stdout(), "ok").is_err() {
         return write_status(&mut faults);

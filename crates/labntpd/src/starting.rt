@@ -1,13 +1,15 @@
 //! What a server begins with, read from its files.
 
-use labntp_command_line::{IO_FAILED, TEXT_FAULTY, load_status, memory_status};
+use crate::places::{judge_places, tell_readers};
+use crate::register_faults::register_status;
+use labntp_command_line::{IO_FAILED, TEXT_FAULTY, memory_status};
 use labntpd_configuration::{
     ClockDaemon, ClockSource, Configuration, ConfigurationFault, key_in_file, read_configuration,
 };
 use ntp_clock::{ClockLimits, Follower};
-use ntp_customer_files::{LoadFault, Loaded, MOST_FILE_OCTETS, load_register};
-use ntp_host::read_file;
-use ntp_register_file::{RegisterFault, read_register};
+use ntp_customer_files::{Loaded, MOST_FILE_OCTETS, load_register};
+use ntp_host::read_regular_file;
+use ntp_register_file::read_register;
 use ntp_time::Short;
 use sha2::{Digest, Sha256};
 use std::alloc::Global;
@@ -17,10 +19,16 @@ use std::io::{self, ErrorKind, Write};
 /// How many octets a configuration file and a key file have at most (profile).
 const MOST_SMALL_FILE_OCTETS: u32 = 65_536;
 
-/// What a server begins with.
+/// A configuration, and what a server begins with by it.
 #[derive(Drop)]
 pub struct Prepared {
     pub configuration: Configuration,
+    pub beginning: Beginning,
+}
+
+/// What a server begins with.
+#[derive(Drop)]
+pub struct Beginning {
     pub loaded: Loaded,
     /// How many customers the register file enrols.
     pub customers: u64,
@@ -30,8 +38,8 @@ pub struct Prepared {
     pub digests: [[u8; 32]; 2],
 }
 
-/// Reads the configuration file at a path and the files that it names. A fault is told in one line to `faults`, where a failed
-/// write is passed over, and gives the exit status.
+/// Reads the configuration file at a path and the files that it names, but the commands file. A fault is told in one line to `faults`,
+/// where a failed write is passed over, and gives the exit status. Files with keys that others may read are told too.
 pub fn prepare<R: Files, F: Write>(
     files: &R,
     alloc: Global,
@@ -47,22 +55,31 @@ pub fn prepare<R: Files, F: Write>(
             return Err(TEXT_FAULTY);
         }
     };
+    judge_places(files, alloc, path, &configuration, faults)?;
     let follower = match &configuration.clock {
         ClockSource::Fixed => None,
         ClockSource::Daemon(daemon) => Some(follower(files, alloc, daemon, faults)?),
     };
-    let register = octets_of_register(files, alloc, &configuration.register, faults)?;
+    let register_path = configuration.register.as_str();
+    let register = match read_regular_file(files, alloc, register_path, MOST_FILE_OCTETS as u32) {
+        Ok(octets) => octets,
+        Err(error) => return Err(unread_status(register_path, &error, faults)),
+    };
     let loaded = match load_register(alloc, &register) {
         Ok(loaded) => loaded,
-        Err(fault) => return Err(load_status(fault, faults)),
+        Err(fault) => return Err(register_status(alloc, register_path, &register, fault, faults)),
     };
+    tell_readers(files, register_path, faults);
+    tell_readers(files, configuration.commands.as_str(), faults);
     let digests = [Sha256::digest(text.as_bytes()), Sha256::digest(&register)];
     Ok(Prepared {
-        customers: customers_in(alloc, &register),
         configuration,
-        loaded,
-        follower,
-        digests,
+        beginning: Beginning {
+            customers: customers_in(alloc, &register),
+            loaded,
+            follower,
+            digests,
+        },
     })
 }
 
@@ -99,25 +116,8 @@ fn follower<R: Files, F: Write>(
         most_reference_age: u64::from(daemon.most_reference_age),
         most_step: daemon.most_step,
     };
+    tell_readers(files, path, faults);
     Ok(Follower::new(key, daemon.number.get(), limits))
-}
-
-// The octets of a register file.
-fn octets_of_register<R: Files, F: Write>(
-    files: &R,
-    alloc: Global,
-    path: &str,
-    faults: &mut F,
-) -> Result<Vec<u8>, u8> {
-    match read_file(files, alloc, path, MOST_FILE_OCTETS as u32) {
-        Ok(octets) => Ok(octets),
-        Err(error) => Err(match error.kind() {
-            ErrorKind::OutOfMemory => {
-                load_status(LoadFault::Register(RegisterFault::NoMemory), faults)
-            }
-            _ => load_status(LoadFault::Read, faults),
-        }),
-    }
 }
 
 // The text of a small file.
@@ -127,7 +127,7 @@ fn small_text<R: Files, F: Write>(
     path: &str,
     faults: &mut F,
 ) -> Result<String, u8> {
-    let octets = match read_file(files, alloc, path, MOST_SMALL_FILE_OCTETS) {
+    let octets = match read_regular_file(files, alloc, path, MOST_SMALL_FILE_OCTETS) {
         Ok(octets) => octets,
         Err(error) => return Err(unread_status(path, &error, faults)),
     };
@@ -147,8 +147,8 @@ fn small_text<R: Files, F: Write>(
     }
 }
 
-// Tells that a file could not be read, and gives the exit status.
-fn unread_status<F: Write>(path: &str, error: &io::Error, faults: &mut F) -> u8 {
+/// Tells that a file could not be read, and gives the exit status.
+pub fn unread_status<F: Write>(path: &str, error: &io::Error, faults: &mut F) -> u8 {
     if error.kind() == ErrorKind::OutOfMemory {
         return memory_status(faults);
     }

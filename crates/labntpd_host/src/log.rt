@@ -70,6 +70,11 @@ fn is_open(descriptor: i32) -> bool {
     asked(descriptor, 0).revents & POLLNVAL == 0
 }
 
+/// Waits for so many thousandths of a second.
+pub fn pause(milliseconds: i32) {
+    poll(&mut [], milliseconds);
+}
+
 // What a descriptor is ready for, of these events, without waiting.
 fn asked(descriptor: i32, events: i16) -> pollfd {
     let mut asked = [pollfd {

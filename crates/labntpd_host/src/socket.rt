@@ -3,13 +3,13 @@ ghost use Rattle.libc.specs.Net.{SockOption};
 
 use libc::EAGAIN;
 use libc::net::{
-    AF_INET, MSG_DONTWAIT, MSG_NOSIGNAL, SO_RCVBUF, SO_SNDBUF, SOL_SOCKET, getsockopt, recv,
-    sendto, setsockopt,
+    AF_INET, IPPROTO_TCP, MSG_DONTWAIT, MSG_NOSIGNAL, SO_RCVBUF, SO_SNDBUF, SOL_SOCKET,
+    TCP_NODELAY, getsockopt, recv, sendto, setsockopt,
 };
 use ntp_register::Address;
 use os::{FromRawFd, errno};
 use std::io::{self, ErrorKind};
-use std::net::{Net, SocketAddrV4, UdpSocket};
+use std::net::{Net, SocketAddr, SocketAddrV4, UdpSocket};
 use std::os::fd::AsRawFd;
 
 /// The first descriptor that a service manager hands down (sd_listen_fds(3)).
@@ -20,12 +20,42 @@ pub fn bound<R: Net>(net: &R, address: SocketAddrV4) -> io::Result<UdpSocket> {
     UdpSocket::bind(net, address)
 }
 
-/// The socket that a service manager has handed down as descriptor 3 (sd_listen_fds(3)). The error is the system's where
-/// that is no socket.
+/// The socket that a service manager has handed down as descriptor 3 (sd_listen_fds(3)), made to wait for its datagrams: a bound UDP
+/// socket of IPv4. The error says what is wanted, or is the system's.
 pub fn inherited() -> io::Result<UdpSocket> {
     let socket = unsafe { UdpSocket::from_raw_fd(FIRST_INHERITED) };
-    socket.local_addr()?;
+    let SocketAddr::V4(local) = socket.local_addr()? else {
+        return Err(unsuited("an IPv4 socket is wanted"));
+    };
+    if is_tcp(&socket) {
+        return Err(unsuited("a UDP socket is wanted"));
+    }
+    if local.port() == 0 {
+        return Err(unsuited("a socket that is bound is wanted"));
+    }
+    socket.set_nonblocking(false)?;
     Ok(socket)
+}
+
+// What is wrong with a socket that was handed down.
+fn unsuited(what: &str) -> io::Error {
+    io::Error::new(ErrorKind::InvalidInput, what)
+}
+
+// Whether a socket is one of TCP: only those have the option (tcp(7)).
+fn is_tcp(socket: &UdpSocket) -> bool {
+    let mut value = [0; 16];
+    let mut length = 4;
+    let status = unsafe {
+        getsockopt(
+            socket.as_raw_fd(),
+            IPPROTO_TCP,
+            TCP_NODELAY,
+            &mut value,
+            &mut length,
+        )
+    };
+    status == 0
 }
 
 /// Asks for a receive buffer of so many octets.

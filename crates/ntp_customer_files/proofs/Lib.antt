@@ -1,4 +1,5 @@
 mod LinesCut
+mod SameLines
 pub mod LinesTaken
 mod LinesApplied
 mod Enrolments

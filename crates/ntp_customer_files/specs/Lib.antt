@@ -1,4 +1,5 @@
 pub mod FileText
 pub mod CommandsFile
+pub mod Admitting
 pub mod Applying
 pub mod Loading

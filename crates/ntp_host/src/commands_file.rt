@@ -2,12 +2,12 @@
 
 use crate::pacing::{MILLISECOND, is_due};
 use crate::version::Version;
-use crate::whole_read::read_open;
+use crate::whole_read::{read_open, regular_metadata};
 use ntp_service_serve::CommandsSource;
 use ntp_time::{Moment, Stamp};
 use std::alloc::Allocator;
 use std::fs::{self, Files, OpenFile};
-use std::io::Read;
+use std::io::{self, Read};
 
 /// How long the metadata of the open file is not asked for again (profile).
 const METADATA_PERIOD: u64 = MILLISECOND;
@@ -96,6 +96,13 @@ impl<'a, R: Files> CommandsFile<'a, R> {
         }
     }
 
+    /// Reads the whole file for the first time: its octets, cut to one more than the most, or why there are none. It takes memory
+    /// from `alloc`.
+    pub fn begin<A: Allocator + Copy>(&mut self, alloc: A) -> io::Result<Vec<u8, A>> {
+        let metadata = regular_metadata(self.files, self.path)?;
+        self.read_whole(alloc, Version::of(&metadata))
+    }
+
     /// Whether the file that stands at its path was read when it was last looked at. It was not before the first look, nor
     /// where there was no regular file or it could not be read.
     pub fn is_read(&self) -> bool {
@@ -112,12 +119,8 @@ impl<'a, R: Files> CommandsFile<'a, R> {
 
     // The version of the file that stands at the path; none where there is no regular file.
     fn version_at_path(&self) -> Option<Version> {
-        let metadata = fs::metadata(self.files, self.path).ok()?;
-        if metadata.is_file() {
-            Some(Version::of(&metadata))
-        } else {
-            None
-        }
+        let metadata = regular_metadata(self.files, self.path).ok()?;
+        Some(Version::of(&metadata))
     }
 
     // The version of the file that was read last.
@@ -134,16 +137,16 @@ impl<'a, R: Files> CommandsFile<'a, R> {
         &mut self,
         alloc: A,
         version: Version,
-    ) -> Option<Vec<u8, A>> {
-        let mut file = fs::open(self.files, self.path).ok()?;
-        let octets = read_open(&mut file, alloc, self.most).ok()?;
+    ) -> io::Result<Vec<u8, A>> {
+        let mut file = fs::open(self.files, self.path)?;
+        let octets = read_open(&mut file, alloc, self.most)?;
         self.given = Some(Given {
             file,
             version,
             is_cut: octets.len() > self.most as usize,
             asked: None,
         });
-        Some(octets)
+        Ok(octets)
     }
 }
 
@@ -166,6 +169,6 @@ impl<'a, R: Files, A: Allocator + Copy> CommandsSource<A> for CommandsFile<'a, R
         }
         // It is read only where it is regular: to open a pipe might take for ever.
         self.given = None;
-        self.read_whole(alloc, version?)
+        self.read_whole(alloc, version?).ok()
     }
 }

@@ -12,4 +12,4 @@ pub use clock::moment_now;
 pub use commands_file::CommandsFile;
 pub use pacing::EachMillisecond;
 pub use udp_port::UdpPort;
-pub use whole_read::read_file;
+pub use whole_read::{not_regular, read_file, read_regular_file};

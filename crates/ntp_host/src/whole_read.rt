@@ -1,8 +1,8 @@
 //! A file, read whole.
 
 use std::alloc::Allocator;
-use std::fs::{self, Files};
-use std::io::{self, Read};
+use std::fs::{self, Files, Metadata};
+use std::io::{self, ErrorKind, Read};
 
 /// The octets of the file at a path, cut to one more than `most`, so that a longer file is still told from one of
 /// `most` octets. It takes memory for them from `alloc`. The error is the system's, or `OutOfMemory`.
@@ -14,6 +14,32 @@ pub fn read_file<R: Files, A: Allocator + Copy>(
 ) -> io::Result<Vec<u8, A>> {
     let mut file = fs::open(files, path)?;
     read_open(&mut file, alloc, most)
+}
+
+/// The same, of a regular file alone: to open a pipe might take for ever. The error may also say that such a file is wanted.
+pub fn read_regular_file<R: Files, A: Allocator + Copy>(
+    files: &R,
+    alloc: A,
+    path: &str,
+    most: u32,
+) -> io::Result<Vec<u8, A>> {
+    regular_metadata(files, path)?;
+    read_file(files, alloc, path, most)
+}
+
+/// The metadata of the regular file that stands at a path, or why there is none.
+pub(crate) fn regular_metadata<R: Files>(files: &R, path: &str) -> io::Result<Metadata> {
+    let metadata = fs::metadata(files, path)?;
+    if metadata.is_file() {
+        Ok(metadata)
+    } else {
+        Err(not_regular())
+    }
+}
+
+/// That a regular file is wanted, as an error.
+pub fn not_regular() -> io::Error {
+    io::Error::new(ErrorKind::InvalidInput, "a regular file is wanted")
 }
 
 /// The same, of a file that is open and of which nothing was read.

@@ -1,10 +1,12 @@
 //! A server with its commands, the state of its clock and who is told of what it does.
 #![tactic(auto)]
 
+mod admitted_commands;
 mod memory;
 mod reporter;
 mod server;
 
+pub use admitted_commands::AdmittedCommands;
 pub use memory::{MemoryCommands, MemoryObserver, MemoryStates};
 pub use reporter::{NoReports, Reporter};
 pub use server::{Server, Totals};

@@ -9,6 +9,8 @@ mod faulty;
 #[cfg(test)]
 mod freshness;
 #[cfg(test)]
+mod held_commands;
+#[cfg(test)]
 mod replay;
 #[cfg(test)]
 mod reports;

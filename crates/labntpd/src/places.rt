@@ -1,0 +1,207 @@
+//! Where the files of a configuration stand: no two of them at one place, and those that are written in directories that are there.
+
+use labntp_command_line::{TEXT_FAULTY, memory_status};
+use labntpd_configuration::{ClockSource, Configuration};
+use ntp_host::not_regular;
+use std::alloc::Global;
+use std::fs::{self, Files};
+use std::io::{self, ErrorKind, Write};
+use std::os::unix::fs::MetadataExt;
+
+/// The bits of a file's mode that let others than its owner and its group use it (inode(7)).
+const OTHERS: u32 = 0o007;
+
+/// What is done with a file.
+#[derive(Clone, Copy, PartialEq, Eq)]
+enum Use {
+    Read,
+    Written,
+    /// It is made anew in the place of what stands there.
+    MadeAnew,
+}
+
+/// A file that a configuration names.
+#[derive(Clone, Copy)]
+struct Named<'a> {
+    /// The key that names it.
+    key: &'static str,
+    path: &'a str,
+    usage: Use,
+}
+
+/// What a file is told from others by: where it stands, or where one will stand that is not there yet.
+#[derive(Clone, Copy, PartialEq, Eq)]
+struct Place<'a> {
+    device: u64,
+    node: u64,
+    /// Its name in the directory of that device and node; none where the file itself is there.
+    name: Option<&'a str>,
+}
+
+/// Judges where the files of a configuration stand, whose own path is `path`. A fault is told in one line to `faults`, and gives the
+/// exit status.
+pub fn judge_places<R: Files, F: Write>(
+    files: &R,
+    alloc: Global,
+    path: &str,
+    configuration: &Configuration,
+    faults: &mut F,
+) -> Result<(), u8> {
+    let Ok(beside) = beside_statistics(alloc, configuration) else {
+        return Err(memory_status(faults));
+    };
+    let named = named_in(path, configuration, beside.as_str());
+    for (place, file) in named.iter().enumerate() {
+        let Some(file) = file else {
+            continue;
+        };
+        if let Err(error) = writable(files, file) {
+            let _ = writeln!(faults, "{path}: {}: {}: {error}", file.key, file.path);
+            return Err(TEXT_FAULTY);
+        }
+        for other in named.iter().take(place) {
+            let Some(other) = other else {
+                continue;
+            };
+            if are_one(files, file, other) {
+                let _ = writeln!(
+                    faults,
+                    "{path}: {}: another file than that of {} is wanted",
+                    file.key, other.key
+                );
+                return Err(TEXT_FAULTY);
+            }
+        }
+    }
+    Ok(())
+}
+
+/// Tells in a line to `faults` that others may read a file which has keys, where that is so.
+pub fn tell_readers<R: Files, F: Write>(files: &R, path: &str, faults: &mut F) {
+    let Ok(metadata) = fs::metadata(files, path) else {
+        return;
+    };
+    if metadata.is_file() && metadata.mode() & OTHERS != 0 {
+        let _ = writeln!(
+            faults,
+            "{path}: it has keys, and others than its owner and group may use it (mode {:o})",
+            metadata.mode() & 0o777
+        );
+    }
+}
+
+// The path at which statistics are written before they get their name; the empty text where none are.
+fn beside_statistics(alloc: Global, configuration: &Configuration) -> io::Result<String> {
+    match &configuration.statistics {
+        None => Ok(String::new(alloc)),
+        Some(path) => Ok(format!(in alloc; "{path}.new")?),
+    }
+}
+
+// The files that a configuration names, and its own.
+fn named_in<'a>(
+    path: &'a str,
+    configuration: &'a Configuration,
+    beside: &'a str,
+) -> [Option<Named<'a>>; 7] {
+    let key_file = match &configuration.clock {
+        ClockSource::Fixed => None,
+        ClockSource::Daemon(daemon) => Some(daemon.key_file.as_str()),
+    };
+    let statistics = path_of(&configuration.statistics);
+    [
+        named("the configuration", Some(path), Use::Read),
+        named("register", Some(configuration.register.as_str()), Use::Read),
+        named("commands", Some(configuration.commands.as_str()), Use::Read),
+        named("clock.key_file", key_file, Use::Read),
+        named("answers", path_of(&configuration.answers), Use::Written),
+        named("statistics", statistics, Use::Written),
+        named(
+            "statistics (FILE.new)",
+            statistics.map(|_| beside),
+            Use::MadeAnew,
+        ),
+    ]
+}
+
+// The path of a file that may be left out.
+fn path_of(path: &Option<String>) -> Option<&str> {
+    match path {
+        None => None,
+        Some(path) => Some(path.as_str()),
+    }
+}
+
+// A file, where there is a path for it.
+fn named<'a>(key: &'static str, path: Option<&'a str>, usage: Use) -> Option<Named<'a>> {
+    match path {
+        None => None,
+        Some(path) => Some(Named { key, path, usage }),
+    }
+}
+
+// Whether a file that is written may stand where it is to: in a directory, and in the place of a regular file or of none. What is made
+// anew may have the place of anything but a directory.
+fn writable<R: Files>(files: &R, file: &Named<'_>) -> io::Result<()> {
+    if file.usage == Use::Read {
+        return Ok(());
+    }
+    match fs::metadata(files, file.path) {
+        Ok(metadata) if metadata.is_file() => Ok(()),
+        Ok(metadata) if file.usage == Use::MadeAnew && !metadata.is_dir() => Ok(()),
+        Ok(_) => Err(not_regular()),
+        Err(error) if error.kind() == ErrorKind::NotFound => {
+            if fs::metadata(files, directory_of(file.path))?.is_dir() {
+                Ok(())
+            } else {
+                Err(io::Error::from(ErrorKind::NotADirectory))
+            }
+        }
+        Err(error) => Err(error),
+    }
+}
+
+// Whether two files are one, by their paths or by where they stand.
+fn are_one<R: Files>(files: &R, first: &Named<'_>, second: &Named<'_>) -> bool {
+    if first.path == second.path {
+        return true;
+    }
+    match (place_of(files, first.path), place_of(files, second.path)) {
+        (Some(first), Some(second)) => first == second,
+        _ => false,
+    }
+}
+
+// Where the file at a path stands, or would stand; nothing where its directory is not there.
+fn place_of<'a, R: Files>(files: &R, path: &'a str) -> Option<Place<'a>> {
+    if let Ok(metadata) = fs::metadata(files, path) {
+        return Some(Place {
+            device: metadata.dev(),
+            node: metadata.ino(),
+            name: None,
+        });
+    }
+    let metadata = fs::metadata(files, directory_of(path)).ok()?;
+    Some(Place {
+        device: metadata.dev(),
+        node: metadata.ino(),
+        name: Some(name_of(path)),
+    })
+}
+
+// The directory in which a path's file stands.
+fn directory_of(path: &str) -> &str {
+    match path.rsplit_once('/') {
+        None => ".",
+        Some(("", _)) => "/",
+        Some((directory, _)) => directory,
+    }
+}
+
+// The name of a path's file in its directory.
+fn name_of(path: &str) -> &str {
+    match path.rsplit_once('/') {
+        None => path,
+        Some((_, name)) => name,
+    }
+}

@@ -2,6 +2,7 @@
 ghost use Rattle.std.specs.Prelude.{◌≡◌, IfOk};
 
 use crate::command_log::CommandLog;
+use crate::customers_file::Reporting;
 use crate::files::{Answering, DaemonCommands, HeldCommands, begin_commands};
 use crate::housekeeping::{Begun, Housekeeping, SOCKETS_ROOM};
 use crate::receiving::Patience;
@@ -9,8 +10,8 @@ use crate::starting::{Beginning, Prepared};
 use labntp_command_line::{DONE, IO_FAILED, memory_status, write_status};
 use labntpd_configuration::{ClockSource as ConfiguredClock, Configuration, Listen};
 use labntpd_host::{
-    BoundAt, ClockSource, FollowedClock, HostClocks, LONGEST_WAIT, Log, QueuedUdp, bound,
-    emptied_file, has_standard_streams, inherited, receive_buffer, set_receive_buffer,
+    BoundAt, ClockSource, FollowedClock, HostClocks, LONGEST_WAIT, Log, LogForm, QueuedUdp, bound,
+    emptied_file, form_for, has_standard_streams, inherited, receive_buffer, set_receive_buffer,
     set_send_buffer,
 };
 use ntp_freshness::{FreshPort, QueueWatch};
@@ -36,7 +37,8 @@ pub type Daemon<'a> = Server<
 // Where its datagrams come from, and who is told what it does.
 type DaemonPort<'a> = FreshPort<QueuedUdp<'a, &'a HostRuntime, HostRuntime>>;
 
-type DaemonObserver<'a> = Counting<Both<Answering<LineWriter<File>>, CommandLog<'a, Stderr>>>;
+type DaemonObserver<'a> =
+    Counting<Both<Answering<LineWriter<File>>, Both<CommandLog<'a, Stderr>, Reporting>>>;
 
 /// Serves by what was prepared, for ever. Gives the exit status where that cannot begin; a fault is told in one line on
 /// standard error.
@@ -130,6 +132,7 @@ fn serve(
         wanted_buffer: configuration.receive_buffer,
         customers,
         digests,
+        form: log_form(rt),
     };
     let mut patience = match begin(rt, alloc, clocks, configuration, begun) {
         Ok(housekeeping) => Patience::new(housekeeping),
@@ -185,19 +188,30 @@ fn open_observer<'a>(
     alloc: Global,
     clocks: &'a HostClocks,
     configuration: &Configuration,
-    beginning: &Beginning,
+    beginning: &mut Beginning,
 ) -> Result<DaemonObserver<'a>, u8> {
     let answers = answers_file(rt, alloc, configuration)?;
-    let Ok(log) = Log::new(alloc, rt.stderr()) else {
+    let Ok(log) = Log::new(alloc, rt.stderr(), log_form(rt)) else {
         return Err(memory_status(&mut rt.stderr()));
     };
     Ok(Counting {
         counts: Counts::new(),
         inner: Both {
             first: answers,
-            second: CommandLog::new(log, clocks, beginning.customers),
+            second: Both {
+                first: CommandLog::new(log, clocks, beginning.customers),
+                second: Reporting(beginning.reports.take()),
+            },
         },
     })
+}
+
+// How lines of the log begin.
+fn log_form(rt: &HostRuntime) -> LogForm {
+    match env::var(rt, "JOURNAL_STREAM") {
+        Ok(stream) => form_for(rt, stream.as_str()),
+        Err(_) => LogForm::Plain,
+    }
 }
 
 // Who answers lines of commands, into a file that is made empty, where the configuration names one. Each line is written in one piece.

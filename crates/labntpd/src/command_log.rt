@@ -1,6 +1,6 @@
 //! What is logged of the lines of commands.
 
-use labntpd_host::{HostClocks, Log};
+use labntpd_host::{HostClocks, Log, Priority};
 use ntp_admin::refusal_word;
 use ntp_customer_files::fault_word;
 use ntp_events::{Command, LineOutcome, Observer, TurnOutcome};
@@ -64,7 +64,11 @@ impl<'a, W: Write + Drop> CommandLog<'a, W> {
 
     // Writes a line for what became of the line with a number.
     fn write_line(&mut self, number: u64, subject: Option<Subject>, outcome: LineOutcome) {
-        let line = self.log.begin();
+        let priority = match outcome {
+            LineOutcome::Done => Priority::Information,
+            LineOutcome::Refused(_) | LineOutcome::Faulty(_) => Priority::Warning,
+        };
+        let line = self.log.begin(priority);
         let _ = write!(line, "commands: line {number}: ");
         if let Some(subject) = subject {
             let Address([a, b, c, d]) = subject.address;
@@ -97,7 +101,8 @@ impl<'a, W: Write + Drop> Observer for CommandLog<'a, W> {
             Ask::Hold => return,
             Ask::Say => {}
             Ask::SayWithMore(held) => {
-                let _ = write!(self.log.begin(), "commands: {held} more lines");
+                let line = self.log.begin(Priority::Warning);
+                let _ = write!(line, "commands: {held} more lines");
                 self.log.end();
             }
         }

@@ -1,18 +1,23 @@
-//! What the daemon does beside serving: statistics and its log.
+//! What the daemon does beside serving: statistics, the customers file and its log.
 
 use crate::assembly::Daemon;
+use crate::customers_file::CustomersFile;
 use crate::files::{CommandsFault, is_nearly_full, write_nearly_full};
 use labntpd_configuration::Configuration;
 use labntpd_configuration::command_line::VERSION;
-use labntpd_host::{BoundAt, ClockSource, HostClocks, Log, queue_state, replace_file};
-use ntp_clock::Reading;
+use labntpd_host::{
+    BoundAt, ClockSource, HostClocks, Log, LogForm, Priority, queue_state, replace_file,
+};
+use ntp_clock::{ClockAnswer, Reading};
 use ntp_host::moment_now;
 use ntp_reply::Reference;
-use ntp_reports::{Ask, ClockGauges, Gauges, Kind, LineAllowance, write_statistics};
+use ntp_reports::{
+    Ask, Belief, ClockGauges, FileGauges, Gauges, Kind, LineAllowance, write_statistics,
+};
 use ntp_server::Reporter;
 use ntp_time::Moment;
 use std::alloc::{AllocError, Global};
-use std::fmt::Display;
+use std::fmt;
 use std::io::{Stderr, Write};
 use std::time::{SystemTime, UNIX_EPOCH};
 
@@ -50,28 +55,77 @@ pub struct Begun {
     pub customers: u64,
     /// The SHA-256 digests of its configuration file and of its register file.
     pub digests: [[u8; 32]; 2],
+    /// How the lines of its log begin.
+    pub form: LogForm,
 }
 
 // What was told of last.
 #[derive(Clone, Copy)]
 struct Told {
+    // The state of the clock, and the leap second that it announces.
     clock: Option<Reference>,
+    leap: u8,
     stale: u64,
-    commands: Option<CommandsFault>,
+    is_receiving: bool,
     is_nearly_full: bool,
-    has_answers: bool,
-    has_statistics: bool,
 }
 
-/// Writes statistics and the log, once a second at most.
+// What is wrong with a file.
+#[derive(Clone, Copy, PartialEq, Eq)]
+enum FileFault {
+    // Nothing of the commands file is carried out.
+    Commands(CommandsFault),
+    // It cannot be written as it should be.
+    Written(&'static str),
+}
+
+impl fmt::Display for FileFault {
+    fn fmt<W: fmt::Write>(&self, f: &mut fmt::Formatter<W>) -> fmt::Result {
+        match self {
+            FileFault::Commands(fault) => fault.fmt(f),
+            FileFault::Written(words) => f.write_str(words),
+        }
+    }
+}
+
+// A file that can fail: what was wrong with it when it was last looked at, what was told of that last, and what is told where it is well
+// again.
+#[derive(Clone, Copy)]
+struct WatchedFile {
+    name: &'static str,
+    seen: Option<FileFault>,
+    told: Option<FileFault>,
+    again: &'static str,
+}
+
+// The files that can fail.
+#[derive(Clone, Copy)]
+enum Watched {
+    Commands = 0,
+    Answers = 1,
+    Statistics = 2,
+    Customers = 3,
+}
+
+// How many lines of each kind may still be written.
+#[derive(Clone, Copy)]
+struct Allowances {
+    clock: LineAllowance,
+    stale: LineAllowance,
+    files: LineAllowance,
+    receiving: LineAllowance,
+}
+
+/// Writes statistics, customers and the log, once a second at most; a large customers file in pieces.
 #[derive(Drop)]
 pub struct Housekeeping<'a> {
     rt: &'a HostRuntime,
     clocks: &'a HostClocks,
     log: Log<Stderr>,
-    allowance: LineAllowance,
+    allowances: Allowances,
     // The path of the statistics file, and of the file beside it in which they are written.
     statistics: Option<(&'a str, String)>,
+    customers: Option<CustomersFile<'a>>,
     text: Vec<u8>,
     sockets: Vec<u8>,
     begun: Begun,
@@ -84,6 +138,8 @@ pub struct Housekeeping<'a> {
     statistics_due: u64,
     totals_due: u64,
     told: Told,
+    is_receiving: bool,
+    files: [WatchedFile; 4],
     drops: u64,
     unreadable: u64,
 }
@@ -101,12 +157,22 @@ impl<'a> Housekeeping<'a> {
             None => None,
             Some(path) => Some((path.as_str(), format!(in alloc; "{path}.new")?)),
         };
+        let customers = match &configuration.customers {
+            None => None,
+            Some(path) => Some(CustomersFile::new(alloc, path.as_str())?),
+        };
         Ok(Housekeeping {
             rt,
             clocks,
-            log: Log::new(alloc, rt.stderr())?,
-            allowance: LineAllowance::new(),
+            log: Log::new(alloc, rt.stderr(), begun.form)?,
+            allowances: Allowances {
+                clock: LineAllowance::new(),
+                stale: LineAllowance::new(),
+                files: LineAllowance::new(),
+                receiving: LineAllowance::new(),
+            },
             statistics,
+            customers,
             text: Vec::with_capacity(alloc, STATISTICS_ROOM)?,
             sockets: Vec::with_capacity(alloc, SOCKETS_ROOM)?,
             begun,
@@ -118,12 +184,18 @@ impl<'a> Housekeeping<'a> {
             totals_due: TOTALS_PERIOD,
             told: Told {
                 clock: None,
+                leap: NO_LEAP,
                 stale: 0,
-                commands: None,
+                is_receiving: true,
                 is_nearly_full: false,
-                has_answers: true,
-                has_statistics: true,
             },
+            is_receiving: true,
+            files: [
+                watched("commands", "is read again"),
+                watched("answers", "is written again"),
+                watched("statistics", "is written again"),
+                watched("customers", "is written again"),
+            ],
             drops: 0,
             unreadable: 0,
         })
@@ -136,17 +208,18 @@ impl<'a> Housekeeping<'a> {
             wanted_buffer,
             customers,
             digests: [configuration, register],
+            ..
         } = self.begun;
-        let line = self.log.begin();
+        let line = self.log.begin(Priority::Information);
         let _ = write!(
             line,
-            "labntpd {VERSION}: serving {local}, {customers} customers, configuration "
+            "labntpd {VERSION}: at {local}, {customers} customers, configuration "
         );
         write_digest(line, &configuration);
         let _ = write!(line, ", register ");
         write_digest(line, &register);
         self.log.end();
-        let line = self.log.begin();
+        let line = self.log.begin(Priority::Information);
         let _ = write!(
             line,
             "receive buffer: {wanted_buffer} octets wanted, {buffer} given, as the kernel counts"
@@ -165,10 +238,12 @@ impl<'a> Housekeeping<'a> {
             self.tell_clock(&state);
         }
         self.tell_stale(server.port.stale());
+        self.tell_receiving();
         self.tell_files(server);
+        self.begin_customers(server);
         if self.seconds >= self.statistics_due {
             self.statistics_due = self.seconds.saturating_add(STATISTICS_PERIOD);
-            self.write_statistics(server, clock_gauges(&server.reference, &state, now.ticks));
+            self.write_statistics(server, clock_gauges(&server.reference, &state, now));
         }
         if self.seconds >= self.totals_due {
             self.totals_due = self.seconds.saturating_add(TOTALS_PERIOD);
@@ -185,99 +260,80 @@ impl<'a> Housekeeping<'a> {
         }
     }
 
-    // Logs that the clock is synchronised, or is not, from now on; and of one that is, what has changed of its stratum, of its
-    // reference, and of the leap second that it announces.
+    // Logs that the clock is synchronised, or is not, where that was not told last; and of one that is, its stratum, its reference, and the
+    // leap second that it announces, where one of them is another.
     fn tell_clock(&mut self, state: &Reference) {
-        let told = self.told.clock.replace(*state);
-        if is_synchronised(state) {
-            let told = told.filter(is_synchronised);
-            if told.is_none_or(|it| it.stratum() != state.stratum() || it.id() != state.id()) {
-                self.tell_reference(state);
-            }
-            let leap = told.map_or(NO_LEAP, |it| it.leap());
-            if leap != state.leap() {
-                self.tell_leap(state.leap());
-            }
-        } else if told.is_none_or(|it| is_synchronised(&it)) && self.may_say() {
-            let _ = write!(self.log.begin(), "clock: not synchronised");
-            self.log.end();
+        if !is_synchronised(state) {
+            self.tell_unsynchronised(state);
+            return;
         }
+        if !self.told.clock.is_some_and(|told| is_told_as(&told, state)) {
+            self.tell_reference(state);
+        }
+        if self.told.leap != state.leap() {
+            self.tell_leap(state.leap());
+        }
+    }
+
+    // Logs that the clock is not synchronised, where that was not told last.
+    fn tell_unsynchronised(&mut self, state: &Reference) {
+        let is_told = self.told.clock.is_some_and(|told| !is_synchronised(&told));
+        if is_told || !may_say(&mut self.allowances.clock, self.seconds) {
+            return;
+        }
+        self.told.clock = Some(*state);
+        self.told.leap = NO_LEAP;
+        let line = self.log.begin(Priority::Warning);
+        let _ = write!(line, "clock: not synchronised");
+        self.log.end();
     }
 
     // Logs which clock the host's follows.
     fn tell_reference(&mut self, state: &Reference) {
-        if !self.may_say() {
+        if !may_say(&mut self.allowances.clock, self.seconds) {
             return;
         }
+        self.told.clock = Some(*state);
         let [a, b, c, d] = state.id();
+        let stratum = state.stratum();
+        let line = self.log.begin(Priority::Notice);
         let _ = write!(
-            self.log.begin(),
-            "clock: synchronised, stratum {}, reference {a:02x}{b:02x}{c:02x}{d:02x}",
-            state.stratum()
+            line,
+            "clock: synchronised, stratum {stratum}, reference {a:02x}{b:02x}{c:02x}{d:02x}"
         );
         self.log.end();
     }
 
     // Logs which leap second is announced.
     fn tell_leap(&mut self, leap: u8) {
-        if !self.may_say() {
+        if !may_say(&mut self.allowances.clock, self.seconds) {
             return;
         }
-        let _ = write!(self.log.begin(), "clock: {}", leap_word(leap));
+        self.told.leap = leap;
+        let line = self.log.begin(Priority::Notice);
+        let _ = write!(line, "clock: {}", leap_word(leap));
         self.log.end();
     }
 
-    // Logs how many stale datagrams were dropped since it was last told.
-    fn tell_stale(&mut self, stale: u64) {
-        let dropped = stale - self.told.stale.min(stale);
-        if dropped == 0 || !self.may_say() {
+    /// Whether datagrams can be received by now: not, where many receives have failed one after another.
+    pub fn see_receiving(&mut self, is_receiving: bool) {
+        self.is_receiving = is_receiving;
+    }
+
+    // Logs that many receives have failed one after another, or that this has ended, where that was not told last.
+    fn tell_receiving(&mut self) {
+        let is_receiving = self.is_receiving;
+        if is_receiving == self.told.is_receiving
+            || !may_say(&mut self.allowances.receiving, self.seconds)
+        {
             return;
         }
-        self.told.stale = stale;
-        let _ = write!(self.log.begin(), "stale: {dropped} datagrams dropped");
-        self.log.end();
-    }
-
-    // Logs that the commands file or the answers file fails from now on, or does no longer.
-    fn tell_files(&mut self, server: &Daemon<'_>) {
-        let commands = server.commands.inner();
-        let fault = CommandsFault::of(commands);
-        if fault != self.told.commands {
-            self.told.commands = fault;
-            match fault {
-                None => self.tell_file("commands", true, "is read again"),
-                Some(fault) => self.tell_file("commands", false, fault),
-            }
-        }
-        self.tell_nearly_full(commands.length());
-        let has_answers = !server.observer.inner.first.has_failed();
-        if has_answers != self.told.has_answers {
-            self.told.has_answers = has_answers;
-            self.tell_file("answers", has_answers, written_word(has_answers));
-        }
-    }
-
-    // Logs that the commands file, which has so many octets, is nearly full from now on.
-    fn tell_nearly_full(&mut self, octets: usize) {
-        let is_nearly_full = is_nearly_full(octets);
-        if is_nearly_full && !self.told.is_nearly_full && self.may_say() {
-            let line = self.log.begin();
-            let _ = write!(line, "commands file: ");
-            write_nearly_full(line, octets);
-            self.log.end();
-        }
-        self.told.is_nearly_full = is_nearly_full;
-    }
-
-    /// Logs that many receives have failed one after another, or that this has ended.
-    pub fn tell_receiving(&mut self, is_well: bool) {
-        if !self.may_say() {
-            return;
-        }
-        let line = self.log.begin();
-        let _ = if is_well {
+        self.told.is_receiving = is_receiving;
+        let _ = if is_receiving {
+            let line = self.log.begin(Priority::Notice);
             write!(line, "receive: no call fails any longer")
         } else {
+            let line = self.log.begin(Priority::Error);
             write!(
                 line,
                 "receive: a hundred calls failed one after another; a pause follows each"
@@ -286,14 +342,101 @@ impl<'a> Housekeeping<'a> {
         self.log.end();
     }
 
-    // Logs and counts that a file fails from now on, or logs that it does no longer.
-    fn tell_file<D: Display + Drop>(&mut self, name: &str, is_well: bool, how: D) {
-        if !is_well {
+    // Logs how many stale datagrams were dropped since it was last told.
+    fn tell_stale(&mut self, stale: u64) {
+        let dropped = stale - self.told.stale.min(stale);
+        if dropped == 0 || !may_say(&mut self.allowances.stale, self.seconds) {
+            return;
+        }
+        self.told.stale = stale;
+        let line = self.log.begin(Priority::Warning);
+        let _ = write!(line, "stale: {dropped} datagrams dropped");
+        self.log.end();
+    }
+
+    // Looks at each file, and logs what is wrong from now on, or is no longer.
+    fn tell_files(&mut self, server: &Daemon<'_>) {
+        let commands = server.commands.inner();
+        let fault = CommandsFault::of(commands);
+        self.see(Watched::Commands, fault.map(FileFault::Commands));
+        self.tell_nearly_full(commands.length());
+        let answers = &server.observer.inner.first;
+        self.see(Watched::Answers, unless_well(!answers.has_failed()));
+        if let Some(customers) = &self.customers {
+            let fault = customers.fault();
+            self.see(Watched::Customers, fault.map(FileFault::Written));
+        }
+        for place in 0..self.files.len() {
+            self.tell_file(place);
+        }
+    }
+
+    // Logs that the commands file, which has so many octets, is nearly full, where that was not told last.
+    fn tell_nearly_full(&mut self, octets: usize) {
+        let is_nearly_full = is_nearly_full(octets);
+        if is_nearly_full == self.told.is_nearly_full
+            || is_nearly_full && !may_say(&mut self.allowances.files, self.seconds)
+        {
+            return;
+        }
+        self.told.is_nearly_full = is_nearly_full;
+        if is_nearly_full {
+            let line = self.log.begin(Priority::Warning);
+            let _ = write!(line, "commands file: ");
+            write_nearly_full(line, octets);
+            self.log.end();
+        }
+    }
+
+    // What is wrong with a file was looked for. It is counted where something is wrong that was not before.
+    fn see(&mut self, which: Watched, fault: Option<FileFault>) {
+        let file = &mut self.files[which as usize];
+        if fault != file.seen && fault.is_some() {
             self.unreadable = self.unreadable.saturating_add(1);
         }
-        if self.may_say() {
-            let _ = write!(self.log.begin(), "{name} file: {how}");
-            self.log.end();
+        file.seen = fault;
+    }
+
+    // Logs what is wrong with a file, or that nothing is, where something else was told of it last.
+    fn tell_file(&mut self, place: usize) {
+        let file = self.files[place];
+        if file.seen == file.told || !may_say(&mut self.allowances.files, self.seconds) {
+            return;
+        }
+        self.files[place].told = file.seen;
+        let name = file.name;
+        let _ = match file.seen {
+            Some(fault) => write!(self.log.begin(Priority::Error), "{name} file: {fault}"),
+            None => write!(self.log.begin(Priority::Notice), "{name} file: {}", file.again),
+        };
+        self.log.end();
+    }
+
+    // Which files are well.
+    fn file_gauges(&self) -> FileGauges {
+        let is_well = |which: Watched| self.files[which as usize].seen.is_none();
+        FileGauges {
+            commands: is_well(Watched::Commands),
+            answers: is_well(Watched::Answers),
+            statistics: is_well(Watched::Statistics),
+            customers: is_well(Watched::Customers),
+        }
+    }
+
+    // Begins to write the customers, where it is time to.
+    fn begin_customers(&mut self, server: &Daemon<'_>) {
+        if let Some(customers) = &mut self.customers {
+            let done = server.observer.counts.count(Kind::Done);
+            customers.begin_in_time(self.rt, self.seconds, done);
+        }
+    }
+
+    // Goes on to write the customers, where that was begun.
+    fn write_customers(&mut self, server: &Daemon<'_>) {
+        if let (Some(file), Some(reports)) =
+            (&mut self.customers, &server.observer.inner.second.second.0)
+        {
+            file.go_on(self.rt, reports, &server.service);
         }
     }
 
@@ -305,13 +448,20 @@ impl<'a> Housekeeping<'a> {
         let Some((path, beside)) = &self.statistics else {
             return;
         };
-        let commands = &server.observer.inner.second;
+        let commands = &server.observer.inner.second.first;
         let gauges = Gauges {
             stale: server.port.stale(),
             kernel_drops: self.drops,
+            receive_buffer: u64::from(self.begun.bound.buffer),
+            queue_wait: None,
+            send_would_wait: server.port.port().would_wait(),
+            sweeps: 0,
+            commands_lines: server.applied,
+            commands_octets: Some(server.commands.inner().length() as u64),
             customers: commands.customers(),
             clock,
             log_lines_dropped: self.log.dropped().saturating_add(commands.dropped()),
+            files: self.file_gauges(),
             files_unreadable: self.unreadable,
             start_time: self.start_time,
             version: VERSION,
@@ -319,10 +469,7 @@ impl<'a> Housekeeping<'a> {
         self.text.clear();
         let is_written = write_statistics(&mut self.text, &server.observer.counts, &gauges).is_ok()
             && replace_file(self.rt, beside.as_str(), path, &self.text).is_ok();
-        if is_written != self.told.has_statistics {
-            self.told.has_statistics = is_written;
-            self.tell_file("statistics", is_written, written_word(is_written));
-        }
+        self.see(Watched::Statistics, unless_well(is_written));
     }
 
     // Logs what was done so far.
@@ -335,30 +482,18 @@ impl<'a> Housekeeping<'a> {
         let stale = server.port.stale();
         let drops = self.drops;
         let hours = self.seconds / TOTALS_PERIOD;
-        let line = self.log.begin();
+        let line = self.log.begin(Priority::Information);
         let _ = write!(
             line,
             "totals of {hours} hours: time {time}, rate {rate}, stale {stale}, dropped by the kernel {drops}"
         );
         self.log.end();
     }
-
-    // Whether a line may be written in this minute. Tells first how many were held in an earlier one.
-    fn may_say(&mut self) -> bool {
-        match self.allowance.ask(self.seconds / MINUTE) {
-            Ask::Say => true,
-            Ask::Hold => false,
-            Ask::SayWithMore(held) => {
-                let _ = write!(self.log.begin(), "{held} more lines");
-                self.log.end();
-                true
-            }
-        }
-    }
 }
 
 impl<'a, 'b> Reporter<Daemon<'b>> for Housekeeping<'a> {
     fn report(&mut self, server: &Daemon<'b>, _receipt: Option<Moment>) {
+        self.write_customers(server);
         let ticks = self.clocks.ticks.get();
         if ticks < self.next {
             return;
@@ -374,31 +509,50 @@ impl<'a, 'b> Reporter<Daemon<'b>> for Housekeeping<'a> {
     }
 }
 
-// What is told of a file that is written.
-fn written_word(is_well: bool) -> &'static str {
-    if is_well {
-        "is written again"
-    } else {
-        "cannot be written"
+// A file of which nothing wrong was seen, and nothing told.
+fn watched(name: &'static str, again: &'static str) -> WatchedFile {
+    WatchedFile {
+        name,
+        seen: None,
+        told: None,
+        again,
     }
 }
 
-// What is told of the clock in the statistics.
+// Whether a line of a kind may be written now. It is asked for only where it may, so that what is told later is not counted as held.
+fn may_say(allowance: &mut LineAllowance, seconds: u64) -> bool {
+    let minute = seconds / MINUTE;
+    allowance.has_room(minute) && allowance.ask(minute) != Ask::Hold
+}
+
+// What is told of a file that is written, where it is not well.
+fn unless_well(is_well: bool) -> Option<FileFault> {
+    if is_well {
+        None
+    } else {
+        Some(FileFault::Written("cannot be written"))
+    }
+}
+
+// What is told of the clock in the statistics, where replies tell a state.
 fn clock_gauges(
     source: &ClockSource<'_, &HostRuntime>,
     state: &Reference,
-    ticks: u64,
+    now: Reading,
 ) -> ClockGauges {
     let age = match source {
         ClockSource::Fixed(_) => None,
-        ClockSource::Followed(followed) => followed.follower().age(ticks),
+        ClockSource::Followed(followed) => followed.follower().age(now.ticks),
     };
     ClockGauges {
         is_synchronised: is_synchronised(state),
         age,
         stratum: state.stratum(),
         leap: state.leap(),
+        root_delay: state.root_delay(),
         root_dispersion: state.root_dispersion(),
+        offset: offset_of(source),
+        belief: belief_in(source, now),
     }
 }
 
@@ -407,12 +561,48 @@ fn is_synchronised(state: &Reference) -> bool {
     state.leap() != UNSYNCHRONISED_LEAP
 }
 
+// Whether a state that was told is that of a synchronised clock with the stratum and the reference of another one.
+fn is_told_as(told: &Reference, state: &Reference) -> bool {
+    is_synchronised(told) && told.stratum() == state.stratum() && told.id() == state.id()
+}
+
 // What is told of a leap indicator of a synchronised clock (RFC 5905, 7.3).
 fn leap_word(leap: u8) -> &'static str {
     match leap {
         NO_LEAP => "no leap second is announced",
         1 => "a leap second is announced: the last minute of the day has 61 seconds",
         _ => "a leap second is announced: the last minute of the day has 59 seconds",
+    }
+}
+
+// How far the clock's daemon was from the host's clock at its last answer, in nanoseconds.
+fn offset_of(source: &ClockSource<'_, &HostRuntime>) -> Option<i64> {
+    let ClockSource::Followed(followed) = source else {
+        return None;
+    };
+    followed.follower().learned().map(offset_nanos)
+}
+
+// The offset of an answer, which it has twice, in units of 2^-32 seconds.
+fn offset_nanos(answer: &ClockAnswer) -> i64 {
+    let nanos = answer.offset_twice.saturating_mul(i128::from(SECOND_NANOS)) / (1 << 33);
+    nanos.clamp(i128::from(i64::MIN), i128::from(i64::MAX)) as i64
+}
+
+// Whether the clock's daemon is believed, as far as it is known why not.
+fn belief_in(source: &ClockSource<'_, &HostRuntime>, now: Reading) -> Option<Belief> {
+    match source {
+        ClockSource::Fixed(_) => Some(Belief::Fixed),
+        ClockSource::Followed(followed) => {
+            let follower = followed.follower();
+            if follower.learned().is_none() {
+                Some(Belief::NoAnswer)
+            } else if follower.is_followed(now) {
+                Some(Belief::Believed)
+            } else {
+                None
+            }
+        }
     }
 }
 

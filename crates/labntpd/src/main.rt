@@ -3,6 +3,7 @@
 
 mod assembly;
 mod command_log;
+mod customers_file;
 mod files;
 mod housekeeping;
 mod places;

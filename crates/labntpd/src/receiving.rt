@@ -37,7 +37,6 @@ impl<'a> Patience<'a> {
 impl<'a, 'b> Reporter<Daemon<'b>> for Patience<'a> {
     fn report(&mut self, server: &Daemon<'b>, receipt: Option<Moment>) {
         let failed = server.observer.counts.count(Kind::NothingReceived);
-        let was_failing = self.in_a_row >= MOST_IN_A_ROW;
         self.in_a_row = if failed == self.failed {
             0
         } else {
@@ -45,9 +44,7 @@ impl<'a, 'b> Reporter<Daemon<'b>> for Patience<'a> {
         };
         self.failed = failed;
         let is_failing = self.in_a_row >= MOST_IN_A_ROW;
-        if is_failing != was_failing {
-            self.housekeeping.tell_receiving(!is_failing);
-        }
+        self.housekeeping.see_receiving(!is_failing);
         self.housekeeping.report(server, receipt);
         if is_failing {
             pause(PAUSE);

@@ -8,8 +8,10 @@ use labntpd_configuration::{
 };
 use ntp_clock::{ClockLimits, Follower};
 use ntp_customer_files::{Loaded, MOST_FILE_OCTETS, load_register};
+use ntp_events::Command;
 use ntp_host::read_regular_file;
 use ntp_register_file::read_register;
+use ntp_reports::CustomerCounts;
 use ntp_time::Short;
 use sha2::{Digest, Sha256};
 use std::alloc::Global;
@@ -32,6 +34,8 @@ pub struct Beginning {
     pub loaded: Loaded,
     /// How many customers the register file enrols.
     pub customers: u64,
+    /// What is reported of each of them, where the configuration asks for it.
+    pub reports: Option<CustomerCounts>,
     /// Who follows the host's clock daemon, where it is asked.
     pub follower: Option<Follower>,
     /// The SHA-256 digests of the configuration file and of the register file.
@@ -72,10 +76,18 @@ pub fn prepare<R: Files, F: Write>(
     tell_readers(files, register_path, faults);
     tell_readers(files, configuration.commands.as_str(), faults);
     let digests = [Sha256::digest(text.as_bytes()), Sha256::digest(&register)];
+    let Some(commands) = commands_in(alloc, &register) else {
+        return Err(memory_status(faults));
+    };
+    let reports = reports_of(alloc, &configuration, &commands);
+    if reports.as_ref().is_some_and(|reports| reports.has_missed()) {
+        return Err(memory_status(faults));
+    }
     Ok(Prepared {
         configuration,
         beginning: Beginning {
-            customers: customers_in(alloc, &register),
+            customers: commands.len() as u64,
+            reports,
             loaded,
             follower,
             digests,
@@ -83,15 +95,26 @@ pub fn prepare<R: Files, F: Write>(
     })
 }
 
-// How many customers a register file enrols that was loaded.
-fn customers_in(alloc: Global, register: &[u8]) -> u64 {
-    let Ok(text) = str::from_utf8(register) else {
-        return 0;
-    };
-    match read_register(alloc, text) {
-        Ok(commands) => commands.len() as u64,
-        Err(_) => 0,
+// The enrolments of a register file that was loaded; none where memory ran out.
+fn commands_in(alloc: Global, register: &[u8]) -> Option<Vec<Command>> {
+    let text = str::from_utf8(register).ok()?;
+    read_register(alloc, text).ok()
+}
+
+// What is reported of the customers that these commands enrolled, where a configuration asks for it.
+fn reports_of(
+    alloc: Global,
+    configuration: &Configuration,
+    commands: &[Command],
+) -> Option<CustomerCounts> {
+    if configuration.customers.is_none() {
+        return None;
     }
+    let mut reports = CustomerCounts::new(alloc);
+    for command in commands {
+        reports.enrolled_at_start(command);
+    }
+    Some(reports)
 }
 
 // Who follows the clock daemon of a configuration, with the key of its key file.

@@ -38,6 +38,7 @@ settings_of configuration = record {
   commands = string_bytes configuration.commands;
   answers = option_map string_bytes configuration.answers;
   statistics = option_map string_bytes configuration.statistics;
+  customers = option_map string_bytes configuration.customers;
   receive_buffer = configuration.receive_buffer;
   send_buffer = configuration.send_buffer;
   longest_wait = configuration.longest_wait;

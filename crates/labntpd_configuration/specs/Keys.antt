@@ -4,7 +4,7 @@ use Rattle.std.specs.List.{list_any}
 use Rattle.std.specs.Str.{bytes_eq}
 use Rattle.toml.specs.Data.{Members, no_members, member}
 use Rattle.labntpd_configuration.specs.declared.setting.Setting.{Setting}
-use Rattle.labntpd_configuration.specs.declared.setting.Setting.TheVariants.{Listen, Register, Commands, Answers, Statistics, ReceiveBuffer, SendBuffer, LongestWait, Clock, Source, Number, Algorithm, KeyFile, ValidFor, MostRootDistance, MostReferenceAge, MostStep}
+use Rattle.labntpd_configuration.specs.declared.setting.Setting.TheVariants.{Listen, Register, Commands, Answers, Statistics, Customers, ReceiveBuffer, SendBuffer, LongestWait, Clock, Source, Number, Algorithm, KeyFile, ValidFor, MostRootDistance, MostReferenceAge, MostStep}
 
 -- the key of a setting, in its table (profile)
 abbrev pub key_of : Setting → List ℕ
@@ -13,6 +13,7 @@ key_of Register = codes "register"
 key_of Commands = codes "commands"
 key_of Answers = codes "answers"
 key_of Statistics = codes "statistics"
+key_of Customers = codes "customers"
 key_of ReceiveBuffer = codes "receive_buffer"
 key_of SendBuffer = codes "send_buffer"
 key_of LongestWait = codes "longest_wait"
@@ -28,7 +29,7 @@ key_of MostStep = codes "most_step"
 
 -- the keys of the top level, and those of the table `[clock]` (profile)
 abbrev pub top_keys : List Setting
-top_keys = Listen ∷ Register ∷ Commands ∷ Answers ∷ Statistics ∷ ReceiveBuffer ∷ SendBuffer ∷ LongestWait ∷ Clock ∷ []
+top_keys = Listen ∷ Register ∷ Commands ∷ Answers ∷ Statistics ∷ Customers ∷ ReceiveBuffer ∷ SendBuffer ∷ LongestWait ∷ Clock ∷ []
 
 abbrev pub clock_keys : List Setting
 clock_keys = Source ∷ Number ∷ Algorithm ∷ KeyFile ∷ ValidFor ∷ MostRootDistance ∷ MostReferenceAge ∷ MostStep ∷ []

@@ -97,6 +97,7 @@ pub record Settings : Type 0 where
   pub commands : List ℕ
   pub answers : Option (List ℕ)
   pub statistics : Option (List ℕ)
+  pub customers : Option (List ℕ)
   pub receive_buffer : ℕ
   pub send_buffer : ℕ
   pub longest_wait : ℕ
@@ -110,6 +111,7 @@ settings_in document = do
   commands ← required setting.Commands path_of document
   answers ← optional setting.Answers path_of document
   statistics ← optional setting.Statistics path_of document
+  customers ← optional setting.Customers path_of document
   receive_buffer ← with_default 524288 setting.ReceiveBuffer (whole_of 65536 1073741823) document
   send_buffer ← with_default 1048576 setting.SendBuffer (whole_of 65536 1073741823) document
   longest_wait ← with_default 250000000 setting.LongestWait (seconds_of nanoseconds 150000000 60000000000) document
@@ -121,6 +123,7 @@ settings_in document = do
     commands = commands;
     answers = answers;
     statistics = statistics;
+    customers = customers;
     receive_buffer = receive_buffer;
     send_buffer = send_buffer;
     longest_wait = longest_wait;

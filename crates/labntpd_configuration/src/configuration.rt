@@ -18,6 +18,8 @@ pub struct Configuration {
     pub answers: Option<String>,
     /// The path of the file to which statistics are written, if they are.
     pub statistics: Option<String>,
+    /// The path of the file to which it is written what each customer has and was answered, if it is.
+    pub customers: Option<String>,
     /// The size that the socket's receive buffer is to have, in octets: 65,536 to 1,073,741,823.
     pub receive_buffer: u32,
     /// The size that its send buffer is to have, in octets, in the same range.

@@ -13,6 +13,7 @@ pub enum Setting {
     Commands,
     Answers,
     Statistics,
+    Customers,
     ReceiveBuffer,
     SendBuffer,
     LongestWait,
@@ -38,6 +39,7 @@ impl Setting {
             Setting::Commands => "commands",
             Setting::Answers => "answers",
             Setting::Statistics => "statistics",
+            Setting::Customers => "customers",
             Setting::ReceiveBuffer => "receive_buffer",
             Setting::SendBuffer => "send_buffer",
             Setting::LongestWait => "longest_wait",
@@ -63,6 +65,7 @@ impl Setting {
             | Setting::Commands
             | Setting::Answers
             | Setting::Statistics
+            | Setting::Customers
             | Setting::KeyFile => "the path of a file is wanted",
             Setting::ReceiveBuffer | Setting::SendBuffer => {
                 "a whole number of octets from 65536 to 1073741823 is wanted"
@@ -89,6 +92,7 @@ impl Setting {
             | Setting::Commands
             | Setting::Answers
             | Setting::Statistics
+            | Setting::Customers
             | Setting::ReceiveBuffer
             | Setting::SendBuffer
             | Setting::LongestWait

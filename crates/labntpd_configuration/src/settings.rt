@@ -30,6 +30,7 @@ pub(crate) struct Settings<'a> {
     pub(crate) commands: &'a str,
     pub(crate) answers: Option<&'a str>,
     pub(crate) statistics: Option<&'a str>,
+    pub(crate) customers: Option<&'a str>,
     pub(crate) receive_buffer: u32,
     pub(crate) send_buffer: u32,
     pub(crate) longest_wait: u64,
@@ -48,6 +49,7 @@ impl<'a> Model for Settings<'a> {
       commands = settings.commands.now;
       answers = option_map (λ path. path.now) settings.answers;
       statistics = option_map (λ path. path.now) settings.statistics;
+      customers = option_map (λ path. path.now) settings.customers;
       receive_buffer = settings.receive_buffer;
       send_buffer = settings.send_buffer;
       longest_wait = settings.longest_wait;
@@ -150,6 +152,7 @@ pub(crate) fn settings_in(document: &Table) -> Result<Settings<'_>, Configuratio
         commands: path(document, Setting::Commands)?,
         answers: optional_path(document, Setting::Answers)?,
         statistics: optional_path(document, Setting::Statistics)?,
+        customers: optional_path(document, Setting::Customers)?,
         receive_buffer: buffer(document, Setting::ReceiveBuffer, RECEIVE_BUFFER)?,
         send_buffer: buffer(document, Setting::SendBuffer, SEND_BUFFER)?,
         longest_wait: seconds(document, Setting::LongestWait, &LONGEST_WAIT)?,

@@ -3,7 +3,9 @@
 use libc::net::{POLLNVAL, POLLOUT, poll};
 use libc::types::pollfd;
 use std::alloc::{AllocError, Global};
+use std::fs::{self, Files};
 use std::io::Write;
+use std::os::unix::fs::MetadataExt;
 
 /// Standard output.
 const STANDARD_OUTPUT: i32 = 1;
@@ -14,20 +16,44 @@ const STANDARD_ERROR: i32 = 2;
 /// How many octets a line has at most: a pipe that can be written to takes as many at once (pipe(7)).
 const MOST_LINE_OCTETS: usize = 4096;
 
+/// How lines of the log begin.
+#[derive(Clone, Copy, PartialEq, Eq)]
+pub enum LogForm {
+    /// With what they tell.
+    Plain,
+    /// With `<N>`, their priority, which the journal takes off again (sd-daemon(3)).
+    WithPriorities,
+}
+
+/// How much a line of the log matters, as syslog counts it (RFC 5424, 6.2.1).
+#[derive(Clone, Copy)]
+pub enum Priority {
+    /// Something fails.
+    Error = 3,
+    /// Something may be wrong.
+    Warning = 4,
+    /// What was wrong is well again.
+    Notice = 5,
+    /// What is told in the ordinary course.
+    Information = 6,
+}
+
 /// Writes lines to standard error, each in one piece, where that would take it at once. Where it would not, the line is
 /// dropped and counted.
 #[derive(Drop)]
 pub struct Log<W: Write + Drop> {
     out: W,
+    form: LogForm,
     line: Vec<u8>,
     dropped: u64,
 }
 
 impl<W: Write + Drop> Log<W> {
     /// A log that writes to `out`, which is standard error. The room for its lines is taken from `alloc` here.
-    pub fn new(alloc: Global, out: W) -> Result<Log<W>, AllocError> {
+    pub fn new(alloc: Global, out: W, form: LogForm) -> Result<Log<W>, AllocError> {
         Ok(Log {
             out,
+            form,
             line: Vec::with_capacity(alloc, MOST_LINE_OCTETS)?,
             dropped: 0,
         })
@@ -38,9 +64,12 @@ impl<W: Write + Drop> Log<W> {
         self.dropped
     }
 
-    /// Begins a line, which is written into what this gives, without its line feed.
-    pub fn begin(&mut self) -> &mut Vec<u8> {
+    /// Begins a line of a priority, which is written into what this gives, without its line feed.
+    pub fn begin(&mut self, priority: Priority) -> &mut Vec<u8> {
         self.line.clear();
+        if self.form == LogForm::WithPriorities {
+            let _ = write!(self.line, "<{}>", priority as u8);
+        }
         &mut self.line
     }
 
@@ -57,6 +86,24 @@ impl<W: Write + Drop> Log<W> {
 fn would_take() -> bool {
     let asked = asked(STANDARD_ERROR, POLLOUT);
     asked.revents & POLLOUT != 0 && asked.revents & POLLNVAL == 0
+}
+
+/// How lines have to begin for who reads standard error: with priorities where that is the journal. `stream` is the word JOURNAL_STREAM
+/// of the environment, which names the device and the inode of what the journal reads (systemd.exec(5)).
+pub fn form_for<R: Files>(files: &R, stream: &str) -> LogForm {
+    match is_stream(files, stream) {
+        Some(true) => LogForm::WithPriorities,
+        Some(false) | None => LogForm::Plain,
+    }
+}
+
+// Whether standard error is the stream of this device and inode, where both are told.
+fn is_stream<R: Files>(files: &R, stream: &str) -> Option<bool> {
+    let (device, inode) = stream.split_once(':')?;
+    let standard_error = fs::metadata(files, "/proc/self/fd/2").ok()?;
+    Some(
+        device.parse() == Ok(standard_error.dev()) && inode.parse() == Ok(standard_error.ino()),
+    )
 }
 
 /// Whether standard output and standard error are open. Where one is not, a file or a socket that is opened takes its place,

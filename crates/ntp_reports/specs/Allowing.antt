@@ -1,5 +1,5 @@
 -- How many lines of a kind may be written. Asks for a line are told by their minutes, the newest first.
-use Rattle.std.specs.Prelude.{◌≡◌, ℕ, ◌-◌, ◌^◌, min, ◌==◌, List, [], ◌∷◌, nat_lt, if◌then◌else◌}
+use Rattle.std.specs.Prelude.{◌≡◌, ℕ, Bool, true, false, ◌-◌, ◌^◌, min, ◌==◌, List, [], ◌∷◌, nat_lt, if◌then◌else◌}
 use Rattle.std.specs.List.{prefix_len}
 use Rattle.ntp_reports.specs.declared.line_allowance.Ask.{Ask}
 use Rattle.ntp_reports.specs.declared.line_allowance.Ask.TheVariants.{Say, Hold, SayWithMore}
@@ -26,6 +26,11 @@ first_answer held = if nat_lt 0 held then SayWithMore held else Say
 abbrev pub ask_answer : List ℕ → ℕ → Ask
 ask_answer asks minute =
     if asked_in minute asks == 0 then first_answer (held_back_in asks) else (if nat_lt (asked_in minute asks) most_lines then Say else Hold)
+
+-- whether a line with this answer is written (profile)
+abbrev pub is_said : Ask → Bool
+is_said Hold = false
+is_said other = true
 
 -- the last ask, if there was one, was made in a minute
 abbrev pub IsLastIn : List ℕ → ℕ → Type 0

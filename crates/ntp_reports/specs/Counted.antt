@@ -1,5 +1,6 @@
 -- What counts are of.
 use Rattle.std.specs.Prelude.{◌≡◌, ℕ, ◌+◌, ◌-◌, ◌^◌, min, List, [], ◌∷◌, ◌++◌, flat_map, count_by, slice_index}
+use Rattle.std.proofs.Math.ListN.{replicate}
 use Rattle.ntp_events.specs.declared.observation.Observation.{Observation}
 use Rattle.ntp_reports.specs.declared.kind.Kind.{Kind}
 use Rattle.ntp_reports.specs.declared.counts.Counts.{Counts}
@@ -8,6 +9,10 @@ use Rattle.ntp_reports.specs.Kinds.{is_kind, kinds_of, place_of}
 -- the most that is counted: no server makes so many turns (profile)
 abbrev pub most_in_count : ℕ
 most_in_count = 2 ^ 64 - 1
+
+-- the counts of nothing
+abbrev pub nothing_counted : Counts
+nothing_counted = record { by_kind = replicate 30 0 }
 
 -- the count of a kind
 abbrev pub count_at : Counts → Kind → ℕ

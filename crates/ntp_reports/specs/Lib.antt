@@ -3,3 +3,6 @@ pub mod Kinds
 pub mod Counted
 pub mod AnswerText
 pub mod Allowing
+pub mod Signing
+pub mod Customers
+pub mod Reported

@@ -2,7 +2,7 @@
 ghost use Rattle.std.specs.Prelude.{◌≡◌, ℕ, List, [], ◌∷◌};
 ghost use Rattle.ntp_events.specs.declared.observation.Observation.{Observation};
 ghost use Rattle.ntp_reports.specs.Kinds.{sending_kinds, turn_kinds};
-ghost use Rattle.ntp_reports.specs.Counted.{count_at, AreCounts, CountsMore, Adds};
+ghost use Rattle.ntp_reports.specs.Counted.{count_at, nothing_counted, AreCounts, CountsMore, Adds};
 
 use crate::kind::{KINDS, Kind};
 use crate::kinds::{answer_kind, line_kind};
@@ -18,7 +18,8 @@ pub struct Counts {
 impl Counts {
     /// The counts of nothing yet.
     pub fn new() -> Counts
-        ensures { AreCounts result [] }
+        ensures counts { AreCounts result [] }
+        ensures value { result ≡ nothing_counted }
     {
         Counts {
             by_kind: [0; KINDS],

@@ -1,6 +1,6 @@
 //! How many lines of a kind may be written.
 ghost use Rattle.std.specs.Prelude.{◌≡◌, ℕ, List, [], ◌∷◌};
-ghost use Rattle.ntp_reports.specs.Allowing.{ask_answer, first_answer, IsLeftBy};
+ghost use Rattle.ntp_reports.specs.Allowing.{ask_answer, first_answer, is_said, IsLeftBy};
 
 /// How many lines of a kind are written in a minute (profile).
 pub const MOST_LINES: u64 = 10;
@@ -34,6 +34,13 @@ impl LineAllowance {
             minute: 0,
             asked: 0,
         }
+    }
+
+    /// Whether a line that is asked for in a minute may be written: so it is seen without asking, and nothing counts as held.
+    pub fn has_room(&self, minute: u64) -> bool
+        ensures { (asks : List ℕ) → IsLeftBy asks self.now → result ≡ is_said (ask_answer asks minute) }
+    {
+        minute != self.minute || self.asked < MOST_LINES
     }
 
     /// Whether a line may be written in a minute. The first ten of a minute may. The first one of a minute also tells how

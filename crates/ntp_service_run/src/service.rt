@@ -1,5 +1,5 @@
 //! A service, one event at a time.
-ghost use Rattle.std.specs.Prelude.{◌≡◌, ◌↔◌, ◌≤◌, List, [], length, IsNone, IsTrue, OnErr};
+ghost use Rattle.std.specs.Prelude.{◌≡◌, ◌↔◌, ◌≤◌, List, [], length, IsNone, IsTrue, OnErr, option_copied};
 ghost use Rattle.std.specs.Bool.{OnFalse};
 ghost use Rattle.ntp_register.specs.Registry.{customer_at};
 ghost use Rattle.ntp_reply.specs.Verdict.{reply_length};
@@ -10,7 +10,7 @@ ghost use Rattle.ntp_service_run.specs.Headline.{StandsFor, TellsOne, IsTaken, c
 ghost use Rattle.ntp_service_run.specs.Forgery.{is_genuine, genuine};
 
 use ntp_events::{Command, Event, Outcome};
-use ntp_register::{Address, Refusal, Register};
+use ntp_register::{Address, Customer, Refusal, Register};
 use ntp_reply::{Answer, Reason, Reference, answer_octets, depart};
 use ntp_time::{Moment, Stamp};
 use std::alloc::{Allocator, Global};
@@ -50,6 +50,13 @@ impl<A: Allocator + Copy> Service<A> {
     /// The allocator from which the service takes its memory.
     pub fn allocator(&self) -> A {
         self.alloc
+    }
+
+    /// The customer at an address: none exactly where the address was never enrolled.
+    pub fn customer(&self, address: Address) -> Option<&Customer<A>>
+        ensures { option_copied result ≡ customer_at self.now address }
+    {
+        self.register.customer(address)
     }
 
     /// The answer to a datagram that came from an address at `receipt`, to which a reply departs at

@@ -5,6 +5,8 @@
 #[cfg(test)]
 mod command_line;
 #[cfg(test)]
+mod customer_reports;
+#[cfg(test)]
 mod faulty;
 #[cfg(test)]
 mod freshness;

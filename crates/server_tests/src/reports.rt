@@ -5,8 +5,8 @@ use ntp_mac::Reply;
 use ntp_register::Refusal;
 use ntp_reply::{Answer, Reason};
 use ntp_reports::{
-    AnswerLines, Ask, Both, ClockGauges, Counting, Counts, Gauges, Kind, LineAllowance,
-    write_statistics,
+    AnswerLines, Ask, Belief, Both, ClockGauges, Counting, Counts, FileGauges, Gauges, Kind,
+    LineAllowance, write_statistics,
 };
 use ntp_request::Malformed;
 use ntp_time::{Short, Stamp};
@@ -46,6 +46,21 @@ labntp_stale_total 50
 # HELP labntp_kernel_drops_total Datagrams that the kernel dropped for want of room.
 # TYPE labntp_kernel_drops_total counter
 labntp_kernel_drops_total 51
+# HELP labntp_departures_noted_total Replies whose departure was noted.
+# TYPE labntp_departures_noted_total counter
+labntp_departures_noted_total 5
+# HELP labntp_receive_buffer_octets The socket's receive buffer, as the kernel counts.
+# TYPE labntp_receive_buffer_octets gauge
+labntp_receive_buffer_octets 55
+# HELP labntp_queue_wait_seconds How long the last datagram can have waited.
+# TYPE labntp_queue_wait_seconds gauge
+labntp_queue_wait_seconds 0.012500000
+# HELP labntp_send_would_wait_total Replies that were not sent, since the socket would have waited.
+# TYPE labntp_send_would_wait_total counter
+labntp_send_would_wait_total 56
+# HELP labntp_sweeps_total Times that the queue was swept.
+# TYPE labntp_sweeps_total counter
+labntp_sweeps_total 57
 # HELP labntp_commands_total Lines of commands.
 # TYPE labntp_commands_total counter
 labntp_commands_total{answer="done"} 8
@@ -58,6 +73,12 @@ labntp_commands_total{answer="refused",reason="room-full"} 35
 labntp_commands_total{answer="refused",reason="only-key"} 36
 labntp_commands_total{answer="refused",reason="not-held"} 37
 labntp_commands_total{answer="faulty"} 9
+# HELP labntp_commands_lines Lines of the commands file that are applied.
+# TYPE labntp_commands_lines gauge
+labntp_commands_lines 58
+# HELP labntp_commands_octets Octets of the commands file.
+# TYPE labntp_commands_octets gauge
+labntp_commands_octets 59
 # HELP labntp_customers Customers that are enrolled.
 # TYPE labntp_customers gauge
 labntp_customers 52
@@ -73,15 +94,37 @@ labntp_clock_stratum 2
 # HELP labntp_clock_leap The leap indicator that replies tell.
 # TYPE labntp_clock_leap gauge
 labntp_clock_leap 1
+# HELP labntp_clock_root_delay_seconds The root delay that replies tell.
+# TYPE labntp_clock_root_delay_seconds gauge
+labntp_clock_root_delay_seconds 0.500000000
 # HELP labntp_clock_root_dispersion_seconds The root dispersion that replies tell.
 # TYPE labntp_clock_root_dispersion_seconds gauge
 labntp_clock_root_dispersion_seconds 16.000015258
+# HELP labntp_clock_offset_seconds How far the daemon's clock was from the host's at its last answer.
+# TYPE labntp_clock_offset_seconds gauge
+labntp_clock_offset_seconds -1.000000002
+# HELP labntp_clock_believed Whether the clock's daemon is believed, or why not.
+# TYPE labntp_clock_believed gauge
+labntp_clock_believed{why="believed"} 0
+labntp_clock_believed{why="fixed"} 0
+labntp_clock_believed{why="no-answer"} 0
+labntp_clock_believed{why="old"} 0
+labntp_clock_believed{why="unsynchronised"} 0
+labntp_clock_believed{why="reference-old"} 0
+labntp_clock_believed{why="far"} 1
+labntp_clock_believed{why="set"} 0
 # HELP labntp_log_lines_dropped_total Lines of the log that were not written.
 # TYPE labntp_log_lines_dropped_total counter
 labntp_log_lines_dropped_total 53
 # HELP labntp_files_unreadable_total Times that a file began to fail, at reading or writing.
 # TYPE labntp_files_unreadable_total counter
 labntp_files_unreadable_total 54
+# HELP labntp_file_ok Whether a file can be read or written.
+# TYPE labntp_file_ok gauge
+labntp_file_ok{file="commands"} 1
+labntp_file_ok{file="answers"} 0
+labntp_file_ok{file="statistics"} 1
+labntp_file_ok{file="customers"} 0
 # HELP labntp_start_time_seconds When the server was started, since 1970.
 # TYPE labntp_start_time_seconds gauge
 labntp_start_time_seconds 1790000000.000000001
@@ -197,13 +240,28 @@ fn gauges() -> Gauges<'static> {
     Gauges {
         stale: 50,
         kernel_drops: 51,
+        receive_buffer: 55,
+        queue_wait: Some(12_500_000),
+        send_would_wait: 56,
+        sweeps: 57,
+        commands_lines: 58,
+        commands_octets: Some(59),
         customers: 52,
         clock: ClockGauges {
             is_synchronised: true,
             age: Some(1_050_000_000),
             stratum: 2,
             leap: 1,
+            root_delay: Short(0x8000),
             root_dispersion: Short(0x0010_0001),
+            offset: Some(-1_000_000_002),
+            belief: Some(Belief::Far),
+        },
+        files: FileGauges {
+            commands: true,
+            answers: false,
+            statistics: true,
+            customers: false,
         },
         log_lines_dropped: 53,
         files_unreadable: 54,
@@ -249,14 +307,28 @@ fn a_clock_of_which_nothing_is_known_has_no_age(rt: HostRuntime) -> Result<(), F
     let clock = ClockGauges {
         is_synchronised: false,
         age: None,
+        offset: None,
         ..gauges().clock
     };
-    let gauges = Gauges { clock, ..gauges() };
+    let gauges = Gauges {
+        clock,
+        queue_wait: None,
+        commands_octets: None,
+        ..gauges()
+    };
     let written = write_statistics(&mut text, &Counts::new(), &gauges);
     assert!(rt; written.is_ok());
     let text = str::from_utf8(text.as_slice())?;
     assert!(rt; text.contains("\nlabntp_clock_synchronised 0\n"));
-    assert!(rt; text.contains("\nlabntp_clock_age_seconds NaN\n"));
+    for unknown in [
+        "clock_age_seconds",
+        "clock_offset_seconds",
+        "queue_wait_seconds",
+        "commands_octets",
+    ] {
+        let line = format!(in rt.alloc(); "\nlabntp_{unknown} NaN\n")?;
+        assert!(rt; text.contains(line.as_str()), "{unknown}");
+    }
     assert!(rt; write_statistics(&mut Broken, &Counts::new(), &gauges).is_err());
     Ok(())
 }
@@ -297,6 +369,7 @@ fn ten_lines_a_minute_are_allowed(rt: HostRuntime) {
         (29_000_001, 1, Ask::Say),
     ] {
         for _ in 0..times {
+            assert_eq!(rt; allowance.has_room(minute), answer != Ask::Hold, "in minute {minute}");
             assert_eq!(rt; allowance.ask(minute), answer, "in minute {minute}");
         }
     }

@@ -1,0 +1,145 @@
+//! The customers file: what each customer has, what it was answered, and when its keys signed.
+
+use ntp_events::{Command, LineOutcome, Observer, TurnOutcome};
+use ntp_reports::{CustomerCounts, customer_line};
+use ntp_service_run::Service;
+use std::alloc::{AllocError, Global};
+use std::fs::{self, File};
+use std::io::{self, Write};
+
+/// How many seconds lie between two writings where nothing changed (profile).
+const PERIOD: u64 = 60;
+
+/// How many seconds later a writing is tried again that failed (profile).
+const PATIENCE: u64 = 10;
+
+/// How many customers are written at once, so that a large file holds up no datagram for long (profile).
+const PIECE: usize = 256;
+
+/// Reports of customers where somebody asks for them.
+#[derive(Drop)]
+pub struct Reporting(pub Option<CustomerCounts>);
+
+impl Observer for Reporting {
+    fn command(&mut self, command: &Command) {
+        if let Some(counts) = &mut self.0 {
+            counts.command(command);
+        }
+    }
+
+    fn line(&mut self, number: u64, outcome: LineOutcome) {
+        if let Some(counts) = &mut self.0 {
+            counts.line(number, outcome);
+        }
+    }
+
+    fn turn(&mut self, outcome: &TurnOutcome) {
+        if let Some(counts) = &mut self.0 {
+            counts.turn(outcome);
+        }
+    }
+}
+
+// A file that is being written, and how many customers were written of.
+#[derive(Drop)]
+struct Writing {
+    file: File,
+    customers: usize,
+}
+
+/// Writes the customers file: it is replaced as a whole when a command was carried out, and each minute. Each piece of it has the
+/// customers as they are when it is written.
+#[derive(Drop)]
+pub struct CustomersFile<'a> {
+    path: &'a str,
+    // The path of the file beside it in which it is written.
+    beside: String,
+    alloc: Global,
+    text: Vec<u8>,
+    writing: Option<Writing>,
+    // After how many seconds it is written again, whatever happens, and how many commands were carried out when it was begun last.
+    due: u64,
+    done: u64,
+    fault: Option<&'static str>,
+}
+
+impl<'a> CustomersFile<'a> {
+    /// The file at a path, which is due at once. It takes memory for its text from `alloc`.
+    pub fn new(alloc: Global, path: &'a str) -> Result<CustomersFile<'a>, AllocError> {
+        Ok(CustomersFile {
+            path,
+            beside: format!(in alloc; "{path}.new")?,
+            alloc,
+            text: Vec::new(alloc),
+            writing: None,
+            due: 0,
+            done: 0,
+            fault: None,
+        })
+    }
+
+    /// What is wrong with it.
+    pub fn fault(&self) -> Option<&'static str> {
+        self.fault
+    }
+
+    /// Begins to write it where that is due after so many seconds, or where another number of commands was carried out.
+    pub fn begin_in_time(&mut self, rt: &HostRuntime, seconds: u64, done: u64) {
+        if self.writing.is_some() || (seconds < self.due && done == self.done) {
+            return;
+        }
+        self.done = done;
+        match fs::create(rt, self.beside.as_str()) {
+            Ok(file) => {
+                self.due = seconds.saturating_add(PERIOD);
+                self.writing = Some(Writing { file, customers: 0 });
+            }
+            Err(_) => {
+                self.due = seconds.saturating_add(PATIENCE);
+                self.fault = Some("cannot be written");
+            }
+        }
+    }
+
+    /// Writes the next piece, where it was begun.
+    pub fn go_on(&mut self, rt: &HostRuntime, counts: &CustomerCounts, service: &Service) {
+        let Some(mut writing) = self.writing.take() else {
+            return;
+        };
+        let is_written = self.write_piece(&mut writing, counts, service).is_ok();
+        if is_written && writing.customers < counts.len() {
+            self.writing = Some(writing);
+            return;
+        }
+        drop(writing);
+        let is_replaced = is_written && fs::rename(rt, self.beside.as_str(), self.path).is_ok();
+        self.fault = if !is_replaced {
+            Some("cannot be written")
+        } else if counts.has_missed() {
+            Some("lacks a customer, for want of memory")
+        } else {
+            None
+        };
+    }
+
+    // Writes of the next customers.
+    fn write_piece(
+        &mut self,
+        writing: &mut Writing,
+        counts: &CustomerCounts,
+        service: &Service,
+    ) -> io::Result<()> {
+        self.text.clear();
+        for _ in 0..PIECE {
+            let Some((address, report)) = counts.nth(writing.customers) else {
+                break;
+            };
+            if let Some(customer) = service.customer(*address) {
+                let line = customer_line(self.alloc, *address, customer, report)?;
+                self.text.extend_from_slice(&line)?;
+            }
+            writing.customers += 1;
+        }
+        writing.file.write_all(&self.text)
+    }
+}

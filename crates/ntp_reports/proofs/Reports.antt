@@ -1,0 +1,214 @@
+-- What is reported of a customer after a turn.
+use Rattle.std.proofs.Common.{◌≡◌, ◌==◌, ℕ, Bool, true, false, cond, List, [], ◌∷◌, ◌++◌, Option, Some, None, refl, sym, ap, ◌∙◌, subst, append-nil, arith, reverse}
+use Rattle.std.specs.Prelude.{IfSome, option_map, option_and_then, find, filter_map, slice_get, is_some}
+use Rattle.std.specs.Option.{option_or, option_to_list}
+use Rattle.std.specs.List.{cons_option}
+use Rattle.std.specs.Cmp.Lexicographic.{same_text}
+use Rattle.std.proofs.lemmas.Bool.Decides.{nat_tests}
+use Rattle.std.proofs.lemmas.List.{reverse-append}
+use Rattle.std.proofs.lemmas.List.Elements.{filter-append}
+use Rattle.ntp_time.specs.declared.moment.Moment.{Moment}
+use Rattle.ntp_register.specs.declared.address.Address.{Address}
+use Rattle.ntp_register.specs.Address.{address_eq}
+use Rattle.ntp_reply.specs.declared.answers.Answer.{Answer}
+use Rattle.ntp_events.specs.declared.observation.Arrival.{Arrival}
+use Rattle.ntp_events.specs.declared.observation.Observation.{Observation}
+use Rattle.ntp_events.specs.declared.observation.Observation.TheVariants.{Turn}
+use Rattle.ntp_events.specs.declared.observation.Sending.{Sending}
+use Rattle.ntp_events.specs.declared.observation.TurnOutcome.{TurnOutcome}
+use Rattle.ntp_events.specs.declared.observation.TurnOutcome.TheVariants.{Answered}
+use Rattle.ntp_reports.specs.declared.signing.Signing.{Signing}
+use Rattle.ntp_reports.specs.declared.customer_report.KeyUse.{KeyUse}
+use Rattle.ntp_reports.specs.declared.customer_report.CustomerReport.{CustomerReport}
+use Rattle.ntp_reports.specs.declared.customer_counts.CustomerCounts.{CustomerCounts}
+use Rattle.ntp_reports.specs.Counted.{AreCounts}
+use Rattle.ntp_reports.specs.Signing.{signing_in}
+use Rattle.ntp_reports.specs.Customers.{used_by, key_in}
+use Rattle.ntp_reports.specs.Reported.{comes_from, told_of, signed_at, last_signed, report_at, IsTakenInto, TakesTurn, CountsOf, SignsAs}
+
+-- ---- keys
+
+number-if : (b : Bool) (k m : KeyUse) → m.number ≡ k.number → (cond b m k).number ≡ k.number
+number-if true k m is = is
+number-if false k m is = refl
+
+-- a key keeps its number
+used-number : (s : Option Signing) (k : KeyUse) → (used_by s k).number ≡ k.number
+used-number None k = refl
+used-number (Some s) k = number-if (k.number == s.number) k (record k { last_signed = Some s.receipt }) refl
+
+module _ (number : ℕ) where
+  abbrev named : KeyUse → Bool
+  named k = k.number == number
+
+  cond-map : (u : KeyUse → KeyUse) (b : Bool) (k : KeyUse) (rest after : Option KeyUse) → after ≡ option_map u rest
+      → cond b (Some (u k)) after ≡ option_map u (cond b (Some k) rest)
+  cond-map u true k rest after is = refl
+  cond-map u false k rest after is = is
+
+  find-keeps : (s : Option Signing) (k : KeyUse) (rest after : Option KeyUse) → after ≡ option_map (used_by s) rest
+      → cond (named (used_by s k)) (Some (used_by s k)) after ≡ option_map (used_by s) (cond (named k) (Some k) rest)
+  find-keeps s k rest after is =
+      ap (λ n. cond (n == number) (Some (used_by s k)) after) (used-number s k) ∙ cond-map (used_by s) (named k) k rest after is
+
+  one-used : (s : Option Signing) (key : Option KeyUse) → find named (option_to_list (option_map (used_by s) key))
+      ≡ option_map (used_by s) (find named (option_to_list key))
+  one-used s None = refl
+  one-used s (Some k) = find-keeps s k None None refl
+
+  -- the key with a number, after a turn
+  key-used : (s : Option Signing) (first second : Option KeyUse)
+      → find named (option_to_list (option_map (used_by s) first) ++ option_to_list (option_map (used_by s) second))
+      ≡ option_map (used_by s) (find named (option_to_list first ++ option_to_list second))
+  key-used s None second = one-used s second
+  key-used s (Some k) second =
+      find-keeps s k (find named (option_to_list second)) (find named (option_to_list (option_map (used_by s) second))) (one-used s second)
+
+  found-first : (b : Bool) (k : KeyUse) (rest : Option KeyUse) → named k ≡ b → IfSome rest (λ k. named k ≡ true)
+      → IfSome (cond b (Some k) rest) (λ k. named k ≡ true)
+  found-first true k rest is others = is
+  found-first false k rest is others = others
+
+  -- what is found has the number
+  found : (ks : List KeyUse) → IfSome (find named ks) (λ k. named k ≡ true)
+  found [] = tt
+  found (k ∷ ks) = found-first (named k) k (find named ks) refl (found ks)
+
+  -- ---- the last signing
+
+  front : (o : Option Moment) (xs : List Observation) → slice_get (cons_option o (filter_map (signed_at number) xs)) 0
+      ≡ option_or o (slice_get (filter_map (signed_at number) xs) 0)
+  front None xs = refl
+  front (Some m) xs = refl
+
+  last-more : (x : Observation) (own : List Observation) → last_signed number (own ++ x ∷ []) ≡ option_or (signed_at number x) (last_signed number own)
+  last-more x own =
+      ap (λ xs. slice_get (filter_map (signed_at number) xs) 0) (reverse-append own (x ∷ [])) ∙ front (signed_at number x) (reverse own)
+
+  used-if : (b : Bool) (k : KeyUse) (m : Moment) (last : Option Moment) → k.last_signed ≡ last
+      → (cond b (record k { last_signed = Some m }) k).last_signed ≡ option_or (cond b (Some m) None) last
+  used-if true k m last is = refl
+  used-if false k m last is = is
+
+  -- when a key with the number signed last, after a turn
+  used-last : (s : Option Signing) (k : KeyUse) (last : Option Moment) → named k ≡ true → k.last_signed ≡ last
+      → (used_by s k).last_signed ≡ option_or (option_and_then (λ (s : Signing). cond (number == s.number) (Some s.receipt) None) s) last
+  used-last None k last is before = before
+  used-last (Some s) k last is before =
+      let same : k.number ≡ number = grind (arith, nat_tests) in
+      ap (λ n. (cond (n == s.number) (record k { last_signed = Some s.receipt }) k).last_signed) same ∙ used-if (number == s.number) k s.receipt last before
+
+  signs-option : (s : Option Signing) (key : Option KeyUse) (last : Option Moment) → IfSome key (λ k. named k ≡ true)
+      → IfSome key (λ k. k.last_signed ≡ last)
+      → IfSome (option_map (used_by s) key)
+      (λ k. k.last_signed ≡ option_or (option_and_then (λ (s : Signing). cond (number == s.number) (Some s.receipt) None) s) last)
+  signs-option s None last is before = tt
+  signs-option s (Some k) last is before = used-last s k last is before
+
+  -- a key of a report, after a turn
+  signs-own : (outcome : TurnOutcome) (before after : Option CustomerReport) (own : List Observation) → IsTakenInto outcome before after
+      → IfSome (option_and_then (λ report. key_in report number) before) (λ key. key.last_signed ≡ last_signed number own)
+      → IfSome (option_and_then (λ report. key_in report number) after) (λ key. key.last_signed ≡ last_signed number (own ++ Turn outcome ∷ []))
+  signs-own outcome None after own none signs =
+      subst (λ o. IfSome (option_and_then (λ report. key_in report number) o) (λ key. key.last_signed ≡ last_signed number (own ++ Turn outcome ∷ [])))
+      (sym none) tt
+  signs-own outcome (Some before) after own (report, is, takes) signs =
+      let key : key_in report number ≡ option_map (used_by (signing_in outcome)) (key_in before number) =
+      ap (λ f. find named (option_to_list f ++ option_to_list report.second)) takes.first
+      ∙ ap (λ s. find named (option_to_list (option_map (used_by (signing_in outcome)) before.first) ++ option_to_list s)) takes.second
+      ∙ key-used (signing_in outcome) before.first before.second in
+      subst (λ o. IfSome (option_and_then (λ report. key_in report number) o) (λ key. key.last_signed ≡ last_signed number (own ++ Turn outcome ∷ [])))
+      (sym is)
+      (subst (λ last. IfSome (key_in report number) (λ key. key.last_signed ≡ last)) (sym (last-more (Turn outcome) own))
+      (subst (λ o. IfSome o (λ key. key.last_signed ≡ option_or (signed_at number (Turn outcome)) (last_signed number own))) (sym key)
+      (signs-option (signing_in outcome) (key_in before number) (last_signed number own)
+      (found (option_to_list before.first ++ option_to_list before.second)) signs)))
+
+-- ---- counts
+
+counts-own : (outcome : TurnOutcome) (before after : Option CustomerReport) (own : List Observation) → IsTakenInto outcome before after
+    → IfSome before (λ report. AreCounts report.counts own) → IfSome after (λ report. AreCounts report.counts (own ++ Turn outcome ∷ []))
+counts-own outcome None after own none are = subst (λ o. IfSome o (λ report. AreCounts report.counts (own ++ Turn outcome ∷ []))) (sym none) tt
+counts-own outcome (Some before) after own (report, is, takes) are =
+    subst (λ o. IfSome o (λ report. AreCounts report.counts (own ++ Turn outcome ∷ []))) (sym is) (takes.counts.counted own are)
+
+some-own : (outcome : TurnOutcome) (before after : Option CustomerReport) → IsTakenInto outcome before after → is_some after ≡ is_some before
+some-own outcome None after none = ap is_some none
+some-own outcome (Some before) after (report, is, takes) = ap is_some is
+
+-- ---- what was told of an address
+
+told-own : (address : Address) (x : Observation) (seen : List Observation) → comes_from address x ≡ true
+    → told_of address (seen ++ x ∷ []) ≡ told_of address seen ++ x ∷ []
+told-own address x seen is =
+    filter-append (comes_from address) seen (x ∷ []) ∙ ap (λ b. told_of address seen ++ cond b (x ∷ []) []) is
+
+pub told-other : (address : Address) (x : Observation) (seen : List Observation) → comes_from address x ≡ false
+    → told_of address (seen ++ x ∷ []) ≡ told_of address seen
+told-other address x seen is =
+    filter-append (comes_from address) seen (x ∷ []) ∙ ap (λ b. told_of address seen ++ cond b (x ∷ []) []) is ∙ append-nil (told_of address seen)
+
+-- addresses that test as the same are
+same_address : (a b : Address) → address_eq a b ≡ true → a ≡ b
+same_address a b is = ap (λ (octets : List ℕ). record { 0 = octets }) (same_text a.0 b.0 (sym is))
+
+module _ {A : Type 0} (old new : CustomerCounts A) where
+  -- nothing is told of an address, and its report stays
+  pub counts-other : (address : Address) (x : Observation) (seen : List Observation) → comes_from address x ≡ false
+      → report_at new address ≡ report_at old address → CountsOf old address seen → CountsOf new address (seen ++ x ∷ [])
+  counts-other address x seen is same counts = record {
+    are = subst (λ own. IfSome (report_at new address) (λ report. AreCounts report.counts own)) (sym (told-other address x seen is))
+        (subst (λ o. IfSome o (λ report. AreCounts report.counts (told_of address seen))) (sym same) counts.are);
+  }
+
+  pub signs-other : (address : Address) (number : ℕ) (x : Observation) (seen : List Observation) → comes_from address x ≡ false
+      → report_at new address ≡ report_at old address → SignsAs old address number seen → SignsAs new address number (seen ++ x ∷ [])
+  signs-other address number x seen is same signs = record {
+    is = subst
+        (λ own. IfSome (option_and_then (λ report. key_in report number) (report_at new address)) (λ key. key.last_signed ≡ last_signed number own))
+        (sym (told-other address x seen is))
+        (subst
+        (λ o. IfSome (option_and_then (λ report. key_in report number) o) (λ key. key.last_signed ≡ last_signed number (told_of address seen)))
+        (sym same) signs.is);
+  }
+
+  module _ (arrival : Arrival) (a : Answer) (sending : Sending) (takes : TakesTurn (Answered arrival a sending) arrival.address old new) where
+    abbrev outcome : TurnOutcome
+    outcome = Answered arrival a sending
+
+    own : (address : Address) → address_eq arrival.address address ≡ true → IsTakenInto outcome (report_at old address) (report_at new address)
+    own address is = subst (λ q. IsTakenInto outcome (report_at old q) (report_at new q)) (same_address arrival.address address is) takes.own
+
+    counts-by : (address : Address) (seen : List Observation) (b : Bool) → address_eq arrival.address address ≡ b
+        → CountsOf old address seen → CountsOf new address (seen ++ Turn outcome ∷ [])
+    counts-by address seen true is counts = record {
+      are = subst (λ own. IfSome (report_at new address) (λ report. AreCounts report.counts own)) (sym (told-own address (Turn outcome) seen is))
+          (counts-own outcome (report_at old address) (report_at new address) (told_of address seen) (own address is) counts.are);
+    }
+    counts-by address seen false is counts = counts-other address (Turn outcome) seen is (takes.others address is) counts
+
+    pub counts-turn : (address : Address) (seen : List Observation) → CountsOf old address seen
+        → CountsOf new address (seen ++ Turn outcome ∷ [])
+    counts-turn address seen = counts-by address seen (address_eq arrival.address address) refl
+
+    signs-by : (address : Address) (number : ℕ) (seen : List Observation) (b : Bool) → address_eq arrival.address address ≡ b
+        → SignsAs old address number seen → SignsAs new address number (seen ++ Turn outcome ∷ [])
+    signs-by address number seen true is signs = record {
+      is = subst
+          (λ own. IfSome (option_and_then (λ report. key_in report number) (report_at new address)) (λ key. key.last_signed ≡ last_signed number own))
+          (sym (told-own address (Turn outcome) seen is))
+          (signs-own number outcome (report_at old address) (report_at new address) (told_of address seen) (own address is) signs.is);
+    }
+    signs-by address number seen false is signs = signs-other address number (Turn outcome) seen is (takes.others address is) signs
+
+    pub signs-turn : (address : Address) (number : ℕ) (seen : List Observation) → SignsAs old address number seen
+        → SignsAs new address number (seen ++ Turn outcome ∷ [])
+    signs-turn address number seen = signs-by address number seen (address_eq arrival.address address) refl
+
+    some-by : (address : Address) (b : Bool) → address_eq arrival.address address ≡ b
+        → is_some (report_at new address) ≡ is_some (report_at old address)
+    some-by address true is = some-own outcome (report_at old address) (report_at new address) (own address is)
+    some-by address false is = ap is_some (takes.others address is)
+
+    pub some-turn : (address : Address) → is_some (report_at new address) ≡ is_some (report_at old address)
+    some-turn address = some-by address (address_eq arrival.address address) refl

@@ -1,0 +1,71 @@
+-- What is reported of each customer.
+use Rattle.std.specs.Prelude.{◌≡◌, ℕ, ◌==◌, if◌then◌else◌, Option, None, Some, is_some, option_map, ◌++◌, find}
+use Rattle.std.specs.Option.{option_map_or, option_to_list}
+use Rattle.std.specs.Int.NonZero.{non_zero_u16_get}
+use Rattle.ntp_events.specs.declared.command.Command.{Command}
+use Rattle.ntp_events.specs.declared.command.Command.TheVariants.{Enrol, Revoke, Budget, Rollover, Retire}
+use Rattle.ntp_events.specs.declared.observation.Observation.TheVariants.{Turn}
+use Rattle.ntp_events.specs.declared.observation.TurnOutcome.{TurnOutcome}
+use Rattle.ntp_reports.specs.declared.signing.Signing.{Signing}
+use Rattle.ntp_reports.specs.declared.customer_report.KeyUse.{KeyUse}
+use Rattle.ntp_reports.specs.declared.customer_report.CustomerReport.{CustomerReport}
+use Rattle.ntp_reports.specs.Counted.{CountsMore, nothing_counted}
+use Rattle.ntp_reports.specs.Signing.{signing_in}
+
+-- a key that has signed nothing (profile)
+abbrev pub new_key : ℕ → KeyUse
+new_key number = record { number = number; last_signed = None }
+
+-- a key, unless it has this number
+abbrev pub unless_named : Option KeyUse → ℕ → Option KeyUse
+unless_named None number = None
+unless_named (Some key) number = if key.number == number then None else Some key
+
+-- a report with these keys, of which the first is there where one is
+abbrev pub with_keys : CustomerReport → Option KeyUse → Option KeyUse → CustomerReport
+with_keys report None second = record report { first = second; second = None }
+with_keys report (Some first) second = record report { first = Some first; second = second }
+
+-- the key of a report with a number, if it has one (profile)
+abbrev pub key_in : CustomerReport → ℕ → Option KeyUse
+key_in report number = find (λ key. key.number == number) (option_to_list report.first ++ option_to_list report.second)
+
+-- what is reported of a customer that a line enrols with a key of this number: what it was answered before stays (profile)
+abbrev pub enrolled_again : Option CustomerReport → ℕ → ℕ → CustomerReport
+enrolled_again before number line = record {
+  counts = option_map_or (λ report. report.counts) before nothing_counted;
+  line = line;
+  first = Some (new_key number);
+  second = None;
+}
+
+-- after it is revoked, has one key more, and has one less (profile)
+abbrev pub revoked : CustomerReport → CustomerReport
+revoked report = record report { first = None; second = None }
+
+abbrev pub rolled_over : CustomerReport → ℕ → CustomerReport
+rolled_over report number =
+    if is_some report.first then record report { second = Some (new_key number) } else record report { first = Some (new_key number) }
+
+abbrev pub retired : CustomerReport → ℕ → CustomerReport
+retired report number = with_keys report (unless_named report.first number) (unless_named report.second number)
+
+-- what is reported of a customer, if anything is, after its command was carried out by a line (profile)
+abbrev pub report_after : Option CustomerReport → Command → ℕ → Option CustomerReport
+report_after before (Enrol address number key budget) line = Some (enrolled_again before (non_zero_u16_get number) line)
+report_after before (Revoke address) line = option_map revoked before
+report_after before (Budget address budget) line = before
+report_after before (Rollover address number key) line = option_map (λ report. rolled_over report (non_zero_u16_get number)) before
+report_after before (Retire address number) line = option_map (λ report. retired report (non_zero_u16_get number)) before
+
+-- a key after a turn in which a query was signed, or none was: the key that signed has its receipt (profile)
+abbrev pub used_by : Option Signing → KeyUse → KeyUse
+used_by None key = key
+used_by (Some signing) key = if key.number == signing.number then record key { last_signed = Some signing.receipt } else key
+
+-- a report after a turn of its customer's: the turn is counted, and the key that signed has its receipt (profile)
+pub record Takes (outcome : TurnOutcome) (old new : CustomerReport) : Type 0 where
+  pub counts : CountsMore old.counts new.counts (Turn outcome)
+  pub line : new.line ≡ old.line
+  pub first : new.first ≡ option_map (used_by (signing_in outcome)) old.first
+  pub second : new.second ≡ option_map (used_by (signing_in outcome)) old.second

@@ -1,0 +1,92 @@
+-- What an observer reports of customers.
+use Rattle.std.specs.Prelude.{◌≡◌, ℕ, Bool, false, ◌==◌, if◌then◌else◌, Option, None, Some, option_and_then, IfSome, List, filter, filter_map, reverse, slice_get}
+use Rattle.std.specs.Map.{lookup}
+use Rattle.ntp_time.specs.declared.moment.Moment.{Moment}
+use Rattle.ntp_register.specs.declared.address.Address.{Address}
+use Rattle.ntp_register.specs.Address.{address_eq}
+use Rattle.ntp_events.specs.declared.command.Command.{Command}
+use Rattle.ntp_events.specs.declared.event.Event.TheVariants as event
+use Rattle.ntp_events.specs.declared.observation.LineOutcome.{LineOutcome}
+use Rattle.ntp_events.specs.declared.observation.LineOutcome.TheVariants.{Done}
+use Rattle.ntp_events.specs.declared.observation.Observation.{Observation}
+use Rattle.ntp_events.specs.declared.observation.Observation.TheVariants.{Turn}
+use Rattle.ntp_events.specs.declared.observation.TurnOutcome.{TurnOutcome}
+use Rattle.ntp_events.specs.declared.observation.TurnOutcome.TheVariants.{Answered}
+use Rattle.ntp_service_run.specs.Events.{address_of}
+use Rattle.ntp_reports.specs.declared.signing.Signing.{Signing}
+use Rattle.ntp_reports.specs.declared.customer_report.CustomerReport.{CustomerReport}
+use Rattle.ntp_reports.specs.declared.customer_counts.CustomerCounts.{CustomerCounts}
+use Rattle.ntp_reports.specs.Counted.{AreCounts}
+use Rattle.ntp_reports.specs.Signing.{signing_in}
+use Rattle.ntp_reports.specs.Customers.{key_in, report_after, Takes}
+
+-- the address that a command names (profile)
+abbrev pub address_in : Command → Address
+address_in command = address_of {A = Unit {0}} (event.Command command)
+
+-- the command that a line carried out, if it did: the one that was heard of before (profile)
+abbrev pub done_in : Option Command → LineOutcome → Option Command
+done_in heard Done = heard
+done_in heard other = None
+
+-- whether an observation is of a datagram from an address (profile)
+abbrev pub comes_from : Address → Observation → Bool
+comes_from address (Turn (Answered arrival a sending)) = address_eq arrival.address address
+comes_from address other = false
+
+-- of what was told, the turns with datagrams from an address, in their order (profile)
+abbrev pub told_of : Address → List Observation → List Observation
+told_of address seen = filter (comes_from address) seen
+
+-- when the query of an observation came, where it was signed under a key number and got the time or RATE (profile)
+abbrev pub signed_at : ℕ → Observation → Option Moment
+signed_at number (Turn outcome) =
+    option_and_then (λ (signing : Signing). if number == signing.number then Some signing.receipt else None) (signing_in outcome)
+signed_at number other = None
+
+-- the last of them: the first one from the newest observation back (profile)
+abbrev pub last_signed : ℕ → List Observation → Option Moment
+last_signed number seen = slice_get (filter_map (signed_at number) (reverse seen)) 0
+
+-- what is reported of an address before a turn of its, and after it; no public clause cites this
+abbrev pub IsTakenInto : TurnOutcome → Option CustomerReport → Option CustomerReport → Type 0
+IsTakenInto outcome None after = after ≡ None
+IsTakenInto outcome (Some before) after = (report : CustomerReport) × (after ≡ Some report) × Takes outcome before report
+
+module _ {A : Type 0} where
+  -- what is reported of an address, if anything is (profile)
+  abbrev pub report_at : CustomerCounts A → Address → Option CustomerReport
+  report_at counts address = lookup (address_eq address) counts.reports.entries
+
+  -- the counts of an address are those of its turns among these observations (profile)
+  pub record CountsOf (counts : CustomerCounts A) (address : Address) (seen : List Observation) : Type 0 where
+    pub are : IfSome (report_at counts address) (λ report. AreCounts report.counts (told_of address seen))
+
+  -- a key of an address signed last as its turns among these observations tell (profile)
+  pub record SignsAs (counts : CustomerCounts A) (address : Address) (number : ℕ) (seen : List Observation) : Type 0 where
+    pub is : IfSome (option_and_then (λ report. key_in report number) (report_at counts address))
+        (λ key. key.last_signed ≡ last_signed number (told_of address seen))
+
+  -- all reports are as they were (profile)
+  abbrev pub AreSame : CustomerCounts A → CustomerCounts A → Type 0
+  AreSame old new = (address : Address) → report_at new address ≡ report_at old address
+
+  -- an address has this report, and all others are as they were (profile)
+  pub record HasReport (old new : CustomerCounts A) (address : Address) (report : Option CustomerReport) : Type 0 where
+    pub own : report_at new address ≡ report
+    pub others : (other : Address) → address_eq address other ≡ false → report_at new other ≡ report_at old other
+
+  -- a command was carried out by a line: of its address is reported what is after it, and all others are as they were (profile)
+  abbrev pub CarriedOut : CustomerCounts A → CustomerCounts A → Command → ℕ → Type 0
+  CarriedOut old new command line =
+      HasReport old new (address_in command) (report_after (report_at old (address_in command)) command line)
+
+  -- a line carried out this command, or none (profile)
+  abbrev pub IsTold : CustomerCounts A → CustomerCounts A → Option Command → ℕ → Type 0
+  IsTold old new None line = AreSame old new
+  IsTold old new (Some command) line = CarriedOut old new command line
+
+  -- a turn of an address was taken; no public clause cites this
+  pub record TakesTurn (outcome : TurnOutcome) (address : Address) (old new : CustomerCounts A) : Type 0 where
+    pub own : IsTakenInto outcome (report_at old address) (report_at new address)
+    pub others : (other : Address) → address_eq address other ≡ false → report_at new other ≡ report_at old other

@@ -1,0 +1,174 @@
+//! An observer that reports of each customer.
+ghost use Rattle.std.specs.Prelude.{◌≡◌, ℕ, false, Some, None, is_some, option_copied, option_map, OnOk, List, [], ◌∷◌, ◌++◌, length, slice_get};
+ghost use Rattle.std.specs.Map.Iter.{deref_pair};
+ghost use Rattle.std.specs.Bool.{OnFalse};
+ghost use Rattle.ntp_register.specs.declared.address.Address.{Address};
+ghost use Rattle.ntp_events.specs.declared.observation.Observation.{Observation};
+ghost use Rattle.ntp_reports.specs.Reported.{report_at, address_in, done_in, AreSame, HasReport, CarriedOut, IsTold, TakesTurn, CountsOf, SignsAs};
+
+use crate::customer_report::{CustomerReport, report_after};
+use indexmap::IndexMap;
+use ntp_events::{Command, LineOutcome, Observer, TurnOutcome};
+use ntp_register::Address;
+use std::alloc::{AllocError, Allocator, Global};
+use std::hash::{BuildHasherDefault, FoldHasher};
+
+// How addresses are hashed, as the register's are: only customers have entries, so no sender of datagrams lengthens a look-up.
+type Hashing = BuildHasherDefault<FoldHasher>;
+
+/// What is reported of each customer, by its address: an observer that counts the turns of each, and notes when its keys signed.
+///
+/// An address has a report from its first enrolment on, also after it is revoked. The memory of a report is taken at that enrolment. A
+/// turn takes none: it looks its address up once.
+#[derive(Drop)]
+pub struct CustomerCounts<A: Allocator = Global> {
+    reports: IndexMap<Address, CustomerReport, Hashing, A>,
+    // The command that the next line is, if it is one.
+    heard: Option<Command>,
+    has_missed: bool,
+}
+
+impl<A: Allocator + Copy> CustomerCounts<A> {
+    /// Nothing is reported of anybody. Memory for reports will be taken from `alloc`.
+    pub fn new(alloc: A) -> Self
+        ensures reports { (address : Address) → report_at result address ≡ None }
+        ensures missed { result.has_missed ≡ false }
+    {
+        CustomerCounts {
+            reports: IndexMap::new(alloc),
+            heard: None,
+            has_missed: false,
+        }
+    }
+
+    /// What is reported of the customer at an address: nothing where it was never enrolled.
+    pub fn report(&self, address: Address) -> Option<&CustomerReport>
+        ensures { option_copied result ≡ report_at self.now address }
+    {
+        self.reports.get(&address)
+    }
+
+    /// Whether a customer has no report, or not all of it, since memory was wanted at its enrolment and refused.
+    pub fn has_missed(&self) -> bool
+        ensures { result ≡ self.now.has_missed }
+    {
+        self.has_missed
+    }
+
+    /// Of how many addresses something is reported.
+    pub fn len(&self) -> usize
+        ensures { result ≡ length self.now.reports.entries }
+    {
+        self.reports.len()
+    }
+
+    /// An address and what is reported of it, by its place in the order of first enrolments, counted from 0.
+    pub fn nth(&self, place: usize) -> Option<(&Address, &CustomerReport)>
+        ensures { option_map deref_pair result ≡ slice_get self.now.reports.entries place }
+    {
+        self.reports.get_index(place)
+    }
+}
+
+impl<A: Allocator + Copy> CustomerCounts<A> {
+    /// Reports of the customer that a command enrolled, which was carried out before any line of commands: line 0. Whether it found the
+    /// memory for it.
+    pub fn enrolled_at_start(&mut self, command: &Command)
+        ensures { OnFalse self.new.has_missed (CarriedOut self.old self.new command.now 0) }
+    {
+        self.note(command, 0);
+    }
+
+    // Reports that a command was carried out by a line, or notes that memory was refused.
+    fn note(&mut self, command: &Command, line: u64)
+        ensures reported { OnFalse self.new.has_missed (CarriedOut self.old self.new command.now line) }
+        ensures missed { OnFalse self.new.has_missed (self.old.has_missed ≡ false) }
+        ensures heard { self.new.heard ≡ self.old.heard }
+    {
+        if self.carried_out(command, line).is_err() {
+            self.has_missed = true;
+        }
+    }
+
+    // Reports that a command was carried out by a line.
+    fn carried_out(&mut self, command: &Command, line: u64) -> Result<(), AllocError>
+        ensures ok { OnOk result (CarriedOut self.old self.new command.now line) }
+        ensures missed { self.new.has_missed ≡ self.old.has_missed }
+        ensures heard { self.new.heard ≡ self.old.heard }
+    {
+        let address = address_in(command);
+        let before = self.report(address).copied();
+        match report_after(before, command, line) {
+            Some(report) => self.put(address, report),
+            None => Ok(()),
+        }
+    }
+
+    // Puts the report of an address, where it has one or has none.
+    fn put(&mut self, address: Address, report: CustomerReport) -> Result<(), AllocError>
+        ensures ok { OnOk result (HasReport self.old self.new address (Some report)) }
+        ensures missed { self.new.has_missed ≡ self.old.has_missed }
+        ensures heard { self.new.heard ≡ self.old.heard }
+    {
+        self.reports.insert(address, report)?;
+        Ok(())
+    }
+
+    // Reports a turn with a datagram from an address, where the address has a report.
+    fn take(&mut self, address: Address, outcome: &TurnOutcome)
+        ensures reports { TakesTurn outcome.now address self.old self.new }
+        ensures missed { self.new.has_missed ≡ self.old.has_missed }
+    {
+        if let Some(report) = self.reports.get_mut(&address) {
+            report.take(outcome);
+        }
+    }
+}
+
+impl<A: Allocator + Copy> Observer for CustomerCounts<A> {
+    fn command(&mut self, command: &Command)
+        ensures heard { self.new.heard ≡ Some command.now }
+        ensures reports { AreSame self.old self.new }
+        ensures missed { self.new.has_missed ≡ self.old.has_missed }
+    {
+        self.heard = Some(*command);
+    }
+
+    // A line that was done carried out the command that was heard of before it.
+    fn line(&mut self, number: u64, outcome: LineOutcome)
+        ensures reported { OnFalse self.new.has_missed (IsTold self.old self.new (done_in self.old.heard outcome) number) }
+        ensures missed { OnFalse self.new.has_missed (self.old.has_missed ≡ false) }
+        ensures heard { self.new.heard ≡ None }
+    {
+        let heard = self.heard.take();
+        if let (Some(command), LineOutcome::Done) = (heard, outcome) {
+            self.note(&command, number);
+        }
+    }
+
+    fn turn(&mut self, outcome: &TurnOutcome)
+        ensures counts { (address : Address) (seen : List Observation) → CountsOf self.old address seen
+            → CountsOf self.new address (seen ++ Observation.Turn outcome.now ∷ []) }
+        ensures signings { (address : Address) (number : ℕ) (seen : List Observation) → SignsAs self.old address number seen
+            → SignsAs self.new address number (seen ++ Observation.Turn outcome.now ∷ []) }
+        ensures customers { (address : Address) → is_some (report_at self.new address) ≡ is_some (report_at self.old address) }
+        ensures missed { self.new.has_missed ≡ self.old.has_missed }
+    {
+        if let TurnOutcome::Answered { arrival, .. } = outcome {
+            self.take(arrival.address, outcome);
+        }
+    }
+}
+
+// The address that a command names.
+fn address_in(command: &Command) -> Address
+    ensures { result ≡ address_in command.now }
+{
+    match command {
+        Command::Enrol { address, .. }
+        | Command::Revoke { address }
+        | Command::Budget { address, .. }
+        | Command::Rollover { address, .. }
+        | Command::Retire { address, .. } => *address,
+    }
+}

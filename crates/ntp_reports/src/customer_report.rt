@@ -1,0 +1,192 @@
+//! What is reported of one customer.
+ghost use Rattle.std.specs.Prelude.{◌≡◌, option_map, option_and_then};
+ghost use Rattle.ntp_reports.specs.Customers.{new_key, enrolled_again, rolled_over, retired, revoked, report_after, key_in, unless_named, used_by, Takes};
+
+use crate::counts::Counts;
+use crate::signing::{Signing, signing_in};
+use ntp_events::{Command, TurnOutcome};
+use ntp_time::Moment;
+
+/// A key number of a customer, and when it signed last.
+#[derive(Clone, Copy, Debug, PartialEq, Eq)]
+pub struct KeyUse {
+    /// The key's number.
+    pub number: u16,
+    /// The receipt of the last query that was signed under it and got the time or RATE, if one did since the customer has the key.
+    pub last_signed: Option<Moment>,
+}
+
+/// What is reported of one customer: what it was answered, by which line it was enrolled, and when its keys signed.
+#[derive(Clone, Copy, Debug, PartialEq, Eq)]
+pub struct CustomerReport {
+    counts: Counts,
+    line: u64,
+    // Its keys, the older one first. Where it has one, that is the first.
+    first: Option<KeyUse>,
+    second: Option<KeyUse>,
+}
+
+impl CustomerReport {
+    /// What it was answered.
+    pub fn counts(&self) -> &Counts
+        ensures { result.now ≡ self.now.counts }
+    {
+        &self.counts
+    }
+
+    /// The number of the line of commands by which it was enrolled last; 0 for the register file.
+    pub fn line(&self) -> u64
+        ensures { result ≡ self.now.line }
+    {
+        self.line
+    }
+
+    /// When a query that was signed under a key number, and got the time or RATE, came last.
+    pub fn last_signed(&self, number: u16) -> Option<Moment>
+        ensures { result ≡ option_and_then (λ key. key.last_signed) (key_in self.now number) }
+    {
+        self.key(number)?.last_signed
+    }
+
+    /// The numbers of its keys, the older one's first.
+    pub fn numbers(&self) -> [Option<u16>; 2] {
+        [
+            self.first.map(|key| key.number),
+            self.second.map(|key| key.number),
+        ]
+    }
+
+    // The key of a number.
+    fn key(&self, number: u16) -> Option<KeyUse>
+        ensures { result ≡ key_in self.now number }
+    {
+        match self.first {
+            Some(first) if first.number == number => Some(first),
+            _ => self.second.filter(|second| second.number == number),
+        }
+    }
+
+    // Reports a turn of the customer's.
+    pub(crate) fn take(&mut self, outcome: &TurnOutcome)
+        ensures { Takes outcome.now self.old self.new }
+    {
+        self.counts.count_turn(outcome);
+        let signing = signing_in(outcome);
+        self.first = used(self.first, signing);
+        self.second = used(self.second, signing);
+    }
+}
+
+// What is reported of a customer that a line enrols with a key of this number; what it was answered before stays.
+fn enrolled(before: Option<CustomerReport>, number: u16, line: u64) -> CustomerReport
+    ensures { result ≡ enrolled_again before number line }
+{
+    let counts = match before {
+        Some(report) => report.counts,
+        None => Counts::new(),
+    };
+    CustomerReport {
+        counts,
+        line,
+        first: Some(new_key(number)),
+        second: None,
+    }
+}
+
+// A key that has signed nothing.
+fn new_key(number: u16) -> KeyUse
+    ensures { result ≡ new_key number }
+{
+    KeyUse {
+        number,
+        last_signed: None,
+    }
+}
+
+// What is reported of a customer, if anything is, after its command was carried out by a line.
+pub(crate) fn report_after(
+    before: Option<CustomerReport>,
+    command: &Command,
+    line: u64,
+) -> Option<CustomerReport>
+    ensures { result ≡ report_after before command.now line }
+{
+    match command {
+        Command::Enrol { number, .. } => Some(enrolled(before, number.get(), line)),
+        Command::Revoke { .. } => Some(revoked(before?)),
+        Command::Budget { .. } => before,
+        Command::Rollover { number, .. } => Some(rolled_over(before?, number.get())),
+        Command::Retire { number, .. } => Some(retired(before?, number.get())),
+    }
+}
+
+// A customer that was revoked has no key.
+fn revoked(report: CustomerReport) -> CustomerReport
+    ensures { result ≡ revoked report }
+{
+    CustomerReport {
+        first: None,
+        second: None,
+        ..report
+    }
+}
+
+// One key more, which has signed nothing.
+fn rolled_over(report: CustomerReport, number: u16) -> CustomerReport
+    ensures { result ≡ rolled_over report number }
+{
+    let key = Some(new_key(number));
+    if report.first.is_none() {
+        CustomerReport {
+            first: key,
+            ..report
+        }
+    } else {
+        CustomerReport {
+            second: key,
+            ..report
+        }
+    }
+}
+
+// Without the key of a number.
+fn retired(report: CustomerReport, number: u16) -> CustomerReport
+    ensures { result ≡ retired report number }
+{
+    let second = unless_named(report.second, number);
+    match unless_named(report.first, number) {
+        Some(first) => CustomerReport {
+            first: Some(first),
+            second,
+            ..report
+        },
+        None => CustomerReport {
+            first: second,
+            second: None,
+            ..report
+        },
+    }
+}
+
+// A key, unless it has this number.
+fn unless_named(key: Option<KeyUse>, number: u16) -> Option<KeyUse>
+    ensures { result ≡ unless_named key number }
+{
+    match key {
+        Some(key) if key.number != number => Some(key),
+        _ => None,
+    }
+}
+
+// A key after a turn in which a query was signed, or none was.
+fn used(key: Option<KeyUse>, signing: Option<Signing>) -> Option<KeyUse>
+    ensures { result ≡ option_map (used_by signing) key }
+{
+    match (key, signing) {
+        (Some(key), Some(signing)) if u32::from(key.number) == signing.number => Some(KeyUse {
+            last_signed: Some(signing.receipt),
+            ..key
+        }),
+        _ => key,
+    }
+}

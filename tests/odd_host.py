@@ -1,0 +1,130 @@
+"""A host that does for a program what a test tells it to: clocks that are set, a send that takes long, a `poll` that fails.
+
+The program is started with a C library in front of the C library's own, made with gcc or clang when it is first wanted, whose
+`clock_gettime`, `poll` and `sendto` do as a few numbers in a file say, which both have in memory. They are the host's calls else.
+"""
+import mmap
+import os
+import shutil
+import struct
+import subprocess
+
+LIBRARY = r"""
+#define _GNU_SOURCE
+#include <errno.h>
+#include <fcntl.h>
+#include <poll.h>
+#include <stdint.h>
+#include <stdlib.h>
+#include <sys/mman.h>
+#include <sys/socket.h>
+#include <sys/syscall.h>
+#include <time.h>
+#include <unistd.h>
+
+// In the order of the names in Python: what is told, and behind it how many readings of the clocks there were.
+enum { WALL, MONOTONIC, SHOWN, SEND, POLLS, READINGS, NUMBERS };
+
+static volatile int64_t at_first[NUMBERS], *told = at_first;
+
+__attribute__((constructor)) static void begin(void) {
+    int file = open(getenv("ODD_HOST"), O_RDWR | O_CLOEXEC);
+    void *shared = mmap(0, sizeof at_first, PROT_READ | PROT_WRITE, MAP_SHARED, file, 0);
+    if (file < 0 || shared == MAP_FAILED)
+        abort();
+    close(file);
+    told = shared;
+}
+
+int clock_gettime(clockid_t clock, struct timespec *time) {
+    int status = syscall(SYS_clock_gettime, clock, time);
+    int64_t readings = told[READINGS]++, nanos = time->tv_sec * 1000000000ll + time->tv_nsec;
+    if (clock == CLOCK_MONOTONIC)
+        nanos += told[MONOTONIC];
+    else if (clock == CLOCK_REALTIME)
+        nanos = told[SHOWN] ? told[SHOWN] + 1000 * readings : nanos + told[WALL];
+    time->tv_sec = nanos / 1000000000;
+    time->tv_nsec = nanos % 1000000000;
+    return status;
+}
+
+int poll(struct pollfd *waits, nfds_t count, int timeout) {
+    struct timespec limit = {timeout / 1000, timeout % 1000 * 1000000};
+    if (told[POLLS] && count == 1 && waits->events == POLLIN && timeout == 0) {
+        errno = EINTR;
+        return -1;
+    }
+    return syscall(SYS_ppoll, waits, count, timeout < 0 ? 0 : &limit, 0, 8);
+}
+
+static void wait_half(void) {
+    struct timespec half = {0, told[SEND] / 2};
+    if (half.tv_nsec)
+        syscall(SYS_nanosleep, &half, 0);
+}
+
+ssize_t sendto(int s, const void *octets, size_t length, int flags, const struct sockaddr *to, socklen_t size) {
+    wait_half();
+    ssize_t sent = syscall(SYS_sendto, s, octets, length, flags, to, size);
+    int error = errno;
+    wait_half();
+    errno = error;
+    return sent;
+}
+"""
+
+SECOND = 1_000_000_000
+
+
+def number(place):
+    """A number of the file, at this place."""
+    def get(host):
+        return struct.unpack_from("q", host.memory, 8 * place)[0]
+
+    def put(host, value):
+        struct.pack_into("q", host.memory, 8 * place, value)
+
+    return property(get, put)
+
+
+class OddHost:
+    """A host of a program that is started with this environment. Its numbers may be changed at any time, and are 0 at first, which
+    changes nothing."""
+
+    # By how many nanoseconds more the host's clock and the monotonic one are ahead.
+    wall, monotonic = number(0), number(1)
+    # Where not 0, what the host's clock shows, in nanoseconds since 1970, and a microsecond more with each reading of a clock.
+    shown = number(2)
+    # How many nanoseconds more a send takes, half of them before the datagram goes out.
+    send = number(3)
+    # Where not 0, each look fails whether one descriptor can be read.
+    polls = number(4)
+    # How often the program has read a clock.
+    readings = number(5)
+
+    def __init__(self, folder):
+        """Its files stand in this folder. Where there is no compiler, it is a FileNotFoundError."""
+        self.library, self.file = f"{folder}/odd_host.so", f"{folder}/odd_host"
+        if not os.path.exists(self.library):
+            make(folder, self.library)
+        with open(self.file, "w+b") as it:
+            it.write(bytes(8 * 6))
+            it.flush()
+            self.memory = mmap.mmap(it.fileno(), 8 * 6)
+
+    def environment(self):
+        return {**os.environ, "LD_PRELOAD": self.library, "ODD_HOST": self.file}
+
+    def pass_seconds(self, seconds):
+        """So much time passes at once, by both clocks."""
+        self.wall += round(seconds * SECOND)
+        self.monotonic += round(seconds * SECOND)
+
+
+def make(folder, library):
+    compiler = shutil.which("gcc") or shutil.which("clang")
+    if not compiler:
+        raise FileNotFoundError("there is no gcc")
+    with open(f"{folder}/odd_host.c", "w") as it:
+        it.write(LIBRARY)
+    subprocess.run([compiler, "-shared", "-fPIC", "-O1", "-o", library, f"{folder}/odd_host.c"], check=True, capture_output=True, timeout=60)

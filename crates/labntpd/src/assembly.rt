@@ -37,8 +37,9 @@ pub type Daemon<'a> = Server<
 // Where its datagrams come from, and who is told what it does.
 type DaemonPort<'a> = FreshPort<QueuedUdp<'a, &'a HostRuntime, HostRuntime>>;
 
-type DaemonObserver<'a> =
-    Counting<Both<Answering<LineWriter<File>>, Both<CommandLog<'a, Stderr>, Reporting>>>;
+type DaemonObserver<'a> = Counting<
+    Both<Answering<LineWriter<File>>, Both<CommandLog<'a, Stderr>, Reporting>>,
+>;
 
 /// Serves by what was prepared, for ever. Gives the exit status where that cannot begin; a fault is told in one line on
 /// standard error.

@@ -13,9 +13,6 @@ const PERIOD: u64 = 60;
 /// How many seconds later a writing is tried again that failed (profile).
 const PATIENCE: u64 = 10;
 
-/// How many customers are written at once, so that a large file holds up no datagram for long (profile).
-const PIECE: usize = 256;
-
 /// Reports of customers where somebody asks for them.
 #[derive(Drop)]
 pub struct Reporting(pub Option<CustomerCounts>);
@@ -78,15 +75,16 @@ impl<'a> CustomersFile<'a> {
         })
     }
 
-    /// What is wrong with it.
-    pub fn fault(&self) -> Option<&'static str> {
-        self.fault
-    }
-
-    /// Begins to write it where that is due after so many seconds, or where another number of commands was carried out.
-    pub fn begin_in_time(&mut self, rt: &HostRuntime, seconds: u64, done: u64) {
+    /// Begins to write it where that is due after so many seconds, or where another number of commands was carried out. Gives what is wrong
+    /// with it by now, if anything.
+    pub fn begin_in_time(
+        &mut self,
+        rt: &HostRuntime,
+        seconds: u64,
+        done: u64,
+    ) -> Option<&'static str> {
         if self.writing.is_some() || (seconds < self.due && done == self.done) {
-            return;
+            return self.fault;
         }
         self.done = done;
         match fs::create(rt, self.beside.as_str()) {
@@ -99,14 +97,23 @@ impl<'a> CustomersFile<'a> {
                 self.fault = Some("cannot be written");
             }
         }
+        self.fault
     }
 
-    /// Writes the next piece, where it was begun.
-    pub fn go_on(&mut self, rt: &HostRuntime, counts: &CustomerCounts, service: &Service) {
+    /// Writes the next piece, of so many customers, where it was begun.
+    pub fn go_on(
+        &mut self,
+        rt: &HostRuntime,
+        counts: &CustomerCounts,
+        service: &Service,
+        piece: usize,
+    ) {
         let Some(mut writing) = self.writing.take() else {
             return;
         };
-        let is_written = self.write_piece(&mut writing, counts, service).is_ok();
+        let is_written = self
+            .write_piece(&mut writing, counts, service, piece)
+            .is_ok();
         if is_written && writing.customers < counts.len() {
             self.writing = Some(writing);
             return;
@@ -128,9 +135,10 @@ impl<'a> CustomersFile<'a> {
         writing: &mut Writing,
         counts: &CustomerCounts,
         service: &Service,
+        piece: usize,
     ) -> io::Result<()> {
         self.text.clear();
-        for _ in 0..PIECE {
+        for _ in 0..piece {
             let Some((address, report)) = counts.nth(writing.customers) else {
                 break;
             };
@@ -138,7 +146,7 @@ impl<'a> CustomersFile<'a> {
                 let line = customer_line(self.alloc, *address, customer, report)?;
                 self.text.extend_from_slice(&line)?;
             }
-            writing.customers += 1;
+            writing.customers = writing.customers.saturating_add(1);
         }
         writing.file.write_all(&self.text)
     }

@@ -8,7 +8,7 @@ use labntpd_configuration::command_line::VERSION;
 use labntpd_host::{
     BoundAt, ClockSource, HostClocks, Log, LogForm, Priority, queue_state, replace_file,
 };
-use ntp_clock::{ClockAnswer, Reading};
+use ntp_clock::{ClockAnswer, Doubt, Reading, reference_unsynchronised};
 use ntp_host::moment_now;
 use ntp_reply::Reference;
 use ntp_reports::{
@@ -29,6 +29,14 @@ const MINUTE: u64 = 60;
 const STATISTICS_PERIOD: u64 = 10;
 
 const TOTALS_PERIOD: u64 = 3_600;
+
+/// How many customers are written at once beside datagrams, each hundredth of a second at most, so that a large file holds up none for
+/// long; and how many after a wait in which none came (profile).
+const PIECE: usize = 64;
+
+const PIECE_PERIOD: u64 = 10_000_000;
+
+const IDLE_PIECE: usize = 1_024;
 
 /// The leap indicator of an unsynchronised clock (RFC 5905, 7.3).
 const UNSYNCHRONISED_LEAP: u8 = 3;
@@ -62,8 +70,9 @@ pub struct Begun {
 // What was told of last.
 #[derive(Clone, Copy)]
 struct Told {
-    // The state of the clock, and the leap second that it announces.
-    clock: Option<Reference>,
+    // The state of the clock, that of an unsynchronised one where none was told, and the leap second that it announces.
+    clock: Reference,
+    has_clock: bool,
     leap: u8,
     stale: u64,
     is_receiving: bool,
@@ -98,6 +107,14 @@ struct WatchedFile {
     again: &'static str,
 }
 
+// The path of the statistics file, that of the file beside it in which they are written, and room for their text.
+#[derive(Drop)]
+struct StatisticsFile<'a> {
+    path: &'a str,
+    beside: String,
+    text: Vec<u8>,
+}
+
 // The files that can fail.
 #[derive(Clone, Copy)]
 enum Watched {
@@ -123,10 +140,10 @@ pub struct Housekeeping<'a> {
     clocks: &'a HostClocks,
     log: Log<Stderr>,
     allowances: Allowances,
-    // The path of the statistics file, and of the file beside it in which they are written.
-    statistics: Option<(&'a str, String)>,
+    statistics: Option<StatisticsFile<'a>>,
     customers: Option<CustomersFile<'a>>,
-    text: Vec<u8>,
+    // What the monotonic clock shows when the next piece of that file may be written beside datagrams.
+    piece_due: u64,
     sockets: Vec<u8>,
     begun: Begun,
     start_time: u64,
@@ -141,6 +158,10 @@ pub struct Housekeeping<'a> {
     is_receiving: bool,
     files: [WatchedFile; 4],
     drops: u64,
+    // How many lines of its log were not written, by the last statistics.
+    log_dropped: u64,
+    // How long a datagram can have waited at most since the statistics were written last.
+    queue_wait: Option<u64>,
     unreadable: u64,
 }
 
@@ -155,7 +176,11 @@ impl<'a> Housekeeping<'a> {
     ) -> Result<Housekeeping<'a>, AllocError> {
         let statistics = match &configuration.statistics {
             None => None,
-            Some(path) => Some((path.as_str(), format!(in alloc; "{path}.new")?)),
+            Some(path) => Some(StatisticsFile {
+                path: path.as_str(),
+                beside: format!(in alloc; "{path}.new")?,
+                text: Vec::with_capacity(alloc, STATISTICS_ROOM)?,
+            }),
         };
         let customers = match &configuration.customers {
             None => None,
@@ -173,7 +198,7 @@ impl<'a> Housekeeping<'a> {
             },
             statistics,
             customers,
-            text: Vec::with_capacity(alloc, STATISTICS_ROOM)?,
+            piece_due: 0,
             sockets: Vec::with_capacity(alloc, SOCKETS_ROOM)?,
             begun,
             start_time: nanos_since_1970(rt),
@@ -183,7 +208,8 @@ impl<'a> Housekeeping<'a> {
             statistics_due: 0,
             totals_due: TOTALS_PERIOD,
             told: Told {
-                clock: None,
+                clock: reference_unsynchronised(),
+                has_clock: false,
                 leap: NO_LEAP,
                 stale: 0,
                 is_receiving: true,
@@ -191,12 +217,14 @@ impl<'a> Housekeeping<'a> {
             },
             is_receiving: true,
             files: [
-                watched("commands", "is read again"),
-                watched("answers", "is written again"),
-                watched("statistics", "is written again"),
-                watched("customers", "is written again"),
+                unseen("commands", "is read again"),
+                unseen("answers", "is written again"),
+                unseen("statistics", "is written again"),
+                unseen("customers", "is written again"),
             ],
             drops: 0,
+            log_dropped: 0,
+            queue_wait: None,
             unreadable: 0,
         })
     }
@@ -229,18 +257,19 @@ impl<'a> Housekeeping<'a> {
 
     // What is done once a second.
     fn each_second(&mut self, server: &Daemon<'_>) {
+        let (rt, clocks) = (self.rt, self.clocks);
         let now = Reading {
-            clock: moment_now(self.rt),
-            ticks: self.clocks.read(&self.rt),
+            clock: moment_now(rt),
+            ticks: clocks.read(&rt),
         };
         let state = server.reference.state(now);
-        if self.is_clock_known(&server.reference) {
+        if is_clock_known(&server.reference, self.seconds) {
             self.tell_clock(&state);
         }
         self.tell_stale(server.port.stale());
         self.tell_receiving();
-        self.tell_files(server);
         self.begin_customers(server);
+        self.tell_files(server);
         if self.seconds >= self.statistics_due {
             self.statistics_due = self.seconds.saturating_add(STATISTICS_PERIOD);
             self.write_statistics(server, clock_gauges(&server.reference, &state, now));
@@ -251,15 +280,6 @@ impl<'a> Housekeeping<'a> {
         }
     }
 
-    // Whether the state of the clock can be told. A daemon that was just asked may not have answered yet.
-    fn is_clock_known(&self, source: &ClockSource<'_, &HostRuntime>) -> bool {
-        match source {
-            ClockSource::Fixed(_) => true,
-            ClockSource::Followed(followed) => followed.has_answered()
-                || self.seconds >= CLOCK_PATIENCE,
-        }
-    }
-
     // Logs that the clock is synchronised, or is not, where that was not told last; and of one that is, its stratum, its reference, and the
     // leap second that it announces, where one of them is another.
     fn tell_clock(&mut self, state: &Reference) {
@@ -267,7 +287,8 @@ impl<'a> Housekeeping<'a> {
             self.tell_unsynchronised(state);
             return;
         }
-        if !self.told.clock.is_some_and(|told| is_told_as(&told, state)) {
+        let told = self.told.clock;
+        if !is_told_as(&told, state) {
             self.tell_reference(state);
         }
         if self.told.leap != state.leap() {
@@ -277,11 +298,14 @@ impl<'a> Housekeeping<'a> {
 
     // Logs that the clock is not synchronised, where that was not told last.
     fn tell_unsynchronised(&mut self, state: &Reference) {
-        let is_told = self.told.clock.is_some_and(|told| !is_synchronised(&told));
-        if is_told || !may_say(&mut self.allowances.clock, self.seconds) {
+        let told = self.told.clock;
+        let is_told = self.told.has_clock && !is_synchronised(&told);
+        let seconds = self.seconds;
+        if is_told || !may_say(&mut self.allowances.clock, seconds) {
             return;
         }
-        self.told.clock = Some(*state);
+        self.told.clock = *state;
+        self.told.has_clock = true;
         self.told.leap = NO_LEAP;
         let line = self.log.begin(Priority::Warning);
         let _ = write!(line, "clock: not synchronised");
@@ -290,10 +314,12 @@ impl<'a> Housekeeping<'a> {
 
     // Logs which clock the host's follows.
     fn tell_reference(&mut self, state: &Reference) {
-        if !may_say(&mut self.allowances.clock, self.seconds) {
+        let seconds = self.seconds;
+        if !may_say(&mut self.allowances.clock, seconds) {
             return;
         }
-        self.told.clock = Some(*state);
+        self.told.clock = *state;
+        self.told.has_clock = true;
         let [a, b, c, d] = state.id();
         let stratum = state.stratum();
         let line = self.log.begin(Priority::Notice);
@@ -306,7 +332,8 @@ impl<'a> Housekeeping<'a> {
 
     // Logs which leap second is announced.
     fn tell_leap(&mut self, leap: u8) {
-        if !may_say(&mut self.allowances.clock, self.seconds) {
+        let seconds = self.seconds;
+        if !may_say(&mut self.allowances.clock, seconds) {
             return;
         }
         self.told.leap = leap;
@@ -323,8 +350,9 @@ impl<'a> Housekeeping<'a> {
     // Logs that many receives have failed one after another, or that this has ended, where that was not told last.
     fn tell_receiving(&mut self) {
         let is_receiving = self.is_receiving;
+        let seconds = self.seconds;
         if is_receiving == self.told.is_receiving
-            || !may_say(&mut self.allowances.receiving, self.seconds)
+            || !may_say(&mut self.allowances.receiving, seconds)
         {
             return;
         }
@@ -345,7 +373,8 @@ impl<'a> Housekeeping<'a> {
     // Logs how many stale datagrams were dropped since it was last told.
     fn tell_stale(&mut self, stale: u64) {
         let dropped = stale - self.told.stale.min(stale);
-        if dropped == 0 || !may_say(&mut self.allowances.stale, self.seconds) {
+        let seconds = self.seconds;
+        if dropped == 0 || !may_say(&mut self.allowances.stale, seconds) {
             return;
         }
         self.told.stale = stale;
@@ -359,23 +388,23 @@ impl<'a> Housekeeping<'a> {
         let commands = server.commands.inner();
         let fault = CommandsFault::of(commands);
         self.see(Watched::Commands, fault.map(FileFault::Commands));
-        self.tell_nearly_full(commands.length());
+        if fault.is_none() {
+            self.tell_nearly_full(commands.length());
+        }
         let answers = &server.observer.inner.first;
         self.see(Watched::Answers, unless_well(!answers.has_failed()));
-        if let Some(customers) = &self.customers {
-            let fault = customers.fault();
-            self.see(Watched::Customers, fault.map(FileFault::Written));
-        }
-        for place in 0..self.files.len() {
-            self.tell_file(place);
-        }
+        self.tell_file(Watched::Commands);
+        self.tell_file(Watched::Answers);
+        self.tell_file(Watched::Statistics);
+        self.tell_file(Watched::Customers);
     }
 
     // Logs that the commands file, which has so many octets, is nearly full, where that was not told last.
     fn tell_nearly_full(&mut self, octets: usize) {
         let is_nearly_full = is_nearly_full(octets);
+        let seconds = self.seconds;
         if is_nearly_full == self.told.is_nearly_full
-            || is_nearly_full && !may_say(&mut self.allowances.files, self.seconds)
+            || is_nearly_full && !may_say(&mut self.allowances.files, seconds)
         {
             return;
         }
@@ -390,53 +419,66 @@ impl<'a> Housekeeping<'a> {
 
     // What is wrong with a file was looked for. It is counted where something is wrong that was not before.
     fn see(&mut self, which: Watched, fault: Option<FileFault>) {
-        let file = &mut self.files[which as usize];
-        if fault != file.seen && fault.is_some() {
+        let place = which as usize;
+        if fault != self.files[place].seen && fault.is_some() {
             self.unreadable = self.unreadable.saturating_add(1);
         }
-        file.seen = fault;
+        self.files[place].seen = fault;
     }
 
     // Logs what is wrong with a file, or that nothing is, where something else was told of it last.
-    fn tell_file(&mut self, place: usize) {
+    fn tell_file(&mut self, which: Watched) {
+        let place = which as usize;
         let file = self.files[place];
-        if file.seen == file.told || !may_say(&mut self.allowances.files, self.seconds) {
+        let seconds = self.seconds;
+        if file.seen == file.told || !may_say(&mut self.allowances.files, seconds) {
             return;
         }
         self.files[place].told = file.seen;
         let name = file.name;
         let _ = match file.seen {
             Some(fault) => write!(self.log.begin(Priority::Error), "{name} file: {fault}"),
-            None => write!(self.log.begin(Priority::Notice), "{name} file: {}", file.again),
+            None => write!(
+                self.log.begin(Priority::Notice),
+                "{name} file: {}",
+                file.again
+            ),
         };
         self.log.end();
     }
 
-    // Which files are well.
-    fn file_gauges(&self) -> FileGauges {
-        let is_well = |which: Watched| self.files[which as usize].seen.is_none();
-        FileGauges {
-            commands: is_well(Watched::Commands),
-            answers: is_well(Watched::Answers),
-            statistics: is_well(Watched::Statistics),
-            customers: is_well(Watched::Customers),
-        }
-    }
-
-    // Begins to write the customers, where it is time to.
+    // Begins to write the customers, where it is time to, and sees whether that goes well.
     fn begin_customers(&mut self, server: &Daemon<'_>) {
-        if let Some(customers) = &mut self.customers {
-            let done = server.observer.counts.count(Kind::Done);
-            customers.begin_in_time(self.rt, self.seconds, done);
+        let (rt, seconds) = (self.rt, self.seconds);
+        let done = server.observer.counts.count(Kind::Done);
+        let Some(customers) = &mut self.customers else {
+            return;
+        };
+        let fault = customers.begin_in_time(rt, seconds, done);
+        self.see(Watched::Customers, fault.map(FileFault::Written));
+    }
+
+    // Goes on to write the customers, where that was begun: few of them beside datagrams, and more while none comes.
+    fn write_customers(&mut self, server: &Daemon<'_>, ticks: u64, receipt: Option<Moment>) {
+        if receipt.is_some() && ticks < self.piece_due {
+            return;
+        }
+        self.piece_due = ticks.saturating_add(PIECE_PERIOD);
+        let piece = if receipt.is_none() { IDLE_PIECE } else { PIECE };
+        let rt = self.rt;
+        let Some(reports) = &server.observer.inner.second.second.0 else {
+            return;
+        };
+        if let Some(file) = &mut self.customers {
+            file.go_on(rt, reports, &server.service, piece);
         }
     }
 
-    // Goes on to write the customers, where that was begun.
-    fn write_customers(&mut self, server: &Daemon<'_>) {
-        if let (Some(file), Some(reports)) =
-            (&mut self.customers, &server.observer.inner.second.second.0)
-        {
-            file.go_on(self.rt, reports, &server.service);
+    // Keeps how long a datagram can have waited, where that is longer than what is kept.
+    fn see_wait(&mut self, waited: Option<u64>) {
+        if let Some(waited) = waited {
+            let longest = self.queue_wait.map_or(waited, |it| it.max(waited));
+            self.queue_wait = Some(longest);
         }
     }
 
@@ -445,7 +487,10 @@ impl<'a> Housekeeping<'a> {
         if let Some(state) = queue_state(self.rt, self.begun.bound.local, &mut self.sockets) {
             self.drops = state.drops;
         }
-        let Some((path, beside)) = &self.statistics else {
+        let dropped = self.log.take_dropped();
+        self.log_dropped = self.log_dropped.saturating_add(dropped);
+        // Taken out of its place while it is written.
+        let Some(mut file) = self.statistics.take() else {
             return;
         };
         let commands = &server.observer.inner.second.first;
@@ -453,22 +498,24 @@ impl<'a> Housekeeping<'a> {
             stale: server.port.stale(),
             kernel_drops: self.drops,
             receive_buffer: u64::from(self.begun.bound.buffer),
-            queue_wait: None,
+            queue_wait: self.queue_wait.take(),
             send_would_wait: server.port.port().would_wait(),
-            sweeps: 0,
+            sweeps: server.port.sweeps(),
             commands_lines: server.applied,
             commands_octets: Some(server.commands.inner().length() as u64),
             customers: commands.customers(),
             clock,
-            log_lines_dropped: self.log.dropped().saturating_add(commands.dropped()),
-            files: self.file_gauges(),
+            log_lines_dropped: self.log_dropped.saturating_add(commands.dropped()),
+            files: file_gauges(self.files),
             files_unreadable: self.unreadable,
             start_time: self.start_time,
             version: VERSION,
         };
-        self.text.clear();
-        let is_written = write_statistics(&mut self.text, &server.observer.counts, &gauges).is_ok()
-            && replace_file(self.rt, beside.as_str(), path, &self.text).is_ok();
+        file.text.clear();
+        let rt = self.rt;
+        let is_written = write_statistics(&mut file.text, &server.observer.counts, &gauges).is_ok()
+            && replace_file(rt, file.beside.as_str(), file.path, &file.text).is_ok();
+        self.statistics = Some(file);
         self.see(Watched::Statistics, unless_well(is_written));
     }
 
@@ -492,9 +539,10 @@ impl<'a> Housekeeping<'a> {
 }
 
 impl<'a, 'b> Reporter<Daemon<'b>> for Housekeeping<'a> {
-    fn report(&mut self, server: &Daemon<'b>, _receipt: Option<Moment>) {
-        self.write_customers(server);
+    fn report(&mut self, server: &Daemon<'b>, receipt: Option<Moment>) {
         let ticks = self.clocks.ticks.get();
+        self.see_wait(server.port.waited());
+        self.write_customers(server, ticks, receipt);
         if ticks < self.next {
             return;
         }
@@ -509,8 +557,19 @@ impl<'a, 'b> Reporter<Daemon<'b>> for Housekeeping<'a> {
     }
 }
 
+// Which files are well.
+fn file_gauges(files: [WatchedFile; 4]) -> FileGauges {
+    let is_well = |which: Watched| files[which as usize].seen.is_none();
+    FileGauges {
+        commands: is_well(Watched::Commands),
+        answers: is_well(Watched::Answers),
+        statistics: is_well(Watched::Statistics),
+        customers: is_well(Watched::Customers),
+    }
+}
+
 // A file of which nothing wrong was seen, and nothing told.
-fn watched(name: &'static str, again: &'static str) -> WatchedFile {
+fn unseen(name: &'static str, again: &'static str) -> WatchedFile {
     WatchedFile {
         name,
         seen: None,
@@ -531,6 +590,14 @@ fn unless_well(is_well: bool) -> Option<FileFault> {
         None
     } else {
         Some(FileFault::Written("cannot be written"))
+    }
+}
+
+// Whether the state of the clock can be told after so many seconds. A daemon that was just asked may not have answered yet.
+fn is_clock_known(source: &ClockSource<'_, &HostRuntime>, seconds: u64) -> bool {
+    match source {
+        ClockSource::Fixed(_) => true,
+        ClockSource::Followed(followed) => followed.has_answered() || seconds >= CLOCK_PATIENCE,
     }
 }
 
@@ -586,23 +653,25 @@ fn offset_of(source: &ClockSource<'_, &HostRuntime>) -> Option<i64> {
 // The offset of an answer, which it has twice, in units of 2^-32 seconds.
 fn offset_nanos(answer: &ClockAnswer) -> i64 {
     let nanos = answer.offset_twice.saturating_mul(i128::from(SECOND_NANOS)) / (1 << 33);
-    nanos.clamp(i128::from(i64::MIN), i128::from(i64::MAX)) as i64
+    let farthest = if nanos < 0 { i64::MIN } else { i64::MAX };
+    i64::try_from(nanos).unwrap_or(farthest)
 }
 
-// Whether the clock's daemon is believed, as far as it is known why not.
-fn belief_in(source: &ClockSource<'_, &HostRuntime>, now: Reading) -> Option<Belief> {
-    match source {
-        ClockSource::Fixed(_) => Some(Belief::Fixed),
-        ClockSource::Followed(followed) => {
-            let follower = followed.follower();
-            if follower.learned().is_none() {
-                Some(Belief::NoAnswer)
-            } else if follower.is_followed(now) {
-                Some(Belief::Believed)
-            } else {
-                None
-            }
-        }
+// Whether the clock's daemon is believed, and else why not.
+fn belief_in(source: &ClockSource<'_, &HostRuntime>, now: Reading) -> Belief {
+    let ClockSource::Followed(followed) = source else {
+        return Belief::Fixed;
+    };
+    let follower = followed.follower();
+    match follower.doubt(now) {
+        Some(Doubt::Old) => Belief::Old,
+        Some(Doubt::Unsynchronised) => Belief::Unsynchronised,
+        Some(Doubt::ReferenceOld) => Belief::ReferenceOld,
+        Some(Doubt::ReferenceAhead) => Belief::ReferenceAhead,
+        Some(Doubt::Far) => Belief::Far,
+        Some(Doubt::Set) => Belief::Set,
+        None if follower.learned().is_some() => Belief::Believed,
+        None => Belief::NoAnswer,
     }
 }
 

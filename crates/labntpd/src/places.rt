@@ -47,10 +47,21 @@ pub fn judge_places<R: Files, F: Write>(
     configuration: &Configuration,
     faults: &mut F,
 ) -> Result<(), u8> {
-    let Ok(beside) = beside_statistics(alloc, configuration) else {
-        return Err(memory_status(faults));
-    };
-    let named = named_in(path, configuration, beside.as_str());
+    match beside_statistics(alloc, configuration) {
+        Ok(beside) => judge_named(files, path, configuration, beside.as_str(), faults),
+        Err(_) => Err(memory_status(faults)),
+    }
+}
+
+// Judges where these files stand, and the one at `beside`.
+fn judge_named<'a, R: Files, F: Write>(
+    files: &R,
+    path: &'a str,
+    configuration: &'a Configuration,
+    beside: &'a str,
+    faults: &mut F,
+) -> Result<(), u8> {
+    let named = named_in(path, configuration, beside);
     for (place, file) in named.iter().enumerate() {
         let Some(file) = file else {
             continue;
@@ -59,18 +70,13 @@ pub fn judge_places<R: Files, F: Write>(
             let _ = writeln!(faults, "{path}: {}: {}: {error}", file.key, file.path);
             return Err(TEXT_FAULTY);
         }
-        for other in named.iter().take(place) {
-            let Some(other) = other else {
-                continue;
-            };
-            if are_one(files, file, other) {
-                let _ = writeln!(
-                    faults,
-                    "{path}: {}: another file than that of {} is wanted",
-                    file.key, other.key
-                );
-                return Err(TEXT_FAULTY);
-            }
+        if let Some(key) = same_file_among(files, &named[..place], file) {
+            let key_here = file.key;
+            let _ = writeln!(
+                faults,
+                "{path}: {key_here}: another file than that of {key} is wanted"
+            );
+            return Err(TEXT_FAULTY);
         }
     }
     Ok(())
@@ -110,13 +116,13 @@ fn named_in<'a>(
     };
     let statistics = path_of(&configuration.statistics);
     [
-        named("the configuration", Some(path), Use::Read),
-        named("register", Some(configuration.register.as_str()), Use::Read),
-        named("commands", Some(configuration.commands.as_str()), Use::Read),
-        named("clock.key_file", key_file, Use::Read),
-        named("answers", path_of(&configuration.answers), Use::Written),
-        named("statistics", statistics, Use::Written),
-        named(
+        file_at("the configuration", Some(path), Use::Read),
+        file_at("register", Some(configuration.register.as_str()), Use::Read),
+        file_at("commands", Some(configuration.commands.as_str()), Use::Read),
+        file_at("clock.key_file", key_file, Use::Read),
+        file_at("answers", path_of(&configuration.answers), Use::Written),
+        file_at("statistics", statistics, Use::Written),
+        file_at(
             "statistics (FILE.new)",
             statistics.map(|_| beside),
             Use::MadeAnew,
@@ -133,7 +139,7 @@ fn path_of(path: &Option<String>) -> Option<&str> {
 }
 
 // A file, where there is a path for it.
-fn named<'a>(key: &'static str, path: Option<&'a str>, usage: Use) -> Option<Named<'a>> {
+fn file_at<'a>(key: &'static str, path: Option<&'a str>, usage: Use) -> Option<Named<'a>> {
     match path {
         None => None,
         Some(path) => Some(Named { key, path, usage }),
@@ -159,6 +165,21 @@ fn writable<R: Files>(files: &R, file: &Named<'_>) -> io::Result<()> {
         }
         Err(error) => Err(error),
     }
+}
+
+// The key of the first of some files that is this one.
+fn same_file_among<R: Files>(
+    files: &R,
+    others: &[Option<Named<'_>>],
+    file: &Named<'_>,
+) -> Option<&'static str> {
+    for other in others {
+        match other {
+            Some(other) if are_one(files, file, other) => return Some(other.key),
+            _ => {}
+        }
+    }
+    None
 }
 
 // Whether two files are one, by their paths or by where they stand.

@@ -11,7 +11,7 @@ use ntp_time::Moment;
 const MOST_IN_A_ROW: u64 = 100;
 
 /// How long a pause lasts, in thousandths of a second (profile).
-const PAUSE: i32 = 30;
+const PAUSE_MILLISECONDS: i32 = 30;
 
 /// Does what is done beside a server; and where receives fail again and again, as at a socket that somebody has shut down, it tells so
 /// and pauses after each, so that they do not take a whole processor.
@@ -47,7 +47,7 @@ impl<'a, 'b> Reporter<Daemon<'b>> for Patience<'a> {
         self.housekeeping.see_receiving(!is_failing);
         self.housekeeping.report(server, receipt);
         if is_failing {
-            pause(PAUSE);
+            pause(PAUSE_MILLISECONDS);
         }
     }
 }

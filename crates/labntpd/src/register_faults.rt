@@ -1,7 +1,7 @@
 //! What is wrong with a register file, and where.
 
 use crate::files::line_without_text;
-use labntp_command_line::load_status;
+use labntp_command_line::{TEXT_FAULTY, load_status};
 use ntp_admin::{refusal_word, words};
 use ntp_customer_files::{LoadFault, MOST_FILE_OCTETS};
 use ntp_events::LineFault;
@@ -13,44 +13,44 @@ use toml::{Table, Value};
 
 /// A key of a register file, and what is wanted there.
 #[derive(Clone, Copy)]
-struct Key {
+struct Member {
     name: &'static str,
     is_text: bool,
     wanted: &'static str,
 }
 
-const ADDRESS: Key = Key {
+const ADDRESS: Member = Member {
     name: "address",
     is_text: true,
     wanted: "an IPv4 address, as \"192.0.2.1\", is wanted",
 };
 
-const NUMBER: Key = Key {
+const NUMBER: Member = Member {
     name: "number",
     is_text: false,
     wanted: "a whole number from 1 to 65535 is wanted",
 };
 
-const ALGORITHM: Key = Key {
+const ALGORITHM: Member = Member {
     name: "algorithm",
     is_text: true,
     wanted: "\"md5\" or \"sha1\" is wanted",
 };
 
-const KEY: Key = Key {
+const KEY: Member = Member {
     name: "key",
     is_text: true,
     wanted: "2 to 64 hexadecimal digits, an even number, are wanted",
 };
 
-const BUDGET: Key = Key {
+const BUDGET: Member = Member {
     name: "budget",
     is_text: false,
     wanted: "a whole number from 1 to 65535 is wanted",
 };
 
 /// The keys of a customer, in the order in which they are looked at.
-const KEYS: [Key; 5] = [ADDRESS, NUMBER, ALGORITHM, KEY, BUDGET];
+const KEYS: [Member; 5] = [ADDRESS, NUMBER, ALGORITHM, KEY, BUDGET];
 
 /// What is wrong with a table.
 #[derive(Clone, Copy)]
@@ -78,33 +78,33 @@ pub fn register_status<F: Write>(
     fault: LoadFault,
     faults: &mut F,
 ) -> u8 {
+    if fault == LoadFault::Read {
+        tell_octets(path, octets, faults);
+        return TEXT_FAULTY;
+    }
     // It is told as `labntp` does where there is no more to tell, as for want of memory.
-    match tell(alloc, path, octets, fault, faults) {
+    match tell(alloc, octets, fault, faults) {
         Some(()) => load_status(fault, &mut io::sink()),
         None => load_status(fault, faults),
     }
 }
 
-// Tells what is wrong, where its place can be found.
-fn tell<F: Write>(
-    alloc: Global,
-    path: &str,
-    octets: &[u8],
-    fault: LoadFault,
-    faults: &mut F,
-) -> Option<()> {
+// Tells why octets are no text.
+fn tell_octets<F: Write>(path: &str, octets: &[u8], faults: &mut F) {
     if octets.len() > MOST_FILE_OCTETS {
         let _ = writeln!(
             faults,
             "{path}: at most {MOST_FILE_OCTETS} octets are wanted"
         );
-        return Some(());
-    }
-    let Ok(text) = str::from_utf8(octets) else {
+    } else {
         let line = line_without_text(octets);
         let _ = writeln!(faults, "{path}: line {line}: this is no UTF-8");
-        return Some(());
-    };
+    }
+}
+
+// Tells what is wrong, where its place can be found.
+fn tell<F: Write>(alloc: Global, octets: &[u8], fault: LoadFault, faults: &mut F) -> Option<()> {
+    let text = str::from_utf8(octets).ok()?;
     let document = match toml::table_from_str(alloc, text) {
         Ok(document) => document,
         Err(error) => {
@@ -205,7 +205,7 @@ fn wrong_in_customer(customer: &Value) -> Option<Wrong<'_>> {
 }
 
 // Whether a value has the type that is wanted at a key.
-fn has_type(value: &Value, key: &Key) -> bool {
+fn has_type(value: &Value, key: &Member) -> bool {
     if key.is_text {
         value.as_str().is_some()
     } else {
@@ -214,7 +214,7 @@ fn has_type(value: &Value, key: &Key) -> bool {
 }
 
 // The key at which a customer has this fault.
-fn key_of(fault: LineFault) -> Option<Key> {
+fn key_of(fault: LineFault) -> Option<Member> {
     match fault {
         LineFault::Address => Some(ADDRESS),
         LineFault::Number => Some(NUMBER),

@@ -12,7 +12,7 @@ use std::alloc::{AllocError, Global};
 use toml::Table;
 
 /// The keys of the top level, and those of the table `[clock]` (profile).
-const KEYS: [Setting; 9] = [
+const KEYS: [Setting; 10] = [
     Setting::Listen,
     Setting::Register,
     Setting::Commands,

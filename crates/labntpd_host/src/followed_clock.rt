@@ -20,8 +20,9 @@ const LATER_PERIOD: u64 = 10_000_000;
 /// How many datagrams are taken at one look at most (profile).
 const MOST_ANSWERS: usize = 8;
 
-/// How long the reading of both clocks may take, in nanoseconds, and how often they are read at most to find such a reading (profile).
-const LONGEST_READING: u64 = 100_000;
+/// How long the reading of both clocks may take, in nanoseconds: a hundred-thousandth of a second; and how often they are read at most to
+/// find such a reading (profile).
+const LONGEST_READING: u64 = 10_000;
 
 const MOST_READINGS: usize = 8;
 

@@ -64,6 +64,13 @@ impl<W: Write + Drop> Log<W> {
         self.dropped
     }
 
+    /// How many lines were dropped since this was asked last.
+    pub fn take_dropped(&mut self) -> u64 {
+        let dropped = self.dropped;
+        self.dropped = 0;
+        dropped
+    }
+
     /// Begins a line of a priority, which is written into what this gives, without its line feed.
     pub fn begin(&mut self, priority: Priority) -> &mut Vec<u8> {
         self.line.clear();
@@ -101,9 +108,7 @@ pub fn form_for<R: Files>(files: &R, stream: &str) -> LogForm {
 fn is_stream<R: Files>(files: &R, stream: &str) -> Option<bool> {
     let (device, inode) = stream.split_once(':')?;
     let standard_error = fs::metadata(files, "/proc/self/fd/2").ok()?;
-    Some(
-        device.parse() == Ok(standard_error.dev()) && inode.parse() == Ok(standard_error.ino()),
-    )
+    Some(device.parse() == Ok(standard_error.dev()) && inode.parse() == Ok(standard_error.ino()))
 }
 
 /// Whether standard output and standard error are open. Where one is not, a file or a socket that is opened takes its place,

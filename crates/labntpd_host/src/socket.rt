@@ -1,4 +1,5 @@
 //! The sockets of the daemon.
+ghost use Rattle.std.specs.Prelude.{pos};
 ghost use Rattle.libc.specs.Net.{SockOption};
 
 use libc::EAGAIN;
@@ -70,7 +71,7 @@ pub fn set_send_buffer(socket: &UdpSocket, octets: u32) -> io::Result<()> {
 
 // Sets an option of a socket to a number.
 fn set_option(socket: &UdpSocket, name: i32, number: u32) -> io::Result<()>
-    requires { SockOption 1 name }
+    requires { SockOption (pos 1) name }
 {
     let mut value = [0; 16];
     value[..4].copy_from_slice(&number.to_ne_bytes());

@@ -7,6 +7,8 @@ use Rattle.ntp_time.specs.Difference.{difference}
 use Rattle.ntp_packet.specs.Header.{no_short, no_stamp}
 use Rattle.ntp_reply_packets.specs.Reference.{ReferenceState, reference_of}
 use Rattle.ntp_clock.specs.declared.answer.ClockAnswer.{ClockAnswer}
+use Rattle.ntp_clock.specs.declared.doubt.Doubt.{Doubt}
+use Rattle.ntp_clock.specs.declared.doubt.Doubt.TheVariants.{Old, Unsynchronised, ReferenceOld, ReferenceAhead, Far, Set}
 use Rattle.ntp_clock.specs.declared.limits.ClockLimits.{ClockLimits}
 use Rattle.ntp_clock.specs.declared.reading.Reading.{Reading}
 use Rattle.ntp_clock.specs.Reading.{apart}
@@ -93,6 +95,16 @@ abbrev pub is_believed : ClockLimits → ClockAnswer → Reading → Bool
 is_believed limits a now =
     is_young limits a now && is_synchronised a.state && was_set_lately limits a now && is_past limits a && is_near limits a now
     && went_on limits a now
+
+-- why an answer is not believed, by a reading of the host's clocks, if it is not: the first reason that applies, in this order (profile)
+abbrev pub doubt_of : ClockLimits → ClockAnswer → Reading → Option Doubt
+doubt_of limits a now =
+    if not (is_young limits a now) then Some Old
+    else (if not (is_synchronised a.state) then Some Unsynchronised
+    else (if not (was_set_lately limits a now) then Some ReferenceOld
+    else (if not (is_past limits a) then Some ReferenceAhead
+    else (if not (is_near limits a now) then Some Far
+    else (if not (went_on limits a now) then Some Set else None)))))
 
 -- an answer was learned, and is believed (profile)
 abbrev pub is_followed : ClockLimits → Option ClockAnswer → Reading → Bool

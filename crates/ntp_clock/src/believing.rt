@@ -25,14 +25,14 @@ pub(crate) fn is_believed(limits: &ClockLimits, answer: &ClockAnswer, now: Readi
 }
 
 // Whether an answer is young.
-fn is_young(limits: &ClockLimits, answer: &ClockAnswer, now: Reading) -> bool
+pub(crate) fn is_young(limits: &ClockLimits, answer: &ClockAnswer, now: Reading) -> bool
     ensures { result ≡ is_young limits.now answer.now now }
 {
     age(answer, now.ticks) < limits.valid_for
 }
 
 // Whether a state is that of a synchronised clock.
-fn is_synchronised(state: &Reference) -> bool
+pub(crate) fn is_synchronised(state: &Reference) -> bool
     ensures { result ≡ is_synchronised state.now }
 {
     let stratum = state.stratum();
@@ -40,7 +40,7 @@ fn is_synchronised(state: &Reference) -> bool
 }
 
 // Whether the clock of an answer was set, and not long ago by the host's clock.
-fn was_set_lately(limits: &ClockLimits, answer: &ClockAnswer, now: Reading) -> bool
+pub(crate) fn was_set_lately(limits: &ClockLimits, answer: &ClockAnswer, now: Reading) -> bool
     ensures { result ≡ was_set_lately limits.now answer.now now }
 {
     let set = answer.state.reference();
@@ -49,21 +49,21 @@ fn was_set_lately(limits: &ClockLimits, answer: &ClockAnswer, now: Reading) -> b
 }
 
 // Whether the clock of an answer was not set after the answer left, by more than a step may be.
-fn is_past(limits: &ClockLimits, answer: &ClockAnswer) -> bool
+pub(crate) fn is_past(limits: &ClockLimits, answer: &ClockAnswer) -> bool
     ensures { result ≡ is_past limits.now answer.now }
 {
     nano_units(answer.state.reference(), answer.sent) <= i128::from(limits.most_step) * SECOND_UNITS
 }
 
 // Whether the root distance of an answer is within the limit.
-fn is_near(limits: &ClockLimits, answer: &ClockAnswer, now: Reading) -> bool
+pub(crate) fn is_near(limits: &ClockLimits, answer: &ClockAnswer, now: Reading) -> bool
     ensures { result ≡ is_near limits.now answer.now now }
 {
     root_distance_twice(answer, now) <= 2 * u64::from(limits.most_root_distance.0)
 }
 
 // Whether the host's clock was not set by more than a step may be, since the daemon last showed an update.
-fn went_on(limits: &ClockLimits, answer: &ClockAnswer, now: Reading) -> bool
+pub(crate) fn went_on(limits: &ClockLimits, answer: &ClockAnswer, now: Reading) -> bool
     ensures { result ≡ went_on limits.now answer.now now }
 {
     apart(answer.base, now) <= u128::from(limits.most_step) << 32

@@ -1,19 +1,20 @@
 //! A follower of the host's clock daemon.
-ghost use Rattle.std.specs.Prelude.{◌≡◌, ◌<◌, Some, option_copied, option_map};
+ghost use Rattle.std.specs.Prelude.{◌≡◌, ◌<◌, Some, option_and_then, option_copied, option_map};
 ghost use Rattle.ntp_request.specs.Request.{RequestValue, IsRequest};
 ghost use Rattle.ntp_mac.specs.Reading.{reading_of};
 ghost use Rattle.ntp_mac.specs.Signed.{IsSigned};
 ghost use Rattle.ntp_client.specs.Query.{query_octets};
 ghost use Rattle.ntp_client.specs.Sample.{IsTimeReply};
 ghost use Rattle.ntp_client.specs.Taking.{taken_for, after_taken};
-ghost use Rattle.ntp_clock.specs.InForce.{age, is_followed, in_force};
+ghost use Rattle.ntp_clock.specs.InForce.{age, is_followed, doubt_of, in_force};
 ghost use Rattle.ntp_clock.specs.Watching.{is_set_since};
 ghost use Rattle.ntp_clock.specs.Learning.{new_follower, looked, question, asked, base_of, learned_of, learned_after, told_after, slowed_after, period};
 
 use crate::believing::is_believed;
+use crate::doubt::doubt_of;
 use crate::growing::age;
 use crate::pacing::period;
-use crate::{ClockAnswer, ClockLimits, ClockWatch, Reading, state_in_force};
+use crate::{ClockAnswer, ClockLimits, ClockWatch, Doubt, Reading, state_in_force};
 use ntp_client::{Client, Distrust, Outgoing, Sample, Taken};
 use ntp_mac::Key;
 use ntp_packet::Header;
@@ -195,6 +196,16 @@ impl Follower {
         self.learned
             .as_ref()
             .is_some_and(|answer| is_believed(limits, answer, now))
+    }
+
+    /// Why the last answer is not believed, if there is one and it is not: the first reason that applies.
+    pub fn doubt(&self, now: Reading) -> Option<Doubt>
+        ensures { result ≡ option_and_then (λ answer. doubt_of self.now.limits answer now) self.now.learned }
+    {
+        let limits = &self.limits;
+        self.learned
+            .as_ref()
+            .and_then(|answer| doubt_of(limits, answer, now))
     }
 
     /// The last answer that was learned.

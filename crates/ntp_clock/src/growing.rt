@@ -9,7 +9,7 @@ use crate::{ClockAnswer, Reading};
 const SHORT_HALF_UNITS: u128 = 1 << 17;
 
 /// How many units of 2^-32 nanoseconds a unit of 2^-16 seconds has.
-const SHORT_NANO_UNITS: u128 = 1_000_000_000 << 16;
+const SHORT_NANO_UNITS: u64 = 1_000_000_000 << 16;
 
 /// The nanoseconds in which a clock drifts by `DRIFT_UNITS`: 15 parts in a million (RFC 5905, 7.2), in
 /// units of 2^-16 seconds, are 15 · 2^16 in 10^15 nanoseconds, or 6 in 5^14.
@@ -59,7 +59,13 @@ fn set_by(answer: &ClockAnswer, now: Reading) -> u128
     ensures value { result ≡ set_by answer.now now }
     ensures most { result ≤ 2 ^ 98 }
 {
-    apart(answer.base, now).div_ceil(SHORT_NANO_UNITS)
+    let units = apart(answer.base, now);
+    // Up to four seconds fit 64 bits, in which it is divided several times faster.
+    if units <= u128::from(u64::MAX) {
+        u128::from((units as u64).div_ceil(SHORT_NANO_UNITS))
+    } else {
+        units.div_ceil(u128::from(SHORT_NANO_UNITS))
+    }
 }
 
 // How far a clock may drift in so many nanoseconds, in units of 2^-16 seconds and rounded up. Whole times of

@@ -5,6 +5,7 @@
 
 mod answer;
 mod believing;
+mod doubt;
 mod follower;
 mod growing;
 mod limits;
@@ -14,6 +15,7 @@ mod state;
 mod watch;
 
 pub use answer::ClockAnswer;
+pub use doubt::Doubt;
 pub use follower::Follower;
 pub use limits::ClockLimits;
 pub use reading::Reading;

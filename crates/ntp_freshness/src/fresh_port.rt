@@ -1,10 +1,10 @@
 //! A port that passes on only datagrams that have not waited for long.
-ghost use Rattle.std.specs.Prelude.{◌≡◌, ◌+◌, ◌-◌, ◌≤◌, ◌<◌, ◌^◌, List, All, Some, IfOk, IfErr, IfSome, is_err, if◌then◌else◌};
+ghost use Rattle.std.specs.Prelude.{◌≡◌, ◌+◌, ◌-◌, ◌≤◌, ◌<◌, ◌^◌, List, All, Some, IfOk, IfErr, IfSome, option_map, is_err, if◌then◌else◌};
 ghost use Rattle.std.specs.Option.{option_map_or};
 ghost use Rattle.ntp_service_serve.specs.Port.{most_received_octets};
 ghost use Rattle.ntp_freshness.specs.declared.queue_event.QueueEvent.{QueueEvent};
 ghost use Rattle.ntp_freshness.specs.Freshness.{moment_of, IsInOrder};
-ghost use Rattle.ntp_freshness.specs.Watch.{Watches, longest_of};
+ghost use Rattle.ntp_freshness.specs.Watch.{Watches, longest_of, kept_after};
 ghost use Rattle.ntp_freshness.specs.Fresh.{StandsFor, ReceivesFresh, IsShown};
 ghost use Rattle.ntp_freshness.specs.Next.{TakesNext, LooksOn, Drops, failures_in};
 
@@ -39,6 +39,7 @@ pub struct FreshPort<P: QueuedPort> {
     // What it shows when it may be looked again at the queue.
     next_look: u64,
     stale: u64,
+    sweeps: u64,
     failures: u64,
     ghost counted: { P.failure_count port ≤ failures },
 }
@@ -74,6 +75,7 @@ impl<P: QueuedPort> FreshPort<P> {
             reading,
             next_look: 0,
             stale: 0,
+            sweeps: 0,
             failures,
         }
     }
@@ -90,6 +92,22 @@ impl<P: QueuedPort> FreshPort<P> {
         ensures { result ≡ self.now.stale }
     {
         self.stale
+    }
+
+    /// How many times the queue was swept, as far as the number can count.
+    pub fn sweeps(&self) -> u64
+        ensures { result ≡ self.now.sweeps }
+    {
+        self.sweeps
+    }
+
+    /// How long the datagram that is taken next can have waited when the clock was last read, in nanoseconds; nothing where nothing
+    /// is known of the queue.
+    pub fn waited(&self) -> Option<u64>
+        ensures { result ≡ option_map (λ at. self.now.reading - at) (kept_after self.now.watch 0) }
+    {
+        let reading = self.reading;
+        self.watch.known().map(|at| reading.saturating_sub(at))
     }
 
     /// Receives a datagram that may be answered, where one comes in time: those that may not be answered, and come before it, are
@@ -114,7 +132,10 @@ impl<P: QueuedPort> FreshPort<P> {
                 Next::Nothing => return None,
                 Next::Fault(fault) => return Some(Err(fault)),
                 Next::Fresh(arrival) => return Some(Ok(arrival)),
-                Next::Stale => self.sweep(),
+                Next::Stale => {
+                    self.sweeps = self.sweeps.saturating_add(1);
+                    self.sweep();
+                }
             }
         }
         None

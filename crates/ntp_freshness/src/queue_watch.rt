@@ -2,7 +2,7 @@
 ghost use Rattle.std.specs.Prelude.{◌≡◌, ℕ, ◌+◌, ◌<◌, ◌↔◌, ◌⊎◌, List, [], ◌∷◌, Some, IsTrue};
 ghost use Rattle.ntp_freshness.specs.declared.queue_event.QueueEvent.{QueueEvent};
 ghost use Rattle.ntp_freshness.specs.Freshness.{MayBeAnswered, IsInOrder};
-ghost use Rattle.ntp_freshness.specs.Watch.{Watches, IsWaiting, longest_of};
+ghost use Rattle.ntp_freshness.specs.Watch.{Watches, IsWaiting, longest_of, kept_after};
 
 /// Into how many parts the longest time is divided that a datagram may wait: what is known of the queue is looked for anew
 /// where it is one part old by a look whether the queue is empty, and by a count where it is three parts old (profile).
@@ -76,6 +76,13 @@ impl QueueWatch {
             → MayBeAnswered (longest_of self.now) history now → IsTrue result }
     {
         self.is_known_within(now, self.longest)
+    }
+
+    /// The moment after which the datagram came that is taken next, as far as it is known.
+    pub fn known(&self) -> Option<u64>
+        ensures { result ≡ kept_after self.now 0 }
+    {
+        self.known
     }
 
     // How many datagrams that were in the queue when it was looked at may still be in it; 0 where that is not waited for.

@@ -16,7 +16,18 @@ pub fn read_file<R: Files, A: Allocator + Copy>(
     read_open(&mut file, alloc, most)
 }
 
-/// The same, of a regular file alone: to open a pipe might take for ever. The error may also say that such a file is wanted.
+/// The same, of a file that is open and of which nothing was read.
+pub(crate) fn read_open<F: Read, A: Allocator + Copy>(
+    file: &mut F,
+    alloc: A,
+    most: u32,
+) -> io::Result<Vec<u8, A>> {
+    let mut octets = Vec::new(alloc);
+    file.take(u64::from(most) + 1).read_to_end(&mut octets)?;
+    Ok(octets)
+}
+
+/// What `read_file` gives, of a regular file alone: to open a pipe might take for ever. The error may also say that such a file is wanted.
 pub fn read_regular_file<R: Files, A: Allocator + Copy>(
     files: &R,
     alloc: A,
@@ -40,15 +51,4 @@ pub(crate) fn regular_metadata<R: Files>(files: &R, path: &str) -> io::Result<Me
 /// That a regular file is wanted, as an error.
 pub fn not_regular() -> io::Error {
     io::Error::new(ErrorKind::InvalidInput, "a regular file is wanted")
-}
-
-/// The same, of a file that is open and of which nothing was read.
-pub(crate) fn read_open<F: Read, A: Allocator + Copy>(
-    file: &mut F,
-    alloc: A,
-    most: u32,
-) -> io::Result<Vec<u8, A>> {
-    let mut octets = Vec::new(alloc);
-    file.take(u64::from(most) + 1).read_to_end(&mut octets)?;
-    Ok(octets)
 }

@@ -73,20 +73,23 @@ pub enum Belief {
     Unsynchronised,
     /// The daemon set its clock too long ago.
     ReferenceOld,
+    /// The daemon says that it set its clock later than it answered.
+    ReferenceAhead,
     /// Its root distance is too large.
     Far,
-    /// The host's clock was set since the last answer.
+    /// The host's clock was set since the daemon last showed an update.
     Set,
 }
 
 /// Each belief, with its label.
-const BELIEFS: [(Belief, &str); 8] = [
+const BELIEFS: [(Belief, &str); 9] = [
     (Belief::Believed, r#"why="believed""#),
     (Belief::Fixed, r#"why="fixed""#),
     (Belief::NoAnswer, r#"why="no-answer""#),
     (Belief::Old, r#"why="old""#),
     (Belief::Unsynchronised, r#"why="unsynchronised""#),
     (Belief::ReferenceOld, r#"why="reference-old""#),
+    (Belief::ReferenceAhead, r#"why="reference-ahead""#),
     (Belief::Far, r#"why="far""#),
     (Belief::Set, r#"why="set""#),
 ];
@@ -109,7 +112,7 @@ pub struct ClockGauges {
     /// How far the daemon's clock was from the host's at its last answer, in nanoseconds. `None` where there is none.
     pub offset: Option<i64>,
     /// Whether the daemon is believed, and why not. `None` where it is not, and it is not known why.
-    pub belief: Option<Belief>,
+    pub belief: Belief,
 }
 
 /// Which of the files can be read or written.
@@ -134,7 +137,8 @@ pub struct Gauges<'a> {
     pub kernel_drops: u64,
     /// The socket's receive buffer, in octets as the kernel counts.
     pub receive_buffer: u64,
-    /// How long the last datagram that was looked at can have waited, in nanoseconds. `None` where that is not known.
+    /// How long a datagram can have waited in the queue at most since the statistics were written last, in nanoseconds. `None` where that is
+    /// not known.
     pub queue_wait: Option<u64>,
     /// Replies that were not sent, since the socket would have waited.
     pub send_would_wait: u64,
@@ -246,7 +250,7 @@ fn write_socket<W: Write>(out: &mut W, gauges: &Gauges<'_>) -> io::Result<()> {
     write_head(
         out,
         wait,
-        "How long the last datagram can have waited.",
+        "How long a datagram can have waited at most.",
         "gauge",
     )?;
     write_seconds_or_nan(out, wait, gauges.queue_wait)?;
@@ -340,12 +344,12 @@ fn write_offset<W: Write>(out: &mut W, offset: Option<i64>) -> io::Result<()> {
 }
 
 // Whether the daemon is believed, and why not: of all reasons 1 stands at the one that there is.
-fn write_belief<W: Write>(out: &mut W, belief: Option<Belief>) -> io::Result<()> {
+fn write_belief<W: Write>(out: &mut W, belief: Belief) -> io::Result<()> {
     let name = "labntp_clock_believed";
     let help = "Whether the clock's daemon is believed, or why not.";
     write_head(out, name, help, "gauge")?;
     for (each, label) in BELIEFS {
-        let is_so = u8::from(belief == Some(each));
+        let is_so = u8::from(belief == each);
         writeln!(out, "{name}{{{label}}} {is_so}")?;
     }
     Ok(())

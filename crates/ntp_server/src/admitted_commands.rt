@@ -18,7 +18,9 @@ use std::alloc::{Allocator, Global};
 pub struct AdmittedCommands<C, A: Allocator = Global> {
     source: C,
     lines: AppliedLines<A>,
-    // What is to be looked at next, before the source is asked: octets that were read before, or for whose copy there was no memory.
+    // What was read before, and is still to be handed on.
+    begun: Option<Vec<u8, A>>,
+    // What is looked at where the source gives nothing: octets for whose copy there was no memory.
     waiting: Option<Vec<u8, A>>,
     // Why what was looked at last was not handed on, and how many octets it had.
     fault: Option<AdmitFault>,
@@ -33,13 +35,15 @@ impl<C: Drop, A: Allocator + Copy> AdmittedCommands<C, A> {
         AdmittedCommands {
             source,
             lines: AppliedLines::new(alloc),
+            begun: None,
             waiting: None,
             fault: None,
             length: 0,
         }
     }
 
-    /// A source whose octets were read once: they are handed on at the first look. The error says why they cannot be.
+    /// A source whose octets were read once: they are handed on at the first look, where the source has none that go on from them. The
+    /// error says why they cannot be.
     pub fn begun(
         source: C,
         alloc: A,
@@ -54,7 +58,8 @@ impl<C: Drop, A: Allocator + Copy> AdmittedCommands<C, A> {
                 source,
                 lines,
                 length: octets.len(),
-                waiting: Some(octets),
+                begun: Some(octets),
+                waiting: None,
                 fault: None,
             }),
             Err(fault) => Err(fault),
@@ -74,6 +79,26 @@ impl<C: Drop, A: Allocator + Copy> AdmittedCommands<C, A> {
     /// How many octets that had which was looked at last.
     pub fn length(&self) -> usize {
         self.length
+    }
+
+    // Gives octets, if there are some, where they are admitted; else what was read before, where it was not handed on yet.
+    fn admitted_or_begun(&mut self, octets: Option<Vec<u8, A>>) -> Option<Vec<u8, A>>
+        ensures admitted { IfSome result (λ given. Continues self.old.lines given.items × (self.new.lines ≡ complete_lines given.items)) }
+        ensures kept { IfNone result (self.new.lines ≡ self.old.lines) }
+    {
+        if let Some(octets) = octets {
+            if let Some(given) = self.admitted(octets) {
+                self.begun = None;
+                return Some(given);
+            }
+        }
+        let Some(octets) = self.begun.take() else {
+            return None;
+        };
+        match self.lines.admit(octets.as_slice()) {
+            Ok(()) => Some(octets),
+            Err(_) => None,
+        }
     }
 
     // Gives octets where they are admitted.
@@ -104,18 +129,16 @@ impl<C: CommandsSource<A> + Drop, A: Allocator + Copy> CommandsSource<A>
     for AdmittedCommands<C, A> {
     /// What the source gives, where it begins with the complete lines of what was given before; else nothing, and it is to be put
     /// right. It takes memory for a copy, where something changed. Where there is none, nothing is given, and the same octets are
-    /// tried at the next look. It does not tell what it will give.
+    /// tried at the next look, where the source gives none. It does not tell what it will give.
     fn look(&mut self, alloc: A, receipt: Option<Moment>) -> Option<Vec<u8, A>>
         ensures told { Gives None None (receipt ∷ []) (option_map (λ octets. octets.items) result ∷ []) }
         ensures admitted { IfSome result (λ octets. Continues self.old.lines octets.items × (self.new.lines ≡ complete_lines octets.items)) }
         ensures kept { IfNone result (self.new.lines ≡ self.old.lines) }
     {
-        if let Some(octets) = self.waiting.take() {
-            return self.admitted(octets);
-        }
-        match self.source.look(alloc, receipt) {
-            Some(octets) => self.admitted(octets),
-            None => None,
-        }
+        let octets = match self.source.look(alloc, receipt) {
+            Some(octets) => Some(octets),
+            None => self.waiting.take(),
+        };
+        self.admitted_or_begun(octets)
     }
 }

@@ -258,10 +258,12 @@ fn there_and_back_costs_nothing(rt: HostRuntime) -> Result<(), Fail> {
     let mut host = Host::new()?;
     let _taken = host.ask(0, ASKED - 10 * UNITS)?;
     host.set = 60 * UNITS;
-    assert!(rt; host.follower.look(host.reading(1)));
+    let now = host.reading(1);
+    assert!(rt; host.follower.look(now));
     assert_eq!(rt; host.dispersion(1), FAR);
     host.set = 0;
-    assert!(rt; host.follower.look(host.reading(1)));
+    let now = host.reading(1);
+    assert!(rt; host.follower.look(now));
     assert_eq!(rt; host.dispersion(1), 201);
     let _taken = host.ask(2, ASKED - 10 * UNITS)?;
     assert_eq!(rt; host.dispersion(2), 200);

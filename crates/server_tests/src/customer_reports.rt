@@ -18,10 +18,12 @@ const STRANGER: Address = Address([192, 0, 2, 99]);
 
 // The line of the customer after the two commands and three turns below. The time is that of Python's
 // `0xec00000000000000 / 2**32 - 2208988800`.
-const LINE: &str = r#"{"address":"192.0.2.10","state":"enrolled","keys":[{"number":7,"algorithm":"md5","last_signed":"1750434176.000000000"},{"number":8,"algorithm":"sha1","last_signed":null}],"budget":10,"line":3,"answers":{"basic":1,"interleaved":0,"rate":1,"deny":1,"nak":0,"short":0,"long":0,"field-short":0,"field-unaligned":0,"field-past-end":0,"rest":0,"version":0,"mode":0,"bare":0,"muted":0,"over-budget":0}}
+const LINE: &str =
+    r#"{"address":"192.0.2.10","state":"enrolled","keys":[{"number":7,"algorithm":"md5","last_signed":"1750434176.000000000"},{"number":8,"algorithm":"sha1","last_signed":null}],"budget":10,"line":3,"answers":{"basic":1,"interleaved":0,"rate":1,"deny":1,"nak":0,"short":0,"long":0,"field-short":0,"field-unaligned":0,"field-past-end":0,"rest":0,"version":0,"mode":0,"bare":0,"muted":0,"over-budget":0}}
 "#;
 
-const REVOKED_LINE: &str = r#"{"address":"192.0.2.10","state":"revoked","keys":[],"budget":null,"line":3,"answers":{"basic":1,"interleaved":0,"rate":1,"deny":1,"nak":0,"short":0,"long":0,"field-short":0,"field-unaligned":0,"field-past-end":0,"rest":0,"version":0,"mode":0,"bare":0,"muted":0,"over-budget":0}}
+const REVOKED_LINE: &str =
+    r#"{"address":"192.0.2.10","state":"revoked","keys":[],"budget":null,"line":3,"answers":{"basic":1,"interleaved":0,"rate":1,"deny":1,"nak":0,"short":0,"long":0,"field-short":0,"field-unaligned":0,"field-past-end":0,"rest":0,"version":0,"mode":0,"bare":0,"muted":0,"over-budget":0}}
 "#;
 
 // A turn with a datagram from an address.
@@ -75,10 +77,25 @@ fn a_customer_is_reported_of(rt: HostRuntime) -> Result<(), Fail> {
     let memory = Refusing::new(rt.alloc());
     let mut service = Service::new(&memory);
     let mut counts = CustomerCounts::new(&memory);
-    carry_out(&mut service, &mut counts, 3, "enrol 192.0.2.10 7 md5 6b6579 10")?;
-    carry_out(&mut service, &mut counts, 4, "rollover 192.0.2.10 8 sha1 6b6579")?;
+    carry_out(
+        &mut service,
+        &mut counts,
+        3,
+        "enrol 192.0.2.10 7 md5 6b6579 10",
+    )?;
+    carry_out(
+        &mut service,
+        &mut counts,
+        4,
+        "rollover 192.0.2.10 8 sha1 6b6579",
+    )?;
     // Refused, and no command at all: nothing is reported of them.
-    carry_out(&mut service, &mut counts, 5, "enrol 192.0.2.10 9 md5 6b6579 10")?;
+    carry_out(
+        &mut service,
+        &mut counts,
+        5,
+        "enrol 192.0.2.10 9 md5 6b6579 10",
+    )?;
     counts.line(6, LineOutcome::Faulty(LineFault::Word));
     carry_out(&mut service, &mut counts, 7, "retire 192.0.2.99 1")?;
 
@@ -86,7 +103,9 @@ fn a_customer_is_reported_of(rt: HostRuntime) -> Result<(), Fail> {
     let first = moment(0xec00_0000_0000_0000);
     assert_eq!(rt; hear(&mut counts, first), Some(()));
     assert_eq!(rt; memory.refused(), 0);
-    let report = counts.report(CUSTOMER).unwrap();
+    let Some(report) = counts.report(CUSTOMER) else {
+        return Err(Fail::from("nothing is reported"));
+    };
     assert_eq!(rt; report.last_signed(7), Some(first));
     assert_eq!(rt; report.last_signed(8), None);
     assert_eq!(rt; report.counts().count(Kind::Basic), 1);
@@ -120,7 +139,9 @@ fn written<A: Allocator + Copy>(
     let Some((address, report)) = counts.nth(0) else {
         return Err(Fail::from("nothing is reported"));
     };
-    let customer = service.customer(*address).unwrap();
+    let Some(customer) = service.customer(*address) else {
+        return Err(Fail::from("no such customer"));
+    };
     let octets = customer_line(rt.alloc(), *address, customer, report)?;
     Ok(String::from_utf8(octets)?)
 }

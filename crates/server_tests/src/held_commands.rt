@@ -70,7 +70,7 @@ fn octets_without_memory_are_tried_again(rt: HostRuntime) -> Result<(), Fail> {
         assert_eq!(rt; commands.fault(), Some(AdmitFault::NoMemory));
     }
     memory.refuse_none();
-    assert!(rt; gives(&mut commands, &memory, FIRST));
+    // Those that the source gave last.
     assert!(rt; gives(&mut commands, &memory, SECOND));
     Ok(())
 }
@@ -87,7 +87,42 @@ fn octets_that_were_read_before_take_no_more_memory(rt: HostRuntime) -> Result<(
     assert!(rt; gives(&mut commands, &memory, FIRST));
     memory.refuse_none();
     assert!(rt; gives(&mut commands, &memory, SECOND));
-    let taken = AdmittedCommands::begun(file(&memory, &[])?, &memory, b"\xff".to_vec(&memory)?);
-    assert!(rt; taken.is_err());
+    Ok(())
+}
+
+// What a file gives that was read before, and has other octets by the first look: whether it is those, and what is wrong with the others.
+fn first_look<A: Allocator + Copy>(
+    alloc: A,
+    before: &[u8],
+    now: &[u8],
+    wanted: &[u8],
+) -> Result<Option<AdmitFault>, Fail> {
+    match AdmittedCommands::begun(file(alloc, &[now])?, alloc, before.to_vec(alloc)?) {
+        Ok(mut commands) => {
+            let fault = if gives(&mut commands, alloc, wanted) {
+                commands.fault()
+            } else {
+                Some(AdmitFault::NoMemory)
+            };
+            Ok(fault)
+        }
+        Err(fault) => Ok(Some(fault)),
+    }
+}
+
+#[test]
+fn what_was_read_before_is_given_first_or_what_goes_on_from_it(
+    rt: HostRuntime,
+) -> Result<(), Fail> {
+    let alloc = rt.alloc();
+    assert_eq!(rt; first_look(alloc, FIRST, SECOND, SECOND)?, None);
+    assert_eq!(rt;
+        first_look(alloc, FIRST, OTHER, FIRST)?,
+        Some(AdmitFault::OtherLine(2))
+    );
+    assert_eq!(rt;
+        first_look(alloc, b"\xff", FIRST, FIRST)?,
+        Some(AdmitFault::NotUtf8)
+    );
     Ok(())
 }

@@ -52,7 +52,7 @@ labntp_departures_noted_total 5
 # HELP labntp_receive_buffer_octets The socket's receive buffer, as the kernel counts.
 # TYPE labntp_receive_buffer_octets gauge
 labntp_receive_buffer_octets 55
-# HELP labntp_queue_wait_seconds How long the last datagram can have waited.
+# HELP labntp_queue_wait_seconds How long a datagram can have waited at most.
 # TYPE labntp_queue_wait_seconds gauge
 labntp_queue_wait_seconds 0.012500000
 # HELP labntp_send_would_wait_total Replies that were not sent, since the socket would have waited.
@@ -111,6 +111,7 @@ labntp_clock_believed{why="no-answer"} 0
 labntp_clock_believed{why="old"} 0
 labntp_clock_believed{why="unsynchronised"} 0
 labntp_clock_believed{why="reference-old"} 0
+labntp_clock_believed{why="reference-ahead"} 0
 labntp_clock_believed{why="far"} 1
 labntp_clock_believed{why="set"} 0
 # HELP labntp_log_lines_dropped_total Lines of the log that were not written.
@@ -255,7 +256,7 @@ fn gauges() -> Gauges<'static> {
             root_delay: Short(0x8000),
             root_dispersion: Short(0x0010_0001),
             offset: Some(-1_000_000_002),
-            belief: Some(Belief::Far),
+            belief: Belief::Far,
         },
         files: FileGauges {
             commands: true,
@@ -369,7 +370,11 @@ fn ten_lines_a_minute_are_allowed(rt: HostRuntime) {
         (29_000_001, 1, Ask::Say),
     ] {
         for _ in 0..times {
-            assert_eq!(rt; allowance.has_room(minute), answer != Ask::Hold, "in minute {minute}");
+            assert_eq!(rt;
+                allowance.has_room(minute),
+                answer != Ask::Hold,
+                "in minute {minute}"
+            );
             assert_eq!(rt; allowance.ask(minute), answer, "in minute {minute}");
         }
     }

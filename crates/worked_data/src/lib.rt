@@ -1,7 +1,7 @@
 //! Data that several test crates share: one customer and the state of a clock, an exchange of the customer as lines of a
-//! script, and the packets of three turns of a server; and calls of which tests need no clause. Nothing here was taken from what the program answered: packets and
+//! script, and the packets of three turns of a server. Nothing here was taken from what the program answered: packets and
 //! lines are written out from the definitions of both. The digests in them are those of Python's `hashlib.md5` over the key
-//! `key` and the octets before the key number.
+//! `key` and the octets before the key number. Beside them stand calls without their clauses, of which tests need none.
 #![tactic(auto)]
 
 mod agreeing;

@@ -1,5 +1,5 @@
 -- What is written is octets.
-use Rattle.std.proofs.Common.{◌≡◌, ℕ, zero, suc, ◌+◌, ◌*◌, ◌/◌, ◌%◌, ◌^◌, ◌<◌, List, [], ◌∷◌, ◌++◌, length, length-append, refl, arith}
+use Rattle.std.proofs.Common.{ℕ, zero, suc, ◌+◌, ◌*◌, ◌/◌, ◌%◌, ◌^◌, ◌<◌, List, [], ◌∷◌, ◌++◌, arith}
 use Rattle.std.proofs.Math.Facts.{Fits-of_z}
 use Rattle.std.specs.Prelude.{All, slice_index}
 use Rattle.std.specs.Int.{w8, w32, w64, cast_unsigned, byte_at, bytes_low_first, bytes_high_first, to_be_bytes, to_le_bytes}
@@ -95,14 +95,3 @@ Octets-hash Sha1 message = Octets-sha1_octets _ 5
 pub Octets-mac : (key : SymmetricKey) (number : ℕ) (message : List ℕ)
     → Octets (to_be_bytes w32 number ++ digest_octets (digest_of key message))
 Octets-mac key number message = both (to_be_bytes w32 number) _ (Octets-high 4 number) (Octets-hash key.algorithm (key.octets ++ message))
-
--- a digest of SHA-1 has 20 of them
-length-sha1_octets : (h : List ℕ) (n : ℕ) → length (sha1_octets h n) ≡ n * 4
-unfolding sha1_octets
-length-sha1_octets h zero = refl
-length-sha1_octets h (suc n) =
-    omega (arith, length-sha1_octets h n, length-append (sha1_octets h n) (to_be_bytes w32 (slice_index h n)))
-
-pub length-sha1 : (message : List ℕ) → length (sha1 message) ≡ 20
-unfolding sha1
-length-sha1 message = length-sha1_octets _ 5

@@ -16,7 +16,8 @@ use Rattle.ntp_mac.specs.declared.key.Algorithm.{Algorithm}
 use Rattle.ntp_mac.specs.declared.key.Algorithm.TheVariants.{Md5, Sha1}
 use Rattle.ntp_mac.proofs.ReadAs.{only-reading_of}
 use Rattle.md5.proofs.StandardFacts.{length-md5}
-use Rattle.ntp_meeting.proofs.Octets.{Octets, Octets-header, Octets-zeros, Octets-mac, length-sha1}
+use Rattle.ntp_reply.proofs.ReplyLengths.{length-sha1}
+use Rattle.ntp_meeting.proofs.Octets.{Octets, Octets-header, Octets-zeros, Octets-mac}
 
 -- a packet of a header and a tail, with no field
 abbrev pub packet : HeaderFields → TailValue → RequestValue

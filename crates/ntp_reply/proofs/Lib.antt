@@ -1,5 +1,6 @@
 mod Lengths
 mod Answering
+pub mod ReplyLengths
 pub mod KeptExchanges
 pub mod ApartExchanges
 pub mod ShortPasts

@@ -91,3 +91,11 @@ reply_length (answer.Silent why) = 0
 -- how many octets a request has
 abbrev pub request_length : RequestValue → ℕ
 request_length r = length r.signed + length (tail_octets r.tail)
+
+-- how many octets the reply of an answer has at most: a header alone, with four zeros, or with a key number and a digest (profile)
+abbrev pub most_octets : Answer → ℕ
+most_octets (answer.Time reply saved) = 72
+most_octets (answer.Rate reply) = 72
+most_octets (answer.Deny reply) = 48
+most_octets (answer.Nak reply) = 52
+most_octets (answer.Silent why) = 0

@@ -6,10 +6,12 @@ mod answers;
 mod deciding;
 mod departing;
 mod exchanging;
+mod laws;
 mod refusing;
 mod signed_queries;
 
 pub use answers::{Answer, Reason};
 pub use deciding::{answer, answer_octets};
 pub use departing::depart;
+pub use laws::a_reply_is_no_longer_than_its_datagram;
 pub use ntp_reply_packets::{BadReference, Kiss, Reference};

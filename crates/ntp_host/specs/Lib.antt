@@ -1,2 +1,3 @@
 pub mod Clock
 pub mod Failures
+pub mod Pacing

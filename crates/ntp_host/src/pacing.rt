@@ -1,4 +1,7 @@
 //! How often files are asked.
+ghost use Rattle.std.specs.Prelude.{◌≡◌, None, false, IsTrue, [], ◌∷◌, option_map};
+ghost use Rattle.ntp_service_serve.specs.Sources.{Gives};
+ghost use Rattle.ntp_host.specs.Pacing.{millisecond, is_due, asked_after};
 
 use ntp_service_serve::CommandsSource;
 use ntp_time::{Moment, Stamp};
@@ -22,7 +25,10 @@ pub struct EachMillisecond<C> {
 
 impl<C> EachMillisecond<C> {
     /// This source, which was not asked yet.
-    pub fn new(source: C) -> EachMillisecond<C> {
+    pub fn new(source: C) -> EachMillisecond<C>
+        ensures source { result.source ≡ source }
+        ensures asked { result.asked ≡ None }
+    {
         EachMillisecond {
             source,
             asked: None,
@@ -30,14 +36,24 @@ impl<C> EachMillisecond<C> {
     }
 
     /// The source.
-    pub fn inner(&self) -> &C {
+    pub fn inner(&self) -> &C
+        ensures { result.now ≡ self.now.source }
+    {
         &self.source
     }
 }
 
 impl<C: CommandsSource<A>, A: Allocator> CommandsSource<A> for EachMillisecond<C> {
-    /// What the source gives, where it is asked, and else nothing. It takes memory only as the source does.
-    fn look(&mut self, alloc: A, receipt: Option<Moment>) -> Option<Vec<u8, A>> {
+    /// What the source gives, where it is asked, and else nothing. It takes memory only as the source does. It does not tell
+    /// what it will give: that depends on what it was asked with before.
+    fn look(&mut self, alloc: A, receipt: Option<Moment>) -> Option<Vec<u8, A>>
+        ensures told { Gives None None (receipt ∷ []) (option_map (λ octets. octets.items) result ∷ []) }
+        // The source is asked once, with the same receipt, and what it gives is given.
+        ensures asked { IsTrue (is_due self.old.asked receipt millisecond)
+            → Gives (C.coming self.old.source) (C.coming self.new.source) (receipt ∷ []) (option_map (λ octets. octets.items) result ∷ []) }
+        ensures noted { IsTrue (is_due self.old.asked receipt millisecond) → self.new.asked ≡ asked_after self.old.asked receipt }
+        ensures between { is_due self.old.asked receipt millisecond ≡ false → (result ≡ None) × (self.new ≡ self.old) }
+    {
         if !is_due(self.asked, receipt, MILLISECOND) {
             return None;
         }
@@ -49,7 +65,9 @@ impl<C: CommandsSource<A>, A: Allocator> CommandsSource<A> for EachMillisecond<C
 }
 
 /// Whether it is time to ask again for what was last asked for then: where a datagram has come, by its receipt.
-pub(crate) fn is_due(asked: Option<Stamp>, receipt: Option<Moment>, period: u64) -> bool {
+pub(crate) fn is_due(asked: Option<Stamp>, receipt: Option<Moment>, period: u64) -> bool
+    ensures { result ≡ is_due asked receipt period }
+{
     match (asked, receipt) {
         (Some(asked), Some(receipt)) => receipt.stamp.0.wrapping_sub(asked.0) >= period,
         _ => true,

@@ -615,7 +615,9 @@ def public_functions(crate):
     found = []
     for file in sources(crate):
         for it in file.functions:
-            if it.is_public and (it.owner.name if it.owner else it.name) in names:
+            # A type of std may have a trait of the crate.
+            lent = it.owner and it.owner.kind == "impl" and it.owner.trait in names and not find_type(crate, it.owner.name)
+            if it.is_public and (lent or (it.owner.name if it.owner else it.name) in names):
                 if not (it.owner and it.owner.kind == "impl" and it.owner.trait in traits() and not is_known_trait(it.owner.trait)):
                     found.append(it)
     return found

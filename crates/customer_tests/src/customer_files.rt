@@ -7,7 +7,7 @@ use ntp_customer_files::{
     FaultLines, LoadFault, Loaded, MOST_FILE_OCTETS, apply_commands, commands_step, fault_word,
     load_register,
 };
-use ntp_events::{LineFault, LineOutcome, Observer, TurnOutcome};
+use ntp_events::{Command, LineFault, LineOutcome, Observer, TurnOutcome};
 use ntp_register::Refusal;
 use ntp_register_file::RegisterFault;
 use ntp_reply::Reference;
@@ -228,6 +228,8 @@ struct Heard<M: Allocator> {
 }
 
 impl<M: Allocator> Observer for Heard<M> {
+    fn command(&mut self, _command: &Command) {}
+
     fn line(&mut self, number: u64, outcome: LineOutcome) {
         let _ = self.lines.push((number, outcome));
     }

@@ -2,8 +2,7 @@
 ghost use Rattle.std.specs.Prelude.{◌≡◌, IfOk};
 
 use crate::command_log::CommandLog;
-use crate::customers_file::Reporting;
-use crate::files::{Answering, DaemonCommands, HeldCommands, begin_commands};
+use crate::files::{DaemonCommands, HeldCommands, begin_commands};
 use crate::housekeeping::{Begun, Housekeeping, SOCKETS_ROOM};
 use crate::receiving::Patience;
 use crate::starting::{Beginning, Prepared};
@@ -16,7 +15,7 @@ use labntpd_host::{
 };
 use ntp_freshness::{FreshPort, QueueWatch};
 use ntp_host::EachMillisecond;
-use ntp_reports::{AnswerLines, Both, Counting, Counts};
+use ntp_reports::{AnswerLines, Both, Counting, Counts, CustomerCounts};
 use ntp_server::Server;
 use std::alloc::Global;
 use std::fs::File;
@@ -38,7 +37,10 @@ pub type Daemon<'a> = Server<
 type DaemonPort<'a> = FreshPort<QueuedUdp<'a, &'a HostRuntime, HostRuntime>>;
 
 type DaemonObserver<'a> = Counting<
-    Both<Answering<LineWriter<File>>, Both<CommandLog<'a, Stderr>, Reporting>>,
+    Both<
+        Option<AnswerLines<LineWriter<File>>>,
+        Both<CommandLog<'a, Stderr>, Option<CustomerCounts>>,
+    >,
 >;
 
 /// Serves by what was prepared, for ever. Gives the exit status where that cannot begin; a fault is told in one line on
@@ -201,7 +203,7 @@ fn open_observer<'a>(
             first: answers,
             second: Both {
                 first: CommandLog::new(log, clocks, beginning.customers),
-                second: Reporting(beginning.reports.take()),
+                second: beginning.reports.take(),
             },
         },
     })
@@ -220,13 +222,13 @@ fn answers_file(
     rt: &HostRuntime,
     alloc: Global,
     configuration: &Configuration,
-) -> Result<Answering<LineWriter<File>>, u8> {
+) -> Result<Option<AnswerLines<LineWriter<File>>>, u8> {
     match &configuration.answers {
-        None => Ok(Answering(None)),
+        None => Ok(None),
         Some(path) => {
             let file = failed(rt, path.as_str(), emptied_file(rt, path.as_str()))?;
             let lines = failed(rt, path.as_str(), LineWriter::new(alloc, file))?;
-            Ok(Answering(Some(AnswerLines::new(lines))))
+            Ok(Some(AnswerLines::new(lines)))
         }
     }
 }

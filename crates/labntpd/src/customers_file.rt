@@ -1,6 +1,5 @@
 //! The customers file: what each customer has, what it was answered, and when its keys signed.
 
-use ntp_events::{Command, LineOutcome, Observer, TurnOutcome};
 use ntp_reports::{CustomerCounts, customer_line};
 use ntp_service_run::Service;
 use std::alloc::{AllocError, Global};
@@ -12,30 +11,6 @@ const PERIOD: u64 = 60;
 
 /// How many seconds later a writing is tried again that failed (profile).
 const PATIENCE: u64 = 10;
-
-/// Reports of customers where somebody asks for them.
-#[derive(Drop)]
-pub struct Reporting(pub Option<CustomerCounts>);
-
-impl Observer for Reporting {
-    fn command(&mut self, command: &Command) {
-        if let Some(counts) = &mut self.0 {
-            counts.command(command);
-        }
-    }
-
-    fn line(&mut self, number: u64, outcome: LineOutcome) {
-        if let Some(counts) = &mut self.0 {
-            counts.line(number, outcome);
-        }
-    }
-
-    fn turn(&mut self, outcome: &TurnOutcome) {
-        if let Some(counts) = &mut self.0 {
-            counts.turn(outcome);
-        }
-    }
-}
 
 // A file that is being written, and how many customers were written of.
 #[derive(Drop)]

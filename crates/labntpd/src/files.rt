@@ -1,11 +1,9 @@
-//! The commands file, which is held to what was applied of it, and the answers file, which a configuration may leave out.
+//! The commands file, which is held to what was applied of it.
 
 use crate::starting::unread_status;
 use labntp_command_line::{TEXT_FAULTY, memory_status};
 use ntp_customer_files::{AdmitFault, MOST_FILE_OCTETS};
-use ntp_events::{LineOutcome, Observer, TurnOutcome};
 use ntp_host::{CommandsFile, EachMillisecond};
-use ntp_reports::AnswerLines;
 use ntp_server::AdmittedCommands;
 use std::alloc::Global;
 use std::fmt;
@@ -114,28 +112,4 @@ pub fn line_without_text(octets: &[u8]) -> u64 {
     };
     let line_feeds = octets.iter().take(valid).filter(|octet| **octet == b'\n');
     line_feeds.count() as u64 + 1
-}
-
-/// Writes answers where there is a file for them.
-#[derive(Drop)]
-pub struct Answering<W: Write + Drop>(pub Option<AnswerLines<W>>);
-
-impl<W: Write + Drop> Observer for Answering<W> {
-    fn line(&mut self, number: u64, outcome: LineOutcome) {
-        if let Some(lines) = &mut self.0 {
-            lines.line(number, outcome);
-        }
-    }
-
-    fn turn(&mut self, _outcome: &TurnOutcome) {}
-}
-
-impl<W: Write + Drop> Answering<W> {
-    /// Whether an answer could not be written.
-    pub fn has_failed(&self) -> bool {
-        match &self.0 {
-            Some(lines) => lines.has_failed(),
-            None => false,
-        }
-    }
 }

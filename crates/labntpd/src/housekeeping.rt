@@ -391,8 +391,11 @@ impl<'a> Housekeeping<'a> {
         if fault.is_none() {
             self.tell_nearly_full(commands.length());
         }
-        let answers = &server.observer.inner.first;
-        self.see(Watched::Answers, unless_well(!answers.has_failed()));
+        let is_answered = match &server.observer.inner.first {
+            Some(answers) => !answers.has_failed(),
+            None => true,
+        };
+        self.see(Watched::Answers, unless_well(is_answered));
         self.tell_file(Watched::Commands);
         self.tell_file(Watched::Answers);
         self.tell_file(Watched::Statistics);
@@ -466,7 +469,7 @@ impl<'a> Housekeeping<'a> {
         self.piece_due = ticks.saturating_add(PIECE_PERIOD);
         let piece = if receipt.is_none() { IDLE_PIECE } else { PIECE };
         let rt = self.rt;
-        let Some(reports) = &server.observer.inner.second.second.0 else {
+        let Some(reports) = &server.observer.inner.second.second else {
             return;
         };
         if let Some(file) = &mut self.customers {

@@ -13,14 +13,14 @@ use Rattle.ntp_events.specs.declared.line_fault.LineFault.{LineFault}
 use Rattle.ntp_events.specs.declared.observation.LineOutcome.{LineOutcome}
 use Rattle.ntp_events.specs.declared.observation.LineOutcome.TheVariants.{Faulty}
 use Rattle.ntp_events.specs.declared.observation.Observation.{Observation}
-use Rattle.ntp_events.specs.declared.observation.Observation.TheVariants.{Line}
+use Rattle.ntp_events.specs.declared.observation.Observation.TheVariants as observation
 use Rattle.ntp_events.specs.Sees.{Sees}
-use Rattle.ntp_events.proofs.Seen.{Sees-nil}
+use Rattle.ntp_events.proofs.Seen.{Sees-nil, Sees-append}
 use Rattle.ntp_service_run.specs.Headline.{StandsFor, TellsOne, command_outcome}
 use Rattle.ntp_service_run.proofs.Runs.{Tells-nil, Tells-one}
 use Rattle.ntp_customer_files.specs.FileText.{IsText}
 use Rattle.ntp_customer_files.specs.CommandsFile.{complete_lines, reading_of, TakenLine, carried_out, observed_read, CarriesOutDue}
-use Rattle.ntp_customer_files.specs.Applying.{ComesTo, AppliesLine, Applies}
+use Rattle.ntp_customer_files.specs.Applying.{told_before, ComesTo, AppliesLine, Applies}
 use Rattle.ntp_customer_files.proofs.LinesTaken.{CarriesOut-none, CarriesOut-more}
 
 -- ---- one line
@@ -31,7 +31,7 @@ pub ComesTo-command : (A : Type 0) (old new : Registry) (read : Result Command L
     → ComesTo A read o old new
 ComesTo-command A old new read c r o is said tells =
     subst (λ x. ComesTo A x o old new) (sym is)
-    (r, λ number. ap (λ x. Line number x ∷ []) (sym said), λ history stands. Tells-one history _ _ old new stands (tells history stands))
+    (r, λ number. ap (λ x. observation.Command c ∷ observation.Line number x ∷ []) (sym said), λ history stands. Tells-one history _ _ old new stands (tells history stands))
 
 -- there is no command
 pub ComesTo-fault : (A : Type 0) (s : Registry) (read : Result Command LineFault) (f : LineFault) → read ≡ Err f
@@ -45,12 +45,22 @@ pub AppliesLine-none : (A : Type 0) (number : ℕ) (line : List ℕ) (s : Regist
 AppliesLine-none A number line s seen over =
     rw over (Ok tt, Sees-nil seen, λ history stands. Tells-nil history s stands)
 
+-- of a line that is no command nothing is told before
+pub told-command : (read : Result Command LineFault) (c : Command) (t u : Option (List Observation)) → read ≡ Ok c
+    → Sees t u (observation.Command c ∷ []) → Sees t u (told_before read)
+told-command read c t u is sees = subst (λ x. Sees t u (told_before x)) (sym is) sees
+
+pub told-fault : (read : Result Command LineFault) (f : LineFault) (t : Option (List Observation)) → read ≡ Err f
+    → Sees t t (told_before read)
+told-fault read f t is = subst (λ x. Sees t t (told_before x)) (sym is) (Sees-nil t)
+
 -- one that is not, of whose command an observer heard before
 pub AppliesLine-read : (A : Type 0) (number : ℕ) (line : List ℕ) (o : LineOutcome) (old new : Registry)
     (seen heard told : Option (List Observation)) → is_passed_over line ≡ false → ComesTo A (command_in (words line)) o old new
-    → heard ≡ seen → Sees heard told (Line number o ∷ []) → AppliesLine A number line old new seen told
-AppliesLine-read A number line o old new seen heard told taken c same sees =
-    rw taken (c.0, subst (λ os. Sees seen told os) (sym (c.1 number)) (subst (λ s. Sees s told (Line number o ∷ [])) same sees), c.2)
+    → Sees seen heard (told_before (command_in (words line))) → Sees heard told (observation.Line number o ∷ [])
+    → AppliesLine A number line old new seen told
+AppliesLine-read A number line o old new seen heard told taken c before behind =
+    rw taken (c.0, subst (λ os. Sees seen told os) (sym (c.1 number)) (Sees-append seen heard told _ _ before behind), c.2)
 
 -- ---- the lines of a text
 -- what was applied of a text, of which the rest is still to be read

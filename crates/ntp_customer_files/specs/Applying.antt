@@ -1,5 +1,5 @@
 -- Not to be believed: for proofs. What becomes of a text, of its lines, and of one of them.
-use Rattle.std.specs.Prelude.{◌≡◌, ℕ, max, List, [], ◌∷◌, length, drop, Option, Some, Result}
+use Rattle.std.specs.Prelude.{◌≡◌, ℕ, max, List, [], ◌∷◌, ◌++◌, length, drop, Option, Some, Result, Ok, Err}
 use Rattle.ntp_register.specs.declared.refusal.Refusal.{Refusal}
 use Rattle.ntp_register.specs.Registry.{Registry}
 use Rattle.ntp_events.specs.declared.command.Command.{Command}
@@ -7,15 +7,20 @@ use Rattle.ntp_events.specs.declared.event.Event.{Event}
 use Rattle.ntp_events.specs.declared.line_fault.LineFault.{LineFault}
 use Rattle.ntp_events.specs.declared.observation.LineOutcome.{LineOutcome}
 use Rattle.ntp_events.specs.declared.observation.Observation.{Observation}
-use Rattle.ntp_events.specs.declared.observation.Observation.TheVariants.{Line}
+use Rattle.ntp_events.specs.declared.observation.Observation.TheVariants as observation
 use Rattle.ntp_events.specs.Sees.{Sees}
 use Rattle.ntp_service_run.specs.Headline.{StandsFor, Tells}
 use Rattle.ntp_customer_files.specs.CommandsFile.{complete_lines, reading_of, TakenLine, events_read, outcomes_read, observed_read, lines_taken, CarriesOut}
 
+-- what an observer is told of a line that is read so, before it is carried out
+abbrev pub told_before : Result Command LineFault → List Observation
+told_before (Ok command) = observation.Command command ∷ []
+told_before (Err fault) = []
+
 -- what a line that is read so comes to
 abbrev pub ComesTo : (A : Type 0) → Result Command LineFault → LineOutcome → Registry → Registry → Type 0
 ComesTo A read outcome old new = (result : Result (Unit {0}) Refusal)
-    × ((number : ℕ) → observed_read number (Some read) result ≡ Line number outcome ∷ [])
+    × ((number : ℕ) → observed_read number (Some read) result ≡ told_before read ++ observation.Line number outcome ∷ [])
     × ((history : List (Event A)) → StandsFor old history → Tells history (events_read (Some read)) (outcomes_read (Some read) result) new)
 
 -- the line with a number was taken

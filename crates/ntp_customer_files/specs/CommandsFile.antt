@@ -15,7 +15,7 @@ use Rattle.ntp_events.specs.declared.outcome.Outcome.{Outcome}
 use Rattle.ntp_events.specs.declared.observation.LineOutcome.{LineOutcome}
 use Rattle.ntp_events.specs.declared.observation.LineOutcome.TheVariants.{Done, Refused, Faulty}
 use Rattle.ntp_events.specs.declared.observation.Observation.{Observation}
-use Rattle.ntp_events.specs.declared.observation.Observation.TheVariants.{Line}
+use Rattle.ntp_events.specs.declared.observation.Observation.TheVariants as observation
 use Rattle.ntp_events.specs.Sees.{Sees}
 use Rattle.ntp_service_run.specs.Headline.{StandsFor, Tells, command_outcome}
 use Rattle.ntp_customer_files.specs.FileText.{IsText}
@@ -59,11 +59,11 @@ abbrev pub carried_out : Result (Unit {0}) Refusal → LineOutcome
 carried_out (Ok done) = Done
 carried_out (Err refusal) = Refused refusal
 
--- what an observer is told of a line with a number, read so (profile)
+-- what an observer is told of a line with a number, read so: its command first, if it is one, and then what became of it (profile)
 abbrev pub observed_read : ℕ → Option (Result Command LineFault) → Result (Unit {0}) Refusal → List Observation
 observed_read number None result = []
-observed_read number (Some (Ok command)) result = Line number (carried_out result) ∷ []
-observed_read number (Some (Err fault)) result = Line number (Faulty fault) ∷ []
+observed_read number (Some (Ok command)) result = observation.Command command ∷ observation.Line number (carried_out result) ∷ []
+observed_read number (Some (Err fault)) result = observation.Line number (Faulty fault) ∷ []
 
 -- the events of lines that were taken, in their order (profile)
 abbrev pub line_events : {A : Type 0} → List TakenLine → List (Event A)

@@ -4,7 +4,8 @@ ghost use Rattle.ntp_admin.specs.Words.{words};
 ghost use Rattle.ntp_admin.specs.Spells.{command_in};
 ghost use Rattle.ntp_customer_files.specs.FileText.{IsText};
 ghost use Rattle.ntp_customer_files.specs.CommandsFile.{complete_lines, carried_out, CarriesOutDue};
-ghost use Rattle.ntp_customer_files.specs.Applying.{AppliesText, Applies, AppliesLine, ComesTo};
+ghost use Rattle.ntp_customer_files.specs.Applying.{AppliesText, Applies, AppliesLine, ComesTo, told_before};
+ghost use Rattle.ntp_events.specs.Sees.{Sees};
 
 use crate::fault_lines::FaultLines;
 use crate::file_text::text_of;
@@ -20,8 +21,8 @@ use std::io::Write;
 /// beginning.
 ///
 /// An empty line and one that begins with `#` are passed over, and count as applied. A line that is no command, or
-/// whose command is refused, counts as applied too and is never tried again. The observer is told what became of each
-/// line that is not passed over, by its number in the file, counted from 1.
+/// whose command is refused, counts as applied too and is never tried again. The observer is told of each line that is
+/// not passed over, by its number in the file, counted from 1: its command, if it is one, and what became of it.
 ///
 /// Nothing is applied where the file has more than `MOST_FILE_OCTETS` octets or is not UTF-8; nor where it has no more
 /// lines than were applied. It takes no memory itself; an enrolment and a rollover do.
@@ -115,7 +116,7 @@ fn carry_out<A: Allocator + Copy, O: Observer>(
     observer: &mut O,
 ) -> LineOutcome
     ensures comes_to { ComesTo A (command_in (words line.now)) result service.old service.new }
-    ensures seen { O.seen observer.new ≡ O.seen observer.old }
+    ensures seen { Sees (O.seen observer.old) (O.seen observer.new) (told_before (command_in (words line.now))) }
 {
     match parse_command(line) {
         Ok(command) => {

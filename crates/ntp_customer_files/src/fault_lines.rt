@@ -6,7 +6,7 @@ ghost use Rattle.ntp_customer_files.specs.CommandsFile.{fault_line, line_text};
 
 use crate::fault_words::fault_word;
 use ntp_admin::refusal_word;
-use ntp_events::{LineOutcome, Observer, TurnOutcome};
+use ntp_events::{Command, LineOutcome, Observer, TurnOutcome};
 use std::io::{self, Write};
 
 /// Writes a line for each line of commands that is no command, or whose command is refused: `commands: line N: WORD`,
@@ -60,6 +60,11 @@ impl<W: Write> FaultLines<W> {
 }
 
 impl<W: Write> Observer for FaultLines<W> {
+    // A command makes no line.
+    fn command(&mut self, _command: &Command)
+        ensures { self.new ≡ self.old }
+    {}
+
     // Where no write has failed, what is wrong with the line was written, and every write before went well.
     fn line(&mut self, number: u64, outcome: LineOutcome)
         ensures written { OnFalse self.new.has_failed
@@ -73,6 +78,7 @@ impl<W: Write> Observer for FaultLines<W> {
         }
     }
 
+    // A turn makes no line.
     fn turn(&mut self, _outcome: &TurnOutcome)
         ensures { self.new ≡ self.old }
     {}

@@ -1,5 +1,5 @@
 -- What an observer saw, one thing after another.
-use Rattle.std.proofs.Common.{◌≡◌, Option, Some, None, List, [], ◌++◌, refl, sym, append_assoc, append-nil}
+use Rattle.std.proofs.Common.{Option, Some, None, List, [], ◌++◌, refl, sym, append_assoc, append-nil}
 use Rattle.ntp_events.specs.declared.observation.Observation.{Observation}
 use Rattle.ntp_events.specs.Sees.{Sees}
 

@@ -1,6 +1,6 @@
 //! What comes of the lines of commands and of the turns of a server.
 
-use crate::LineFault;
+use crate::{Command, LineFault};
 use ntp_register::{Address, Refusal};
 use ntp_reply::Answer;
 use ntp_time::Moment;
@@ -60,9 +60,11 @@ pub enum LineOutcome {
     Faulty(LineFault),
 }
 
-/// What an observer is told of: a line of commands, or a turn.
+/// What an observer is told of: a command, a line of commands, or a turn.
 #[derive(Clone, Debug, PartialEq, Eq, Drop)]
 pub enum Observation {
+    /// The command of the line of which it is told next; it is carried out in between.
+    Command(Command),
     /// The line with this number, counted from 1, and what became of it.
     Line {
         /// The number of the line in its file.

@@ -6,7 +6,8 @@ use Rattle.std.proofs.lemmas.List.Sums.{sum_by-append}
 use Rattle.ntp_reply.specs.declared.answers.Answer.{Answer}
 use Rattle.ntp_events.specs.declared.observation.Arrival.{Arrival}
 use Rattle.ntp_events.specs.declared.observation.Observation.{Observation}
-use Rattle.ntp_events.specs.declared.observation.Observation.TheVariants.{Turn}
+use Rattle.ntp_events.specs.declared.command.Command.{Command}
+use Rattle.ntp_events.specs.declared.observation.Observation.TheVariants as observation
 use Rattle.ntp_events.specs.declared.observation.Sending.{Sending}
 use Rattle.ntp_events.specs.declared.observation.TurnOutcome.TheVariants.{Answered}
 use Rattle.ntp_reports.specs.declared.kind.Kind.{Kind}
@@ -36,8 +37,13 @@ counted-Adds old new more adds = record {
   };
 }
 
+-- a command is not counted
+pub counted-command : (old new : Counts) (command : Command) → new ≡ old → CountsMore old new (observation.Command command)
+counted-command old new command same =
+    rw same (counted-Adds old old (observation.Command command) (record { each = λ kind before e. let more : before + 0 ≡ before = omega arith in rw more e }))
+
 -- an answer was counted, and then what became of the reply
 pub counted-answer : (old mid new : Counts) (arrival : Arrival) (a : Answer) (sending : Sending) (k : Kind) → k ≡ answer_kind a
-    → Adds old mid (k ∷ []) → Adds mid new (sending_kinds sending) → CountsMore old new (Turn (Answered arrival a sending))
+    → Adds old mid (k ∷ []) → Adds mid new (sending_kinds sending) → CountsMore old new (observation.Turn (Answered arrival a sending))
 counted-answer old mid new arrival a sending k is first then =
     counted-Adds old new _ (rw (← is) (Adds-append old mid new (k ∷ []) (sending_kinds sending) first then))

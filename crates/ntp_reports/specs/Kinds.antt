@@ -12,7 +12,7 @@ use Rattle.ntp_reply.specs.declared.answers.Reason.TheVariants as reason
 use Rattle.ntp_events.specs.declared.observation.LineOutcome.{LineOutcome}
 use Rattle.ntp_events.specs.declared.observation.LineOutcome.TheVariants as line
 use Rattle.ntp_events.specs.declared.observation.Observation.{Observation}
-use Rattle.ntp_events.specs.declared.observation.Observation.TheVariants.{Line, Turn}
+use Rattle.ntp_events.specs.declared.observation.Observation.TheVariants.{Command, Line, Turn}
 use Rattle.ntp_events.specs.declared.observation.Sending.{Sending}
 use Rattle.ntp_events.specs.declared.observation.Sending.TheVariants as sending
 use Rattle.ntp_events.specs.declared.observation.TurnOutcome.{TurnOutcome}
@@ -85,7 +85,8 @@ line_kind line.Done = kind.Done
 line_kind (line.Refused why) = refusal_kind why
 line_kind (line.Faulty fault) = kind.Faulty
 
--- what an observation is counted as (profile)
+-- what an observation is counted as: a command by what became of its line (profile)
 abbrev pub kinds_of : Observation → List Kind
+kinds_of (Command command) = []
 kinds_of (Line number outcome) = line_kind outcome ∷ []
 kinds_of (Turn outcome) = turn_kinds outcome

@@ -6,7 +6,7 @@ ghost use Rattle.ntp_reports.specs.AnswerText.{answer_line};
 
 use ntp_admin::refusal_word;
 use ntp_customer_files::fault_word;
-use ntp_events::{LineOutcome, Observer, TurnOutcome};
+use ntp_events::{Command, LineOutcome, Observer, TurnOutcome};
 use std::io::{self, Write};
 
 /// Writes a line for each line of commands: `N done`, `N refused WORD` or `N faulty WORD`, where N counts the file's lines
@@ -56,6 +56,11 @@ impl<W: Write> AnswerLines<W> {
 }
 
 impl<W: Write> Observer for AnswerLines<W> {
+    // A command makes no line.
+    fn command(&mut self, _command: &Command)
+        ensures { self.new ≡ self.old }
+    {}
+
     // Where no write has failed, the answer was written, and every write before went well.
     fn line(&mut self, number: u64, outcome: LineOutcome)
         ensures written { OnFalse self.new.has_failed
@@ -68,6 +73,7 @@ impl<W: Write> Observer for AnswerLines<W> {
         }
     }
 
+    // A turn makes no line.
     fn turn(&mut self, _outcome: &TurnOutcome)
         ensures { self.new ≡ self.old }
     {}

@@ -1,5 +1,5 @@
 //! Two observers as one.
-ghost use Rattle.std.specs.Prelude.{◌≡◌, [], ◌∷◌};
+ghost use Rattle.std.specs.Prelude.{[], ◌∷◌};
 ghost use Rattle.ntp_events.specs.Sees.{Sees};
 ghost use Rattle.ntp_events.specs.declared.observation.Observation.{Observation};
 
@@ -18,8 +18,8 @@ impl<A: Observer, B: Observer> Observer for Both<A, B> {
     ghost seen = { λ b. A.seen b.first };
 
     fn command(&mut self, command: &Command)
-        ensures first { A.seen self.new.first ≡ A.seen self.old.first }
-        ensures second { B.seen self.new.second ≡ B.seen self.old.second }
+        ensures first { Sees (A.seen self.old.first) (A.seen self.new.first) (Observation.Command command.now ∷ []) }
+        ensures second { Sees (B.seen self.old.second) (B.seen self.new.second) (Observation.Command command.now ∷ []) }
     {
         self.first.command(command);
         self.second.command(command);

@@ -20,8 +20,9 @@ impl<O: Observer> Observer for Counting<O> {
     ghost seen = { λ c. O.seen c.inner };
 
     fn command(&mut self, command: &Command)
-        ensures inner { O.seen self.new.inner ≡ O.seen self.old.inner }
-        ensures counts { self.new.counts ≡ self.old.counts }
+        ensures inner { Sees (O.seen self.old.inner) (O.seen self.new.inner) (Observation.Command command.now ∷ []) }
+        ensures counts { CountsMore self.old.counts self.new.counts (Observation.Command command.now) }
+        ensures kept { self.new.counts ≡ self.old.counts }
     {
         self.inner.command(command);
     }

@@ -2,7 +2,7 @@
 ghost use Rattle.std.specs.Prelude.{◌≡◌, ◌≤◌, ◌<◌, ◌++◌, Some, None, false, [], ◌∷◌, map, option_map, vec_len, vec_capacity, IfOk, if◌then◌else◌};
 ghost use Rattle.ntp_events.specs.declared.observation.Observation.{Observation};
 
-use ntp_events::{LineOutcome, NoMemory, Observation, Observer, TurnOutcome};
+use ntp_events::{Command, LineOutcome, NoMemory, Observation, Observer, TurnOutcome};
 use ntp_reply::Reference;
 use ntp_service_serve::{CommandsSource, ReferenceSource};
 use ntp_time::Moment;
@@ -140,6 +140,10 @@ impl<A: Allocator> Observer for MemoryObserver<A> {
     ghost use Rattle.ntp_server.specs.Memory.{seen_by};
 
     ghost seen = { seen_by };
+
+    fn command(&mut self, command: &Command) {
+        self.see(Observation::Command(*command));
+    }
 
     fn line(&mut self, number: u64, outcome: LineOutcome) {
         self.see(Observation::Line { number, outcome });

@@ -1,6 +1,6 @@
 //! What is written, and each call once with its answer.
 
-use ntp_events::{Arrival, LineFault, LineOutcome, Observer, Sending, TurnOutcome};
+use ntp_events::{Arrival, Command, LineFault, LineOutcome, Observer, Sending, TurnOutcome};
 use ntp_mac::Reply;
 use ntp_register::Refusal;
 use ntp_reply::{Answer, Reason};
@@ -276,6 +276,8 @@ fn gauges() -> Gauges<'static> {
 struct Nobody;
 
 impl Observer for Nobody {
+    fn command(&mut self, _command: &Command) {}
+
     fn line(&mut self, _number: u64, _outcome: LineOutcome) {}
 
     fn turn(&mut self, _outcome: &TurnOutcome) {}

@@ -4,6 +4,7 @@
 //! key `key` and the octets before the key number.
 ghost use Rattle.std.specs.Prelude.{◌≡◌};
 
+use ntp_admin::parse_command;
 use ntp_events::{Arrival, LineOutcome, Observation, Sending, TurnOutcome};
 use ntp_mac::Reply;
 use ntp_register::Address;
@@ -24,6 +25,11 @@ use worked_data::{CUSTOMER, FIRST_QUERY, FIRST_REPLY, SECOND_QUERY, moment, refe
 const ENROLMENT: &[u8] = b"enrol 192.0.2.10 7 md5 6b6579 10\n";
 
 const REVOCATION: &[u8] = b"enrol 192.0.2.10 7 md5 6b6579 10\nrevoke 192.0.2.10\n";
+
+/// Their commands.
+const ENROL: &str = "enrol 192.0.2.10 7 md5 6b6579 10";
+
+const REVOKE: &str = "revoke 192.0.2.10";
 
 /// The refusal of the second query.
 const DENIAL: &[u8] = b"\xe4\x00\x06\x00\
@@ -59,6 +65,12 @@ fn answered(port: u16, receipt: u64, answer: Answer, sending: Sending) -> Observ
         answer,
         sending,
     })
+}
+
+// What it is told of a command.
+fn command(line: &str) -> Result<Observation, Fail> {
+    let command = parse_command(line).ok().ok_or("no command")?;
+    Ok(Observation::Command(command))
 }
 
 // What it is told of a line that was carried out.
@@ -157,13 +169,14 @@ where
 }
 
 // What is told of a datagram before the enrolment, of one behind it, and of one behind the revocation.
-fn told_of_three_turns() -> Result<[Observation; 5], Fail> {
+fn told_of_three_turns() -> Result<[Observation; 7], Fail> {
     let reply = Reply::from_octets(FIRST_REPLY).ok_or("no reply")?;
     let denial = Reply::from_octets(DENIAL).ok_or("no denial")?;
     let saved = Stamp(SECOND_RECEIPT);
     let silence = Answer::Silent(Reason::Unregistered);
     Ok([
         answered(5001, FIRST_RECEIPT, silence, Sending::NoReply),
+        command(ENROL)?,
         done(1),
         answered(
             5002,
@@ -171,6 +184,7 @@ fn told_of_three_turns() -> Result<[Observation; 5], Fail> {
             Answer::Time { reply, saved },
             Sending::Noted,
         ),
+        command(REVOKE)?,
         done(2),
         answered(5003, THIRD_RECEIPT, Answer::Deny(denial), Sending::Sent),
     ])
@@ -192,7 +206,7 @@ fn commands_are_carried_out_before_the_datagram_is_answered(rt: HostRuntime) -> 
         port(alloc, &coming)?,
         commands(alloc, &looks)?,
         fixed,
-        5,
+        7,
     )?;
     let mut shown = Shown(Vec::new(alloc));
     assert_eq!(rt; served(&rt, &mut server, 3, &mut shown), totals(3, 2, 1));
@@ -220,7 +234,7 @@ fn serving_takes_no_memory_where_no_commands_change(rt: HostRuntime) -> Result<(
     let mut states = Vec::new(&memory);
     states.push(reference()?)?;
     let states = MemoryStates::new(states, reference()?);
-    let mut server = server(&memory, port, commands, states, 2)?;
+    let mut server = server(&memory, port, commands, states, 3)?;
     assert_eq!(rt;
         served(&rt, &mut server, 1, &mut NoReports),
         totals(1, 1, 1)
@@ -233,7 +247,7 @@ fn serving_takes_no_memory_where_no_commands_change(rt: HostRuntime) -> Result<(
     );
     assert_eq!(rt; memory.calls(), before);
     assert!(rt; server.observer.has_missed());
-    assert_eq!(rt; server.observer.seen().len(), 2);
+    assert_eq!(rt; server.observer.seen().len(), 3);
     Ok(())
 }
 
@@ -288,7 +302,7 @@ fn commands_are_carried_out_while_nothing_comes(rt: HostRuntime) -> Result<(), F
         reference: reference()?,
         times: 0,
     };
-    let mut server = server(alloc, quiet, commands, tended, 3)?;
+    let mut server = server(alloc, quiet, commands, tended, 5)?;
     let mut shown = Shown(Vec::new(alloc));
     assert_eq!(rt; served(&rt, &mut server, 1, &mut shown), totals(0, 0, 0));
     assert_eq!(rt; server.applied, 2);
@@ -298,7 +312,9 @@ fn commands_are_carried_out_while_nothing_comes(rt: HostRuntime) -> Result<(), F
         [(None, 1), (None, 2), (None, 2)].as_slice()
     );
     let told = [
+        command(ENROL)?,
         done(1),
+        command(REVOKE)?,
         done(2),
         Observation::Turn(TurnOutcome::NothingReceived),
     ];

@@ -1,4 +1,4 @@
-use Rattle.ntp_customer_files.proofs.LinesApplied.{ComesTo-command, ComesTo-fault}
+use Rattle.ntp_customer_files.proofs.LinesApplied.{ComesTo-command, ComesTo-fault, told-command, told-fault}
 use Rattle.ntp_customer_files.proofs.commands.carry_out.Goals as goal
 
 pub returns-in-Ok-clause-comes_to : goal.returns-in-Ok-clause-comes_to
@@ -7,3 +7,9 @@ returns-in-Ok-clause-comes_to g c =
 
 pub returns-in-Err-clause-comes_to : goal.returns-in-Err-clause-comes_to
 returns-in-Err-clause-comes_to g c = ComesTo-fault _ _ _ c.in-Err.fault c.in-Err.ensures.fault
+
+pub returns-in-Ok-clause-seen : goal.returns-in-Ok-clause-seen
+returns-in-Ok-clause-seen g c = told-command _ c.in-Ok.command _ _ c.in-Ok.ensures.only c.command.ensures
+
+pub returns-in-Err-clause-seen : goal.returns-in-Err-clause-seen
+returns-in-Err-clause-seen g c = told-fault _ c.in-Err.fault _ c.in-Err.ensures.fault

@@ -1,21 +1,11 @@
 //! What is logged of the lines of commands.
+ghost use Rattle.std.specs.Prelude.{◌≡◌, Some, None, option_map};
+ghost use Rattle.ntp_reports.specs.Logging.{subject_of, customers_after};
 
 use labntpd_host::{HostClocks, Log, Priority};
-use ntp_admin::refusal_word;
-use ntp_customer_files::fault_word;
 use ntp_events::{Command, LineOutcome, Observer, TurnOutcome};
-use ntp_register::Address;
-use ntp_reports::{Ask, LineAllowance};
+use ntp_reports::{Ask, LineAllowance, Subject, customers_after, write_logged_line};
 use std::io::Write;
-use std::num::NonZero;
-
-/// What is told of a command: all but its key.
-#[derive(Clone, Copy)]
-struct Subject {
-    verb: &'static str,
-    address: Address,
-    number: Option<NonZero<u16>>,
-}
 
 /// A minute, in nanoseconds.
 const MINUTE_NANOS: u64 = 60_000_000_000;
@@ -53,50 +43,11 @@ impl<'a, W: Write + Drop> CommandLog<'a, W> {
         self.log.dropped()
     }
 
-    // Counts the customers after a command was carried out.
-    fn count_customers(&mut self, verb: &str) {
-        match verb {
-            "enrol" => self.customers = self.customers.saturating_add(1),
-            "revoke" => self.customers = self.customers.saturating_sub(1),
-            _ => {}
-        }
-    }
-
-    // Writes a line for what became of the line with a number.
-    fn write_line(&mut self, number: u64, subject: Option<Subject>, outcome: LineOutcome) {
-        let priority = match outcome {
-            LineOutcome::Done => Priority::Information,
-            LineOutcome::Refused(_) | LineOutcome::Faulty(_) => Priority::Warning,
-        };
-        let line = self.log.begin(priority);
-        let _ = write!(line, "commands: line {number}: ");
-        if let Some(subject) = subject {
-            let Address([a, b, c, d]) = subject.address;
-            let _ = write!(line, "{} {a}.{b}.{c}.{d}", subject.verb);
-            if let Some(number) = subject.number {
-                let _ = write!(line, " {number}");
-            }
-            let _ = write!(line, ": ");
-        }
-        let _ = match outcome {
-            LineOutcome::Done => write!(line, "done"),
-            LineOutcome::Refused(refusal) => write!(line, "refused {}", refusal_word(refusal)),
-            LineOutcome::Faulty(fault) => write!(line, "faulty {}", fault_word(fault)),
-        };
-        self.log.end();
-    }
-}
-
-impl<'a, W: Write + Drop> Observer for CommandLog<'a, W> {
-    fn command(&mut self, command: &Command) {
-        self.subject = Some(subject_of(command));
-    }
-
-    fn line(&mut self, number: u64, outcome: LineOutcome) {
-        let subject = self.subject.take();
-        if let (Some(subject), LineOutcome::Done) = (subject, outcome) {
-            self.count_customers(subject.verb);
-        }
+    // Logs what became of the line with a number, where that may be written.
+    fn log_line(&mut self, number: u64, subject: Option<Subject>, outcome: LineOutcome)
+        ensures subject { self.new.subject ≡ self.old.subject }
+        ensures customers { self.new.customers ≡ self.old.customers }
+    {
         match self.allowance.ask(self.clocks.ticks.get() / MINUTE_NANOS) {
             Ask::Hold => return,
             Ask::Say => {}
@@ -106,32 +57,38 @@ impl<'a, W: Write + Drop> Observer for CommandLog<'a, W> {
                 self.log.end();
             }
         }
-        self.write_line(number, subject, outcome);
+        let line = self.log.begin(priority_of(outcome));
+        let _ = write_logged_line(line, number, subject, outcome);
+        self.log.end();
     }
-
-    fn turn(&mut self, _outcome: &TurnOutcome) {}
 }
 
-// What is told of a command.
-fn subject_of(command: &Command) -> Subject {
-    let (verb, address, number) = match *command {
-        Command::Enrol {
-            address,
-            number,
-            ..
-        } => ("enrol", address, Some(number)),
-        Command::Revoke { address } => ("revoke", address, None),
-        Command::Budget { address, .. } => ("budget", address, None),
-        Command::Rollover {
-            address,
-            number,
-            ..
-        } => ("rollover", address, Some(number)),
-        Command::Retire { address, number } => ("retire", address, Some(number)),
-    };
-    Subject {
-        verb,
-        address,
-        number,
+impl<'a, W: Write + Drop> Observer for CommandLog<'a, W> {
+    fn command(&mut self, command: &Command)
+        ensures subject { self.new.subject ≡ Some (subject_of command.now) }
+        ensures customers { self.new.customers ≡ self.old.customers }
+    {
+        self.subject = Some(Subject::of(command));
+    }
+
+    fn line(&mut self, number: u64, outcome: LineOutcome)
+        ensures subject { self.new.subject ≡ None }
+        ensures customers { self.new.customers ≡ customers_after self.old.customers (option_map (λ s. s.verb) self.old.subject) outcome }
+    {
+        let subject = self.subject.take();
+        self.customers = customers_after(self.customers, subject, outcome);
+        self.log_line(number, subject, outcome);
+    }
+
+    fn turn(&mut self, _outcome: &TurnOutcome)
+        ensures { self.new ≡ self.old }
+    {}
+}
+
+// How much a line matters.
+fn priority_of(outcome: LineOutcome) -> Priority {
+    match outcome {
+        LineOutcome::Done => Priority::Information,
+        LineOutcome::Refused(_) | LineOutcome::Faulty(_) => Priority::Warning,
     }
 }

@@ -1,2 +1,3 @@
 pub mod Adding
 pub mod Reports
+pub mod LogLines

@@ -14,6 +14,7 @@ mod line_allowance;
 mod signing;
 mod stamps;
 mod statistics;
+mod subject;
 
 pub use answer_lines::AnswerLines;
 pub use both::Both;
@@ -25,3 +26,4 @@ pub use customer_text::customer_line;
 pub use kind::Kind;
 pub use line_allowance::{Ask, LineAllowance, MOST_LINES};
 pub use statistics::{Belief, ClockGauges, FileGauges, Gauges, write_statistics};
+pub use subject::{Subject, Verb, customers_after, write_logged_line};

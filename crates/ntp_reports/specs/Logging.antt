@@ -1,0 +1,57 @@
+-- What the log tells of lines of commands.
+use Rattle.std.specs.Prelude.{ℕ, ◌+◌, ◌-◌, ◌^◌, min, List, [], ◌++◌, Option, None, Some, codes, slice_index}
+use Rattle.std.specs.Option.{option_map_or}
+use Rattle.std.specs.Fmt.{decimal}
+use Rattle.std.specs.Int.NonZero.{non_zero_u16_get}
+use Rattle.std.specs.declared.num.NonZeroU16.{NonZeroU16}
+use Rattle.ntp_register.specs.declared.address.Address.{Address}
+use Rattle.ntp_events.specs.declared.command.Command.{Command}
+use Rattle.ntp_events.specs.declared.command.Command.TheVariants as command
+use Rattle.ntp_events.specs.declared.observation.LineOutcome.{LineOutcome}
+use Rattle.ntp_events.specs.declared.observation.LineOutcome.TheVariants.{Done}
+use Rattle.ntp_reports.specs.declared.subject.Subject.{Subject}
+use Rattle.ntp_reports.specs.declared.subject.Verb.{Verb}
+use Rattle.ntp_reports.specs.declared.subject.Verb.TheVariants as verb
+use Rattle.ntp_reports.specs.AnswerText.{outcome_text}
+
+-- all but the key and the budget of a command (profile)
+abbrev pub subject_of : Command → Subject
+subject_of (command.Enrol address number key budget) = record { verb = verb.Enrol; address = address; number = Some number }
+subject_of (command.Revoke address) = record { verb = verb.Revoke; address = address; number = None }
+subject_of (command.Budget address budget) = record { verb = verb.Budget; address = address; number = None }
+subject_of (command.Rollover address number key) = record { verb = verb.Rollover; address = address; number = Some number }
+subject_of (command.Retire address number) = record { verb = verb.Retire; address = address; number = Some number }
+
+-- the first word of a command's line (profile)
+abbrev pub verb_text : Verb → List ℕ
+verb_text verb.Enrol = codes "enrol"
+verb_text verb.Revoke = codes "revoke"
+verb_text verb.Budget = codes "budget"
+verb_text verb.Rollover = codes "rollover"
+verb_text verb.Retire = codes "retire"
+
+-- an address, in its four numbers (profile)
+abbrev pub address_text : Address → List ℕ
+address_text a =
+    decimal (slice_index a.0 0) ++ codes "." ++ decimal (slice_index a.0 1) ++ codes "." ++ decimal (slice_index a.0 2) ++ codes "."
+    ++ decimal (slice_index a.0 3)
+
+-- a key number, with a space before it, where there is one (profile)
+abbrev pub number_text : Option NonZeroU16 → List ℕ
+number_text number = option_map_or (λ n. codes " " ++ decimal (non_zero_u16_get n)) number []
+
+-- what is told of a command (profile)
+abbrev pub subject_text : Subject → List ℕ
+subject_text s = verb_text s.verb ++ codes " " ++ address_text s.address ++ number_text s.number ++ codes ": "
+
+-- the line of the log, without its line feed, that tells of the line with a number: its command, if it is one, and what became of it
+-- (profile)
+abbrev pub logged_line : ℕ → Option Subject → LineOutcome → List ℕ
+logged_line number subject outcome =
+    codes "commands: line " ++ decimal number ++ codes ": " ++ option_map_or subject_text subject [] ++ outcome_text outcome
+
+-- how many customers are enrolled after a line of so many before it, up to 2^64 - 1 (profile)
+abbrev pub customers_after : ℕ → Option Verb → LineOutcome → ℕ
+customers_after customers (Some verb.Enrol) Done = min (customers + 1) (2 ^ 64 - 1)
+customers_after customers (Some verb.Revoke) Done = customers - 1
+customers_after customers other outcome = customers

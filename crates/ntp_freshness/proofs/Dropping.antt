@@ -1,124 +1,163 @@
--- A history that goes on with datagrams that are dropped, and what is passed on in the end.
-use Rattle.std.proofs.Common.{◌≡◌, ℕ, ◌-◌, ◌^◌, ◌≤◌, true, false, List, [], ◌∷◌, ◌++◌, Option, None, Result, refl, subst, ◌∙◌, arith}
+-- Datagrams that are dropped, and what is passed on in the end.
+use Rattle.std.proofs.Common.{◌≡◌, ℕ, ◌+◌, ◌-◌, ◌^◌, ◌≤◌, true, false, List, [], ◌∷◌, ◌++◌, length, Option, None, Result, refl, subst, ◌∙◌, arith, length-append}
 use Rattle.ntp_events.specs.declared.observation.Arrival.{Arrival}
 use Rattle.ntp_service_serve.specs.declared.port.PortFault.{PortFault}
+use Rattle.ntp_service_serve.specs.Port.{Told}
 use Rattle.ntp_freshness.specs.declared.queue_event.QueueEvent.{QueueEvent}
+use Rattle.ntp_freshness.specs.declared.queue_event.QueueEvent.TheVariants.{Taken}
 use Rattle.ntp_freshness.specs.declared.queue_watch.QueueWatch.{QueueWatch}
 use Rattle.ntp_freshness.specs.declared.fresh_port.Next.{Next}
 use Rattle.ntp_freshness.specs.declared.fresh_port.Next.TheVariants.{Stale}
-use Rattle.ntp_freshness.specs.declared.queue_event.QueueEvent.TheVariants.{Taken}
-use Rattle.ntp_freshness.specs.Freshness.{MayBeAnswered}
+use Rattle.ntp_freshness.specs.Freshness.{MayBeAnswered, IsInOrder}
 use Rattle.ntp_freshness.specs.Queue.{Tells, seen_in_drop}
-use Rattle.ntp_freshness.specs.Watch.{Watches}
-use Rattle.ntp_freshness.specs.Fresh.{StandsFor, InHand, Swept, counted_on, PassesOn, ReceivesFresh}
-use Rattle.ntp_freshness.specs.Next.{TakesNext, Drops}
+use Rattle.ntp_freshness.specs.Watch.{Watches, longest_of}
+use Rattle.ntp_freshness.specs.Passing.{DropTells, HandsOn}
+use Rattle.ntp_freshness.specs.Fresh.{InHand, Swept, AreStale, counted_on, PassesOn, Kept, kept, PassesOnFresh}
+use Rattle.ntp_freshness.specs.Next.{ComesTo, drops_in, TakesNext, Drops}
 use Rattle.ntp_freshness.proofs.Seeing.{IsSeenFrom-same, IsSeenFrom-more, seen-in_drop}
 use Rattle.ntp_freshness.proofs.Keeping.{AreStale-append, counted-append, StandsFor-Taken}
+use Rattle.ntp_freshness.proofs.Passing.{TellsOn-same, DropsTurns-one, DropsTurns-append}
 
-pub Drops-none : (longest reading s : ℕ) (q : Option (List QueueEvent)) (watch : QueueWatch) (history : List QueueEvent)
-    → s ≤ 2 ^ 64 - 1 → StandsFor watch reading history → Drops longest reading reading q q s s watch history
-Drops-none longest reading s q watch history fits stands = record {
-  after = history;
-  stands = stands;
-  seen = IsSeenFrom-same reading q history;
-  dropped = [];
-  stale = refl;
-  counted = omega arith;
+pub Drops-none : (k : Kept) → k.stale ≤ 2 ^ 64 - 1 → Drops k k
+Drops-none k fits = record {
+  count = 0;
+  counted = omega (arith, fits);
+  turns = TellsOn-same k.told;
+  longest = refl;
+  each = λ history stands. record {
+    after = history;
+    stands = stands;
+    seen = IsSeenFrom-same k.reading k.history history;
+    dropped = [];
+    stale = refl;
+    as_many = refl;
+  };
 }
 
--- the limit may be named in two ways
-pub TakesNext-along : (longest most reading now s t : ℕ) (q r : Option (List QueueEvent)) (watch : QueueWatch) (history : List QueueEvent)
-    (next : Next) → longest ≡ most → TakesNext longest reading now q r s t watch history next
-    → TakesNext most reading now q r s t watch history next
-TakesNext-along longest most reading now s t q r watch history next same takes =
-    subst (λ n. TakesNext n reading now q r s t watch history next) same takes
-
-pub Drops-along : (longest most a b s t : ℕ) (q r : Option (List QueueEvent)) (watch : QueueWatch) (history : List QueueEvent)
-    → longest ≡ most → Drops longest a b q r s t watch history → Drops most a b q r s t watch history
-Drops-along longest most a b s t q r watch history same drops = subst (λ n. Drops n a b q r s t watch history) same drops
-
 -- these, and then those
-pub Drops-append : (longest a b c s t v : ℕ) (q r u : Option (List QueueEvent)) (watch after : QueueWatch) (history : List QueueEvent)
-    → (first : Drops longest a b q r s t watch history) → Drops longest b c r u t v after first.after
-    → Drops longest a c q u s v after history
-Drops-append longest a b c s t v q r u watch after history first second = record {
-  after = second.after;
-  stands = second.stands;
-  seen = IsSeenFrom-more a b c q r u history first.after second.after first.seen second.seen;
-  dropped = first.dropped ++ second.dropped;
-  stale = AreStale-append longest history first.after second.after first.dropped second.dropped first.stale second.stale;
-  counted = counted-append s t v first.dropped second.dropped first.counted second.counted;
+pub Drops-append : (a b c : Kept) → Drops a b → Drops b c → Drops a c
+Drops-append a b c first second = record {
+  count = first.count + second.count;
+  counted = counted-append a.stale b.stale c.stale first.count second.count first.counted second.counted;
+  turns = DropsTurns-append first.count second.count a.told b.told c.told first.turns second.turns;
+  longest = second.longest ∙ first.longest;
+  each = λ history stands.
+      let x = first.each history stands in
+      let y = second.each x.after x.stands in
+      record {
+        after = y.after;
+        stands = y.stands;
+        seen = IsSeenFrom-more a.reading b.reading c.reading a.history b.history c.history history x.after y.after x.seen y.seen;
+        dropped = x.dropped ++ y.dropped;
+        stale = AreStale-append (longest_of a.watch) history x.after y.after x.dropped y.dropped x.stale
+            (subst (λ n. AreStale n x.after y.dropped y.after) first.longest y.stale);
+        as_many = omega (arith, length-append x.dropped y.dropped, x.as_many, y.as_many);
+      };
 }
 
 -- one that was in hand
-pub Drops-taken : (longest a b s t : ℕ) (q r : Option (List QueueEvent)) (after : QueueWatch) (history : List QueueEvent)
-    → TakesNext longest a b q r s t after history Stale → Drops longest a b q r s t after history
-Drops-taken longest a b s t q r after history takes = record {
-  after = takes.after;
-  stands = takes.stands;
-  seen = takes.seen;
-  dropped = InHand takes.comes_to.0.0 ∷ [];
-  stale = (takes.comes_to.0.1, takes.comes_to.0.2);
-  counted = takes.comes_to.1;
+pub Drops-taken : (a b : Kept) (datagram : List ℕ) → TakesNext a b Stale datagram → Drops a b
+Drops-taken a b datagram takes = record {
+  count = 1;
+  counted = takes.counted;
+  turns = DropsTurns-one a.told b.told takes.turns;
+  longest = takes.longest;
+  each = λ history stands.
+      let x = takes.each history stands in
+      record {
+        after = x.after;
+        stands = x.stands;
+        seen = x.seen;
+        dropped = InHand x.comes_to.0 ∷ [];
+        stale = (x.comes_to.1, x.comes_to.2);
+        as_many = refl;
+      };
 }
 
 -- one that was swept out
-pub Drops-swept : (longest reading s t : ℕ) (q r : Option (List QueueEvent)) (watch after : QueueWatch) (history : List QueueEvent)
-    → StandsFor watch reading history → Watches after (Taken reading ∷ history) → (MayBeAnswered longest history reading → ⊥)
-    → Tells q r (seen_in_drop true) → t ≡ counted_on s 1 → Drops longest reading reading q r s t after history
-Drops-swept longest reading s t q r watch after history stands watches not tells counted = record {
-  after = Taken reading ∷ history;
-  stands = StandsFor-Taken watch after reading history stands watches;
-  seen = seen-in_drop reading q r true history tells;
-  dropped = Swept [] refl reading ∷ [];
-  stale = (not, refl);
+pub Drops-swept : (watch after : QueueWatch) (reading s v : ℕ) (t u : Option Told) (q r : Option (List QueueEvent))
+    → longest_of after ≡ longest_of watch
+    → ((history : List QueueEvent) → Watches watch history → Watches after (Taken reading ∷ history))
+    → ((history : List QueueEvent) → Watches watch history → IsInOrder history → MayBeAnswered (longest_of watch) history reading → ⊥)
+    → DropTells t u true → Tells q r (seen_in_drop true) → v ≡ counted_on s 1
+    → Drops (kept watch reading s t q) (kept after reading v u r)
+Drops-swept watch after reading s v t u q r longest watches not drops tells counted = record {
+  count = 1;
   counted = counted;
+  turns = DropsTurns-one t u drops;
+  longest = longest;
+  each = λ history stands. record {
+    after = Taken reading ∷ history;
+    stands = StandsFor-Taken watch after reading history stands (watches history stands.watches);
+    seen = seen-in_drop reading q r true history tells;
+    dropped = Swept [] refl reading ∷ [];
+    stale = (not history stands.watches stands.ordered, refl);
+    as_many = refl;
+  };
 }
 
 -- or none
-pub Drops-unswept : (longest reading s : ℕ) (q r : Option (List QueueEvent)) (watch : QueueWatch) (history : List QueueEvent)
-    → s ≤ 2 ^ 64 - 1 → StandsFor watch reading history → Tells q r (seen_in_drop false) → Drops longest reading reading q r s s watch history
-Drops-unswept longest reading s q r watch history fits stands tells = record {
-  after = history;
-  stands = stands;
-  seen = seen-in_drop reading q r false history tells;
-  dropped = [];
-  stale = refl;
-  counted = omega arith;
+pub Drops-unswept : (watch : QueueWatch) (reading s : ℕ) (t u : Option Told) (q r : Option (List QueueEvent)) → s ≤ 2 ^ 64 - 1
+    → DropTells t u false → Tells q r (seen_in_drop false) → Drops (kept watch reading s t q) (kept watch reading s u r)
+Drops-unswept watch reading s t u q r fits drops tells = record {
+  count = 0;
+  counted = omega (arith, fits);
+  turns = drops;
+  longest = refl;
+  each = λ history stands. record {
+    after = history;
+    stands = stands;
+    seen = seen-in_drop reading q r false history tells;
+    dropped = [];
+    stale = refl;
+    as_many = refl;
+  };
 }
 
 -- and then this is passed on
-pub Drops-end : (longest a b c s t v : ℕ) (q r u : Option (List QueueEvent)) (watch after : QueueWatch) (history : List QueueEvent)
-    (next : Next) (result : Option (Result Arrival PortFault))
-    → (drops : Drops longest a b q r s t watch history) → (takes : TakesNext longest b c r u t v after drops.after next)
-    → PassesOn longest drops.after result takes.after → v ≡ t
-    → (k : List QueueEvent) × StandsFor after c k × ReceivesFresh longest a c q u s v history k result
-Drops-end longest a b c s t v q r u watch after history next result drops takes passed same = (
-  takes.after,
-  takes.stands,
-  record {
-    dropped = drops.dropped;
-    between = drops.after;
-    stale = drops.stale;
-    passed_on = passed;
-    counted = same ∙ drops.counted;
-    seen = IsSeenFrom-more a b c q r u history drops.after takes.after drops.seen takes.seen;
-  },
-)
+pub Passes-end : (a b c : Kept) (next : Next) (result : Option (Result Arrival PortFault)) (datagram : List ℕ) → Drops a b
+    → TakesNext b c next datagram → drops_in next ≡ 0 → HandsOn b.told c.told result datagram
+    → ((history after : List QueueEvent) → ComesTo (longest_of b.watch) history next after → PassesOn (longest_of b.watch) history result after)
+    → PassesOnFresh a c result datagram
+Passes-end a b c next result datagram drops takes none hands passes = record {
+  dropped = drops.count;
+  counted = omega (arith, drops.counted, takes.counted, none);
+  turns = (b.told, drops.turns, hands);
+  longest = takes.longest ∙ drops.longest;
+  fresh = λ history stands.
+      let x = drops.each history stands in
+      let y = takes.each x.after x.stands in (
+        y.after,
+        y.stands,
+        record {
+          dropped = x.dropped;
+          between = x.after;
+          stale = x.stale;
+          passed_on = subst (λ n. PassesOn n x.after result y.after) drops.longest (passes x.after y.after y.comes_to);
+          as_many = x.as_many;
+          seen = IsSeenFrom-more a.reading b.reading c.reading a.history b.history c.history history x.after y.after x.seen y.seen;
+        },
+      );
+}
 
 -- or nothing, after so many
-pub Drops-out : (longest a b s t : ℕ) (q r : Option (List QueueEvent)) (watch : QueueWatch) (history : List QueueEvent)
-    → Drops longest a b q r s t watch history
-    → (k : List QueueEvent) × StandsFor watch b k × ReceivesFresh longest a b q r s t history k None
-Drops-out longest a b s t q r watch history drops = (
-  drops.after,
-  drops.stands,
-  record {
-    dropped = drops.dropped;
-    between = drops.after;
-    stale = drops.stale;
-    passed_on = ([], refl, refl);
-    counted = drops.counted;
-    seen = drops.seen;
-  },
-)
+pub Passes-out : (a b : Kept) (datagram : List ℕ) → Drops a b → PassesOnFresh a b None datagram
+Passes-out a b datagram drops = record {
+  dropped = drops.count;
+  counted = drops.counted;
+  turns = (b.told, drops.turns, TellsOn-same b.told);
+  longest = drops.longest;
+  fresh = λ history stands.
+      let x = drops.each history stands in (
+        x.after,
+        x.stands,
+        record {
+          dropped = x.dropped;
+          between = x.after;
+          stale = x.stale;
+          passed_on = ([], refl, refl);
+          as_many = x.as_many;
+          seen = x.seen;
+        },
+      );
+}

@@ -1,10 +1,10 @@
 -- What is kept goes on to be that of a history.
-use Rattle.std.proofs.Common.{◌≡◌, ℕ, zero, suc, ◌≤◌, List, [], ◌∷◌, ◌++◌, length, refl, subst, arith, length-append}
+use Rattle.std.proofs.Common.{◌≡◌, ℕ, zero, suc, ◌+◌, ◌≤◌, List, [], ◌∷◌, ◌++◌, refl, subst, arith}
 use Rattle.std.specs.Prelude.{All}
 use Rattle.ntp_freshness.specs.declared.queue_event.QueueEvent.{QueueEvent}
 use Rattle.ntp_freshness.specs.declared.queue_event.QueueEvent.TheVariants.{Held, Taken, Read}
 use Rattle.ntp_freshness.specs.declared.queue_watch.QueueWatch.{QueueWatch}
-use Rattle.ntp_freshness.specs.Freshness.{moment_of, MayBeAnswered}
+use Rattle.ntp_freshness.specs.Freshness.{moment_of}
 use Rattle.ntp_freshness.specs.Watch.{Watches}
 use Rattle.ntp_freshness.specs.Fresh.{StandsFor, Dropped, AreStale, history_dropped, counted_on}
 
@@ -41,11 +41,6 @@ StandsFor-Read watch reading now history later stands =
       past = All-cons (λ e. moment_of e ≤ now) (Read now) history (omega arith) past;
     }
 
--- the limit may be named in two ways
-pub MayBeAnswered-along : (longest most : ℕ) (history : List QueueEvent) (now : ℕ) → longest ≡ most → MayBeAnswered longest history now
-    → MayBeAnswered most history now
-MayBeAnswered-along longest most history now same may = subst (λ n. MayBeAnswered n history now) same may
-
 -- these, and then those
 pub AreStale-append : (longest : ℕ) (h k m : List QueueEvent) (first second : List Dropped) → AreStale longest h first k
     → AreStale longest k second m → AreStale longest h (first ++ second) m
@@ -54,6 +49,5 @@ AreStale-append longest h k m (one ∷ first) second a b =
     (a.0, AreStale-append longest (history_dropped one h) k m first second a.1 b)
 
 -- are counted
-pub counted-append : (s t v : ℕ) (first second : List Dropped) → t ≡ counted_on s (length first) → v ≡ counted_on t (length second)
-    → v ≡ counted_on s (length (first ++ second))
-counted-append s t v first second a b = omega (arith, a, b, length-append first second)
+pub counted-append : (s t v m n : ℕ) → t ≡ counted_on s m → v ≡ counted_on t n → v ≡ counted_on s (m + n)
+counted-append s t v m n first second = omega (arith, first, second)

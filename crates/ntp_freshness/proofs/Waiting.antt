@@ -5,9 +5,11 @@ use Rattle.ntp_service_serve.specs.declared.port.PortFault.{PortFault}
 use Rattle.ntp_freshness.specs.declared.queue_event.QueueEvent.{QueueEvent}
 use Rattle.ntp_freshness.specs.declared.queue_event.QueueEvent.TheVariants.{Held, Taken, Read}
 use Rattle.ntp_freshness.specs.Freshness.{takes, MayBeAnswered}
-use Rattle.ntp_freshness.specs.Fresh.{Take, history_before, history_after, Dropped, InHand, Swept, history_dropped, IsStale, AreStale, PassesOn, ReceivesFresh}
+use Rattle.ntp_freshness.specs.Watch.{longest_of}
+use Rattle.ntp_freshness.specs.Fresh.{Take, history_before, history_after, Dropped, InHand, Swept, history_dropped, IsStale, AreStale, PassesOn, Kept, ReceivesFresh, PassesOnFresh}
 use Rattle.ntp_freshness.proofs.Seeing.{IsSeenFrom-same, IsSeenFrom-more}
-use Rattle.ntp_freshness.proofs.Keeping.{AreStale-append}
+use Rattle.ntp_freshness.proofs.Keeping.{AreStale-append, counted-append}
+use Rattle.ntp_freshness.proofs.Passing.{TellsOn-same, DropsTurns-on, DropsTurns-append}
 
 takes-append : (xs ys : List QueueEvent) → takes (xs ++ ys) ≡ takes xs + takes ys
 takes-append [] ys = omega arith
@@ -97,37 +99,60 @@ Goes-earlier longest seen history between after (one ∷ dropped) result quiet s
 }
 
 -- nothing was passed on, and then this
-pub ReceivesFresh-more : (longest a b c : ℕ) (q r u : Option (List QueueEvent)) (s t v : ℕ) (h k m : List QueueEvent)
-    (result : Option (Result Arrival PortFault)) → ReceivesFresh longest a b q r s t h k None
-    → ReceivesFresh longest b c r u t v k m result → ReceivesFresh longest a c q u s v h m result
-ReceivesFresh-more longest a b c q r u s t v h k m result first second =
+ReceivesFresh-more : (a b c : Kept) (m n : ℕ) (h k l : List QueueEvent) (result : Option (Result Arrival PortFault))
+    → longest_of b.watch ≡ longest_of a.watch → ReceivesFresh a b m h k None → ReceivesFresh b c n k l result
+    → ReceivesFresh a c (m + n) h l result
+ReceivesFresh-more a b c m n h k l result longest first second =
     let nothing = first.passed_on in
-    let goes = Goes-earlier longest nothing.0 first.between second.between m second.dropped result nothing.1
-    (subst (λ xs. AreStale longest xs second.dropped second.between) nothing.2 second.stale) second.passed_on in
+    let stale : AreStale (longest_of a.watch) (nothing.0 ++ first.between) second.dropped second.between =
+    subst (λ xs. AreStale (longest_of a.watch) xs second.dropped second.between) nothing.2
+    (subst (λ w. AreStale w k second.dropped second.between) longest second.stale) in
+    let goes = Goes-earlier (longest_of a.watch) nothing.0 first.between second.between l second.dropped result nothing.1 stale
+    (subst (λ w. PassesOn w second.between result l) longest second.passed_on) in
     record {
       dropped = first.dropped ++ goes.dropped;
       between = goes.between;
-      stale = AreStale-append longest h first.between goes.between first.dropped goes.dropped first.stale goes.stale;
+      stale = AreStale-append (longest_of a.watch) h first.between goes.between first.dropped goes.dropped first.stale goes.stale;
       passed_on = goes.passed_on;
-      counted = omega (arith, first.counted, second.counted, goes.as_many, length-append first.dropped goes.dropped);
-      seen = IsSeenFrom-more a b c q r u h k m first.seen second.seen;
+      as_many = omega (arith, length-append first.dropped goes.dropped, first.as_many, goes.as_many, second.as_many);
+      seen = IsSeenFrom-more a.reading b.reading c.reading a.history b.history c.history h k l first.seen second.seen;
     }
 
--- nothing yet
-pub ReceivesFresh-none : (longest reading s : ℕ) (q : Option (List QueueEvent)) (history : List QueueEvent) → s ≤ 2 ^ 64 - 1
-    → ReceivesFresh longest reading reading q q s s history history None
-ReceivesFresh-none longest reading s q history fits = record {
-  dropped = [];
-  between = history;
-  stale = refl;
-  passed_on = ([], refl, refl);
-  counted = omega arith;
-  seen = IsSeenFrom-same reading q history;
+pub Passes-more : (a b c : Kept) (result : Option (Result Arrival PortFault)) (datagram later : List ℕ) → PassesOnFresh a b None datagram
+    → PassesOnFresh b c result later → PassesOnFresh a c result later
+Passes-more a b c result datagram later first second = record {
+  dropped = first.dropped + second.dropped;
+  counted = counted-append a.stale b.stale c.stale first.dropped second.dropped first.counted second.counted;
+  turns = (
+    second.turns.0,
+    DropsTurns-append first.dropped second.dropped a.told first.turns.0 second.turns.0 first.turns.1
+        (DropsTurns-on second.dropped first.turns.0 b.told second.turns.0 first.turns.2 second.turns.1),
+    second.turns.2,
+  );
+  longest = second.longest ∙ first.longest;
+  fresh = λ history stands.
+      let x = first.fresh history stands in
+      let y = second.fresh x.0 x.1 in
+      (y.0, y.1, ReceivesFresh-more a b c first.dropped second.dropped history x.0 y.0 result first.longest x.2 y.2);
 }
 
--- the limit may be named in two ways
-pub ReceivesFresh-along : (longest most a b : ℕ) (q r : Option (List QueueEvent)) (s t : ℕ) (h k : List QueueEvent)
-    (result : Option (Result Arrival PortFault)) → longest ≡ most → ReceivesFresh longest a b q r s t h k result
-    → ReceivesFresh most a b q r s t h k result
-ReceivesFresh-along longest most a b q r s t h k result same receives =
-    subst (λ n. ReceivesFresh n a b q r s t h k result) same receives
+-- nothing yet
+pub Passes-none : (k : Kept) (datagram : List ℕ) → k.stale ≤ 2 ^ 64 - 1 → PassesOnFresh k k None datagram
+Passes-none k datagram fits = record {
+  dropped = 0;
+  counted = omega (arith, fits);
+  turns = (k.told, TellsOn-same k.told, TellsOn-same k.told);
+  longest = refl;
+  fresh = λ history stands. (
+    history,
+    stands,
+    record {
+      dropped = [];
+      between = history;
+      stale = refl;
+      passed_on = ([], refl, refl);
+      as_many = refl;
+      seen = IsSeenFrom-same k.reading k.history history;
+    },
+  );
+}

@@ -2,12 +2,14 @@
 use Rattle.std.specs.Prelude.{◌≡◌, ℕ, ◌+◌, ◌-◌, ◌^◌, ◌≤◌, min, Option, None, Some, Result, Ok, Err, List, [], ◌∷◌, ◌++◌, length, All}
 use Rattle.ntp_events.specs.declared.observation.Arrival.{Arrival}
 use Rattle.ntp_service_serve.specs.declared.port.PortFault.{PortFault}
+use Rattle.ntp_service_serve.specs.Port.{Told}
 use Rattle.ntp_freshness.specs.declared.queue_event.QueueEvent.{QueueEvent}
 use Rattle.ntp_freshness.specs.declared.queue_event.QueueEvent.TheVariants.{Taken, Read}
 use Rattle.ntp_freshness.specs.declared.queue_watch.QueueWatch.{QueueWatch}
 use Rattle.ntp_freshness.specs.Freshness.{takes, moment_of, IsInOrder, MayBeAnswered}
 use Rattle.ntp_freshness.specs.Queue.{last_reading, SeesMore}
-use Rattle.ntp_freshness.specs.Watch.{Watches}
+use Rattle.ntp_freshness.specs.Watch.{Watches, longest_of}
+use Rattle.ntp_freshness.specs.Passing.{PassesTurns}
 
 -- what is kept, with the last reading of the clock, is that of a history whose events are in order and no later than that reading (profile)
 pub record StandsFor (watch : QueueWatch) (reading : ℕ) (history : List QueueEvent) : Type 0 where
@@ -80,12 +82,33 @@ IsSeen old new history after = (more : List QueueEvent) × (after ≡ more ++ hi
 abbrev pub IsSeenFrom : ℕ → ℕ → Option (List QueueEvent) → Option (List QueueEvent) → List QueueEvent → List QueueEvent → Type 0
 IsSeenFrom reading now old new history after = IsShown reading old → IsShown now new × IsSeen old new history after
 
--- from the queue of a port were taken some datagrams that may not be answered, which are dropped and counted, and then what is passed on (profile)
-pub record ReceivesFresh (longest : ℕ) (reading now : ℕ) (old new : Option (List QueueEvent)) (stale_before stale_after : ℕ)
-    (history after : List QueueEvent) (result : Option (Result Arrival PortFault)) : Type 0 where
+-- what a port keeps that passes on only what may be answered, and what the port below it tells of its turns and of its queue (profile)
+pub record Kept : Type 0 where
+  pub watch : QueueWatch
+  pub reading : ℕ
+  pub stale : ℕ
+  pub told : Option Told
+  pub history : Option (List QueueEvent)
+
+abbrev pub kept : QueueWatch → ℕ → ℕ → Option Told → Option (List QueueEvent) → Kept
+kept watch reading stale told history = record { watch = watch; reading = reading; stale = stale; told = told; history = history }
+
+-- from the queue of the port below were taken so many datagrams that may not be answered, which are dropped, and then what is passed on
+-- (profile)
+pub record ReceivesFresh (old new : Kept) (count : ℕ) (history after : List QueueEvent) (result : Option (Result Arrival PortFault)) : Type 0 where
   pub dropped : List Dropped
   pub between : List QueueEvent
-  pub stale : AreStale longest history dropped between
-  pub passed_on : PassesOn longest between result after
-  pub counted : stale_after ≡ counted_on stale_before (length dropped)
-  pub seen : IsSeenFrom reading now old new history after
+  pub stale : AreStale (longest_of old.watch) history dropped between
+  pub passed_on : PassesOn (longest_of old.watch) between result after
+  pub as_many : length dropped ≡ count
+  pub seen : IsSeenFrom old.reading new.reading old.history new.history history after
+
+-- some datagrams were dropped and counted, and what is passed on is the next one, as the port below told it. So it is by whatever history
+-- what is kept stood for: it goes on to stand for one more, with which as many were dropped (profile)
+pub record PassesOnFresh (old new : Kept) (result : Option (Result Arrival PortFault)) (datagram : List ℕ) : Type 0 where
+  pub dropped : ℕ
+  pub counted : new.stale ≡ counted_on old.stale dropped
+  pub turns : PassesTurns dropped old.told new.told result datagram
+  pub longest : longest_of new.watch ≡ longest_of old.watch
+  pub fresh : (history : List QueueEvent) → StandsFor old.watch old.reading history
+      → (after : List QueueEvent) × StandsFor new.watch new.reading after × ReceivesFresh old new dropped history after result

@@ -1,48 +1,82 @@
 -- Not to be believed: for proofs. What one take comes to.
-use Rattle.std.specs.Prelude.{◌≡◌, ℕ, Option, List, length, ◌++◌}
+use Rattle.std.specs.Prelude.{◌≡◌, ℕ, true, Option, Ok, Err, List, length, ◌++◌}
+use Rattle.ntp_service_serve.specs.Port.{Told, ReceiveTells}
 use Rattle.ntp_freshness.specs.declared.queue_event.QueueEvent.{QueueEvent}
-use Rattle.ntp_freshness.specs.declared.queue_watch.QueueWatch.{QueueWatch}
 use Rattle.ntp_freshness.specs.declared.fresh_port.Next.{Next}
 use Rattle.ntp_freshness.specs.declared.fresh_port.Next.TheVariants.{Nothing, Fault, Fresh, Stale}
 use Rattle.ntp_freshness.specs.Freshness.{takes, MayBeAnswered}
-use Rattle.ntp_freshness.specs.Fresh.{StandsFor, Take, Dropped, history_before, history_after, AreStale, NothingTaken, counted_on, IsSeenFrom}
+use Rattle.ntp_freshness.specs.Watch.{longest_of}
+use Rattle.ntp_freshness.specs.Passing.{TellsOn, DropTells, DropsTurns}
+use Rattle.ntp_freshness.specs.Fresh.{StandsFor, Take, Dropped, history_before, history_after, AreStale, NothingTaken, counted_on, IsSeenFrom, Kept}
 
--- what was taken, and how many datagrams were dropped before and after
-abbrev pub ComesTo : ℕ → List QueueEvent → Next → List QueueEvent → ℕ → ℕ → Type 0
-ComesTo longest history Nothing after s t = NothingTaken history after × (t ≡ s)
-ComesTo longest history (Fault fault) after s t = NothingTaken history after × (t ≡ s)
-ComesTo longest history (Fresh arrival) after s t =
-    ((take : Take) × MayBeAnswered longest (history_before take history) take.now × (after ≡ history_after take history)) × (t ≡ s)
-ComesTo longest history Stale after s t =
-    ((take : Take) × (MayBeAnswered longest (history_before take history) take.now → ⊥) × (after ≡ history_after take history))
-    × (t ≡ counted_on s 1)
+-- what was taken
+abbrev pub ComesTo : ℕ → List QueueEvent → Next → List QueueEvent → Type 0
+ComesTo longest history Nothing after = NothingTaken history after
+ComesTo longest history (Fault fault) after = NothingTaken history after
+ComesTo longest history (Fresh arrival) after =
+    (take : Take) × MayBeAnswered longest (history_before take history) take.now × (after ≡ history_after take history)
+ComesTo longest history Stale after =
+    (take : Take) × (MayBeAnswered longest (history_before take history) take.now → ⊥) × (after ≡ history_after take history)
+
+-- the turn that it began
+abbrev pub NextTells : Option Told → Option Told → Next → List ℕ → Type 0
+NextTells old new Nothing datagram = TellsOn old new
+NextTells old new (Fault fault) datagram = ReceiveTells old new (Err fault) datagram
+NextTells old new (Fresh arrival) datagram = ReceiveTells old new (Ok arrival) datagram
+NextTells old new Stale datagram = DropTells old new true
 
 -- how many calls failed
 abbrev pub failures_in : Next → ℕ
 failures_in (Fault fault) = 1
 failures_in other = 0
 
+-- how many datagrams were dropped
+abbrev pub drops_in : Next → ℕ
+drops_in Stale = 1
+drops_in other = 0
+
 -- a history goes on with what one take comes to
-pub record TakesNext (longest : ℕ) (reading now : ℕ) (old new : Option (List QueueEvent)) (s t : ℕ) (watch : QueueWatch)
-    (history : List QueueEvent) (next : Next) : Type 0 where
+pub record TakesOn (old new : Kept) (history : List QueueEvent) (next : Next) : Type 0 where
   pub after : List QueueEvent
-  pub stands : StandsFor watch now after
-  pub seen : IsSeenFrom reading now old new history after
-  pub comes_to : ComesTo longest history next after s t
+  pub stands : StandsFor new.watch new.reading after
+  pub seen : IsSeenFrom old.reading new.reading old.history new.history history after
+  pub comes_to : ComesTo (longest_of old.watch) history next after
+
+-- one take came to this
+pub record TakesNext (old new : Kept) (next : Next) (datagram : List ℕ) : Type 0 where
+  pub counted : new.stale ≡ counted_on old.stale (drops_in next)
+  pub turns : NextTells old.told new.told next datagram
+  pub longest : longest_of new.watch ≡ longest_of old.watch
+  pub each : (history : List QueueEvent) → StandsFor old.watch old.reading history → TakesOn old new history next
 
 -- a history goes on with what a look sees
-pub record LooksOn (reading now : ℕ) (old new : Option (List QueueEvent)) (watch : QueueWatch) (history : List QueueEvent) : Type 0 where
+pub record LooksOn (old new : Kept) (history : List QueueEvent) : Type 0 where
   pub events : List QueueEvent
   pub quiet : takes events ≡ 0
-  pub stands : StandsFor watch now (events ++ history)
-  pub seen : IsSeenFrom reading now old new history (events ++ history)
+  pub stands : StandsFor new.watch new.reading (events ++ history)
+  pub seen : IsSeenFrom old.reading new.reading old.history new.history history (events ++ history)
 
--- a history went on with datagrams that were dropped
-pub record Drops (longest : ℕ) (reading now : ℕ) (old new : Option (List QueueEvent)) (s t : ℕ) (watch : QueueWatch)
-    (history : List QueueEvent) : Type 0 where
+-- a look was made, or none, which takes no datagram and reads no clock
+pub record Looks (old new : Kept) : Type 0 where
+  pub reading : new.reading ≡ old.reading
+  pub stale : new.stale ≡ old.stale
+  pub told : new.told ≡ old.told
+  pub longest : longest_of new.watch ≡ longest_of old.watch
+  pub each : (history : List QueueEvent) → StandsFor old.watch old.reading history → LooksOn old new history
+
+-- a history went on with so many datagrams that were dropped
+pub record DropsOn (old new : Kept) (count : ℕ) (history : List QueueEvent) : Type 0 where
   pub after : List QueueEvent
-  pub stands : StandsFor watch now after
-  pub seen : IsSeenFrom reading now old new history after
+  pub stands : StandsFor new.watch new.reading after
+  pub seen : IsSeenFrom old.reading new.reading old.history new.history history after
   pub dropped : List Dropped
-  pub stale : AreStale longest history dropped after
-  pub counted : t ≡ counted_on s (length dropped)
+  pub stale : AreStale (longest_of old.watch) history dropped after
+  pub as_many : length dropped ≡ count
+
+-- datagrams were dropped
+pub record Drops (old new : Kept) : Type 0 where
+  pub count : ℕ
+  pub counted : new.stale ≡ counted_on old.stale count
+  pub turns : DropsTurns count old.told new.told
+  pub longest : longest_of new.watch ≡ longest_of old.watch
+  pub each : (history : List QueueEvent) → StandsFor old.watch old.reading history → DropsOn old new count history

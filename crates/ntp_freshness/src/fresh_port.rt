@@ -1,12 +1,12 @@
 //! A port that passes on only datagrams that have not waited for long.
-ghost use Rattle.std.specs.Prelude.{◌≡◌, ◌+◌, ◌-◌, ◌≤◌, ◌<◌, ◌^◌, List, All, Some, IfOk, IfErr, IfSome, option_map, is_err, if◌then◌else◌};
+ghost use Rattle.std.specs.Prelude.{◌≡◌, ◌+◌, ◌-◌, ◌≤◌, ◌<◌, ◌^◌, List, All, Option, Some, Result, Err, IfOk, IfErr, IfSome, option_map, is_err, if◌then◌else◌};
 ghost use Rattle.std.specs.Option.{option_map_or};
-ghost use Rattle.ntp_service_serve.specs.Port.{most_received_octets};
+ghost use Rattle.ntp_service_serve.specs.Port.{most_received_octets, NowTells, SendTells};
 ghost use Rattle.ntp_freshness.specs.declared.queue_event.QueueEvent.{QueueEvent};
 ghost use Rattle.ntp_freshness.specs.Freshness.{moment_of, IsInOrder};
-ghost use Rattle.ntp_freshness.specs.Watch.{Watches, longest_of, kept_after};
-ghost use Rattle.ntp_freshness.specs.Fresh.{StandsFor, ReceivesFresh, IsShown};
-ghost use Rattle.ntp_freshness.specs.Next.{TakesNext, LooksOn, Drops, failures_in};
+ghost use Rattle.ntp_freshness.specs.Watch.{Watches, kept_after};
+ghost use Rattle.ntp_freshness.specs.Fresh.{StandsFor, IsShown, kept, PassesOnFresh};
+ghost use Rattle.ntp_freshness.specs.Next.{TakesNext, Looks, Drops, failures_in};
 
 use crate::queue_watch::QueueWatch;
 use crate::queued_port::QueuedPort;
@@ -114,18 +114,15 @@ impl<P: QueuedPort> FreshPort<P> {
     /// dropped and counted. Nothing where none did, or where the queue was swept several times.
     ///
     /// Whatever history the watch stood for, it goes on to stand for one more, with which this is so; and where the other port
-    /// tells what it saw, it is just that.
+    /// tells what it saw, it is just that. Where it tells its turns, what is passed on is its next one, behind as many as were dropped.
     pub fn receive_fresh(&mut self, datagram: &mut [u8; 1025]) -> Option<Result<Arrival, PortFault>>
         requires { self.old.failures < 2 ^ 64 - 1 }
         ensures length { IfSome result (λ received. IfOk received (λ arrival. arrival.length ≤ most_received_octets)) }
         ensures fault { IfSome result (λ received. IfErr received (λ fault. fault ≡ PortFault.Receive)) }
         ensures failures { self.new.failures
             ≡ self.old.failures + option_map_or (λ received. if is_err received then 1 else 0) result 0 }
-        ensures longest { longest_of self.new.watch ≡ longest_of self.old.watch }
-        ensures fresh { (history : List QueueEvent) → StandsFor self.old.watch self.old.reading history
-            → (after : List QueueEvent) × StandsFor self.new.watch self.new.reading after
-            × ReceivesFresh (longest_of self.old.watch) self.old.reading self.new.reading
-            (P.history self.old.port) (P.history self.new.port) self.old.stale self.new.stale history after result }
+        ensures fresh { PassesOnFresh (kept self.old.watch self.old.reading self.old.stale (P.told self.old.port) (P.history self.old.port))
+            (kept self.new.watch self.new.reading self.new.stale (P.told self.new.port) (P.history self.new.port)) result datagram.new }
     {
         for _ in 0..MOST_SWEEPS {
             match self.take_next(datagram) {
@@ -147,10 +144,8 @@ impl<P: QueuedPort> FreshPort<P> {
         ensures fresh { (arrival : Arrival) → result ≡ Next.Fresh arrival → arrival.length ≤ most_received_octets }
         ensures fault { (fault : PortFault) → result ≡ Next.Fault fault → fault ≡ PortFault.Receive }
         ensures failures { self.new.failures ≡ self.old.failures + failures_in result }
-        ensures longest { longest_of self.new.watch ≡ longest_of self.old.watch }
-        ensures next { (history : List QueueEvent) → StandsFor self.old.watch self.old.reading history
-            → TakesNext (longest_of self.old.watch) self.old.reading self.new.reading
-            (P.history self.old.port) (P.history self.new.port) self.old.stale self.new.stale self.new.watch history result }
+        ensures next { TakesNext (kept self.old.watch self.old.reading self.old.stale (P.told self.old.port) (P.history self.old.port))
+            (kept self.new.watch self.new.reading self.new.stale (P.told self.new.port) (P.history self.new.port)) result datagram.new }
     {
         self.look();
         let received = self.port.take_in_time(datagram);
@@ -180,12 +175,9 @@ impl<P: QueuedPort> FreshPort<P> {
 
     // Drops what was in the queue when it was looked at last, as long as it may not be answered.
     fn sweep(&mut self)
-        ensures reading { self.new.reading ≡ self.old.reading }
         ensures failures { self.new.failures ≡ self.old.failures }
-        ensures longest { longest_of self.new.watch ≡ longest_of self.old.watch }
-        ensures drops { (history : List QueueEvent) → StandsFor self.old.watch self.old.reading history
-            → Drops (longest_of self.old.watch) self.old.reading self.new.reading
-            (P.history self.old.port) (P.history self.new.port) self.old.stale self.new.stale self.new.watch history }
+        ensures drops { Drops (kept self.old.watch self.old.reading self.old.stale (P.told self.old.port) (P.history self.old.port))
+            (kept self.new.watch self.new.reading self.new.stale (P.told self.new.port) (P.history self.new.port)) }
     {
         for _ in 0..self.watch.waiting() {
             if !self.drop_next() {
@@ -196,12 +188,9 @@ impl<P: QueuedPort> FreshPort<P> {
 
     // Drops the next datagram, where it may not be answered by what is known. Whether it did.
     fn drop_next(&mut self) -> bool
-        ensures reading { self.new.reading ≡ self.old.reading }
         ensures failures { self.new.failures ≡ self.old.failures }
-        ensures longest { longest_of self.new.watch ≡ longest_of self.old.watch }
-        ensures drops { (history : List QueueEvent) → StandsFor self.old.watch self.old.reading history
-            → Drops (longest_of self.old.watch) self.old.reading self.new.reading
-            (P.history self.old.port) (P.history self.new.port) self.old.stale self.new.stale self.new.watch history }
+        ensures drops { Drops (kept self.old.watch self.old.reading self.old.stale (P.told self.old.port) (P.history self.old.port))
+            (kept self.new.watch self.new.reading self.new.stale (P.told self.new.port) (P.history self.new.port)) }
     {
         let stale = self.stale;
         if self.watch.is_fresh(self.reading) {
@@ -217,12 +206,9 @@ impl<P: QueuedPort> FreshPort<P> {
 
     // Looks at the queue where it is time to, once in a ten-thousandth of a second at most.
     fn look(&mut self)
-        ensures reading { self.new.reading ≡ self.old.reading }
-        ensures stale { self.new.stale ≡ self.old.stale }
         ensures failures { self.new.failures ≡ self.old.failures }
-        ensures longest { longest_of self.new.watch ≡ longest_of self.old.watch }
-        ensures looks { (history : List QueueEvent) → StandsFor self.old.watch self.old.reading history
-            → LooksOn self.old.reading self.new.reading (P.history self.old.port) (P.history self.new.port) self.new.watch history }
+        ensures looks { Looks (kept self.old.watch self.old.reading self.old.stale (P.told self.old.port) (P.history self.old.port))
+            (kept self.new.watch self.new.reading self.new.stale (P.told self.new.port) (P.history self.new.port)) }
     {
         if self.reading >= self.next_look {
             self.next_look = self.reading.saturating_add(LOOK_PERIOD);
@@ -232,12 +218,9 @@ impl<P: QueuedPort> FreshPort<P> {
 
     // Looks at the queue where what is known of it is old.
     fn look_where_due(&mut self)
-        ensures reading { self.new.reading ≡ self.old.reading }
-        ensures stale { self.new.stale ≡ self.old.stale }
         ensures failures { self.new.failures ≡ self.old.failures }
-        ensures longest { longest_of self.new.watch ≡ longest_of self.old.watch }
-        ensures looks { (history : List QueueEvent) → StandsFor self.old.watch self.old.reading history
-            → LooksOn self.old.reading self.new.reading (P.history self.old.port) (P.history self.new.port) self.new.watch history }
+        ensures looks { Looks (kept self.old.watch self.old.reading self.old.stale (P.told self.old.port) (P.history self.old.port))
+            (kept self.new.watch self.new.reading self.new.stale (P.told self.new.port) (P.history self.new.port)) }
     {
         if self.watch.is_due(self.reading) {
             self.look_now();
@@ -246,12 +229,9 @@ impl<P: QueuedPort> FreshPort<P> {
 
     // Looks whether the queue is empty, and how many datagrams are in it where that has to be known.
     fn look_now(&mut self)
-        ensures reading { self.new.reading ≡ self.old.reading }
-        ensures stale { self.new.stale ≡ self.old.stale }
         ensures failures { self.new.failures ≡ self.old.failures }
-        ensures longest { longest_of self.new.watch ≡ longest_of self.old.watch }
-        ensures looks { (history : List QueueEvent) → StandsFor self.old.watch self.old.reading history
-            → LooksOn self.old.reading self.new.reading (P.history self.old.port) (P.history self.new.port) self.new.watch history }
+        ensures looks { Looks (kept self.old.watch self.old.reading self.old.stale (P.told self.old.port) (P.history self.old.port))
+            (kept self.new.watch self.new.reading self.new.stale (P.told self.new.port) (P.history self.new.port)) }
     {
         self.look_whether_empty();
         self.look_how_many();
@@ -259,12 +239,9 @@ impl<P: QueuedPort> FreshPort<P> {
 
     // Looks whether the queue is empty.
     fn look_whether_empty(&mut self)
-        ensures reading { self.new.reading ≡ self.old.reading }
-        ensures stale { self.new.stale ≡ self.old.stale }
         ensures failures { self.new.failures ≡ self.old.failures }
-        ensures longest { longest_of self.new.watch ≡ longest_of self.old.watch }
-        ensures looks { (history : List QueueEvent) → StandsFor self.old.watch self.old.reading history
-            → LooksOn self.old.reading self.new.reading (P.history self.old.port) (P.history self.new.port) self.new.watch history }
+        ensures looks { Looks (kept self.old.watch self.old.reading self.old.stale (P.told self.old.port) (P.history self.old.port))
+            (kept self.new.watch self.new.reading self.new.stale (P.told self.new.port) (P.history self.new.port)) }
     {
         if self.port.is_empty() {
             self.watch.saw(0, self.reading);
@@ -273,12 +250,9 @@ impl<P: QueuedPort> FreshPort<P> {
 
     // Looks how many datagrams are in the queue, where no earlier look is waited for and what is known is old: that costs more.
     fn look_how_many(&mut self)
-        ensures reading { self.new.reading ≡ self.old.reading }
-        ensures stale { self.new.stale ≡ self.old.stale }
         ensures failures { self.new.failures ≡ self.old.failures }
-        ensures longest { longest_of self.new.watch ≡ longest_of self.old.watch }
-        ensures looks { (history : List QueueEvent) → StandsFor self.old.watch self.old.reading history
-            → LooksOn self.old.reading self.new.reading (P.history self.old.port) (P.history self.new.port) self.new.watch history }
+        ensures looks { Looks (kept self.old.watch self.old.reading self.old.stale (P.told self.old.port) (P.history self.old.port))
+            (kept self.new.watch self.new.reading self.new.stale (P.told self.new.port) (P.history self.new.port)) }
     {
         if !self.watch.is_waiting() && self.watch.is_old(self.reading) {
             let count = self.port.most_held();
@@ -290,17 +264,15 @@ impl<P: QueuedPort> FreshPort<P> {
 impl<P: QueuedPort> Port for FreshPort<P> {
     ghost failure_count = { λ f. f.failures };
 
-    /// Waits until a datagram comes that may be answered.
+    /// Waits until a datagram comes that may be answered. It fails where the other port does, and after 2^64 - 1 waits that gave none.
     fn receive(&mut self, datagram: &mut [u8; 1025]) -> Result<Arrival, PortFault>
         requires { self.old.failures < 2 ^ 64 - 1 }
         ensures length { IfOk result (λ arrival. arrival.length ≤ most_received_octets) }
         ensures fault { IfErr result (λ fault. fault ≡ PortFault.Receive) }
         ensures failures { self.new.failures ≡ self.old.failures + (if is_err result then 1 else 0) }
-        ensures longest { longest_of self.new.watch ≡ longest_of self.old.watch }
-        ensures fresh { (history : List QueueEvent) → StandsFor self.old.watch self.old.reading history
-            → (after : List QueueEvent) × StandsFor self.new.watch self.new.reading after
-            × ReceivesFresh (longest_of self.old.watch) self.old.reading self.new.reading
-            (P.history self.old.port) (P.history self.new.port) self.old.stale self.new.stale history after (Some result) }
+        ensures fresh { (given : Option (Result Arrival PortFault)) × PassesOnFresh (kept self.old.watch self.old.reading self.old.stale (P.told self.old.port) (P.history self.old.port))
+            (kept self.new.watch self.new.reading self.new.stale (P.told self.new.port) (P.history self.new.port)) given datagram.new
+            × (result ≡ option_map_or (λ received. received) given (Err PortFault.Receive)) }
     {
         for _ in 0..u64::MAX {
             if let Some(received) = self.receive_fresh(datagram) {
@@ -316,6 +288,7 @@ impl<P: QueuedPort> Port for FreshPort<P> {
         ensures watch { self.new.watch ≡ self.old.watch }
         ensures reading { self.new.reading ≡ self.old.reading }
         ensures stale { self.new.stale ≡ self.old.stale }
+        ensures turns { NowTells (P.told self.old.port) (P.told self.new.port) result }
     {
         self.port.now()
     }
@@ -327,6 +300,7 @@ impl<P: QueuedPort> Port for FreshPort<P> {
         ensures watch { self.new.watch ≡ self.old.watch }
         ensures reading { self.new.reading ≡ self.old.reading }
         ensures stale { self.new.stale ≡ self.old.stale }
+        ensures turns { SendTells (P.told self.old.port) (P.told self.new.port) address port reply.now result }
     {
         let sent = self.port.send(address, port, reply);
         if sent.is_err() {
@@ -348,11 +322,8 @@ impl<P: QueuedPort> TimedPort for FreshPort<P> {
         ensures fault { IfSome result (λ received. IfErr received (λ fault. fault ≡ PortFault.Receive)) }
         ensures failures { self.new.failures
             ≡ self.old.failures + option_map_or (λ received. if is_err received then 1 else 0) result 0 }
-        ensures longest { longest_of self.new.watch ≡ longest_of self.old.watch }
-        ensures fresh { (history : List QueueEvent) → StandsFor self.old.watch self.old.reading history
-            → (after : List QueueEvent) × StandsFor self.new.watch self.new.reading after
-            × ReceivesFresh (longest_of self.old.watch) self.old.reading self.new.reading
-            (P.history self.old.port) (P.history self.new.port) self.old.stale self.new.stale history after result }
+        ensures fresh { PassesOnFresh (kept self.old.watch self.old.reading self.old.stale (P.told self.old.port) (P.history self.old.port))
+            (kept self.new.watch self.new.reading self.new.stale (P.told self.new.port) (P.history self.new.port)) result datagram.new }
     {
         self.receive_fresh(datagram)
     }

@@ -3,6 +3,7 @@ ghost use Rattle.std.specs.Prelude.{◌≡◌, ◌+◌, ◌-◌, ◌≤◌, ◌<
 ghost use Rattle.std.specs.Option.{option_map_or};
 ghost use Rattle.ntp_service_serve.specs.Port.{most_received_octets, ReceiveTells};
 ghost use Rattle.ntp_freshness.specs.declared.queue_event.QueueEvent.{QueueEvent};
+ghost use Rattle.ntp_freshness.specs.Passing.{DropTells};
 ghost use Rattle.ntp_freshness.specs.Queue.{ReadsClock, Tells, seen_in_count, seen_in_look, seen_in_wait, seen_in_drop};
 
 use ntp_service_serve::{Arrival, PortFault, TimedPort};
@@ -50,5 +51,6 @@ pub trait QueuedPort: TimedPort {
     /// queue, and is no failure.
     fn drop_next(&mut self) -> bool
         ensures failures { Self.failure_count self.new ≡ Self.failure_count self.old }
+        ensures turns { DropTells (Self.told self.old) (Self.told self.new) result }
         ensures history { Tells (history self.old) (history self.new) (seen_in_drop result) };
 }

@@ -1,21 +1,23 @@
 use Rattle.std.proofs.Common.{◌≡◌, true, arith}
-use Rattle.ntp_freshness.specs.Watch.{longest_of}
 use Rattle.ntp_freshness.proofs.Dropping.{Drops-none, Drops-swept, Drops-unswept}
 use Rattle.ntp_freshness.proofs.fresh_port.FreshPort.drop_next.Goals as goal
 
 pub returns-then-is_fresh-clause-drops : goal.returns-then-is_fresh-clause-drops
-returns-then-is_fresh-clause-drops g c = λ history stands. Drops-none _ _ _ _ _ history (omega arith) stands
+returns-then-is_fresh-clause-drops g c = Drops-none _ (omega arith)
 
 pub returns-then-has_dropped-clause-drops : goal.returns-then-has_dropped-clause-drops
-returns-then-has_dropped-clause-drops g c = λ history stands. Drops-swept (longest_of c.args.self.now.watch)
-    c.args.self.now.reading c.args.self.now.stale c.saturating_add-self.result (g.P.QueuedPort.history c.args.self.now.port)
-    (g.P.QueuedPort.history c.drop_next-has_dropped.new.self) c.args.self.now.watch c.took.new.self history stands
-    (c.took.ensures.watches history c.args.self.now.reading stands.watches)
-    (λ may. let fresh : c.is_fresh.result ≡ true = c.is_fresh.ensures.stale history stands.watches stands.ordered may in absurd (cc))
-    c.if-has_dropped.ensures.history c.saturating_add-self.ensures
+returns-then-has_dropped-clause-drops g c =
+    Drops-swept c.args.self.now.watch c.took.new.self c.args.self.now.reading c.args.self.now.stale
+    c.saturating_add-self.result (g.P.Port.told c.args.self.now.port)
+    (g.P.Port.told c.drop_next-has_dropped.new.self) (g.P.QueuedPort.history c.args.self.now.port)
+    (g.P.QueuedPort.history c.drop_next-has_dropped.new.self) c.took.ensures.longest
+    (λ history watches. c.took.ensures.watches history c.args.self.now.reading watches)
+    (λ history watches ordered may. let fresh : c.is_fresh.result ≡ true = c.is_fresh.ensures.stale history watches ordered may in absurd (cc))
+    c.if-has_dropped.ensures.turns c.if-has_dropped.ensures.history c.saturating_add-self.ensures
 
 pub returns-else-has_dropped-clause-drops : goal.returns-else-has_dropped-clause-drops
-returns-else-has_dropped-clause-drops g c = λ history stands. Drops-unswept (longest_of c.args.self.now.watch)
-    c.args.self.now.reading c.args.self.now.stale (g.P.QueuedPort.history c.args.self.now.port)
-    (g.P.QueuedPort.history c.drop_next-has_dropped.new.self) c.args.self.now.watch history (omega arith) stands
-    c.if-has_dropped.ensures.history
+returns-else-has_dropped-clause-drops g c =
+    Drops-unswept c.args.self.now.watch c.args.self.now.reading c.args.self.now.stale
+    (g.P.Port.told c.args.self.now.port) (g.P.Port.told c.drop_next-has_dropped.new.self)
+    (g.P.QueuedPort.history c.args.self.now.port) (g.P.QueuedPort.history c.drop_next-has_dropped.new.self) (omega arith)
+    c.if-has_dropped.ensures.turns c.if-has_dropped.ensures.history

@@ -10,12 +10,12 @@ use Rattle.ntp_freshness.specs.declared.fresh_port.Next.{Next}
 use Rattle.ntp_freshness.specs.declared.fresh_port.Next.TheVariants.{Stale}
 use Rattle.ntp_freshness.specs.Freshness.{MayBeAnswered, IsInOrder}
 use Rattle.ntp_freshness.specs.Queue.{Tells, seen_in_drop}
-use Rattle.ntp_freshness.specs.Watch.{Watches, longest_of}
+use Rattle.ntp_freshness.specs.Watch.{Watches, Counts, IsWaiting, longest_of}
 use Rattle.ntp_freshness.specs.Passing.{DropTells, HandsOn}
 use Rattle.ntp_freshness.specs.Fresh.{InHand, Swept, AreStale, counted_on, PassesOn, Kept, kept, PassesOnFresh}
 use Rattle.ntp_freshness.specs.Next.{ComesTo, drops_in, TakesNext, Drops}
 use Rattle.ntp_freshness.proofs.Seeing.{IsSeenFrom-same, IsSeenFrom-more, seen-in_drop}
-use Rattle.ntp_freshness.proofs.Keeping.{AreStale-append, counted-append, StandsFor-Taken}
+use Rattle.ntp_freshness.proofs.Keeping.{AreStale-append, counted-append, counts-one, StandsFor-Taken}
 use Rattle.ntp_freshness.proofs.Passing.{TellsOn-same, DropsTurns-one, DropsTurns-append}
 
 pub Drops-none : (k : Kept) → k.stale ≤ 2 ^ 64 - 1 → Drops k k
@@ -75,31 +75,32 @@ Drops-taken a b datagram takes = record {
 }
 
 -- one that was swept out
-pub Drops-swept : (watch after : QueueWatch) (reading s v : ℕ) (t u : Option Told) (q r : Option (List QueueEvent))
-    → longest_of after ≡ longest_of watch
+pub Drops-swept : (watch after : QueueWatch) (reading next s v : ℕ) (t u : Option Told) (q r : Option (List QueueEvent))
+    → longest_of after ≡ longest_of watch → IsWaiting watch
     → ((history : List QueueEvent) → Watches watch history → Watches after (Taken reading ∷ history))
+    → ((history : List QueueEvent) → Counts watch history → Counts after (Taken reading ∷ history))
     → ((history : List QueueEvent) → Watches watch history → IsInOrder history → MayBeAnswered (longest_of watch) history reading → ⊥)
     → DropTells t u true → Tells q r (seen_in_drop true) → v ≡ counted_on s 1
-    → Drops (kept watch reading s t q) (kept after reading v u r)
-Drops-swept watch after reading s v t u q r longest watches not drops tells counted = record {
+    → Drops (kept watch reading next s t q) (kept after reading next v u r)
+Drops-swept watch after reading next s v t u q r longest waits watches counts not drops tells counted = record {
   count = 1;
   counted = counted;
   turns = DropsTurns-one t u drops;
   longest = longest;
   each = λ history stands. record {
     after = Taken reading ∷ history;
-    stands = StandsFor-Taken watch after reading history stands (watches history stands.watches);
+    stands = StandsFor-Taken watch after reading next history longest stands (watches history stands.watches) (counts history stands.counts);
     seen = seen-in_drop reading q r true history tells;
     dropped = Swept [] refl reading ∷ [];
-    stale = (not history stands.watches stands.ordered, refl);
+    stale = ((not history stands.watches stands.ordered, counts-one watch history waits stands.counts), refl);
     as_many = refl;
   };
 }
 
 -- or none
-pub Drops-unswept : (watch : QueueWatch) (reading s : ℕ) (t u : Option Told) (q r : Option (List QueueEvent)) → s ≤ 2 ^ 64 - 1
-    → DropTells t u false → Tells q r (seen_in_drop false) → Drops (kept watch reading s t q) (kept watch reading s u r)
-Drops-unswept watch reading s t u q r fits drops tells = record {
+pub Drops-unswept : (watch : QueueWatch) (reading next s : ℕ) (t u : Option Told) (q r : Option (List QueueEvent)) → s ≤ 2 ^ 64 - 1
+    → DropTells t u false → Tells q r (seen_in_drop false) → Drops (kept watch reading next s t q) (kept watch reading next s u r)
+Drops-unswept watch reading next s t u q r fits drops tells = record {
   count = 0;
   counted = omega (arith, fits);
   turns = drops;

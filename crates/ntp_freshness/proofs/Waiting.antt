@@ -3,8 +3,8 @@ use Rattle.std.proofs.Common.{◌≡◌, ℕ, ◌+◌, ◌-◌, ◌^◌, ◌≤�
 use Rattle.ntp_events.specs.declared.observation.Arrival.{Arrival}
 use Rattle.ntp_service_serve.specs.declared.port.PortFault.{PortFault}
 use Rattle.ntp_freshness.specs.declared.queue_event.QueueEvent.{QueueEvent}
-use Rattle.ntp_freshness.specs.declared.queue_event.QueueEvent.TheVariants.{Held, Taken, Read}
-use Rattle.ntp_freshness.specs.Freshness.{takes, MayBeAnswered}
+use Rattle.ntp_freshness.specs.declared.queue_event.QueueEvent.TheVariants.{Held, Looked, Taken, Read}
+use Rattle.ntp_freshness.specs.Freshness.{takes, MayBeAnswered, WasLookedAt, WasCounted, oldest_look}
 use Rattle.ntp_freshness.specs.Watch.{longest_of}
 use Rattle.ntp_freshness.specs.Fresh.{Take, history_before, history_after, Dropped, InHand, Swept, history_dropped, IsStale, AreStale, PassesOn, Kept, ReceivesFresh, PassesOnFresh}
 use Rattle.ntp_freshness.proofs.Seeing.{IsSeenFrom-same, IsSeenFrom-more}
@@ -15,6 +15,7 @@ takes-append : (xs ys : List QueueEvent) → takes (xs ++ ys) ≡ takes xs + tak
 takes-append [] ys = omega arith
 takes-append (Taken at ∷ xs) ys = omega (arith, takes-append xs ys)
 takes-append (Held count at ∷ xs) ys = takes-append xs ys
+takes-append (Looked at ∷ xs) ys = takes-append xs ys
 takes-append (Read at ∷ xs) ys = takes-append xs ys
 
 pub quiet-append : (xs ys : List QueueEvent) → takes xs ≡ 0 → takes ys ≡ 0 → takes (xs ++ ys) ≡ 0
@@ -50,9 +51,15 @@ IsStale-earlier : (longest : ℕ) (one : Dropped) (seen history : List QueueEven
     → IsStale longest (seen ++ history) one → IsStale longest history (earlier_dropped one seen quiet)
 unfolding earlier_dropped earlier
 IsStale-earlier longest (InHand take) seen history quiet stale =
-    λ may. stale (subst (λ xs. MayBeAnswered longest xs take.now) (history_before-earlier take seen history quiet) may)
+    let before = history_before-earlier take seen history quiet in (
+      λ may. stale.0 (subst (λ xs. MayBeAnswered longest xs take.now) before may),
+      subst (λ xs. WasLookedAt (oldest_look longest) xs take.at) (sym before) stale.1,
+    )
 IsStale-earlier longest (Swept events calm at) seen history quiet stale =
-    λ may. stale (subst (λ xs. MayBeAnswered longest xs at) (append_assoc events seen history) may)
+    let before : (events ++ seen) ++ history ≡ events ++ (seen ++ history) = append_assoc events seen history in (
+      λ may. stale.0 (subst (λ xs. MayBeAnswered longest xs at) before may),
+      subst WasCounted (sym before) stale.1,
+    )
 
 -- what is passed on, where more was seen before
 PassesOn-earlier : (longest : ℕ) (seen history after : List QueueEvent) (result : Option (Result Arrival PortFault)) → takes seen ≡ 0

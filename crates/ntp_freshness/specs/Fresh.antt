@@ -1,19 +1,26 @@
 -- What a port does that passes on only what may be answered.
-use Rattle.std.specs.Prelude.{◌≡◌, ℕ, ◌+◌, ◌-◌, ◌^◌, ◌≤◌, min, Option, None, Some, Result, Ok, Err, List, [], ◌∷◌, ◌++◌, length, All}
+use Rattle.std.specs.Prelude.{◌≡◌, ℕ, ◌+◌, ◌-◌, ◌^◌, ◌≤◌, ◌⊎◌, min, Option, None, Some, Result, Ok, Err, List, [], ◌∷◌, ◌++◌, length, All}
 use Rattle.ntp_events.specs.declared.observation.Arrival.{Arrival}
 use Rattle.ntp_service_serve.specs.declared.port.PortFault.{PortFault}
 use Rattle.ntp_service_serve.specs.Port.{Told}
 use Rattle.ntp_freshness.specs.declared.queue_event.QueueEvent.{QueueEvent}
 use Rattle.ntp_freshness.specs.declared.queue_event.QueueEvent.TheVariants.{Taken, Read}
 use Rattle.ntp_freshness.specs.declared.queue_watch.QueueWatch.{QueueWatch}
-use Rattle.ntp_freshness.specs.Freshness.{takes, moment_of, IsInOrder, MayBeAnswered}
+use Rattle.ntp_freshness.specs.Freshness.{takes, moment_of, IsInOrder, MayBeAnswered, WasLookedAt, WasCounted, oldest_look}
 use Rattle.ntp_freshness.specs.Queue.{last_reading, SeesMore}
-use Rattle.ntp_freshness.specs.Watch.{Watches, longest_of}
+use Rattle.ntp_freshness.specs.Watch.{Watches, Counts, longest_of}
 use Rattle.ntp_freshness.specs.Passing.{PassesTurns}
 
--- what is kept, with the last reading of the clock, is that of a history whose events are in order and no later than that reading (profile)
-pub record StandsFor (watch : QueueWatch) (reading : ℕ) (history : List QueueEvent) : Type 0 where
+-- when it may be looked again at the queue: at once, or so soon after the last look that it is in time (profile)
+abbrev pub LooksAgain : ℕ → List QueueEvent → ℕ → Type 0
+LooksAgain longest history next = (next ≡ 0) ⊎ WasLookedAt (oldest_look longest) history next
+
+-- what is kept, with the last reading of the clock and with when it may be looked again, is that of a history whose events are in order and
+-- no later than that reading (profile)
+pub record StandsFor (watch : QueueWatch) (reading next_look : ℕ) (history : List QueueEvent) : Type 0 where
   pub watches : Watches watch history
+  pub counts : Counts watch history
+  pub looks_again : LooksAgain (longest_of watch) history next_look
   pub ordered : IsInOrder history
   pub past : All (λ event. moment_of event ≤ reading) history
 
@@ -43,10 +50,12 @@ abbrev pub history_dropped : Dropped → List QueueEvent → List QueueEvent
 history_dropped (InHand take) history = history_after take history
 history_dropped (Swept seen quiet at) history = Taken at ∷ (seen ++ history)
 
--- it may not be answered: once it is in hand, or already when the call begins that sweeps it out (profile)
+-- it may not be answered, once it is in hand, and the queue was looked at in time before it was taken; or already when the call begins that
+-- sweeps it out, and it may be one of those that a look counted (profile)
 abbrev pub IsStale : ℕ → List QueueEvent → Dropped → Type 0
-IsStale longest history (InHand take) = MayBeAnswered longest (history_before take history) take.now → ⊥
-IsStale longest history (Swept seen quiet at) = MayBeAnswered longest (seen ++ history) at → ⊥
+IsStale longest history (InHand take) =
+    (MayBeAnswered longest (history_before take history) take.now → ⊥) × WasLookedAt (oldest_look longest) (history_before take history) take.at
+IsStale longest history (Swept seen quiet at) = (MayBeAnswered longest (seen ++ history) at → ⊥) × WasCounted (seen ++ history)
 
 -- these were dropped, one after another, and none of them may be answered (profile)
 abbrev pub AreStale : ℕ → List QueueEvent → List Dropped → List QueueEvent → Type 0
@@ -86,12 +95,18 @@ IsSeenFrom reading now old new history after = IsShown reading old → IsShown n
 pub record Kept : Type 0 where
   pub watch : QueueWatch
   pub reading : ℕ
+  pub next_look : ℕ
   pub stale : ℕ
   pub told : Option Told
   pub history : Option (List QueueEvent)
 
-abbrev pub kept : QueueWatch → ℕ → ℕ → Option Told → Option (List QueueEvent) → Kept
-kept watch reading stale told history = record { watch = watch; reading = reading; stale = stale; told = told; history = history }
+abbrev pub kept : QueueWatch → ℕ → ℕ → ℕ → Option Told → Option (List QueueEvent) → Kept
+kept watch reading next_look stale told history =
+    record { watch = watch; reading = reading; next_look = next_look; stale = stale; told = told; history = history }
+
+-- it is that of a history
+abbrev pub Stands : Kept → List QueueEvent → Type 0
+Stands k history = StandsFor k.watch k.reading k.next_look history
 
 -- from the queue of the port below were taken so many datagrams that may not be answered, which are dropped, and then what is passed on
 -- (profile)
@@ -110,5 +125,5 @@ pub record PassesOnFresh (old new : Kept) (result : Option (Result Arrival PortF
   pub counted : new.stale ≡ counted_on old.stale dropped
   pub turns : PassesTurns dropped old.told new.told result datagram
   pub longest : longest_of new.watch ≡ longest_of old.watch
-  pub fresh : (history : List QueueEvent) → StandsFor old.watch old.reading history
-      → (after : List QueueEvent) × StandsFor new.watch new.reading after × ReceivesFresh old new dropped history after result
+  pub fresh : (history : List QueueEvent) → Stands old history
+      → (after : List QueueEvent) × Stands new after × ReceivesFresh old new dropped history after result

@@ -1,13 +1,13 @@
 -- Not to be believed: for proofs. What one take comes to.
-use Rattle.std.specs.Prelude.{◌≡◌, ℕ, true, Option, Ok, Err, List, length, ◌++◌}
+use Rattle.std.specs.Prelude.{◌≡◌, ℕ, true, Option, None, Some, Ok, Err, List, length, ◌++◌}
 use Rattle.ntp_service_serve.specs.Port.{Told, ReceiveTells}
 use Rattle.ntp_freshness.specs.declared.queue_event.QueueEvent.{QueueEvent}
 use Rattle.ntp_freshness.specs.declared.fresh_port.Next.{Next}
 use Rattle.ntp_freshness.specs.declared.fresh_port.Next.TheVariants.{Nothing, Fault, Fresh, Stale}
-use Rattle.ntp_freshness.specs.Freshness.{takes, MayBeAnswered}
+use Rattle.ntp_freshness.specs.Freshness.{takes, MayBeAnswered, WasLookedAt}
 use Rattle.ntp_freshness.specs.Watch.{longest_of}
 use Rattle.ntp_freshness.specs.Passing.{TellsOn, DropTells, DropsTurns}
-use Rattle.ntp_freshness.specs.Fresh.{StandsFor, Take, Dropped, history_before, history_after, AreStale, NothingTaken, counted_on, IsSeenFrom, Kept}
+use Rattle.ntp_freshness.specs.Fresh.{Stands, Take, Dropped, InHand, IsStale, history_before, history_after, AreStale, NothingTaken, counted_on, IsSeenFrom, Kept}
 
 -- what was taken
 abbrev pub ComesTo : ℕ → List QueueEvent → Next → List QueueEvent → Type 0
@@ -15,8 +15,7 @@ ComesTo longest history Nothing after = NothingTaken history after
 ComesTo longest history (Fault fault) after = NothingTaken history after
 ComesTo longest history (Fresh arrival) after =
     (take : Take) × MayBeAnswered longest (history_before take history) take.now × (after ≡ history_after take history)
-ComesTo longest history Stale after =
-    (take : Take) × (MayBeAnswered longest (history_before take history) take.now → ⊥) × (after ≡ history_after take history)
+ComesTo longest history Stale after = (take : Take) × IsStale longest history (InHand take) × (after ≡ history_after take history)
 
 -- the turn that it began
 abbrev pub NextTells : Option Told → Option Told → Next → List ℕ → Type 0
@@ -38,7 +37,7 @@ drops_in other = 0
 -- a history goes on with what one take comes to
 pub record TakesOn (old new : Kept) (history : List QueueEvent) (next : Next) : Type 0 where
   pub after : List QueueEvent
-  pub stands : StandsFor new.watch new.reading after
+  pub stands : Stands new after
   pub seen : IsSeenFrom old.reading new.reading old.history new.history history after
   pub comes_to : ComesTo (longest_of old.watch) history next after
 
@@ -47,27 +46,33 @@ pub record TakesNext (old new : Kept) (next : Next) (datagram : List ℕ) : Type
   pub counted : new.stale ≡ counted_on old.stale (drops_in next)
   pub turns : NextTells old.told new.told next datagram
   pub longest : longest_of new.watch ≡ longest_of old.watch
-  pub each : (history : List QueueEvent) → StandsFor old.watch old.reading history → TakesOn old new history next
+  pub each : (history : List QueueEvent) → Stands old history → TakesOn old new history next
+
+-- it was looked at the queue so long before, if a time is given
+abbrev pub WasSeen : Option ℕ → List QueueEvent → ℕ → Type 0
+WasSeen None history now = Unit {0}
+WasSeen (Some before) history now = WasLookedAt before history now
 
 -- a history goes on with what a look sees
-pub record LooksOn (old new : Kept) (history : List QueueEvent) : Type 0 where
+pub record LooksOn (old new : Kept) (before : Option ℕ) (history : List QueueEvent) : Type 0 where
   pub events : List QueueEvent
   pub quiet : takes events ≡ 0
-  pub stands : StandsFor new.watch new.reading (events ++ history)
+  pub stands : Stands new (events ++ history)
   pub seen : IsSeenFrom old.reading new.reading old.history new.history history (events ++ history)
+  pub looked : WasSeen before (events ++ history) old.reading
 
--- a look was made, or none, which takes no datagram and reads no clock
-pub record Looks (old new : Kept) : Type 0 where
+-- a look was made, or none, which takes no datagram and reads no clock; the last look is so old at most
+pub record Looks (old new : Kept) (before : Option ℕ) : Type 0 where
   pub reading : new.reading ≡ old.reading
   pub stale : new.stale ≡ old.stale
   pub told : new.told ≡ old.told
   pub longest : longest_of new.watch ≡ longest_of old.watch
-  pub each : (history : List QueueEvent) → StandsFor old.watch old.reading history → LooksOn old new history
+  pub each : (history : List QueueEvent) → Stands old history → LooksOn old new before history
 
 -- a history went on with so many datagrams that were dropped
 pub record DropsOn (old new : Kept) (count : ℕ) (history : List QueueEvent) : Type 0 where
   pub after : List QueueEvent
-  pub stands : StandsFor new.watch new.reading after
+  pub stands : Stands new after
   pub seen : IsSeenFrom old.reading new.reading old.history new.history history after
   pub dropped : List Dropped
   pub stale : AreStale (longest_of old.watch) history dropped after
@@ -79,4 +84,4 @@ pub record Drops (old new : Kept) : Type 0 where
   pub counted : new.stale ≡ counted_on old.stale count
   pub turns : DropsTurns count old.told new.told
   pub longest : longest_of new.watch ≡ longest_of old.watch
-  pub each : (history : List QueueEvent) → StandsFor old.watch old.reading history → DropsOn old new count history
+  pub each : (history : List QueueEvent) → Stands old history → DropsOn old new count history

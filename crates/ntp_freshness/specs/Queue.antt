@@ -3,13 +3,14 @@ use Rattle.std.specs.Prelude.{◌≡◌, ℕ, ◌≤◌, Bool, true, false, Opti
 use Rattle.ntp_events.specs.declared.observation.Arrival.{Arrival}
 use Rattle.ntp_service_serve.specs.declared.port.PortFault.{PortFault}
 use Rattle.ntp_freshness.specs.declared.queue_event.QueueEvent.{QueueEvent}
-use Rattle.ntp_freshness.specs.declared.queue_event.QueueEvent.TheVariants.{Held, Taken, Read}
+use Rattle.ntp_freshness.specs.declared.queue_event.QueueEvent.TheVariants.{Held, Looked, Taken, Read}
 
 -- what the clock showed last, and 0 before its first reading (profile)
 abbrev pub last_reading : List QueueEvent → ℕ
 last_reading [] = 0
 last_reading (Read at ∷ history) = at
 last_reading (Held count at ∷ history) = last_reading history
+last_reading (Looked at ∷ history) = last_reading history
 last_reading (Taken at ∷ history) = last_reading history
 
 -- these events, newest first, were seen after what was seen before. A port that tells no longer, or never did, tells nothing of them (profile)
@@ -28,10 +29,10 @@ ReadsClock (Some old) (Some new) now = (last_reading old ≤ now) × (new ≡ Re
 abbrev pub seen_in_count : ℕ → ℕ → List QueueEvent
 seen_in_count count shown = Held count shown ∷ []
 
--- or whether it was empty (profile)
+-- or whether it was empty; that it was looked at is told in both cases (profile)
 abbrev pub seen_in_look : Bool → ℕ → List QueueEvent
 seen_in_look true shown = Held 0 shown ∷ []
-seen_in_look false shown = []
+seen_in_look false shown = Looked shown ∷ []
 
 -- what a wait for a datagram tells: a failed one nothing (profile)
 abbrev pub seen_in_wait : Option (Result Arrival PortFault) → ℕ → List QueueEvent

@@ -1,8 +1,9 @@
 -- What is kept of a history.
-use Rattle.std.specs.Prelude.{◌≡◌, ℕ, suc, ◌<◌, nat_le, ◌&&◌, if◌then◌else◌, Option, None, Some, List, [], ◌∷◌}
+use Rattle.std.specs.Prelude.{◌≡◌, ℕ, suc, ◌+◌, ◌<◌, ◌++◌, nat_le, ◌&&◌, if◌then◌else◌, Option, None, Some, List, [], ◌∷◌}
 use Rattle.ntp_freshness.specs.declared.queue_event.QueueEvent.{QueueEvent}
-use Rattle.ntp_freshness.specs.declared.queue_event.QueueEvent.TheVariants.{Held, Taken, Read}
+use Rattle.ntp_freshness.specs.declared.queue_event.QueueEvent.TheVariants.{Held, Looked, Taken, Read}
 use Rattle.ntp_freshness.specs.declared.queue_watch.QueueWatch.{QueueWatch}
+use Rattle.ntp_freshness.specs.Freshness.{takes}
 
 -- how long a datagram may have waited, in nanoseconds
 abbrev pub longest_of : QueueWatch → ℕ
@@ -16,6 +17,7 @@ IsWaiting watch = 0 < watch.waiting
 abbrev pub known_after : ℕ → List QueueEvent → Option ℕ
 known_after more [] = None
 known_after more (Held count at ∷ history) = if nat_le count more then Some at else known_after more history
+known_after more (Looked at ∷ history) = known_after more history
 known_after more (Taken at ∷ history) = known_after (suc more) history
 known_after more (Read at ∷ history) = known_after more history
 
@@ -26,3 +28,8 @@ kept_after watch more = if nat_le 1 watch.waiting && nat_le watch.waiting more t
 -- what is kept is that of a history (profile)
 abbrev pub Watches : QueueWatch → List QueueEvent → Type 0
 Watches watch history = (more : ℕ) → known_after more history ≡ kept_after watch more
+
+-- the datagrams that may still be in the queue are what is left of those that a look counted
+abbrev pub Counts : QueueWatch → List QueueEvent → Type 0
+Counts watch history = IsWaiting watch → (since : List QueueEvent) × (before : List QueueEvent) × (count : ℕ)
+    × (history ≡ since ++ Held count watch.seen ∷ before) × (takes since + watch.waiting ≡ count)

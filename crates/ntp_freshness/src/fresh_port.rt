@@ -1,10 +1,10 @@
 //! A port that passes on only datagrams that have not waited for long.
-ghost use Rattle.std.specs.Prelude.{◌≡◌, ◌+◌, ◌-◌, ◌≤◌, ◌<◌, ◌^◌, List, All, Option, Some, Result, Err, IfOk, IfErr, IfSome, option_map, is_err, if◌then◌else◌};
+ghost use Rattle.std.specs.Prelude.{◌≡◌, ◌+◌, ◌-◌, ◌/◌, ◌≤◌, ◌<◌, ◌^◌, List, All, Option, None, Some, Result, Err, IfOk, IfErr, IfSome, option_map, is_err, if◌then◌else◌};
 ghost use Rattle.std.specs.Option.{option_map_or};
 ghost use Rattle.ntp_service_serve.specs.Port.{most_received_octets, NowTells, SendTells};
 ghost use Rattle.ntp_freshness.specs.declared.queue_event.QueueEvent.{QueueEvent};
-ghost use Rattle.ntp_freshness.specs.Freshness.{moment_of, IsInOrder};
-ghost use Rattle.ntp_freshness.specs.Watch.{Watches, kept_after};
+ghost use Rattle.ntp_freshness.specs.Freshness.{moment_of, IsInOrder, oldest_look};
+ghost use Rattle.ntp_freshness.specs.Watch.{Watches, Counts, longest_of, kept_after};
 ghost use Rattle.ntp_freshness.specs.Fresh.{StandsFor, IsShown, kept, PassesOnFresh};
 ghost use Rattle.ntp_freshness.specs.Next.{TakesNext, Looks, Drops, failures_in};
 
@@ -27,7 +27,7 @@ const MOST_SWEEPS: u32 = 4;
 ///
 /// Where one is too old, so are those behind it that were in the queue when it was looked at last: these are swept out, one
 /// after another, and neither the clock nor the queue is asked in between. So what came after that look is reached
-/// soonest.
+/// soonest. One is dropped from hand only where the queue was looked at in time before, and swept out only where a look had counted it.
 ///
 /// The other port's waits have to end well within that time: else a datagram that came during a long wait is dropped.
 #[derive(Drop)]
@@ -61,7 +61,8 @@ impl<P: QueuedPort> FreshPort<P> {
     /// nothing. `watch` may know the queue already, by the port's clock: a queue that is new was empty just before.
     pub fn new(mut port: P, watch: QueueWatch) -> FreshPort<P>
         ensures stands { (history : List QueueEvent) → Watches watch history → IsInOrder history
-            → All (λ event. moment_of event ≤ result.reading) history → StandsFor result.watch result.reading history }
+            → All (λ event. moment_of event ≤ result.reading) history → Counts watch history
+            → StandsFor result.watch result.reading result.next_look history }
         ensures watch { result.watch ≡ watch }
         ensures shown { IsShown result.reading (P.history result.port) }
         ensures stale { result.stale ≡ 0 }
@@ -121,8 +122,8 @@ impl<P: QueuedPort> FreshPort<P> {
         ensures fault { IfSome result (λ received. IfErr received (λ fault. fault ≡ PortFault.Receive)) }
         ensures failures { self.new.failures
             ≡ self.old.failures + option_map_or (λ received. if is_err received then 1 else 0) result 0 }
-        ensures fresh { PassesOnFresh (kept self.old.watch self.old.reading self.old.stale (P.told self.old.port) (P.history self.old.port))
-            (kept self.new.watch self.new.reading self.new.stale (P.told self.new.port) (P.history self.new.port)) result datagram.new }
+        ensures fresh { PassesOnFresh (kept self.old.watch self.old.reading self.old.next_look self.old.stale (P.told self.old.port) (P.history self.old.port))
+            (kept self.new.watch self.new.reading self.new.next_look self.new.stale (P.told self.new.port) (P.history self.new.port)) result datagram.new }
     {
         for _ in 0..MOST_SWEEPS {
             match self.take_next(datagram) {
@@ -144,8 +145,8 @@ impl<P: QueuedPort> FreshPort<P> {
         ensures fresh { (arrival : Arrival) → result ≡ Next.Fresh arrival → arrival.length ≤ most_received_octets }
         ensures fault { (fault : PortFault) → result ≡ Next.Fault fault → fault ≡ PortFault.Receive }
         ensures failures { self.new.failures ≡ self.old.failures + failures_in result }
-        ensures next { TakesNext (kept self.old.watch self.old.reading self.old.stale (P.told self.old.port) (P.history self.old.port))
-            (kept self.new.watch self.new.reading self.new.stale (P.told self.new.port) (P.history self.new.port)) result datagram.new }
+        ensures next { TakesNext (kept self.old.watch self.old.reading self.old.next_look self.old.stale (P.told self.old.port) (P.history self.old.port))
+            (kept self.new.watch self.new.reading self.new.next_look self.new.stale (P.told self.new.port) (P.history self.new.port)) result datagram.new }
     {
         self.look();
         let received = self.port.take_in_time(datagram);
@@ -176,8 +177,8 @@ impl<P: QueuedPort> FreshPort<P> {
     // Drops what was in the queue when it was looked at last, as long as it may not be answered.
     fn sweep(&mut self)
         ensures failures { self.new.failures ≡ self.old.failures }
-        ensures drops { Drops (kept self.old.watch self.old.reading self.old.stale (P.told self.old.port) (P.history self.old.port))
-            (kept self.new.watch self.new.reading self.new.stale (P.told self.new.port) (P.history self.new.port)) }
+        ensures drops { Drops (kept self.old.watch self.old.reading self.old.next_look self.old.stale (P.told self.old.port) (P.history self.old.port))
+            (kept self.new.watch self.new.reading self.new.next_look self.new.stale (P.told self.new.port) (P.history self.new.port)) }
     {
         for _ in 0..self.watch.waiting() {
             if !self.drop_next() {
@@ -186,13 +187,16 @@ impl<P: QueuedPort> FreshPort<P> {
         }
     }
 
-    // Drops the next datagram, where it may not be answered by what is known. Whether it did.
+    // Drops the next datagram, where it is one of those that were counted and may not be answered by what is known. Whether it did.
     fn drop_next(&mut self) -> bool
         ensures failures { self.new.failures ≡ self.old.failures }
-        ensures drops { Drops (kept self.old.watch self.old.reading self.old.stale (P.told self.old.port) (P.history self.old.port))
-            (kept self.new.watch self.new.reading self.new.stale (P.told self.new.port) (P.history self.new.port)) }
+        ensures drops { Drops (kept self.old.watch self.old.reading self.old.next_look self.old.stale (P.told self.old.port) (P.history self.old.port))
+            (kept self.new.watch self.new.reading self.new.next_look self.new.stale (P.told self.new.port) (P.history self.new.port)) }
     {
         let stale = self.stale;
+        if !self.watch.is_waiting() {
+            return false;
+        }
         if self.watch.is_fresh(self.reading) {
             return false;
         }
@@ -207,20 +211,20 @@ impl<P: QueuedPort> FreshPort<P> {
     // Looks at the queue where it is time to, once in a ten-thousandth of a second at most.
     fn look(&mut self)
         ensures failures { self.new.failures ≡ self.old.failures }
-        ensures looks { Looks (kept self.old.watch self.old.reading self.old.stale (P.told self.old.port) (P.history self.old.port))
-            (kept self.new.watch self.new.reading self.new.stale (P.told self.new.port) (P.history self.new.port)) }
+        ensures looks { Looks (kept self.old.watch self.old.reading self.old.next_look self.old.stale (P.told self.old.port) (P.history self.old.port))
+            (kept self.new.watch self.new.reading self.new.next_look self.new.stale (P.told self.new.port) (P.history self.new.port)) (Some (oldest_look (longest_of self.old.watch))) }
     {
         if self.reading >= self.next_look {
-            self.next_look = self.reading.saturating_add(LOOK_PERIOD);
             self.look_where_due();
+            self.next_look = self.reading.saturating_add(LOOK_PERIOD);
         }
     }
 
     // Looks at the queue where what is known of it is old.
     fn look_where_due(&mut self)
         ensures failures { self.new.failures ≡ self.old.failures }
-        ensures looks { Looks (kept self.old.watch self.old.reading self.old.stale (P.told self.old.port) (P.history self.old.port))
-            (kept self.new.watch self.new.reading self.new.stale (P.told self.new.port) (P.history self.new.port)) }
+        ensures looks { Looks (kept self.old.watch self.old.reading self.old.next_look self.old.stale (P.told self.old.port) (P.history self.old.port))
+            (kept self.new.watch self.new.reading self.new.next_look self.new.stale (P.told self.new.port) (P.history self.new.port)) (Some (longest_of self.old.watch / 10)) }
     {
         if self.watch.is_due(self.reading) {
             self.look_now();
@@ -230,8 +234,8 @@ impl<P: QueuedPort> FreshPort<P> {
     // Looks whether the queue is empty, and how many datagrams are in it where that has to be known.
     fn look_now(&mut self)
         ensures failures { self.new.failures ≡ self.old.failures }
-        ensures looks { Looks (kept self.old.watch self.old.reading self.old.stale (P.told self.old.port) (P.history self.old.port))
-            (kept self.new.watch self.new.reading self.new.stale (P.told self.new.port) (P.history self.new.port)) }
+        ensures looks { Looks (kept self.old.watch self.old.reading self.old.next_look self.old.stale (P.told self.old.port) (P.history self.old.port))
+            (kept self.new.watch self.new.reading self.new.next_look self.new.stale (P.told self.new.port) (P.history self.new.port)) (Some 0) }
     {
         self.look_whether_empty();
         self.look_how_many();
@@ -240,8 +244,8 @@ impl<P: QueuedPort> FreshPort<P> {
     // Looks whether the queue is empty.
     fn look_whether_empty(&mut self)
         ensures failures { self.new.failures ≡ self.old.failures }
-        ensures looks { Looks (kept self.old.watch self.old.reading self.old.stale (P.told self.old.port) (P.history self.old.port))
-            (kept self.new.watch self.new.reading self.new.stale (P.told self.new.port) (P.history self.new.port)) }
+        ensures looks { Looks (kept self.old.watch self.old.reading self.old.next_look self.old.stale (P.told self.old.port) (P.history self.old.port))
+            (kept self.new.watch self.new.reading self.new.next_look self.new.stale (P.told self.new.port) (P.history self.new.port)) (Some 0) }
     {
         if self.port.is_empty() {
             self.watch.saw(0, self.reading);
@@ -251,8 +255,8 @@ impl<P: QueuedPort> FreshPort<P> {
     // Looks how many datagrams are in the queue, where no earlier look is waited for and what is known is old: that costs more.
     fn look_how_many(&mut self)
         ensures failures { self.new.failures ≡ self.old.failures }
-        ensures looks { Looks (kept self.old.watch self.old.reading self.old.stale (P.told self.old.port) (P.history self.old.port))
-            (kept self.new.watch self.new.reading self.new.stale (P.told self.new.port) (P.history self.new.port)) }
+        ensures looks { Looks (kept self.old.watch self.old.reading self.old.next_look self.old.stale (P.told self.old.port) (P.history self.old.port))
+            (kept self.new.watch self.new.reading self.new.next_look self.new.stale (P.told self.new.port) (P.history self.new.port)) None }
     {
         if !self.watch.is_waiting() && self.watch.is_old(self.reading) {
             let count = self.port.most_held();
@@ -270,8 +274,8 @@ impl<P: QueuedPort> Port for FreshPort<P> {
         ensures length { IfOk result (λ arrival. arrival.length ≤ most_received_octets) }
         ensures fault { IfErr result (λ fault. fault ≡ PortFault.Receive) }
         ensures failures { self.new.failures ≡ self.old.failures + (if is_err result then 1 else 0) }
-        ensures fresh { (given : Option (Result Arrival PortFault)) × PassesOnFresh (kept self.old.watch self.old.reading self.old.stale (P.told self.old.port) (P.history self.old.port))
-            (kept self.new.watch self.new.reading self.new.stale (P.told self.new.port) (P.history self.new.port)) given datagram.new
+        ensures fresh { (given : Option (Result Arrival PortFault)) × PassesOnFresh (kept self.old.watch self.old.reading self.old.next_look self.old.stale (P.told self.old.port) (P.history self.old.port))
+            (kept self.new.watch self.new.reading self.new.next_look self.new.stale (P.told self.new.port) (P.history self.new.port)) given datagram.new
             × (result ≡ option_map_or (λ received. received) given (Err PortFault.Receive)) }
     {
         for _ in 0..u64::MAX {
@@ -322,8 +326,8 @@ impl<P: QueuedPort> TimedPort for FreshPort<P> {
         ensures fault { IfSome result (λ received. IfErr received (λ fault. fault ≡ PortFault.Receive)) }
         ensures failures { self.new.failures
             ≡ self.old.failures + option_map_or (λ received. if is_err received then 1 else 0) result 0 }
-        ensures fresh { PassesOnFresh (kept self.old.watch self.old.reading self.old.stale (P.told self.old.port) (P.history self.old.port))
-            (kept self.new.watch self.new.reading self.new.stale (P.told self.new.port) (P.history self.new.port)) result datagram.new }
+        ensures fresh { PassesOnFresh (kept self.old.watch self.old.reading self.old.next_look self.old.stale (P.told self.old.port) (P.history self.old.port))
+            (kept self.new.watch self.new.reading self.new.next_look self.new.stale (P.told self.new.port) (P.history self.new.port)) result datagram.new }
     {
         self.receive_fresh(datagram)
     }

@@ -185,6 +185,7 @@ impl<A: Allocator> QueuedPort for MemoryQueue<A> {
 
     fn is_empty(&mut self) -> bool {
         if self.come_by(self.shown).is_some() {
+            self.log.see(QueueEvent::Looked(self.shown));
             return false;
         }
         self.log.see(QueueEvent::Held {

@@ -1,8 +1,8 @@
 //! What is kept of a queue, to know after which moment its next datagram came.
-ghost use Rattle.std.specs.Prelude.{◌≡◌, ℕ, ◌+◌, ◌<◌, ◌↔◌, ◌⊎◌, List, [], ◌∷◌, Some, IsTrue};
+ghost use Rattle.std.specs.Prelude.{◌≡◌, ℕ, ◌+◌, ◌/◌, ◌<◌, ◌↔◌, ◌⊎◌, List, [], ◌∷◌, Some, IsTrue, false};
 ghost use Rattle.ntp_freshness.specs.declared.queue_event.QueueEvent.{QueueEvent};
 ghost use Rattle.ntp_freshness.specs.Freshness.{MayBeAnswered, IsInOrder};
-ghost use Rattle.ntp_freshness.specs.Watch.{Watches, IsWaiting, longest_of, kept_after};
+ghost use Rattle.ntp_freshness.specs.Watch.{Watches, Counts, IsWaiting, longest_of, kept_after};
 
 /// Into how many parts the longest time is divided that a datagram may wait: what is known of the queue is looked for anew
 /// where it is one part old by a look whether the queue is empty, and by a count where it is three parts old (profile).
@@ -26,6 +26,7 @@ impl QueueWatch {
     /// be answered.
     pub fn new(longest: u64) -> QueueWatch
         ensures watches { Watches result [] }
+        ensures counts { Counts result [] }
         ensures longest { longest_of result ≡ longest }
     {
         QueueWatch {
@@ -41,6 +42,7 @@ impl QueueWatch {
     pub fn saw(&mut self, count: u64, at: u64)
         ensures watches { (history : List QueueEvent) → (count ≡ 0) ⊎ (IsWaiting self.old → ⊥) → Watches self.old history
             → Watches self.new (QueueEvent.Held count at ∷ history) }
+        ensures counts { (history : List QueueEvent) → Counts self.new (QueueEvent.Held count at ∷ history) }
         ensures longest { longest_of self.new ≡ longest_of self.old }
     {
         if count == 0 {
@@ -53,6 +55,7 @@ impl QueueWatch {
     /// A datagram was taken out of the queue.
     pub fn took(&mut self)
         ensures watches { (history : List QueueEvent) → (at : ℕ) → Watches self.old history → Watches self.new (QueueEvent.Taken at ∷ history) }
+        ensures counts { (history : List QueueEvent) → (at : ℕ) → Counts self.old history → Counts self.new (QueueEvent.Taken at ∷ history) }
         ensures longest { longest_of self.new ≡ longest_of self.old }
     {
         if self.waiting == 1 {
@@ -91,7 +94,9 @@ impl QueueWatch {
     }
 
     // Whether it is time to look whether the queue is empty.
-    pub(crate) fn is_due(&self, now: u64) -> bool {
+    pub(crate) fn is_due(&self, now: u64) -> bool
+        ensures { result ≡ false → (at : ℕ) × (self.now.known ≡ Some at) × (now < at + longest_of self.now / 10) }
+    {
         !self.is_known_within(now, self.longest / PARTS)
     }
 

@@ -1,10 +1,10 @@
 use Rattle.std.proofs.Common.{inl, ◌≡◌, ◌≤◌, ◌∷◌, ◌++◌, None, Some, Ok, Err, true, false, refl, sym, ap, subst, ◌∙◌, arith}
 use Rattle.ntp_freshness.specs.declared.queue_event.QueueEvent.TheVariants.{Held, Taken, Read}
 use Rattle.ntp_freshness.specs.Watch.{longest_of}
-use Rattle.ntp_freshness.specs.Freshness.{MayBeAnswered}
+use Rattle.ntp_freshness.specs.Freshness.{MayBeAnswered, WasLookedAt, oldest_look}
 use Rattle.ntp_freshness.proofs.Passing.{TellsOn-is, DropTells-received, ReceiveTells-along}
 use Rattle.ntp_freshness.proofs.Seeing.{seen-in_take}
-use Rattle.ntp_freshness.proofs.Keeping.{StandsFor-Held, StandsFor-Taken, StandsFor-Read}
+use Rattle.ntp_freshness.proofs.Keeping.{StandsFor-Held, StandsFor-Taken, StandsFor-Read, StandsFor-next}
 use Rattle.ntp_freshness.proofs.fresh_port.FreshPort.take_next.Goals as goal
 
 pub returns-in_default-clause-next : goal.returns-in_default-clause-next
@@ -12,6 +12,7 @@ returns-in_default-clause-next g c =
     let looks = c.look.ensures.looks in
     let before = c.look.new.self.reading in
     let now = c.max-self.result in
+    let next = c.look.new.self.next_look in
     let later : before ≤ now = omega (arith, c.max-self.ensures) in
     record {
       counted = omega (arith, looks.stale);
@@ -22,9 +23,9 @@ returns-in_default-clause-next g c =
           let known = look.events ++ history in
           record {
             after = Read now ∷ (Held 0 before ∷ known);
-            stands = StandsFor-Read c.saw.new.self before now (Held 0 before ∷ known) later
-                (StandsFor-Held c.look.new.self.watch c.saw.new.self before 0 known look.stands
-                (c.saw.ensures.watches known (inl refl) look.stands.watches));
+            stands = StandsFor-Read c.saw.new.self before now next (Held 0 before ∷ known) later
+                (StandsFor-Held c.look.new.self.watch c.saw.new.self before next 0 known c.saw.ensures.longest look.stands
+                (c.saw.ensures.watches known (inl refl) look.stands.watches) (c.saw.ensures.counts known));
             seen = seen-in_take c.args.self.now.reading before now c.ticks.result (g.P.QueuedPort.history c.args.self.now.port)
                 (g.P.QueuedPort.history c.look.new.self.port) (g.P.QueuedPort.history c.take_in_time-received.new.self)
                 (g.P.QueuedPort.history c.ticks.new.self) None None history known look.seen refl
@@ -38,6 +39,7 @@ returns-in-Err-clause-next g c =
     let looks = c.look.ensures.looks in
     let before = c.look.new.self.reading in
     let now = c.max-self.result in
+    let next = c.look.new.self.next_look in
     let later : before ≤ now = omega (arith, c.max-self.ensures) in
     let inner : c.in-Some.received ≡ Err c.in-Err.fault = c.in-Err.is in
     let is : c.take_in_time-received.result ≡ Some (Err c.in-Err.fault) = c.in-Some.is ∙ ap Some inner in
@@ -53,7 +55,7 @@ returns-in-Err-clause-next g c =
           let known = look.events ++ history in
           record {
             after = Read now ∷ known;
-            stands = StandsFor-Read c.look.new.self.watch before now known later look.stands;
+            stands = StandsFor-Read c.look.new.self.watch before now next known later look.stands;
             seen = seen-in_take c.args.self.now.reading before now c.ticks.result (g.P.QueuedPort.history c.args.self.now.port)
                 (g.P.QueuedPort.history c.look.new.self.port) (g.P.QueuedPort.history c.take_in_time-received.new.self)
                 (g.P.QueuedPort.history c.ticks.new.self) c.take_in_time-received.result (Some (Err c.in-Err.fault)) history known look.seen is
@@ -67,6 +69,7 @@ returns-then-is_fresh-clause-next g c =
     let looks = c.look.ensures.looks in
     let before = c.look.new.self.reading in
     let now = c.max-self.result in
+    let next = c.look.new.self.next_look in
     let later : before ≤ now = omega (arith, c.max-self.ensures) in
     let inner : c.in-Some.received ≡ Ok c.in-Ok.arrival = c.in-Ok.is in
     let is : c.take_in_time-received.result ≡ Some (Ok c.in-Ok.arrival) = c.in-Some.is ∙ ap Some inner in
@@ -84,8 +87,9 @@ returns-then-is_fresh-clause-next g c =
           (c.is_fresh-is_fresh.ensures.fresh known look.stands.watches c.if-is_fresh.true) in
           record {
             after = Read now ∷ (Taken before ∷ known);
-            stands = StandsFor-Read c.took.new.self before now (Taken before ∷ known) later
-                (StandsFor-Taken c.look.new.self.watch c.took.new.self before known look.stands (c.took.ensures.watches known before look.stands.watches));
+            stands = StandsFor-Read c.took.new.self before now next (Taken before ∷ known) later
+                (StandsFor-Taken c.look.new.self.watch c.took.new.self before next known c.took.ensures.longest look.stands
+                (c.took.ensures.watches known before look.stands.watches) (c.took.ensures.counts known before look.stands.counts));
             seen = seen-in_take c.args.self.now.reading before now c.ticks.result (g.P.QueuedPort.history c.args.self.now.port)
                 (g.P.QueuedPort.history c.look.new.self.port) (g.P.QueuedPort.history c.take_in_time-received.new.self)
                 (g.P.QueuedPort.history c.ticks.new.self) c.take_in_time-received.result (Some (Ok c.in-Ok.arrival)) history known look.seen is
@@ -99,6 +103,7 @@ returns-else-is_fresh-clause-next g c =
     let looks = c.look.ensures.looks in
     let before = c.look.new.self.reading in
     let now = c.max-self.result in
+    let next = c.look.new.self.next_look in
     let later : before ≤ now = omega (arith, c.max-self.ensures) in
     let inner : c.in-Some.received ≡ Ok c.in-Ok.arrival = c.in-Ok.is in
     let is : c.take_in_time-received.result ≡ Some (Ok c.in-Ok.arrival) = c.in-Some.is ∙ ap Some inner in
@@ -114,17 +119,22 @@ returns-else-is_fresh-clause-next g c =
           let known = look.events ++ history in
           record {
             after = Read now ∷ (Taken before ∷ known);
-            stands = StandsFor-Read c.took.new.self before now (Taken before ∷ known) later
-                (StandsFor-Taken c.look.new.self.watch c.took.new.self before known look.stands (c.took.ensures.watches known before look.stands.watches));
+            stands = StandsFor-next c.took.new.self now next 0 (Read now ∷ (Taken before ∷ known)) (inl refl)
+                (StandsFor-Read c.took.new.self before now next (Taken before ∷ known) later
+                (StandsFor-Taken c.look.new.self.watch c.took.new.self before next known c.took.ensures.longest look.stands
+                (c.took.ensures.watches known before look.stands.watches) (c.took.ensures.counts known before look.stands.counts)));
             seen = seen-in_take c.args.self.now.reading before now c.ticks.result (g.P.QueuedPort.history c.args.self.now.port)
                 (g.P.QueuedPort.history c.look.new.self.port) (g.P.QueuedPort.history c.take_in_time-received.new.self)
                 (g.P.QueuedPort.history c.ticks.new.self) c.take_in_time-received.result (Some (Ok c.in-Ok.arrival)) history known look.seen is
                 c.take_in_time-received.ensures.history c.max-self.ensures c.ticks.ensures.history;
             comes_to = (
               record { seen = look.events; quiet = look.quiet; at = before; now = now },
-              (λ may. let fresh : c.is_fresh-is_fresh.result ≡ true = c.is_fresh-is_fresh.ensures.stale known look.stands.watches look.stands.ordered
-                  (subst (λ n. MayBeAnswered n known now) (sym looks.longest) may) in
-                  let clash : true ≡ false = cc in absurd (cc)),
+              (
+                λ may. let fresh : c.is_fresh-is_fresh.result ≡ true = c.is_fresh-is_fresh.ensures.stale known look.stands.watches look.stands.ordered
+                    (subst (λ n. MayBeAnswered n known now) (sym looks.longest) may) in
+                    let clash : true ≡ false = cc in absurd (cc),
+                subst (λ at. WasLookedAt (oldest_look (longest_of c.args.self.now.watch)) known at) (sym looks.reading) look.looked,
+              ),
               refl,
             );
           };

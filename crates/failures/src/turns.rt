@@ -4,7 +4,9 @@ ghost use Rattle.std.specs.Prelude.{◌≡◌, IfOk};
 ghost use Rattle.ntp_service_serve.specs.Memory.{memory_failures};
 
 use ntp_register::Address;
-use ntp_service_serve::{Arrival, MemoryPort, Port, PortFault, Sent, Served, Turn, serve};
+use ntp_service_serve::{
+    Arrival, DatagramRoom, MemoryPort, Port, PortFault, Sent, Served, Turn, serve,
+};
 use ntp_time::Moment;
 use refusing::Refusing;
 use std::alloc::Allocator;
@@ -119,7 +121,7 @@ struct Broken {
 impl Port for Broken {
     ghost failure_count = { λ p. p.failed };
 
-    fn receive(&mut self, _datagram: &mut [u8; 1025]) -> Result<Arrival, PortFault> {
+    fn receive(&mut self, _datagram: &mut DatagramRoom) -> Result<Arrival, PortFault> {
         self.failed += 1;
         Err(PortFault::Receive)
     }

@@ -10,7 +10,7 @@ use libc::types::pollfd;
 use ntp_freshness::QueuedPort;
 use ntp_host::UdpPort;
 use ntp_register::Address;
-use ntp_service_serve::{Arrival, Port, PortFault, TimedPort};
+use ntp_service_serve::{Arrival, DatagramRoom, Port, PortFault, TimedPort};
 use ntp_time::{Moment, Stamp};
 use std::cell::Cell;
 use std::fs::Files;
@@ -151,7 +151,7 @@ fn readable(descriptor: i32) -> pollfd {
 impl<'a, C: Clock + Copy + Drop, R: Files> Port for QueuedUdp<'a, C, R> {
     ghost failure_count = { λ queued. queued.failures };
 
-    fn receive(&mut self, datagram: &mut [u8; 1025]) -> Result<Arrival, PortFault> {
+    fn receive(&mut self, datagram: &mut DatagramRoom) -> Result<Arrival, PortFault> {
         self.has_sent = false;
         let received = self.port.receive(datagram);
         if received.is_err() {
@@ -191,7 +191,10 @@ impl<'a, C: Clock + Copy + Drop, R: Files> Port for QueuedUdp<'a, C, R> {
 }
 
 impl<'a, C: Clock + Copy + Drop, R: Files> TimedPort for QueuedUdp<'a, C, R> {
-    fn receive_in_time(&mut self, datagram: &mut [u8; 1025]) -> Option<Result<Arrival, PortFault>> {
+    fn receive_in_time(
+        &mut self,
+        datagram: &mut DatagramRoom,
+    ) -> Option<Result<Arrival, PortFault>> {
         // After a reply that tells no time nobody asks for its departure.
         self.has_sent = false;
         let expected = self.clocks.expected.get();
@@ -223,7 +226,7 @@ impl<'a, C: Clock + Copy + Drop, R: Files> QueuedPort for QueuedUdp<'a, C, R> {
         poll(&mut [readable(self.descriptor)], 0) == 0
     }
 
-    fn take_in_time(&mut self, datagram: &mut [u8; 1025]) -> Option<Result<Arrival, PortFault>> {
+    fn take_in_time(&mut self, datagram: &mut DatagramRoom) -> Option<Result<Arrival, PortFault>> {
         self.receive_in_time(datagram)
     }
 

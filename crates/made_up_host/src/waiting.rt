@@ -1,7 +1,7 @@
 //! A port that waits for a datagram.
 
 use ntp_host::UdpPort;
-use ntp_service_serve::Port;
+use ntp_service_serve::{MOST_RECEIVED_OCTETS, Port};
 use std::io::{self, ErrorKind};
 use std::net::UdpSocket;
 use std::time::{Clock, Duration};
@@ -28,7 +28,7 @@ pub fn show(rt: &HostRuntime) -> io::Result<()> {
     let client = UdpSocket::bind(rt, "127.0.0.1:0")?;
     client.connect(socket.local_addr()?)?;
     let mut port = UdpPort::new(socket, Sending(&client));
-    let mut datagram = [0; 1025];
+    let mut datagram = [0; MOST_RECEIVED_OCTETS];
     match port.receive(&mut datagram) {
         Ok(arrival) => println!(rt; "received {} octets", arrival.length)?,
         Err(_) => println!(rt; "received nothing")?,

@@ -11,7 +11,7 @@ ghost use Rattle.ntp_freshness.specs.Next.{TakesNext, Looks, Drops, failures_in}
 use crate::queue_watch::QueueWatch;
 use crate::queued_port::QueuedPort;
 use ntp_register::Address;
-use ntp_service_serve::{Arrival, Port, PortFault, TimedPort};
+use ntp_service_serve::{Arrival, DatagramRoom, Port, PortFault, TimedPort};
 use ntp_time::Moment;
 
 /// How long it is not looked again at the queue, in nanoseconds: a ten-thousandth of a second. So looking costs little
@@ -116,7 +116,10 @@ impl<P: QueuedPort> FreshPort<P> {
     ///
     /// Whatever history the watch stood for, it goes on to stand for one more, with which this is so; and where the other port
     /// tells what it saw, it is just that. Where it tells its turns, what is passed on is its next one, behind as many as were dropped.
-    pub fn receive_fresh(&mut self, datagram: &mut [u8; 1025]) -> Option<Result<Arrival, PortFault>>
+    pub fn receive_fresh(
+        &mut self,
+        datagram: &mut DatagramRoom,
+    ) -> Option<Result<Arrival, PortFault>>
         requires { self.old.failures < 2 ^ 64 - 1 }
         ensures length { IfSome result (λ received. IfOk received (λ arrival. arrival.length ≤ most_received_octets)) }
         ensures fault { IfSome result (λ received. IfErr received (λ fault. fault ≡ PortFault.Receive)) }
@@ -140,7 +143,7 @@ impl<P: QueuedPort> FreshPort<P> {
     }
 
     // Takes the next datagram out of the queue, and judges it.
-    fn take_next(&mut self, datagram: &mut [u8; 1025]) -> Next
+    fn take_next(&mut self, datagram: &mut DatagramRoom) -> Next
         requires { self.old.failures < 2 ^ 64 - 1 }
         ensures fresh { (arrival : Arrival) → result ≡ Next.Fresh arrival → arrival.length ≤ most_received_octets }
         ensures fault { (fault : PortFault) → result ≡ Next.Fault fault → fault ≡ PortFault.Receive }
@@ -269,7 +272,7 @@ impl<P: QueuedPort> Port for FreshPort<P> {
     ghost failure_count = { λ f. f.failures };
 
     /// Waits until a datagram comes that may be answered. It fails where the other port does, and after 2^64 - 1 waits that gave none.
-    fn receive(&mut self, datagram: &mut [u8; 1025]) -> Result<Arrival, PortFault>
+    fn receive(&mut self, datagram: &mut DatagramRoom) -> Result<Arrival, PortFault>
         requires { self.old.failures < 2 ^ 64 - 1 }
         ensures length { IfOk result (λ arrival. arrival.length ≤ most_received_octets) }
         ensures fault { IfErr result (λ fault. fault ≡ PortFault.Receive) }
@@ -320,7 +323,7 @@ impl<P: QueuedPort> Port for FreshPort<P> {
 
 impl<P: QueuedPort> TimedPort for FreshPort<P> {
     /// As `receive_fresh`.
-    fn receive_in_time(&mut self, datagram: &mut [u8; 1025]) -> Option<Result<Arrival, PortFault>>
+    fn receive_in_time(&mut self, datagram: &mut DatagramRoom) -> Option<Result<Arrival, PortFault>>
         requires { self.old.failures < 2 ^ 64 - 1 }
         ensures length { IfSome result (λ received. IfOk received (λ arrival. arrival.length ≤ most_received_octets)) }
         ensures fault { IfSome result (λ received. IfErr received (λ fault. fault ≡ PortFault.Receive)) }

@@ -7,12 +7,9 @@ use crate::queue_event::QueueEvent;
 use crate::queued_port::QueuedPort;
 use ntp_events::NoMemory;
 use ntp_register::Address;
-use ntp_service_serve::{Arrival, Port, PortFault, TimedPort};
+use ntp_service_serve::{Arrival, DatagramRoom, MOST_RECEIVED_OCTETS, Port, PortFault, TimedPort};
 use ntp_time::{Moment, Stamp};
 use std::alloc::{Allocator, Global};
-
-/// How many octets of a datagram are taken at most (profile).
-const MOST_DATAGRAM_OCTETS: usize = 1025;
 
 /// A datagram that comes to a queue.
 #[derive(Clone, Copy, Debug, PartialEq, Eq)]
@@ -114,7 +111,7 @@ impl<A: Allocator> MemoryQueue<A> {
             return None;
         }
         let mut arrival = due.arrival;
-        arrival.length = arrival.length.min(MOST_DATAGRAM_OCTETS);
+        arrival.length = arrival.length.min(MOST_RECEIVED_OCTETS);
         Some(arrival)
     }
 }
@@ -122,7 +119,7 @@ impl<A: Allocator> MemoryQueue<A> {
 impl<A: Allocator> Port for MemoryQueue<A> {
     ghost failure_count = { λ queue. queue.failures };
 
-    fn receive(&mut self, _datagram: &mut [u8; 1025]) -> Result<Arrival, PortFault> {
+    fn receive(&mut self, _datagram: &mut DatagramRoom) -> Result<Arrival, PortFault> {
         let Some(arrival) = self.come_by(u64::MAX) else {
             self.failures += 1;
             return Err(PortFault::Receive);
@@ -149,7 +146,10 @@ impl<A: Allocator> Port for MemoryQueue<A> {
 }
 
 impl<A: Allocator> TimedPort for MemoryQueue<A> {
-    fn receive_in_time(&mut self, datagram: &mut [u8; 1025]) -> Option<Result<Arrival, PortFault>> {
+    fn receive_in_time(
+        &mut self,
+        datagram: &mut DatagramRoom,
+    ) -> Option<Result<Arrival, PortFault>> {
         self.take_in_time(datagram)
     }
 }
@@ -195,7 +195,7 @@ impl<A: Allocator> QueuedPort for MemoryQueue<A> {
         true
     }
 
-    fn take_in_time(&mut self, _datagram: &mut [u8; 1025]) -> Option<Result<Arrival, PortFault>> {
+    fn take_in_time(&mut self, _datagram: &mut DatagramRoom) -> Option<Result<Arrival, PortFault>> {
         let Some(arrival) = self.come_by(self.next_reading()) else {
             self.log.see(QueueEvent::Held {
                 count: 0,

@@ -6,7 +6,7 @@ ghost use Rattle.ntp_freshness.specs.declared.queue_event.QueueEvent.{QueueEvent
 ghost use Rattle.ntp_freshness.specs.Passing.{DropTells};
 ghost use Rattle.ntp_freshness.specs.Queue.{ReadsClock, Tells, seen_in_count, seen_in_look, seen_in_wait, seen_in_drop};
 
-use ntp_service_serve::{Arrival, PortFault, TimedPort};
+use ntp_service_serve::{Arrival, DatagramRoom, PortFault, TimedPort};
 
 /// A port whose datagrams wait in a queue, first in, first out, that can be looked at; with a clock that never goes
 /// back (profile).
@@ -37,7 +37,7 @@ pub trait QueuedPort: TimedPort {
 
     /// Takes a datagram out of the queue, as `receive_in_time` does. Where it gives nothing, the queue was empty at some
     /// moment of the call.
-    fn take_in_time(&mut self, datagram: &mut [u8; 1025]) -> Option<Result<Arrival, PortFault>>
+    fn take_in_time(&mut self, datagram: &mut DatagramRoom) -> Option<Result<Arrival, PortFault>>
         requires { Self.failure_count self.old < 2 ^ 64 - 1 }
         ensures length { IfSome result (λ received. IfOk received (λ arrival. arrival.length ≤ most_received_octets)) }
         ensures fault { IfSome result (λ received. IfErr received (λ fault. fault ≡ PortFault.Receive)) }

@@ -3,7 +3,7 @@ ghost use Rattle.std.specs.Prelude.{◌≡◌};
 
 use crate::clock::moment_now;
 use ntp_register::Address;
-use ntp_service_serve::{Arrival, Port, PortFault, TimedPort};
+use ntp_service_serve::{Arrival, DatagramRoom, Port, PortFault, TimedPort};
 use ntp_time::Moment;
 use std::io::{self, ErrorKind};
 use std::net::{Ipv4Addr, SocketAddr, SocketAddrV4, UdpSocket};
@@ -50,7 +50,7 @@ impl<C: Clock + Drop> Port for UdpPort<C> {
     ghost failure_count = { udp_failures };
 
     /// Waits until a datagram comes: a time limit that passes, or a signal, ends no turn.
-    fn receive(&mut self, datagram: &mut [u8; 1025]) -> Result<Arrival, PortFault> {
+    fn receive(&mut self, datagram: &mut DatagramRoom) -> Result<Arrival, PortFault> {
         for _ in 0..u64::MAX {
             if let Some(received) = self.receive_in_time(datagram) {
                 return received;
@@ -82,7 +82,10 @@ impl<C: Clock + Drop> Port for UdpPort<C> {
 
 impl<C: Clock + Drop> TimedPort for UdpPort<C> {
     /// Waits for a datagram as long as the socket's time limit allows. A signal ends the wait too.
-    fn receive_in_time(&mut self, datagram: &mut [u8; 1025]) -> Option<Result<Arrival, PortFault>> {
+    fn receive_in_time(
+        &mut self,
+        datagram: &mut DatagramRoom,
+    ) -> Option<Result<Arrival, PortFault>> {
         let received = self.socket.recv_from(datagram);
         let receipt = moment_now(&self.clock);
         match received {

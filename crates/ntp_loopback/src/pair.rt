@@ -9,7 +9,7 @@ use ntp_mac::{Algorithm, Key};
 use ntp_register::Address;
 use ntp_reply::Reference;
 use ntp_service_run::Service;
-use ntp_service_serve::{TimedPort, answer_received};
+use ntp_service_serve::{MOST_RECEIVED_OCTETS, TimedPort, answer_received};
 use ntp_time::Short;
 use std::alloc::Allocator;
 use std::io;
@@ -84,7 +84,7 @@ impl<'a, R: Net + Clock, A: Allocator + Copy> Pair<'a, R, A> {
         if !self.answer() {
             return None;
         }
-        let mut reply = [0; 1025];
+        let mut reply = [0; MOST_RECEIVED_OCTETS];
         let length = self.socket.recv(&mut reply).ok()?;
         let arrival = moment_now(&self.clock);
         Some(self.client.take(&reply[..length], arrival))
@@ -95,7 +95,7 @@ impl<'a, R: Net + Clock, A: Allocator + Copy> Pair<'a, R, A> {
         requires { udp_failures self.old.port < 2 ^ 64 - 1 }
         ensures { udp_failures self.new.port ≤ udp_failures self.old.port + 1 }
     {
-        let mut datagram = [0; 1025];
+        let mut datagram = [0; MOST_RECEIVED_OCTETS];
         let Some(received) = self.port.receive_in_time(&mut datagram) else {
             return false;
         };

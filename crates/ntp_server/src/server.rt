@@ -9,7 +9,10 @@ use crate::reporter::{NoReports, Reporter};
 use ntp_customer_files::apply_commands;
 use ntp_events::{Arrival, Observer, Sending, TurnOutcome};
 use ntp_service_run::Service;
-use ntp_service_serve::{CommandsSource, PortFault, ReferenceSource, TimedPort, answer_received};
+use ntp_service_serve::{
+    CommandsSource, DatagramRoom, MOST_RECEIVED_OCTETS, PortFault, ReferenceSource, TimedPort,
+    answer_received,
+};
 use ntp_time::Moment;
 use std::alloc::Allocator;
 
@@ -78,7 +81,7 @@ impl<
             (R.coming self.old.reference) (R.coming self.new.reference) (O.seen self.old.observer) (O.seen self.new.observer)
             self.old.service self.new.service result }
     {
-        let mut datagram = [0; 1025];
+        let mut datagram = [0; MOST_RECEIVED_OCTETS];
         let mut totals = Totals {
             arrivals: 0,
             sent: 0,
@@ -94,7 +97,7 @@ impl<
     // Makes one turn.
     fn turn<Q: Reporter<Server<P, C, R, O, A>>>(
         &mut self,
-        datagram: &mut [u8; 1025],
+        datagram: &mut DatagramRoom,
         reporter: &mut Q,
     ) -> TurnOutcome
         requires { P.failure_count self.old.port < 2 ^ 64 - 1 }
@@ -122,7 +125,7 @@ impl<
     // Waits until a datagram has come or could not be received, and carries out what is ordered meanwhile.
     fn wait<Q: Reporter<Server<P, C, R, O, A>>>(
         &mut self,
-        datagram: &mut [u8; 1025],
+        datagram: &mut DatagramRoom,
         reporter: &mut Q,
     ) -> Result<Arrival, PortFault>
         requires { P.failure_count self.old.port < 2 ^ 64 - 1 }

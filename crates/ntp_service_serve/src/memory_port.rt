@@ -1,7 +1,7 @@
 //! A port in memory.
 ghost use Rattle.std.specs.Prelude.{◌≡◌, ◌+◌, ◌≤◌, ◌<◌, true, false, not, ◌&&◌, vec_len, vec_capacity, if◌then◌else◌, IfOk, IsTrue, Some, None, [], map};
 
-use crate::port::{MOST_DATAGRAM_OCTETS, Port, PortFault, TimedPort};
+use crate::port::{DatagramRoom, MOST_RECEIVED_OCTETS, Port, PortFault, TimedPort};
 use crate::turn::Turn;
 use ntp_events::{Arrival, NoMemory};
 use ntp_mac::Reply;
@@ -96,7 +96,7 @@ impl<A: Allocator> Port for MemoryPort<A> {
 
     ghost failure_count = { memory_failures };
 
-    fn receive(&mut self, datagram: &mut [u8; 1025]) -> Result<Arrival, PortFault> {
+    fn receive(&mut self, datagram: &mut DatagramRoom) -> Result<Arrival, PortFault> {
         let at = self.begun;
         self.is_present = false;
         self.has_read_clock = false;
@@ -115,7 +115,7 @@ impl<A: Allocator> Port for MemoryPort<A> {
             }
         };
         let octets = incoming.octets.as_slice();
-        let length = octets.len().min(MOST_DATAGRAM_OCTETS);
+        let length = octets.len().min(MOST_RECEIVED_OCTETS);
         datagram[..length].copy_from_slice(&octets[..length]);
         Ok(Arrival {
             address: incoming.address,
@@ -165,7 +165,10 @@ impl<A: Allocator> Port for MemoryPort<A> {
 impl<A: Allocator> TimedPort for MemoryPort<A> {
     ghost is_prompt = { true };
 
-    fn receive_in_time(&mut self, datagram: &mut [u8; 1025]) -> Option<Result<Arrival, PortFault>> {
+    fn receive_in_time(
+        &mut self,
+        datagram: &mut DatagramRoom,
+    ) -> Option<Result<Arrival, PortFault>> {
         Some(self.receive(datagram))
     }
 }

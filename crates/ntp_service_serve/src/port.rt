@@ -9,7 +9,10 @@ use ntp_time::Moment;
 
 /// How many octets of a datagram are taken at most: one more than a packet may have, so that a longer one is
 /// still told from the longest packet (profile).
-pub(crate) const MOST_DATAGRAM_OCTETS: usize = 1025;
+pub const MOST_RECEIVED_OCTETS: usize = 1025;
+
+/// Room for a datagram that is received, of which no more is kept.
+pub type DatagramRoom = [u8; MOST_RECEIVED_OCTETS];
 
 /// Why a call of a port gave nothing.
 #[derive(Clone, Copy, Debug, PartialEq, Eq)]
@@ -31,7 +34,7 @@ pub trait Port {
     ghost failure_count: { Self → ℕ };
 
     /// Receives a datagram into the front of `datagram`, cut to 1,025 octets. The one fault is `Receive`.
-    fn receive(&mut self, datagram: &mut [u8; 1025]) -> Result<Arrival, PortFault>
+    fn receive(&mut self, datagram: &mut DatagramRoom) -> Result<Arrival, PortFault>
         requires { failure_count self.old < 2 ^ 64 - 1 }
         ensures length { IfOk result (λ arrival. arrival.length ≤ most_received_octets) }
         ensures fault { IfErr result (λ fault. fault ≡ PortFault.Receive) }
@@ -62,7 +65,7 @@ pub trait TimedPort: Port {
 
     /// Receives a datagram as `receive` does, where one comes in time. Nothing where none did, which is no failure and
     /// begins no turn.
-    fn receive_in_time(&mut self, datagram: &mut [u8; 1025]) -> Option<Result<Arrival, PortFault>>
+    fn receive_in_time(&mut self, datagram: &mut DatagramRoom) -> Option<Result<Arrival, PortFault>>
         requires { Self.failure_count self.old < 2 ^ 64 - 1 }
         ensures length { IfSome result (λ received. IfOk received (λ arrival. arrival.length ≤ most_received_octets)) }
         ensures fault { IfSome result (λ received. IfErr received (λ fault. fault ≡ PortFault.Receive)) }

@@ -6,7 +6,7 @@ ghost use Rattle.ntp_service_serve.specs.Made.{reply_in};
 ghost use Rattle.ntp_service_serve.specs.Serving.{ServeMakes, TurnMakes};
 ghost use Rattle.ntp_service_serve.specs.Sending.{IsInTurn, SendingMakes, counted, saved_in};
 
-use crate::port::{MOST_DATAGRAM_OCTETS, Port, PortFault};
+use crate::port::{DatagramRoom, MOST_RECEIVED_OCTETS, Port, PortFault};
 use ntp_events::{Arrival, Sending, TurnOutcome};
 use ntp_mac::Reply;
 use ntp_reply::{Answer, Reference};
@@ -46,7 +46,7 @@ pub fn serve<P: Port, A: Allocator + Copy>(
     ensures turns { ServeMakes A reference.now turns (P.told port.old) (P.told port.new)
         (P.failure_count port.old) (P.failure_count port.new) service.old service.new result }
 {
-    let mut datagram = [0; MOST_DATAGRAM_OCTETS];
+    let mut datagram = [0; MOST_RECEIVED_OCTETS];
     let mut served = Served {
         arrivals: 0,
         sent: 0,
@@ -67,7 +67,7 @@ pub fn answer_received<P: Port, A: Allocator + Copy>(
     service: &mut Service<A>,
     reference: &Reference,
     received: Result<Arrival, PortFault>,
-    datagram: &[u8; 1025],
+    datagram: &DatagramRoom,
 ) -> TurnOutcome
     requires length { IfOk received (λ arrival. arrival.length ≤ most_received_octets) }
     requires failures { OnOk received (P.failure_count port.old < 2 ^ 64 - 1) }

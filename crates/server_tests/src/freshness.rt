@@ -3,7 +3,7 @@
 
 use ntp_events::Arrival;
 use ntp_freshness::{Due, FreshPort, MemoryQueue, QueueWatch};
-use ntp_service_serve::{Port, TimedPort};
+use ntp_service_serve::{MOST_RECEIVED_OCTETS, Port, TimedPort};
 use std::alloc::Allocator;
 use std::test::Fail;
 use worked_data::{CUSTOMER, moment};
@@ -48,7 +48,7 @@ fn next<A: Allocator>(port: &mut FreshPort<MemoryQueue<A>>) -> Result<Option<u16
     if port.failures() > 0 {
         return Err("a call failed");
     }
-    match port.receive_in_time(&mut [0; 1025]) {
+    match port.receive_in_time(&mut [0; MOST_RECEIVED_OCTETS]) {
         None => Ok(None),
         Some(Ok(arrival)) => Ok(Some(arrival.port)),
         Some(Err(_)) => Err("nothing was received"),

@@ -13,7 +13,9 @@ use ntp_server::{
     MemoryCommands, MemoryObserver, MemoryStates, NoReports, Reporter, Server, Totals,
 };
 use ntp_service_run::Service;
-use ntp_service_serve::{FixedReference, MemoryPort, Port, PortFault, ReferenceSource, TimedPort};
+use ntp_service_serve::{
+    DatagramRoom, FixedReference, MemoryPort, Port, PortFault, ReferenceSource, TimedPort,
+};
 use ntp_time::{Moment, Stamp};
 use refusing::Refusing;
 use std::alloc::Allocator;
@@ -261,7 +263,7 @@ struct Quiet {
 impl Port for Quiet {
     ghost failure_count = { λ p. p.failed };
 
-    fn receive(&mut self, _datagram: &mut [u8; 1025]) -> Result<Arrival, PortFault> {
+    fn receive(&mut self, _datagram: &mut DatagramRoom) -> Result<Arrival, PortFault> {
         self.failed += 1;
         Err(PortFault::Receive)
     }
@@ -281,7 +283,10 @@ impl Port for Quiet {
 }
 
 impl TimedPort for Quiet {
-    fn receive_in_time(&mut self, datagram: &mut [u8; 1025]) -> Option<Result<Arrival, PortFault>> {
+    fn receive_in_time(
+        &mut self,
+        datagram: &mut DatagramRoom,
+    ) -> Option<Result<Arrival, PortFault>> {
         if self.waits > 0 {
             self.waits -= 1;
             return None;

@@ -2,7 +2,7 @@
 use Rattle.std.proofs.Common.{◌≡◌, ℕ, ◌+◌, ◌-◌, ◌^◌, ◌≤◌, true, false, List, [], ◌∷◌, ◌++◌, length, Option, None, Result, refl, subst, ◌∙◌, arith, length-append}
 use Rattle.ntp_events.specs.declared.observation.Arrival.{Arrival}
 use Rattle.ntp_service_serve.specs.declared.port.PortFault.{PortFault}
-use Rattle.ntp_service_serve.specs.Port.{Told}
+use Rattle.ntp_service_serve.specs.Port.{Told, DropTells}
 use Rattle.ntp_freshness.specs.declared.queue_event.QueueEvent.{QueueEvent}
 use Rattle.ntp_freshness.specs.declared.queue_event.QueueEvent.TheVariants.{Taken}
 use Rattle.ntp_freshness.specs.declared.queue_watch.QueueWatch.{QueueWatch}
@@ -11,7 +11,7 @@ use Rattle.ntp_freshness.specs.declared.fresh_port.Next.TheVariants.{Stale}
 use Rattle.ntp_freshness.specs.Freshness.{MayBeAnswered, IsInOrder}
 use Rattle.ntp_freshness.specs.Queue.{Tells, seen_in_drop}
 use Rattle.ntp_freshness.specs.Watch.{Watches, Counts, IsWaiting, longest_of}
-use Rattle.ntp_freshness.specs.Passing.{DropTells, HandsOn}
+use Rattle.ntp_freshness.specs.Passing.{HandsOn}
 use Rattle.ntp_freshness.specs.Fresh.{InHand, Swept, AreStale, counted_on, PassesOn, Kept, kept, PassesOnFresh}
 use Rattle.ntp_freshness.specs.Next.{ComesTo, drops_in, TakesNext, Drops}
 use Rattle.ntp_freshness.proofs.Seeing.{IsSeenFrom-same, IsSeenFrom-more, seen-in_drop}

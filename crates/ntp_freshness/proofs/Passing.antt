@@ -2,8 +2,8 @@
 use Rattle.std.proofs.Common.{◌≡◌, ℕ, zero, suc, ◌+◌, List, Option, None, Some, Result, Ok, true, refl, sym, subst, arith}
 use Rattle.ntp_events.specs.declared.observation.Arrival.{Arrival}
 use Rattle.ntp_service_serve.specs.declared.port.PortFault.{PortFault}
-use Rattle.ntp_service_serve.specs.Port.{Told, ReceiveTells}
-use Rattle.ntp_freshness.specs.Passing.{TellsOn, DropTells, DropsTurns}
+use Rattle.ntp_service_serve.specs.Port.{Told, ReceiveTells, TellsOn, DropTells}
+use Rattle.ntp_freshness.specs.Passing.{DropsTurns}
 
 pub TellsOn-same : (t : Option Told) → TellsOn t t
 TellsOn-same None = tt

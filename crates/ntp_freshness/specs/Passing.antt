@@ -1,21 +1,8 @@
 -- What becomes of the turns that a port below tells: some are dropped, and then what it gives is handed on.
-use Rattle.std.specs.Prelude.{◌≡◌, ℕ, zero, suc, Bool, true, false, Option, None, Some, IfSome, Result, Ok, List}
+use Rattle.std.specs.Prelude.{ℕ, zero, suc, true, Option, None, Some, Result, List}
 use Rattle.ntp_events.specs.declared.observation.Arrival.{Arrival}
 use Rattle.ntp_service_serve.specs.declared.port.PortFault.{PortFault}
-use Rattle.ntp_service_serve.specs.Port.{Told, ReceiveTells}
-
--- no turn began (profile)
-abbrev pub TellsOn : Option Told → Option Told → Type 0
-TellsOn old new = IfSome old (λ told. new ≡ Some told)
-
--- where a datagram was dropped, its turn began, as by a receive whose datagram nobody sees (profile)
-abbrev pub BeginsDropped : Told → Option Told → Bool → Type 0
-BeginsDropped old new true = (arrival : Arrival) × (datagram : List ℕ) × ReceiveTells (Some old) new (Ok arrival) datagram
-BeginsDropped old new false = new ≡ Some old
-
--- what a call tells that drops the next datagram, or could not (profile)
-abbrev pub DropTells : Option Told → Option Told → Bool → Type 0
-DropTells old new dropped = IfSome old (λ told. BeginsDropped told new dropped)
+use Rattle.ntp_service_serve.specs.Port.{Told, ReceiveTells, TellsOn, DropTells}
 
 -- so many turns began, one after another, whose datagrams were dropped (profile)
 abbrev pub DropsTurns : ℕ → Option Told → Option Told → Type 0

@@ -12,7 +12,7 @@ mod queue_watch;
 mod queued_port;
 
 pub use fresh_port::FreshPort;
-pub use memory_queue::{Due, MemoryQueue};
+pub use memory_queue::MemoryQueue;
 pub use queue_event::QueueEvent;
 pub use queue_watch::QueueWatch;
 pub use queued_port::QueuedPort;

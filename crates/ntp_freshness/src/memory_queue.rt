@@ -1,24 +1,14 @@
 //! A queue in memory.
-ghost use Rattle.std.specs.Prelude.{◌≡◌, ◌≤◌, ◌<◌, [], ◌∷◌, ◌++◌, false, Some, IfOk, IfSome, IsSome, reverse, vec_len};
-ghost use Rattle.ntp_service_serve.specs.Port.{most_received_octets};
+ghost use Rattle.std.specs.Prelude.{◌≡◌, ◌≤◌, ◌<◌, [], ◌∷◌, ◌++◌, false, Some, IfOk, IsTrue, reverse, vec_len};
 ghost use Rattle.ntp_freshness.specs.Queue.{last_reading};
 
 use crate::queue_event::QueueEvent;
 use crate::queued_port::QueuedPort;
 use ntp_events::NoMemory;
 use ntp_register::Address;
-use ntp_service_serve::{Arrival, DatagramRoom, MOST_RECEIVED_OCTETS, Port, PortFault, TimedPort};
-use ntp_time::{Moment, Stamp};
+use ntp_service_serve::{Arrival, DatagramRoom, MemoryPort, Port, PortFault, Sent, TimedPort};
+use ntp_time::Moment;
 use std::alloc::{Allocator, Global};
-
-/// A datagram that comes to a queue.
-#[derive(Clone, Copy, Debug, PartialEq, Eq)]
-pub struct Due {
-    /// When it comes, in nanoseconds of the queue's clock.
-    pub at: u64,
-    /// What is known of it.
-    pub arrival: Arrival,
-}
 
 // What was seen, oldest first, as far as there was room for it.
 #[derive(Debug, Drop)]
@@ -42,39 +32,45 @@ impl<A: Allocator> Log<A> {
     }
 }
 
-/// A port over a queue in memory: the datagrams of a list come to it, each at its moment, and its clock shows the readings of
-/// a list, and the last one for ever. It tells what it has seen as long as it had room for all (profile).
+/// A port over a queue in memory: the datagrams of a port's turns come to it, each at its moment, and its clock shows the
+/// readings of a list, and the last one for ever. It tells its turns; and what it has seen as long as it had room for all (profile).
 ///
-/// The datagrams have no octets, and stand in the order in which they come. A wait ends just before the next reading; a
-/// datagram that comes by then is taken. A look sees those that came by the last reading. Each reply is sent, to nobody.
+/// The moments stand in the order in which the datagrams come. A wait ends just before the next reading; a datagram that comes by
+/// then is taken. A look sees those that came by the last reading.
 #[derive(Debug, Drop)]
 pub struct MemoryQueue<A: Allocator = Global> {
-    due: Vec<Due, A>,
+    port: MemoryPort<A>,
+    // When the datagram of each turn comes, in nanoseconds of the queue's clock.
+    due: Vec<u64, A>,
     taken: usize,
     readings: Vec<u64, A>,
     read: usize,
     shown: u64,
     log: Log<A>,
-    failures: u64,
     ghost within: { taken ≤ vec_len due },
     ghost last: { log.has_missed ≡ false → last_reading (reverse log.events.items) ≡ shown },
 }
 
 impl<A: Allocator> MemoryQueue<A> {
+    ghost use Rattle.ntp_service_serve.specs.Memory.{told_by};
     ghost use Rattle.ntp_freshness.specs.Memory.{history_in};
 
-    /// A queue to which these come, and a clock that shows these. The room for so many events is taken from `alloc` here, so that
-    /// no call of the port takes memory: `NoMemory` only where it was refused.
+    /// A queue to which the datagrams of the port's turns come at these moments, and a clock that shows these readings, all in
+    /// nanoseconds. The room for so many events is taken from `alloc` here, so that no call of the port takes memory: `NoMemory` only
+    /// where it was refused.
     pub fn new(
         alloc: A,
-        due: Vec<Due, A>,
+        port: MemoryPort<A>,
+        due: Vec<u64, A>,
         readings: Vec<u64, A>,
         room: usize,
     ) -> Result<MemoryQueue<A>, NoMemory>
-        ensures { IfOk result (λ queue. history_in queue.log ≡ Some []) }
+        ensures told { IfOk result (λ queue. told_by queue.port ≡ told_by port) }
+        ensures history { IfOk result (λ queue. history_in queue.log ≡ Some []) }
     {
         let events = Vec::with_capacity(alloc, room)?;
         Ok(MemoryQueue {
+            port,
             due,
             taken: 0,
             readings,
@@ -84,8 +80,14 @@ impl<A: Allocator> MemoryQueue<A> {
                 events,
                 has_missed: false,
             },
-            failures: 0,
         })
+    }
+
+    /// What was sent, in order.
+    pub fn sent(&self) -> &[Sent]
+        ensures { result.now ≡ (told_by self.now.port).sent }
+    {
+        self.port.sent()
     }
 
     // What the clock will show next.
@@ -98,50 +100,40 @@ impl<A: Allocator> MemoryQueue<A> {
         }
     }
 
-    // The next datagram, where it has come by a moment.
-    fn come_by(&self, moment: u64) -> Option<Arrival>
-        ensures within { IsSome result → self.now.taken < vec_len self.now.due }
-        ensures length { IfSome result (λ arrival. arrival.length ≤ most_received_octets) }
+    // Whether the next datagram has come by a moment.
+    fn has_come_by(&self, moment: u64) -> bool
+        ensures { IsTrue result → self.now.taken < vec_len self.now.due }
     {
-        if self.taken == self.due.len() {
-            return None;
-        }
-        let due = self.due[self.taken];
-        if due.at > moment {
-            return None;
-        }
-        let mut arrival = due.arrival;
-        arrival.length = arrival.length.min(MOST_RECEIVED_OCTETS);
-        Some(arrival)
+        self.taken < self.due.len() && self.due[self.taken] <= moment
     }
 }
 
 impl<A: Allocator> Port for MemoryQueue<A> {
-    ghost failure_count = { λ queue. queue.failures };
+    ghost use Rattle.ntp_service_serve.specs.Memory.{told_by, memory_failures};
 
-    fn receive(&mut self, _datagram: &mut DatagramRoom) -> Result<Arrival, PortFault> {
-        let Some(arrival) = self.come_by(u64::MAX) else {
-            self.failures += 1;
-            return Err(PortFault::Receive);
-        };
-        self.taken += 1;
-        self.log.see(QueueEvent::Taken(self.shown));
-        Ok(arrival)
+    ghost told = { λ queue. Some (told_by queue.port) };
+
+    ghost failure_count = { λ queue. memory_failures queue.port };
+
+    fn receive(&mut self, datagram: &mut DatagramRoom) -> Result<Arrival, PortFault> {
+        let received = self.port.receive(datagram);
+        if received.is_ok() && self.taken < self.due.len() {
+            self.taken += 1;
+            self.log.see(QueueEvent::Taken(self.shown));
+        }
+        received
     }
 
     fn now(&mut self) -> Moment {
-        Moment {
-            era: 0,
-            stamp: Stamp(0),
-        }
+        self.port.now()
     }
 
-    fn send(&mut self, _address: Address, _port: u16, _reply: &[u8]) -> Result<(), PortFault> {
-        Ok(())
+    fn send(&mut self, address: Address, port: u16, reply: &[u8]) -> Result<(), PortFault> {
+        self.port.send(address, port, reply)
     }
 
     fn failures(&self) -> u64 {
-        self.failures
+        self.port.failures()
     }
 }
 
@@ -171,8 +163,8 @@ impl<A: Allocator> QueuedPort for MemoryQueue<A> {
 
     fn most_held(&mut self) -> u64 {
         let mut count = 0u64;
-        for due in &self.due[self.taken..] {
-            if due.at <= self.shown {
+        for at in &self.due[self.taken..] {
+            if *at <= self.shown {
                 count = count.saturating_add(1);
             }
         }
@@ -184,7 +176,7 @@ impl<A: Allocator> QueuedPort for MemoryQueue<A> {
     }
 
     fn is_empty(&mut self) -> bool {
-        if self.come_by(self.shown).is_some() {
+        if self.has_come_by(self.shown) {
             self.log.see(QueueEvent::Looked(self.shown));
             return false;
         }
@@ -195,21 +187,26 @@ impl<A: Allocator> QueuedPort for MemoryQueue<A> {
         true
     }
 
-    fn take_in_time(&mut self, _datagram: &mut DatagramRoom) -> Option<Result<Arrival, PortFault>> {
-        let Some(arrival) = self.come_by(self.next_reading()) else {
+    fn take_in_time(&mut self, datagram: &mut DatagramRoom) -> Option<Result<Arrival, PortFault>> {
+        if !self.has_come_by(self.next_reading()) {
             self.log.see(QueueEvent::Held {
                 count: 0,
                 at: self.shown,
             });
             return None;
-        };
-        self.taken += 1;
-        self.log.see(QueueEvent::Taken(self.shown));
-        Some(Ok(arrival))
+        }
+        match self.port.receive(datagram) {
+            Ok(arrival) => {
+                self.taken += 1;
+                self.log.see(QueueEvent::Taken(self.shown));
+                Some(Ok(arrival))
+            }
+            Err(fault) => Some(Err(fault)),
+        }
     }
 
     fn drop_next(&mut self) -> bool {
-        if self.come_by(self.shown).is_none() {
+        if !self.has_come_by(self.shown) || !self.port.drop_next() {
             return false;
         }
         self.taken += 1;

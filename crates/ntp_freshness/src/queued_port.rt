@@ -1,9 +1,8 @@
 //! What a port tells of the queue out of which its datagrams come.
 ghost use Rattle.std.specs.Prelude.{◌≡◌, ◌+◌, ◌-◌, ◌≤◌, ◌<◌, ◌^◌, Option, None, List, IfOk, IfErr, IfSome, IfNone, false, is_err, if◌then◌else◌};
 ghost use Rattle.std.specs.Option.{option_map_or};
-ghost use Rattle.ntp_service_serve.specs.Port.{most_received_octets, ReceiveTells};
+ghost use Rattle.ntp_service_serve.specs.Port.{most_received_octets, ReceiveTells, DropTells};
 ghost use Rattle.ntp_freshness.specs.declared.queue_event.QueueEvent.{QueueEvent};
-ghost use Rattle.ntp_freshness.specs.Passing.{DropTells};
 ghost use Rattle.ntp_freshness.specs.Queue.{ReadsClock, Tells, seen_in_count, seen_in_look, seen_in_wait, seen_in_drop};
 
 use ntp_service_serve::{Arrival, DatagramRoom, PortFault, TimedPort};

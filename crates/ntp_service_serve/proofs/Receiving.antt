@@ -1,14 +1,15 @@
 -- A port in memory begins its next turn.
-use Rattle.std.proofs.Common.{◌-◌, get_or, length-take, inl, inr, ◌≡◌, ◌≢◌, ℕ, ◌+◌, ◌<◌, min, Option, Some, Result, List, ◌∷◌, ◌++◌, length, take, drop, map, refl, sym, ap, ◌∙◌, arith}
+use Rattle.std.proofs.Common.{◌-◌, get_or, length-take, inl, inr, ◌≡◌, ◌≢◌, ℕ, ◌+◌, ◌<◌, min, Option, None, Some, Result, Ok, List, ◌∷◌, ◌++◌, length, take, drop, map, refl, sym, ap, subst, ◌∙◌, arith}
 use Rattle.std.proofs.lemmas.List.{take_all, take-take, take-append-le, drop_more}
 use Rattle.std.proofs.lemmas.Bool.Decides.{eqb_tells}
 use Rattle.std.proofs.lemmas.Option.{slice_get_read}
-use Rattle.std.specs.Prelude.{false, option_map, slice_get}
+use Rattle.std.specs.Prelude.{false, true, is_none, option_map, slice_get}
 use Rattle.std.specs.Option.{option_map_or}
 use Rattle.ntp_service_serve.specs.declared.turn.Turn.{Turn}
 use Rattle.ntp_events.specs.declared.observation.Arrival.{Arrival}
 use Rattle.ntp_service_serve.specs.declared.port.PortFault.{PortFault}
-use Rattle.ntp_service_serve.specs.Port.{TurnValue, no_turn, Told, Arrives, Begins}
+use Rattle.ntp_service_serve.specs.Port.{TurnValue, no_turn, Told, received, Arrives, Begins, BeginsDropped}
+use Rattle.ntp_service_serve.specs.Made.{arrival_of}
 use Rattle.ntp_service_serve.specs.Memory.{turn_told, incoming_told}
 
 shortest : (xs : List ℕ) (n m : ℕ) → n ≡ min (length xs) m → take n xs ≡ take m xs
@@ -46,3 +47,23 @@ receives-next A turns i x old r buffer h e told arrives =
       arrives,
       ap (λ q. begun (map turn_told (drop (i + 1) turns)) (present q) old) there ∙ ap (λ l. begun l (turn_told x) old) (sym left),
     )
+
+-- the turn at i begins, whose datagram is dropped
+pub drops-next : (A : Type 0) (turns : List (Turn A)) (i : ℕ) (x : Turn A) (old : Told) → i < length turns → x ≡ get_or turns i x
+    → old.coming ≡ map turn_told (drop i turns) → is_none x.arrival ≡ false
+    → BeginsDropped old (Some (begun (map turn_told (drop (i + 1) turns)) (present (slice_get turns (i + 1 - 1))) old)) true
+drops-next A turns i x old h e told some =
+    let found = some-of x.arrival some in
+    let octets = received (incoming_told found.0) in
+    let whole : take (length octets) octets ≡ octets = take_all (length octets) octets (omega arith) in
+    let arrival : Arrival = arrival_of (incoming_told found.0) in
+    let arrives : Arrives (option_map incoming_told x.arrival) (Ok arrival) octets =
+    subst (λ o. Arrives (option_map incoming_told o) (Ok arrival) octets) (sym found.1) (refl, refl, refl, whole) in
+    let new = begun (map turn_told (drop (i + 1) turns)) (present (slice_get turns (i + 1 - 1))) old in
+    let begins : Begins (get_or (map turn_told (drop i turns)) 0 no_turn) old new (Ok arrival) octets =
+    receives-next A turns i x old (Ok arrival) octets h e told arrives in
+    (arrival, octets, subst (λ l. Begins (get_or l 0 no_turn) old new (Ok arrival) octets) (sym told) begins)
+  where
+    some-of : {X : Type 0} (o : Option X) → is_none o ≡ false → (d : X) × (o ≡ Some d)
+    some-of None is = absurd (cc)
+    some-of (Some d) is = (d, refl)

@@ -82,3 +82,16 @@ SendTells t u address port reply r = IfSome t (λ old. IsSomeAnd u (λ new. (r �
       has_tried_send = true;
       sent = if is_sent old reply then old.sent ++ record { address = address; port = port; reply = reply } ∷ [] else old.sent;
     })))
+
+-- no turn began (profile)
+abbrev pub TellsOn : Option Told → Option Told → Type 0
+TellsOn old new = IfSome old (λ told. new ≡ Some told)
+
+-- where a datagram was dropped, its turn began, as by a receive whose datagram nobody sees (profile)
+abbrev pub BeginsDropped : Told → Option Told → Bool → Type 0
+BeginsDropped old new true = (arrival : Arrival) × (datagram : List ℕ) × ReceiveTells (Some old) new (Ok arrival) datagram
+BeginsDropped old new false = new ≡ Some old
+
+-- what a call tells that drops the next datagram, or could not (profile)
+abbrev pub DropTells : Option Told → Option Told → Bool → Type 0
+DropTells old new dropped = IfSome old (λ told. BeginsDropped told new dropped)

@@ -72,13 +72,30 @@ impl<A: Allocator + Copy> MemoryPort<A> {
 }
 
 impl<A: Allocator> MemoryPort<A> {
-    ghost use Rattle.ntp_service_serve.specs.Memory.{told_by, present_of};
+    ghost use Rattle.ntp_service_serve.specs.Port.{DropTells};
+    ghost use Rattle.ntp_service_serve.specs.Memory.{told_by, present_of, memory_failures};
 
     /// What was sent, in order.
     pub fn sent(&self) -> &[Sent]
         ensures { result.now ≡ (told_by self.now).sent }
     {
         &self.sent
+    }
+
+    /// Drops the datagram of the next turn, which begins, where it has one. Whether it had.
+    pub fn drop_next(&mut self) -> bool
+        ensures turns { DropTells (Some (told_by self.old)) (Some (told_by self.new)) result }
+        ensures failures { memory_failures self.new ≡ memory_failures self.old }
+    {
+        let at = self.begun;
+        if at == self.turns.len() || self.turns[at].arrival.is_none() {
+            return false;
+        }
+        self.begun = at + 1;
+        self.is_present = true;
+        self.has_read_clock = false;
+        self.has_tried_send = false;
+        true
     }
 
     // Whether the present turn takes a reply.

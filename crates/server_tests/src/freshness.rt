@@ -1,46 +1,58 @@
 //! What comes of whole stretches of time, by a queue in memory whose datagrams and readings are written down here: each is
 //! reckoned by hand, in milliseconds.
 
-use ntp_events::Arrival;
-use ntp_freshness::{Due, FreshPort, MemoryQueue, QueueWatch};
-use ntp_service_serve::{MOST_RECEIVED_OCTETS, Port, TimedPort};
+use ntp_freshness::{FreshPort, MemoryQueue, QueueWatch};
+use ntp_server::{MemoryCommands, MemoryObserver, Server};
+use ntp_service_serve::{FixedReference, MOST_RECEIVED_OCTETS, MemoryPort, Port, TimedPort, Turn};
 use std::alloc::Allocator;
 use std::test::Fail;
-use worked_data::{CUSTOMER, moment};
+use worked_data::{
+    CUSTOMER, FIRST_QUERY, SECOND_QUERY, SECOND_REPLY, enrolled_service, reference, turn,
+};
 
 /// A datagram may have waited for less than 250 ms.
 const LONGEST: u64 = 250_000_000;
 
-// A datagram that comes so many milliseconds after the clock began, from a UDP port.
-fn due(milliseconds: u32, port: u16) -> Due {
-    Due {
-        at: u64::from(milliseconds) * 1_000_000,
-        arrival: Arrival {
-            address: CUSTOMER,
-            port,
-            length: 48,
-            receipt: moment(0),
-        },
+// Moments in nanoseconds.
+fn nanoseconds<A: Allocator + Copy>(alloc: A, milliseconds: &[u32]) -> Result<Vec<u64, A>, Fail> {
+    let mut moments = Vec::new(alloc);
+    for moment in milliseconds {
+        moments.push(u64::from(*moment) * 1_000_000)?;
     }
+    Ok(moments)
 }
 
-// A port over a queue to which datagrams come, each after so many milliseconds and from a UDP port, beside a clock that shows
-// these milliseconds.
+// A port over a queue to which the datagrams of these turns come, each after so many milliseconds, beside a clock that shows these
+// milliseconds.
+fn fresh<A: Allocator + Copy>(
+    alloc: A,
+    turns: Vec<Turn<A>, A>,
+    due: &[u32],
+    readings: &[u32],
+) -> Result<FreshPort<MemoryQueue<A>>, Fail> {
+    let queue = MemoryQueue::new(
+        alloc,
+        MemoryPort::new(alloc, turns)?,
+        nanoseconds(alloc, due)?,
+        nanoseconds(alloc, readings)?,
+        1_000,
+    )?;
+    Ok(FreshPort::new(queue, QueueWatch::new(LONGEST)))
+}
+
+// The same of datagrams of 48 octets, each after so many milliseconds and from a UDP port.
 fn port<A: Allocator + Copy>(
     alloc: A,
     coming: &[(u32, u16)],
     readings: &[u32],
 ) -> Result<FreshPort<MemoryQueue<A>>, Fail> {
-    let mut dues = Vec::new(alloc);
+    let mut turns = Vec::new(alloc);
+    let mut due = Vec::new(alloc);
     for (at, port) in coming {
-        dues.push(due(*at, *port))?;
+        turns.push(turn(alloc, *port, 0, &[0; 48], true)?)?;
+        due.push(*at)?;
     }
-    let mut ticks = Vec::new(alloc);
-    for reading in readings {
-        ticks.push(u64::from(*reading) * 1_000_000)?;
-    }
-    let queue = MemoryQueue::new(alloc, dues, ticks, 1_000)?;
-    Ok(FreshPort::new(queue, QueueWatch::new(LONGEST)))
+    fresh(alloc, turns, &due, readings)
 }
 
 // The UDP port of the next datagram that may be answered, where one comes in time.
@@ -133,5 +145,34 @@ fn sparse_datagrams_are_answered(rt: HostRuntime) -> Result<(), Fail> {
     }
     let mut port = port(rt.alloc(), &coming, &readings)?;
     assert_eq!(rt; passed_on(&mut port, 230), Ok((20, 0)));
+    Ok(())
+}
+
+#[test]
+fn what_is_answered_is_what_came_behind_the_stale_ones(rt: HostRuntime) -> Result<(), Fail> {
+    let alloc = rt.alloc();
+    let mut turns = Vec::new(alloc);
+    turns.push(turn(alloc, 5001, 0xec00_0010_9000_0000, FIRST_QUERY, true)?)?;
+    turns.push(turn(alloc, 5002, 0xec00_0011_9000_0000, SECOND_QUERY, true)?)?;
+    // The first waits for 4,900 ms, the second for 50 ms.
+    let port = fresh(alloc, turns, &[200, 5_150], &[0, 5_100, 5_200])?;
+    let mut server = Server {
+        port,
+        commands: MemoryCommands::new(Vec::new(alloc)),
+        applied: 0,
+        reference: FixedReference(reference()?),
+        observer: MemoryObserver::new(alloc, 1)?,
+        service: enrolled_service(alloc)?,
+    };
+    assert!(rt; server.port.failures() == 0);
+    let totals = server.serve(1);
+    assert_eq!(rt;
+        (totals.arrivals, totals.sent, server.port.stale()),
+        (1, 1, 1)
+    );
+    let sent = server.port.port().sent();
+    assert_eq!(rt; sent.len(), 1);
+    assert_eq!(rt; (sent[0].address, sent[0].port), (CUSTOMER, 5002));
+    assert_eq!(rt; sent[0].reply.octets(), SECOND_REPLY);
     Ok(())
 }

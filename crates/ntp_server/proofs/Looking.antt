@@ -4,16 +4,16 @@ use Rattle.std.proofs.lemmas.List.{map-append, drop-drop}
 use Rattle.std.proofs.lemmas.List.Elements.{All-push}
 use Rattle.std.proofs.lemmas.Grind.{flat_map-append}
 use Rattle.ntp_time.specs.declared.moment.Moment.{Moment}
-use Rattle.ntp_register.specs.Registry.{Registry}
-use Rattle.ntp_events.specs.declared.observation.Observation.{Observation}
+use Rattle.ntp_reply_packets.specs.Reference.{ReferenceState}
 use Rattle.ntp_events.specs.Sees.{Sees}
 use Rattle.ntp_events.proofs.Seen.{Sees-nil, Sees-append}
 use Rattle.ntp_service_run.specs.Headline.{Tells}
 use Rattle.ntp_service_run.proofs.Runs.{Tells-nil, Tells-append}
+use Rattle.ntp_service_serve.specs.Port.{Told}
 use Rattle.ntp_service_serve.specs.Sequence.{firsts}
 use Rattle.ntp_customer_files.specs.CommandsFile.{TakenLine, CarriesOut, CarriesOutDue, lines_taken, line_events, line_outcomes, line_observations}
 use Rattle.ntp_service_serve.specs.Sources.{Coming, answers, Gives}
-use Rattle.ntp_server.specs.Rounds.{Look, AreDueAt, AreDueInTurn}
+use Rattle.ntp_server.specs.Rounds.{Look, Parts, AreDueAt, AreDueInTurn}
 use Rattle.ntp_server.specs.Steps.{Looks, LooksOnce, Waits, IsIdle, asked_of, given_of, looks_events, looks_outcomes, looks_observations}
 
 -- ---- what sources gave
@@ -54,77 +54,78 @@ due-append [] ys a b c p q = subst (λ n. AreDueInTurn n ys c) p q
 due-append (x ∷ xs) ys a b c p q = (p.0, p.1, p.2, due-append xs ys p.0 b c p.3 q)
 
 module _ (A : Type 0) where
-  pub Looks-nil : (a : ℕ) (c : Option (Coming (Option (List ℕ)))) (t : Option (List Observation)) (s : Registry) → Looks A [] a a c c t t s s
-  Looks-nil a c t s = record {
+  pub Looks-nil : (p : Parts) → Looks A [] p p
+  Looks-nil p = record {
     due = refl;
-    commands = Gives-nil c;
-    observed = Sees-nil t;
-    tells = λ history stands. Tells-nil history s stands;
+    commands = Gives-nil p.commands;
+    observed = Sees-nil p.seen;
+    tells = λ history stands. Tells-nil history p.service stands;
   }
 
-  pub Looks-append : (xs ys : List Look) (i j k : ℕ) (c d e : Option (Coming (Option (List ℕ)))) (t u v : Option (List Observation))
-      (q r s : Registry) → Looks A xs i j c d t u q r → Looks A ys j k d e u v r s → Looks A (xs ++ ys) i k c e t v q s
-  Looks-append xs ys i j k c d e t u v q r s x y = record {
-    due = due-append xs ys i j k x.due y.due;
-    commands = subst (λ l. Gives c e l (given_of (xs ++ ys))) (sym (map-append (λ l. l.asked) xs ys))
-        (subst (λ l. Gives c e (asked_of xs ++ asked_of ys) l) (sym (map-append (λ l. l.given) xs ys))
-        (Gives-append c d e (asked_of xs) (asked_of ys) (given_of xs) (given_of ys) x.commands y.commands));
-    observed = subst (λ l. Sees t v l) (sym (flat_map-append (λ l. line_observations l.applied l.taken) xs ys))
-        (Sees-append t u v (looks_observations xs) (looks_observations ys) x.observed y.observed);
+  pub Looks-append : (xs ys : List Look) (p q r : Parts) → Looks A xs p q → Looks A ys q r → Looks A (xs ++ ys) p r
+  Looks-append xs ys p q r x y = record {
+    due = due-append xs ys p.applied q.applied r.applied x.due y.due;
+    commands = subst (λ l. Gives p.commands r.commands l (given_of (xs ++ ys))) (sym (map-append (λ l. l.asked) xs ys))
+        (subst (λ l. Gives p.commands r.commands (asked_of xs ++ asked_of ys) l) (sym (map-append (λ l. l.given) xs ys))
+        (Gives-append p.commands q.commands r.commands (asked_of xs) (asked_of ys) (given_of xs) (given_of ys) x.commands y.commands));
+    observed = subst (λ l. Sees p.seen r.seen l) (sym (flat_map-append (λ l. line_observations l.applied l.taken) xs ys))
+        (Sees-append p.seen q.seen r.seen (looks_observations xs) (looks_observations ys) x.observed y.observed);
     tells = λ history stands.
-        subst (λ es. Tells history es (looks_outcomes (xs ++ ys)) s) (sym (flat_map-append (λ l. line_events l.taken) xs ys))
-        (subst (λ os. Tells history (looks_events xs ++ looks_events ys) os s) (sym (flat_map-append (λ l. line_outcomes l.taken) xs ys))
-        (Tells-append history (looks_events xs) (looks_events ys) (looks_outcomes xs) (looks_outcomes ys) r s (x.tells history stands)
-        (λ stood. y.tells _ stood)));
+        subst (λ es. Tells history es (looks_outcomes (xs ++ ys)) r.service) (sym (flat_map-append (λ l. line_events l.taken) xs ys))
+        (subst (λ os. Tells history (looks_events xs ++ looks_events ys) os r.service) (sym (flat_map-append (λ l. line_outcomes l.taken) xs ys))
+        (Tells-append history (looks_events xs) (looks_events ys) (looks_outcomes xs) (looks_outcomes ys) q.service r.service
+        (x.tells history stands) (λ stood. y.tells _ stood)));
   }
 
-  Looks-one : (asked : Option Moment) (given : Option (List ℕ)) (taken : List TakenLine) (i j : ℕ) (c d : Option (Coming (Option (List ℕ))))
-      (t u : Option (List Observation)) (r s : Registry) → AreDueAt i given (lines_taken taken) j → Gives c d (asked ∷ []) (given ∷ [])
-      → CarriesOut A i taken r s t u → LooksOnce A asked i j c d t u r s
-  Looks-one asked given taken i j c d t u r s due gives done = record {
-    look = record { asked = asked; applied = i; given = given; taken = taken };
+  Looks-one : (asked : Option Moment) (given : Option (List ℕ)) (taken : List TakenLine) (p q : Parts)
+      → AreDueAt p.applied given (lines_taken taken) q.applied → Gives p.commands q.commands (asked ∷ []) (given ∷ [])
+      → CarriesOut A p.applied taken p.service q.service p.seen q.seen → LooksOnce A asked p q
+  Looks-one asked given taken p q due gives done = record {
+    look = record { asked = asked; applied = p.applied; given = given; taken = taken };
     asks = refl;
     done = record {
-      due = (j, refl, due, refl);
+      due = (q.applied, refl, due, refl);
       commands = gives;
-      observed = subst (λ l. Sees t u l) (sym (append-nil (line_observations i taken))) done.observed;
+      observed = subst (λ l. Sees p.seen q.seen l) (sym (append-nil (line_observations p.applied taken))) done.observed;
       tells = λ history stands.
-          subst (λ es. Tells history es (line_outcomes taken ++ []) s) (sym (append-nil (line_events taken)))
-          (subst (λ os. Tells history (line_events taken) os s) (sym (append-nil (line_outcomes taken))) (done.tells history stands));
+          subst (λ es. Tells history es (line_outcomes taken ++ []) q.service) (sym (append-nil (line_events taken)))
+          (subst (λ os. Tells history (line_events taken) os q.service) (sym (append-nil (line_outcomes taken))) (done.tells history stands));
     };
   }
 
   -- a look that gave octets
-  pub Looks-due : (asked : Option Moment) (octets items : List ℕ) (i j : ℕ) (c d : Option (Coming (Option (List ℕ))))
-      (t u : Option (List Observation)) (r s : Registry) → octets ≡ items → Gives c d (asked ∷ []) (Some items ∷ [])
-      → CarriesOutDue A i octets j r s t u → LooksOnce A asked i j c d t u r s
-  Looks-due asked octets items i j c d t u r s same gives due = Looks-one asked (Some octets) due.taken i j c d t u r s due.due
-      (subst (λ o. Gives c d (asked ∷ []) (Some o ∷ [])) (sym same) gives) due.done
+  pub Looks-due : (asked : Option Moment) (octets items : List ℕ) (p q : Parts) → octets ≡ items
+      → Gives p.commands q.commands (asked ∷ []) (Some items ∷ [])
+      → CarriesOutDue A p.applied octets q.applied p.service q.service p.seen q.seen → LooksOnce A asked p q
+  Looks-due asked octets items p q same gives due = Looks-one asked (Some octets) due.taken p q due.due
+      (subst (λ o. Gives p.commands q.commands (asked ∷ []) (Some o ∷ [])) (sym same) gives) due.done
 
-  -- a look that gave nothing
-  pub Looks-nothing : (asked : Option Moment) (given : Option (List ℕ)) (i : ℕ) (c d : Option (Coming (Option (List ℕ))))
-      (t : Option (List Observation)) (s : Registry) → given ≡ None → Gives c d (asked ∷ []) (given ∷ []) → LooksOnce A asked i i c d t t s s
-  Looks-nothing asked given i c d t s none gives = Looks-one asked None [] i i c d t t s s (refl, refl)
-      (subst (λ o. Gives c d (asked ∷ []) (o ∷ [])) none gives)
-      (record { observed = Sees-nil t; tells = λ history stands. Tells-nil history s stands })
+  -- a look that gave nothing, behind which all else is as it was
+  pub Looks-nothing : (asked : Option Moment) (given : Option (List ℕ)) (p q : Parts) → q.applied ≡ p.applied → q.seen ≡ p.seen
+      → q.service ≡ p.service → given ≡ None → Gives p.commands q.commands (asked ∷ []) (given ∷ []) → LooksOnce A asked p q
+  Looks-nothing asked given p q applied seen service none gives =
+      Looks-one asked None [] p q (refl, applied) (subst (λ o. Gives p.commands q.commands (asked ∷ []) (o ∷ [])) none gives) (record {
+        observed = subst (λ l. Sees p.seen l []) (sym seen) (Sees-nil p.seen);
+        tells = λ history stands. subst (λ s. Tells history [] [] s) (sym service) (Tells-nil history p.service stands);
+      })
 
   -- ---- a wait
-  pub Waits-none : (prompt : Bool) (i : ℕ) (c : Option (Coming (Option (List ℕ)))) (t : Option (List Observation)) (s : Registry)
-      → Waits A prompt i i c c t t s s
-  Waits-none prompt i c t s =
-      record { looks = []; idle = idle prompt; asked = λ k d below. absurd (omega (arith, below)); done = Looks-nil i c t s }
+  pub Waits-none : (prompt : Bool) (p : Parts) → Waits A prompt p p
+  Waits-none prompt p =
+      record { looks = []; idle = idle prompt; asked = λ k d below. absurd (omega (arith, below)); done = Looks-nil p }
     where
       idle : (prompt : Bool) → IsIdle prompt []
       idle true = refl
       idle false = tt
 
-  -- it goes on only at a port that is not prompt
-  pub Waits-more : (prompt : Bool) (i j k : ℕ) (c d e : Option (Coming (Option (List ℕ)))) (t u v : Option (List Observation))
-      (r s o : Registry) → prompt ≡ false → Waits A prompt i j c d t u r s → LooksOnce A None j k d e u v s o
-      → Waits A prompt i k c e t v r o
-  Waits-more prompt i j k c d e t u v r s o waits w l = record {
+  -- it goes on only at a port that is not prompt; what the port and the clock's source tell does not matter to a look
+  pub Waits-more : (prompt : Bool) (p q r : Parts) (port : Option Told) (failures : ℕ) (states tended : Option (Coming ReferenceState))
+      → prompt ≡ false → Waits A prompt p q → LooksOnce A None (record q { port = port; failures = failures; states = states }) r
+      → Waits A prompt p (record r { states = tended })
+  Waits-more prompt p q r port failures states tended waits w l = record {
     looks = w.looks ++ l.look ∷ [];
     idle = subst (λ b. IsIdle b (w.looks ++ l.look ∷ [])) (sym waits) tt;
     asked = All-push (λ x. x.asked ≡ None) w.looks l.look w.asked l.asks;
-    done = Looks-append w.looks (l.look ∷ []) i j k c d e t u v r s o w.done l.done;
+    done = Looks-append w.looks (l.look ∷ []) p q (record r { states = tended }) w.done
+        (record { due = l.done.due; commands = l.done.commands; observed = l.done.observed; tells = l.done.tells });
   }

@@ -8,10 +8,8 @@ use Rattle.std.specs.Prelude.{flat_map}
 use Rattle.std.proofs.lemmas.Grind.{flat_map-append}
 use Rattle.std.proofs.lemmas.List.Sums.{length-filter, count_by-le-length}
 use Rattle.ntp_time.specs.declared.moment.Moment.{Moment}
-use Rattle.ntp_register.specs.Registry.{Registry}
 use Rattle.ntp_reply_packets.specs.Reference.{ReferenceState}
 use Rattle.ntp_events.specs.declared.observation.Arrival.{Arrival}
-use Rattle.ntp_events.specs.declared.observation.Observation.{Observation}
 use Rattle.ntp_events.specs.declared.observation.Observation.TheVariants.{Turn}
 use Rattle.ntp_events.specs.declared.observation.TurnOutcome.{TurnOutcome}
 use Rattle.ntp_events.specs.declared.observation.TurnOutcome.TheVariants.{NothingReceived, Answered}
@@ -20,15 +18,15 @@ use Rattle.ntp_events.proofs.Seen.{Sees-nil, Sees-append}
 use Rattle.ntp_service_run.specs.Headline.{Tells}
 use Rattle.ntp_service_run.proofs.Runs.{Tells-nil, Tells-append}
 use Rattle.ntp_service_serve.specs.declared.port.PortFault.{PortFault}
-use Rattle.ntp_service_serve.specs.Port.{IncomingValue, Told}
+use Rattle.ntp_service_serve.specs.Port.{IncomingValue}
 use Rattle.ntp_service_serve.specs.Made.{Made, Missed, Received, turn_of, arrival_of, events_in, outcomes_in, sent_in, has_arrived, has_departed, is_failing, turn_outcome}
 use Rattle.ntp_service_serve.specs.Serving.{Follows, TurnMakes}
 use Rattle.ntp_service_serve.specs.Sending.{was_sent}
 use Rattle.ntp_service_serve.proofs.ManyTurns.{sent_of, count_of, Follows-nil, Follows-append}
 use Rattle.ntp_service_serve.proofs.Counting.{if_so, at-most-one, sent-one, noted-one, count-more}
 use Rattle.ntp_server.specs.declared.server.Totals.{Totals}
-use Rattle.ntp_service_serve.specs.Sources.{Coming, Gives}
-use Rattle.ntp_server.specs.Rounds.{Look, Round, AreDueInTurn, HasLooks, AsksRight, ServesRounds, looks_of, made_in, receipt_in, round_events, round_outcomes, round_observations}
+use Rattle.ntp_service_serve.specs.Sources.{Gives}
+use Rattle.ntp_server.specs.Rounds.{Look, Round, Parts, AreDueInTurn, HasLooks, AsksRight, ServesRounds, looks_of, made_in, receipt_in, round_events, round_outcomes, round_observations}
 use Rattle.ntp_server.specs.Steps.{LooksOnce, Waits, IsIdle, MakesRound, asked_of, given_of, looks_events, looks_outcomes, looks_observations, receipts_of, states_of, arrivals_in, replies_in, departures_in}
 use Rattle.ntp_server.proofs.Looking.{Gives-nil, Gives-append, due-append, Looks-append}
 
@@ -47,31 +45,32 @@ came made r arrived = sym (ap (option_map (λ a. a.receipt)) arrived) ∙ any (t
     any None = refl
     any (Some d) = refl
 
-pub Makes-turn : (A : Type 0) (prompt : Bool) (asked : Option Moment) (i j k : ℕ) (p o : Option Told) (f m g : ℕ)
-    (c d e : Option (Coming (Option (List ℕ)))) (x n y : Option (Coming ReferenceState)) (t u v w : Option (List Observation))
-    (q r s z : Registry) (reference : ReferenceState) (received : Result Arrival PortFault) (buffer : List ℕ) (outcome : TurnOutcome)
-    → Waits A prompt i j c d t u q r → LooksOnce A asked j k d e u v r s → asked ≡ option_map (λ a. a.receipt) (result_ok received)
-    → n ≡ x → Gives n y (asked ∷ []) (reference ∷ []) → m ≡ f + (if is_err received then 1 else 0)
-    → TurnMakes A reference received buffer p o m g s z outcome → Sees v w (Turn outcome ∷ [])
-    → MakesRound A prompt i k p o f g c e x y t w q z outcome
-Makes-turn A prompt asked i j k p o f m g c d e x n y t u v w q r s z reference received buffer outcome waits looked receipt same states failed turn seen =
+pub Makes-turn : (A : Type 0) (prompt : Bool) (asked : Option Moment) (p q r s : Parts) (reference : ReferenceState)
+    (received : Result Arrival PortFault) (buffer : List ℕ) (outcome : TurnOutcome) → s.applied ≡ r.applied → s.commands ≡ r.commands
+    → Waits A prompt p q → LooksOnce A asked q r → asked ≡ option_map (λ a. a.receipt) (result_ok received)
+    → r.states ≡ p.states → Gives r.states s.states (asked ∷ []) (reference ∷ [])
+    → r.failures ≡ p.failures + (if is_err received then 1 else 0)
+    → TurnMakes A reference received buffer p.port s.port r.failures s.failures r.service s.service outcome
+    → Sees r.seen s.seen (Turn outcome ∷ []) → MakesRound A prompt p s outcome
+Makes-turn A prompt asked p q r s reference received buffer outcome applied commands waits looked receipt same states failed turn seen =
     let looks = waits.looks ++ looked.look ∷ [] in
-    let all = Looks-append A waits.looks (looked.look ∷ []) i j k c d e t u v q r s waits.done looked.done in
+    let all = Looks-append A waits.looks (looked.look ∷ []) p q r waits.done looked.done in
     let right : asked ≡ receipt_in turn.made = receipt ∙ came turn.made received turn.arrived in
     record {
       round = record { looks = looks; reference = reference; made = turn.made };
       looked = one_look prompt waits.looks looked.look reference turn.made waits.idle;
       asked = record { idle = waits.looks; last = looked.look; all = refl; waiting = waits.asked; come = looked.asks ∙ right };
-      due = all.due;
-      commands = all.commands;
-      states = subst (λ a. Gives x y (a ∷ []) (reference ∷ [])) right (subst (λ l. Gives l y (asked ∷ []) (reference ∷ [])) same states);
+      due = subst (λ n. AreDueInTurn p.applied looks n) (sym applied) all.due;
+      commands = subst (λ c. Gives p.commands c (asked_of looks) (given_of looks)) (sym commands) all.commands;
+      states = subst (λ a. Gives p.states s.states (a ∷ []) (reference ∷ [])) right
+          (subst (λ l. Gives l s.states (asked ∷ []) (reference ∷ [])) same states);
       port = turn.port;
-      observed = Sees-append t v w (looks_observations looks) (Turn (turn_outcome turn.made) ∷ []) all.observed
-          (subst (λ l. Sees v w (Turn l ∷ [])) turn.comes_to seen);
+      observed = Sees-append p.seen r.seen s.seen (looks_observations looks) (Turn (turn_outcome turn.made) ∷ []) all.observed
+          (subst (λ l. Sees r.seen s.seen (Turn l ∷ [])) turn.comes_to seen);
       comes_to = turn.comes_to;
       failures = omega (arith, failed, turn.failures);
       tells = λ history stands. Tells-append history (looks_events looks) (events_in reference turn.made) (looks_outcomes looks)
-          (outcomes_in turn.made) s z (all.tells history stands) (λ stood. turn.tells _ stood);
+          (outcomes_in turn.made) r.service s.service (all.tells history stands) (λ stood. turn.tells _ stood);
     }
 
 -- ---- what lists of rounds come to
@@ -111,61 +110,61 @@ few_such : (is : Made → Bool) (ms : List Made) → count_of is ms ≤ length m
 few_such is ms = omega (arith, length-filter is ms, count_by-le-length is ms)
 
 -- ---- one round more
-pub Serves-none : (A : Type 0) (prompt : Bool) (i : ℕ) (t : Option Told) (f : ℕ) (c : Option (Coming (Option (List ℕ))))
-    (x : Option (Coming ReferenceState)) (seen : Option (List Observation)) (s : Registry)
-    → ServesRounds A prompt 0 i i t t f f c c x x seen seen s s (record { arrivals = 0; sent = 0; departed = 0 })
-Serves-none A prompt i t f c x seen s = record {
+pub Serves-none : (A : Type 0) (prompt : Bool) (p : Parts)
+    → ServesRounds A prompt 0 p p (record { arrivals = 0; sent = 0; departed = 0 })
+Serves-none A prompt p = record {
   rounds = [];
   each = refl;
   looked = λ k d below. absurd (omega (arith, below));
   asked = λ k d below. absurd (omega (arith, below));
   due = refl;
-  commands = Gives-nil c;
-  states = Gives-nil x;
-  port = Follows-nil t;
-  observed = Sees-nil seen;
+  commands = Gives-nil p.commands;
+  states = Gives-nil p.states;
+  port = Follows-nil p.port;
+  observed = Sees-nil p.seen;
   arrivals = refl;
   sent = refl;
   departed = refl;
-  failures = let none : f ≡ f + 0 = omega arith in none;
-  tells = λ history stands. Tells-nil history s stands;
+  failures = let none : p.failures ≡ p.failures + 0 = omega arith in none;
+  tells = λ history stands. Tells-nil history p.service stands;
 }
 
-pub Serves-round : (A : Type 0) (prompt : Bool) (n i j k : ℕ) (t u v : Option Told) (f g h : ℕ)
-    (c d e : Option (Coming (Option (List ℕ)))) (x y z : Option (Coming ReferenceState)) (seen told heard : Option (List Observation))
-    (q r s : Registry) (a b : Totals) (outcome : TurnOutcome) → ServesRounds A prompt n i j t u f g c d x y seen told q r a
-    → MakesRound A prompt j k u v g h d e y z told heard r s outcome → b.arrivals ≡ a.arrivals + arrivals_in outcome
-    → b.sent ≡ a.sent + replies_in outcome → b.departed ≡ a.departed + departures_in outcome
-    → ServesRounds A prompt (n + 1) i k t v f h c e x z seen heard q s b
-Serves-round A prompt n i j k t u v f g h c d e x y z seen told heard q r s a b outcome p m arrivals sent departed =
-    let rounds = p.rounds in
+pub Serves-round : (A : Type 0) (prompt : Bool) (n : ℕ) (p q r : Parts) (a b : Totals) (outcome : TurnOutcome)
+    → ServesRounds A prompt n p q a → MakesRound A prompt q r outcome → b.arrivals ≡ a.arrivals + arrivals_in outcome
+    → b.sent ≡ a.sent + replies_in outcome → b.departed ≡ a.departed + departures_in outcome → ServesRounds A prompt (n + 1) p r b
+Serves-round A prompt n p q r a b outcome s m arrivals sent departed =
+    let rounds = s.rounds in
     let round = m.round in
     let made = round.made in
     let turns : made_in (rounds ++ round ∷ []) ≡ made_in rounds ++ made ∷ [] = made_in-push rounds round in
     let looks : looks_of (rounds ++ round ∷ []) ≡ looks_of rounds ++ round.looks = looks_of-push rounds round in
     record {
       rounds = rounds ++ round ∷ [];
-      each = length-append rounds (round ∷ []) ∙ ap (λ l. l + 1) p.each;
-      looked = All-push (HasLooks prompt) rounds round p.looked m.looked;
-      asked = All-push AsksRight rounds round p.asked m.asked;
-      due = subst (λ l. AreDueInTurn i l k) (sym looks) (due-append (looks_of rounds) round.looks i j k p.due m.due);
-      commands = subst (λ l. Gives c e (asked_of l) (given_of l)) (sym looks)
-          (subst (λ l. Gives c e l (given_of (looks_of rounds ++ round.looks))) (sym (map-append (λ l. l.asked) (looks_of rounds) round.looks))
-          (subst (λ l. Gives c e (asked_of (looks_of rounds) ++ asked_of round.looks) l)
+      each = length-append rounds (round ∷ []) ∙ ap (λ l. l + 1) s.each;
+      looked = All-push (HasLooks prompt) rounds round s.looked m.looked;
+      asked = All-push AsksRight rounds round s.asked m.asked;
+      due = subst (λ l. AreDueInTurn p.applied l r.applied) (sym looks)
+          (due-append (looks_of rounds) round.looks p.applied q.applied r.applied s.due m.due);
+      commands = subst (λ l. Gives p.commands r.commands (asked_of l) (given_of l)) (sym looks)
+          (subst (λ l. Gives p.commands r.commands l (given_of (looks_of rounds ++ round.looks)))
+          (sym (map-append (λ l. l.asked) (looks_of rounds) round.looks))
+          (subst (λ l. Gives p.commands r.commands (asked_of (looks_of rounds) ++ asked_of round.looks) l)
           (sym (map-append (λ l. l.given) (looks_of rounds) round.looks))
-          (Gives-append c d e (asked_of (looks_of rounds)) (asked_of round.looks) (given_of (looks_of rounds)) (given_of round.looks)
-          p.commands m.commands)));
-      states = subst (λ l. Gives x z l (states_of (rounds ++ round ∷ []))) (sym (map-append (λ l. receipt_in l.made) rounds (round ∷ [])))
-          (subst (λ l. Gives x z (receipts_of rounds ++ receipt_in round.made ∷ []) l) (sym (map-append (λ l. l.reference) rounds (round ∷ [])))
-          (Gives-append x y z (receipts_of rounds) (receipt_in round.made ∷ []) (states_of rounds) (round.reference ∷ [])
-          p.states m.states));
-      port = subst (λ l. Follows l t v) (sym turns) (Follows-append (made_in rounds) (made ∷ []) t u v p.port m.port);
-      observed = subst (λ l. Sees seen heard l) (sym (flat_map-push round_observations rounds round))
-          (Sees-append seen told heard (flat_map round_observations rounds) (round_observations round) p.observed m.observed);
+          (Gives-append p.commands q.commands r.commands (asked_of (looks_of rounds)) (asked_of round.looks) (given_of (looks_of rounds))
+          (given_of round.looks) s.commands m.commands)));
+      states = subst (λ l. Gives p.states r.states l (states_of (rounds ++ round ∷ [])))
+          (sym (map-append (λ l. receipt_in l.made) rounds (round ∷ [])))
+          (subst (λ l. Gives p.states r.states (receipts_of rounds ++ receipt_in round.made ∷ []) l)
+          (sym (map-append (λ l. l.reference) rounds (round ∷ [])))
+          (Gives-append p.states q.states r.states (receipts_of rounds) (receipt_in round.made ∷ []) (states_of rounds)
+          (round.reference ∷ []) s.states m.states));
+      port = subst (λ l. Follows l p.port r.port) (sym turns) (Follows-append (made_in rounds) (made ∷ []) p.port q.port r.port s.port m.port);
+      observed = subst (λ l. Sees p.seen r.seen l) (sym (flat_map-push round_observations rounds round))
+          (Sees-append p.seen q.seen r.seen (flat_map round_observations rounds) (round_observations round) s.observed m.observed);
       arrivals = omega (
         arith,
         arrivals,
-        p.arrivals,
+        s.arrivals,
         ap arrivals_in m.comes_to,
         arrivals-made made,
         ap (count_of has_arrived) turns,
@@ -174,7 +173,7 @@ Serves-round A prompt n i j k t u v f g h c d e x y z seen told heard q r s a b 
       sent = omega (
         arith,
         sent,
-        p.sent,
+        s.sent,
         ap replies_in m.comes_to,
         replies-made made,
         ap (λ l. length (sent_of l)) turns,
@@ -184,30 +183,30 @@ Serves-round A prompt n i j k t u v f g h c d e x y z seen told heard q r s a b 
       departed = omega (
         arith,
         departed,
-        p.departed,
+        s.departed,
         ap departures_in m.comes_to,
         departures-made made,
         ap (count_of has_departed) turns,
         count-more has_departed (made_in rounds) made,
       );
-      failures = omega (arith, p.failures, m.failures, ap (count_of is_failing) turns, count-more is_failing (made_in rounds) made);
+      failures = omega (arith, s.failures, m.failures, ap (count_of is_failing) turns, count-more is_failing (made_in rounds) made);
       tells = λ history stands.
-          subst (λ es. Tells history es (flat_map round_outcomes (rounds ++ round ∷ [])) s) (sym (flat_map-push round_events rounds round))
-          (subst (λ os. Tells history (flat_map round_events rounds ++ round_events round) os s) (sym (flat_map-push round_outcomes rounds round))
-          (Tells-append history (flat_map round_events rounds) (round_events round) (flat_map round_outcomes rounds) (round_outcomes round) r s
-          (p.tells history stands) (λ stood. m.tells _ stood)));
+          subst (λ es. Tells history es (flat_map round_outcomes (rounds ++ round ∷ [])) r.service)
+          (sym (flat_map-push round_events rounds round))
+          (subst (λ os. Tells history (flat_map round_events rounds ++ round_events round) os r.service)
+          (sym (flat_map-push round_outcomes rounds round))
+          (Tells-append history (flat_map round_events rounds) (round_events round) (flat_map round_outcomes rounds) (round_outcomes round)
+          q.service r.service (s.tells history stands) (λ stood. m.tells _ stood)));
     }
 
 -- how many there can be
-pub Serves-few : (A : Type 0) (prompt : Bool) (n i j : ℕ) (t u : Option Told) (f g : ℕ) (c d : Option (Coming (Option (List ℕ))))
-    (x y : Option (Coming ReferenceState)) (seen told : Option (List Observation)) (q r : Registry) (a : Totals)
-    → ServesRounds A prompt n i j t u f g c d x y seen told q r a
-    → (a.arrivals ≤ n) × (a.sent ≤ n) × (a.departed ≤ n) × (g ≤ f + n)
-Serves-few A prompt n i j t u f g c d x y seen told q r a p =
-    let made = made_in p.rounds in
-    let all : length made ≡ n = length-map p.rounds (λ x. x.made) ∙ p.each in (
-      omega (arith, all, p.arrivals, few_such has_arrived made),
-      omega (arith, all, p.sent, few_sent made),
-      omega (arith, all, p.departed, few_such has_departed made),
-      omega (arith, all, p.failures, few_such is_failing made),
+pub Serves-few : (A : Type 0) (prompt : Bool) (n : ℕ) (p q : Parts) (a : Totals) → ServesRounds A prompt n p q a
+    → (a.arrivals ≤ n) × (a.sent ≤ n) × (a.departed ≤ n) × (q.failures ≤ p.failures + n)
+Serves-few A prompt n p q a s =
+    let made = made_in s.rounds in
+    let all : length made ≡ n = length-map s.rounds (λ x. x.made) ∙ s.each in (
+      omega (arith, all, s.arrivals, few_such has_arrived made),
+      omega (arith, all, s.sent, few_sent made),
+      omega (arith, all, s.departed, few_such has_departed made),
+      omega (arith, all, s.failures, few_such is_failing made),
     )

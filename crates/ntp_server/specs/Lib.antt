@@ -1,3 +1,4 @@
 pub mod Memory
 pub mod Rounds
 pub mod Steps
+pub mod Parts

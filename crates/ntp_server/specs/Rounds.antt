@@ -77,25 +77,31 @@ pub record AsksRight (r : Round) : Type 0 where
   pub waiting : All (λ l. l.asked ≡ None) idle
   pub come : last.asked ≡ receipt_in r.made
 
--- so many rounds were made at a port that is prompt or not. What the port, its failures, the commands, the states and the observer told
--- before, and what they tell afterwards, and how many lines were applied (profile)
-pub record ServesRounds (A : Type 0) (prompt : Bool) (turns applied_before applied_after : ℕ) (port_before port_after : Option Told)
-    (failures_before failures_after : ℕ) (commands_before commands_after : Option (Coming (Option (List ℕ))))
-    (states_before states_after : Option (Coming ReferenceState)) (seen_before seen_after : Option (List Observation))
-    (before after : Registry) (totals : Totals) : Type 0 where
+-- what the parts of a server tell, with how many calls of its port failed, how many lines were applied, and its service (profile)
+pub record Parts : Type 0 where
+  pub port : Option Told
+  pub failures : ℕ
+  pub commands : Option (Coming (Option (List ℕ)))
+  pub applied : ℕ
+  pub states : Option (Coming ReferenceState)
+  pub seen : Option (List Observation)
+  pub service : Registry
+
+-- rounds were made at a port that is prompt or not, by a server of which this was told before and this after (profile)
+pub record ServesRounds (A : Type 0) (prompt : Bool) (turns : ℕ) (before after : Parts) (totals : Totals) : Type 0 where
   pub rounds : List Round
   pub each : length rounds ≡ turns
   pub looked : All (HasLooks prompt) rounds
   pub asked : All AsksRight rounds
-  pub due : AreDueInTurn applied_before (looks_of rounds) applied_after
-  pub commands : Gives commands_before commands_after (map (λ l. l.asked) (looks_of rounds)) (map (λ l. l.given) (looks_of rounds))
-  pub states : Gives states_before states_after (map (λ r. receipt_in r.made) rounds) (map (λ r. r.reference) rounds)
-  pub port : Follows (made_in rounds) port_before port_after
-  pub observed : Sees seen_before seen_after (flat_map round_observations rounds)
+  pub due : AreDueInTurn before.applied (looks_of rounds) after.applied
+  pub commands : Gives before.commands after.commands (map (λ l. l.asked) (looks_of rounds)) (map (λ l. l.given) (looks_of rounds))
+  pub states : Gives before.states after.states (map (λ r. receipt_in r.made) rounds) (map (λ r. r.reference) rounds)
+  pub port : Follows (made_in rounds) before.port after.port
+  pub observed : Sees before.seen after.seen (flat_map round_observations rounds)
   pub arrivals : totals.arrivals ≡ length (filter has_arrived (made_in rounds))
   pub sent : totals.sent ≡ length (flat_map sent_in (made_in rounds))
   pub departed : totals.departed ≡ length (filter has_departed (made_in rounds))
-  pub failures : failures_after ≡ failures_before + length (filter is_failing (made_in rounds))
+  pub failures : after.failures ≡ before.failures + length (filter is_failing (made_in rounds))
   -- whatever history the service stood for, it tells the rounds' events these outcomes
-  pub tells : (history : List (Event A)) → StandsFor before history
-      → Tells history (flat_map round_events rounds) (flat_map round_outcomes rounds) after
+  pub tells : (history : List (Event A)) → StandsFor before.service history
+      → Tells history (flat_map round_events rounds) (flat_map round_outcomes rounds) after.service

@@ -2,7 +2,6 @@
 use Rattle.std.specs.Prelude.{◌≡◌, ℕ, ◌+◌, Bool, true, false, Option, None, List, [], ◌∷◌, map, flat_map, if◌then◌else◌, All}
 use Rattle.ntp_time.specs.declared.moment.Moment.{Moment}
 use Rattle.ntp_reply_packets.specs.Reference.{ReferenceState}
-use Rattle.ntp_register.specs.Registry.{Registry}
 use Rattle.ntp_events.specs.declared.event.Event.{Event}
 use Rattle.ntp_events.specs.declared.outcome.Outcome.{Outcome}
 use Rattle.ntp_events.specs.declared.observation.Observation.{Observation}
@@ -10,13 +9,12 @@ use Rattle.ntp_events.specs.declared.observation.TurnOutcome.{TurnOutcome}
 use Rattle.ntp_events.specs.declared.observation.TurnOutcome.TheVariants.{NothingReceived, Answered}
 use Rattle.ntp_events.specs.Sees.{Sees}
 use Rattle.ntp_service_run.specs.Headline.{StandsFor, Tells}
-use Rattle.ntp_service_serve.specs.Port.{Told}
 use Rattle.ntp_service_serve.specs.Made.{is_failing, turn_outcome}
 use Rattle.ntp_service_serve.specs.Serving.{Follows}
 use Rattle.ntp_service_serve.specs.Sending.{was_sent, was_noted}
 use Rattle.ntp_customer_files.specs.CommandsFile.{line_events, line_outcomes, line_observations}
-use Rattle.ntp_service_serve.specs.Sources.{Coming, Gives}
-use Rattle.ntp_server.specs.Rounds.{Look, Round, AreDueInTurn, HasLooks, AsksRight, receipt_in, round_events, round_outcomes, round_observations}
+use Rattle.ntp_service_serve.specs.Sources.{Gives}
+use Rattle.ntp_server.specs.Rounds.{Look, Round, Parts, AreDueInTurn, HasLooks, AsksRight, receipt_in, round_events, round_outcomes, round_observations}
 
 -- what looks were asked with, and what they gave
 abbrev pub asked_of : List Look → List (Option Moment)
@@ -42,20 +40,19 @@ receipts_of rounds = map (λ r. receipt_in r.made) rounds
 abbrev pub states_of : List Round → List ReferenceState
 states_of rounds = map (λ r. r.reference) rounds
 
--- these looks were made
-pub record Looks (A : Type 0) (looks : List Look) (applied after : ℕ) (c d : Option (Coming (Option (List ℕ))))
-    (seen told : Option (List Observation)) (old new : Registry) : Type 0 where
-  pub due : AreDueInTurn applied looks after
-  pub commands : Gives c d (asked_of looks) (given_of looks)
-  pub observed : Sees seen told (looks_observations looks)
-  pub tells : (history : List (Event A)) → StandsFor old history → Tells history (looks_events looks) (looks_outcomes looks) new
+-- these looks were made, between this and this of what is told
+pub record Looks (A : Type 0) (looks : List Look) (before after : Parts) : Type 0 where
+  pub due : AreDueInTurn before.applied looks after.applied
+  pub commands : Gives before.commands after.commands (asked_of looks) (given_of looks)
+  pub observed : Sees before.seen after.seen (looks_observations looks)
+  pub tells : (history : List (Event A)) → StandsFor before.service history
+      → Tells history (looks_events looks) (looks_outcomes looks) after.service
 
 -- a look was made, which asked with this
-pub record LooksOnce (A : Type 0) (asked : Option Moment) (applied after : ℕ) (c d : Option (Coming (Option (List ℕ))))
-    (seen told : Option (List Observation)) (old new : Registry) : Type 0 where
+pub record LooksOnce (A : Type 0) (asked : Option Moment) (before after : Parts) : Type 0 where
   pub look : Look
   pub asks : look.asked ≡ asked
-  pub done : Looks A (look ∷ []) applied after c d seen told old new
+  pub done : Looks A (look ∷ []) before after
 
 -- at a port that is prompt nobody looks while waiting
 abbrev pub IsIdle : Bool → List Look → Type 0
@@ -63,28 +60,26 @@ IsIdle true looks = looks ≡ []
 IsIdle false looks = Unit {0}
 
 -- looks were made while waiting at a port that is prompt or not
-pub record Waits (A : Type 0) (prompt : Bool) (applied after : ℕ) (c d : Option (Coming (Option (List ℕ))))
-    (seen told : Option (List Observation)) (old new : Registry) : Type 0 where
+pub record Waits (A : Type 0) (prompt : Bool) (before after : Parts) : Type 0 where
   pub looks : List Look
   pub idle : IsIdle prompt looks
   pub asked : All (λ l. l.asked ≡ None) looks
-  pub done : Looks A looks applied after c d seen told old new
+  pub done : Looks A looks before after
 
 -- a round was made, and its turn came to this
-pub record MakesRound (A : Type 0) (prompt : Bool) (applied after : ℕ) (t u : Option Told) (f g : ℕ)
-    (c d : Option (Coming (Option (List ℕ)))) (s r : Option (Coming ReferenceState)) (seen told : Option (List Observation))
-    (old new : Registry) (outcome : TurnOutcome) : Type 0 where
+pub record MakesRound (A : Type 0) (prompt : Bool) (before after : Parts) (outcome : TurnOutcome) : Type 0 where
   pub round : Round
   pub looked : HasLooks prompt round
   pub asked : AsksRight round
-  pub due : AreDueInTurn applied round.looks after
-  pub commands : Gives c d (asked_of round.looks) (given_of round.looks)
-  pub states : Gives s r (receipt_in round.made ∷ []) (round.reference ∷ [])
-  pub port : Follows (round.made ∷ []) t u
-  pub observed : Sees seen told (round_observations round)
+  pub due : AreDueInTurn before.applied round.looks after.applied
+  pub commands : Gives before.commands after.commands (asked_of round.looks) (given_of round.looks)
+  pub states : Gives before.states after.states (receipt_in round.made ∷ []) (round.reference ∷ [])
+  pub port : Follows (round.made ∷ []) before.port after.port
+  pub observed : Sees before.seen after.seen (round_observations round)
   pub comes_to : outcome ≡ turn_outcome round.made
-  pub failures : g ≡ f + (if is_failing round.made then 1 else 0)
-  pub tells : (history : List (Event A)) → StandsFor old history → Tells history (round_events round) (round_outcomes round) new
+  pub failures : after.failures ≡ before.failures + (if is_failing round.made then 1 else 0)
+  pub tells : (history : List (Event A)) → StandsFor before.service history
+      → Tells history (round_events round) (round_outcomes round) after.service
 
 -- how many datagrams came in a turn
 abbrev pub arrivals_in : TurnOutcome → ℕ

@@ -2,8 +2,7 @@
 ghost use Rattle.std.specs.Prelude.{◌≡◌, ◌+◌, ◌-◌, ◌≤◌, ◌<◌, ◌^◌, option_map, IfOk, is_err, if◌then◌else◌};
 ghost use Rattle.std.specs.Result.{result_ok};
 ghost use Rattle.ntp_service_serve.specs.Port.{most_received_octets, ReceiveTells};
-ghost use Rattle.ntp_server.specs.Rounds.{ServesRounds};
-ghost use Rattle.ntp_server.specs.Steps.{LooksOnce, Waits, MakesRound, arrivals_in, replies_in, departures_in};
+ghost use Rattle.ntp_server.specs.Steps.{arrivals_in, replies_in, departures_in};
 
 use crate::reporter::{NoReports, Reporter};
 use ntp_customer_files::apply_commands;
@@ -51,6 +50,10 @@ impl<
     O: Observer,
     A: Allocator + Copy,
 > Server<P, C, R, O, A> {
+    ghost use Rattle.ntp_server.specs.Rounds.{ServesRounds};
+    ghost use Rattle.ntp_server.specs.Parts.{parts_of};
+    ghost use Rattle.ntp_server.specs.Steps.{LooksOnce, Waits, MakesRound};
+
     /// Makes `turns` turns. In each a datagram is waited for. Once it has come, and whenever a wait ended with none, the
     /// commands file is looked at, and the lines that are due are carried out, in order, each once. Then the datagram is
     /// answered with the state of the clock that is in force, and its reply is sent, as `serve` does it. The observer is
@@ -58,10 +61,9 @@ impl<
     /// file that changed.
     pub fn serve(&mut self, turns: u64) -> Totals
         requires { P.failure_count self.old.port + turns < 2 ^ 64 }
-        ensures { ServesRounds A P.is_prompt turns self.old.applied self.new.applied (P.told self.old.port) (P.told self.new.port)
-            (P.failure_count self.old.port) (P.failure_count self.new.port) (C.coming self.old.commands) (C.coming self.new.commands)
-            (R.coming self.old.reference) (R.coming self.new.reference) (O.seen self.old.observer) (O.seen self.new.observer)
-            self.old.service self.new.service result }
+        ensures { ServesRounds A P.is_prompt turns
+            (parts_of P.told P.failure_count C.coming R.coming O.seen self.old)
+            (parts_of P.told P.failure_count C.coming R.coming O.seen self.new) result }
     {
         self.serve_reported(turns, &mut NoReports)
     }
@@ -76,10 +78,9 @@ impl<
         reporter: &mut Q,
     ) -> Totals
         requires { P.failure_count self.old.port + turns < 2 ^ 64 }
-        ensures { ServesRounds A P.is_prompt turns self.old.applied self.new.applied (P.told self.old.port) (P.told self.new.port)
-            (P.failure_count self.old.port) (P.failure_count self.new.port) (C.coming self.old.commands) (C.coming self.new.commands)
-            (R.coming self.old.reference) (R.coming self.new.reference) (O.seen self.old.observer) (O.seen self.new.observer)
-            self.old.service self.new.service result }
+        ensures { ServesRounds A P.is_prompt turns
+            (parts_of P.told P.failure_count C.coming R.coming O.seen self.old)
+            (parts_of P.told P.failure_count C.coming R.coming O.seen self.new) result }
     {
         let mut datagram = [0; MOST_RECEIVED_OCTETS];
         let mut totals = Totals {
@@ -101,10 +102,9 @@ impl<
         reporter: &mut Q,
     ) -> TurnOutcome
         requires { P.failure_count self.old.port < 2 ^ 64 - 1 }
-        ensures { MakesRound A P.is_prompt self.old.applied self.new.applied (P.told self.old.port) (P.told self.new.port)
-            (P.failure_count self.old.port) (P.failure_count self.new.port) (C.coming self.old.commands) (C.coming self.new.commands)
-            (R.coming self.old.reference) (R.coming self.new.reference) (O.seen self.old.observer) (O.seen self.new.observer)
-            self.old.service self.new.service result }
+        ensures { MakesRound A P.is_prompt
+            (parts_of P.told P.failure_count C.coming R.coming O.seen self.old)
+            (parts_of P.told P.failure_count C.coming R.coming O.seen self.new) result }
     {
         let received = self.wait(datagram, reporter);
         let receipt = receipt_of(&received);
@@ -133,9 +133,9 @@ impl<
         ensures failures { P.failure_count self.new.port ≡ P.failure_count self.old.port + (if is_err result then 1 else 0) }
         ensures turns { ReceiveTells (P.told self.old.port) (P.told self.new.port) result datagram.new }
         ensures reference { R.coming self.new.reference ≡ R.coming self.old.reference }
-        ensures looks { Waits A P.is_prompt self.old.applied self.new.applied
-            (C.coming self.old.commands) (C.coming self.new.commands) (O.seen self.old.observer) (O.seen self.new.observer)
-            self.old.service self.new.service }
+        ensures looks { Waits A P.is_prompt
+            (parts_of P.told P.failure_count C.coming R.coming O.seen self.old)
+            (parts_of P.told P.failure_count C.coming R.coming O.seen self.new) }
     {
         for _ in 0..u64::MAX {
             if let Some(received) = self.port.receive_in_time(datagram) {
@@ -152,9 +152,9 @@ impl<
     fn look(&mut self, receipt: Option<Moment>)
         ensures port { self.new.port ≡ self.old.port }
         ensures reference { self.new.reference ≡ self.old.reference }
-        ensures looks { LooksOnce A receipt self.old.applied self.new.applied
-            (C.coming self.old.commands) (C.coming self.new.commands) (O.seen self.old.observer) (O.seen self.new.observer)
-            self.old.service self.new.service }
+        ensures looks { LooksOnce A receipt
+            (parts_of P.told P.failure_count C.coming R.coming O.seen self.old)
+            (parts_of P.told P.failure_count C.coming R.coming O.seen self.new) }
     {
         let alloc = self.service.allocator();
         if let Some(octets) = self.commands.look(alloc, receipt) {

@@ -1,5 +1,5 @@
 -- Some looks and then others.
-use Rattle.std.proofs.Common.{◌≡◌, ℕ, zero, suc, Bool, true, false, Option, None, Some, List, [], ◌∷◌, ◌++◌, length, drop, refl, sym, ap, ◌∙◌, subst, append-nil, length-append, arith}
+use Rattle.std.proofs.Common.{◌≡◌, ℕ, ◌+◌, zero, suc, Bool, true, false, Option, None, Some, List, [], ◌∷◌, ◌++◌, length, drop, refl, sym, ap, ◌∙◌, subst, append-nil, length-append, arith}
 use Rattle.std.proofs.lemmas.List.{map-append, drop-drop}
 use Rattle.std.proofs.lemmas.List.Elements.{All-push}
 use Rattle.std.proofs.lemmas.Grind.{flat_map-append}
@@ -12,7 +12,7 @@ use Rattle.ntp_service_run.proofs.Runs.{Tells-nil, Tells-append}
 use Rattle.ntp_service_serve.specs.Port.{Told}
 use Rattle.ntp_service_serve.specs.Sequence.{firsts}
 use Rattle.ntp_customer_files.specs.CommandsFile.{TakenLine, CarriesOut, CarriesOutDue, lines_taken, line_events, line_outcomes, line_observations}
-use Rattle.ntp_service_serve.specs.Sources.{Coming, answers, Gives}
+use Rattle.ntp_service_serve.specs.Sources.{Coming, answers, Gives, CountsOn}
 use Rattle.ntp_server.specs.Rounds.{Look, Parts, AreDueAt, AreDueInTurn}
 use Rattle.ntp_server.specs.Steps.{Looks, LooksOnce, Waits, IsIdle, asked_of, given_of, looks_events, looks_outcomes, looks_observations}
 
@@ -47,6 +47,17 @@ Gives-append {X} (Some l) (Some m) (Some k) earlier later xs ys p q =
       q.1 ∙ ap (λ c. rest c (drop (length later) c.coming)) p.1 ∙ ap (rest l)
           (drop-drop (length later) (length earlier) l.coming ∙ ap (λ n. drop n l.coming) (sym (length-append earlier later))),
     )
+
+-- ---- what was counted
+pub CountsOn-nil : (t : Option ℕ) → CountsOn t t 0
+CountsOn-nil None = tt
+CountsOn-nil (Some n) = let none : n ≡ n + 0 = omega arith in none
+
+pub CountsOn-append : (t u v : Option ℕ) (m n : ℕ) → CountsOn t u m → CountsOn u v n → CountsOn t v (m + n)
+CountsOn-append t u None m n p q = tt
+CountsOn-append t None (Some c) m n p q = absurd q
+CountsOn-append None (Some b) (Some c) m n p q = absurd p
+CountsOn-append (Some a) (Some b) (Some c) m n p q = let more : c ≡ a + (m + n) = omega (arith, p, q) in more
 
 -- ---- looks
 pub due-append : (xs ys : List Look) (a b c : ℕ) → AreDueInTurn a xs b → AreDueInTurn b ys c → AreDueInTurn a (xs ++ ys) c
@@ -111,21 +122,34 @@ module _ (A : Type 0) where
 
   -- ---- a wait
   pub Waits-none : (prompt : Bool) (p : Parts) → Waits A prompt p p
-  Waits-none prompt p =
-      record { looks = []; idle = idle prompt; asked = λ k d below. absurd (omega (arith, below)); done = Looks-nil p }
+  Waits-none prompt p = record {
+      looks = [];
+      idle = idle prompt;
+      asked = λ k d below. absurd (omega (arith, below));
+      done = Looks-nil p;
+      tended = CountsOn-nil p.tended;
+      reported = Sees-nil p.shown;
+    }
     where
       idle : (prompt : Bool) → IsIdle prompt []
       idle true = refl
       idle false = tt
 
-  -- it goes on only at a port that is not prompt; what the port and the clock's source tell does not matter to a look
-  pub Waits-more : (prompt : Bool) (p q r : Parts) (port : Option Told) (failures : ℕ) (states tended : Option (Coming ReferenceState))
-      → prompt ≡ false → Waits A prompt p q → LooksOnce A None (record q { port = port; failures = failures; states = states }) r
-      → Waits A prompt p (record r { states = tended })
-  Waits-more prompt p q r port failures states tended waits w l = record {
+  -- it goes on only at a port that is not prompt; what the port, the source of the states and the reporter tell does not matter to a look
+  pub Waits-more : (prompt : Bool) (p q r : Parts) (port : Option Told) (failures : ℕ) (states later : Option (Coming ReferenceState))
+      (tended : Option ℕ) (blank shown : Option (List (Option Moment))) → prompt ≡ false → Waits A prompt p q
+      → LooksOnce A None (record q { port = port; failures = failures; states = states; shown = blank }) r
+      → r.tended ≡ q.tended → CountsOn r.tended tended 1 → Sees q.shown shown (None ∷ [])
+      → Waits A prompt p (record r { states = later; tended = tended; shown = shown })
+  Waits-more prompt p q r port failures states later tended blank shown waits w l same tends shows = record {
     looks = w.looks ++ l.look ∷ [];
     idle = subst (λ b. IsIdle b (w.looks ++ l.look ∷ [])) (sym waits) tt;
     asked = All-push (λ x. x.asked ≡ None) w.looks l.look w.asked l.asks;
-    done = Looks-append w.looks (l.look ∷ []) p q (record r { states = tended }) w.done
+    done = Looks-append w.looks (l.look ∷ []) p q (record r { states = later; tended = tended; shown = shown }) w.done
         (record { due = l.done.due; commands = l.done.commands; observed = l.done.observed; tells = l.done.tells });
+    tended = subst (λ n. CountsOn p.tended tended n) (sym (length-append w.looks (l.look ∷ [])))
+        (CountsOn-append p.tended q.tended tended (length w.looks) 1 w.tended (subst (λ c. CountsOn c tended 1) same tends));
+    reported = subst (λ xs. Sees p.shown shown xs) (sym (map-append (λ x. x.asked) w.looks (l.look ∷ [])))
+        (Sees-append p.shown q.shown shown (asked_of w.looks) (l.look.asked ∷ []) w.reported
+        (subst (λ a. Sees q.shown shown (a ∷ [])) (sym l.asks) shows));
   }

@@ -25,10 +25,10 @@ use Rattle.ntp_service_serve.specs.Sending.{was_sent}
 use Rattle.ntp_service_serve.proofs.ManyTurns.{sent_of, count_of, Follows-nil, Follows-append}
 use Rattle.ntp_service_serve.proofs.Counting.{if_so, at-most-one, sent-one, noted-one, count-more}
 use Rattle.ntp_server.specs.declared.server.Totals.{Totals}
-use Rattle.ntp_service_serve.specs.Sources.{Gives}
+use Rattle.ntp_service_serve.specs.Sources.{Gives, CountsOn}
 use Rattle.ntp_server.specs.Rounds.{Look, Round, Parts, AreDueInTurn, HasLooks, AsksRight, ServesRounds, looks_of, made_in, receipt_in, round_events, round_outcomes, round_observations}
 use Rattle.ntp_server.specs.Steps.{LooksOnce, Waits, IsIdle, MakesRound, asked_of, given_of, looks_events, looks_outcomes, looks_observations, receipts_of, states_of, arrivals_in, replies_in, departures_in}
-use Rattle.ntp_server.proofs.Looking.{Gives-nil, Gives-append, due-append, Looks-append}
+use Rattle.ntp_server.proofs.Looking.{Gives-nil, Gives-append, CountsOn-nil, CountsOn-append, due-append, Looks-append}
 
 -- ---- a turn behind a wait and a look
 one_look : (prompt : Bool) (looks : List Look) (l : Look) (reference : ReferenceState) (made : Made) → IsIdle prompt looks
@@ -45,16 +45,19 @@ came made r arrived = sym (ap (option_map (λ a. a.receipt)) arrived) ∙ any (t
     any None = refl
     any (Some d) = refl
 
-pub Makes-turn : (A : Type 0) (prompt : Bool) (asked : Option Moment) (p q r s : Parts) (reference : ReferenceState)
-    (received : Result Arrival PortFault) (buffer : List ℕ) (outcome : TurnOutcome) → s.applied ≡ r.applied → s.commands ≡ r.commands
-    → Waits A prompt p q → LooksOnce A asked q r → asked ≡ option_map (λ a. a.receipt) (result_ok received)
-    → r.states ≡ p.states → Gives r.states s.states (asked ∷ []) (reference ∷ [])
+pub Makes-turn : (A : Type 0) (prompt : Bool) (asked : Option Moment) (p q r s : Parts) (blank : Option (List (Option Moment)))
+    (reference : ReferenceState) (received : Result Arrival PortFault) (buffer : List ℕ) (outcome : TurnOutcome) → s.applied ≡ r.applied
+    → s.commands ≡ r.commands → Waits A prompt p q → LooksOnce A asked (record q { shown = blank }) r
+    → asked ≡ option_map (λ a. a.receipt) (result_ok received) → r.states ≡ p.states
+    → Gives r.states s.states (asked ∷ []) (reference ∷ []) → s.tended ≡ q.tended
     → r.failures ≡ p.failures + (if is_err received then 1 else 0)
     → TurnMakes A reference received buffer p.port s.port r.failures s.failures r.service s.service outcome
-    → Sees r.seen s.seen (Turn outcome ∷ []) → MakesRound A prompt p s outcome
-Makes-turn A prompt asked p q r s reference received buffer outcome applied commands waits looked receipt same states failed turn seen =
+    → Sees r.seen s.seen (Turn outcome ∷ []) → Sees q.shown s.shown (asked ∷ []) → MakesRound A prompt p s outcome
+Makes-turn A prompt asked p q r s blank reference received buffer outcome applied commands waits looked receipt same states tended failed turn
+    seen shows =
     let looks = waits.looks ++ looked.look ∷ [] in
-    let all = Looks-append A waits.looks (looked.look ∷ []) p q r waits.done looked.done in
+    let all = Looks-append A waits.looks (looked.look ∷ []) p q r waits.done
+        (record { due = looked.done.due; commands = looked.done.commands; observed = looked.done.observed; tells = looked.done.tells }) in
     let right : asked ≡ receipt_in turn.made = receipt ∙ came turn.made received turn.arrived in
     record {
       round = record { looks = looks; reference = reference; made = turn.made };
@@ -64,6 +67,12 @@ Makes-turn A prompt asked p q r s reference received buffer outcome applied comm
       commands = subst (λ c. Gives p.commands c (asked_of looks) (given_of looks)) (sym commands) all.commands;
       states = subst (λ a. Gives p.states s.states (a ∷ []) (reference ∷ [])) right
           (subst (λ l. Gives l s.states (asked ∷ []) (reference ∷ [])) same states);
+      tends = length waits.looks;
+      waits = sym (length-append waits.looks (looked.look ∷ []));
+      tended = subst (λ c. CountsOn p.tended c (length waits.looks)) (sym tended) waits.tended;
+      reported = subst (λ xs. Sees p.shown s.shown xs) (sym (map-append (λ l. l.asked) waits.looks (looked.look ∷ [])))
+          (Sees-append p.shown q.shown s.shown (asked_of waits.looks) (looked.look.asked ∷ []) waits.reported
+          (subst (λ a. Sees q.shown s.shown (a ∷ [])) (sym looked.asks) shows));
       port = turn.port;
       observed = Sees-append p.seen r.seen s.seen (looks_observations looks) (Turn (turn_outcome turn.made) ∷ []) all.observed
           (subst (λ l. Sees r.seen s.seen (Turn l ∷ [])) turn.comes_to seen);
@@ -120,6 +129,10 @@ Serves-none A prompt p = record {
   due = refl;
   commands = Gives-nil p.commands;
   states = Gives-nil p.states;
+  tends = 0;
+  waits = refl;
+  tended = CountsOn-nil p.tended;
+  reported = Sees-nil p.shown;
   port = Follows-nil p.port;
   observed = Sees-nil p.seen;
   arrivals = refl;
@@ -158,6 +171,12 @@ Serves-round A prompt n p q r a b outcome s m arrivals sent departed =
           (sym (map-append (λ l. l.reference) rounds (round ∷ [])))
           (Gives-append p.states q.states r.states (receipts_of rounds) (receipt_in round.made ∷ []) (states_of rounds)
           (round.reference ∷ []) s.states m.states));
+      tends = s.tends + m.tends;
+      waits = omega (arith, s.waits, m.waits, ap length looks, length-append (looks_of rounds) round.looks);
+      tended = CountsOn-append p.tended q.tended r.tended s.tends m.tends s.tended m.tended;
+      reported = subst (λ l. Sees p.shown r.shown (asked_of l)) (sym looks)
+          (subst (λ xs. Sees p.shown r.shown xs) (sym (map-append (λ l. l.asked) (looks_of rounds) round.looks))
+          (Sees-append p.shown q.shown r.shown (asked_of (looks_of rounds)) (asked_of round.looks) s.reported m.reported));
       port = subst (λ l. Follows l p.port r.port) (sym turns) (Follows-append (made_in rounds) (made ∷ []) p.port q.port r.port s.port m.port);
       observed = subst (λ l. Sees p.seen r.seen l) (sym (flat_map-push round_observations rounds round))
           (Sees-append p.seen q.seen r.seen (flat_map round_observations rounds) (round_observations round) s.observed m.observed);

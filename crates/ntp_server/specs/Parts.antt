@@ -1,5 +1,6 @@
 -- What the parts of a server tell.
 use Rattle.std.specs.Prelude.{ℕ, Option, List}
+use Rattle.ntp_time.specs.declared.moment.Moment.{Moment}
 use Rattle.ntp_events.specs.declared.observation.Observation.{Observation}
 use Rattle.ntp_reply_packets.specs.Reference.{ReferenceState}
 use Rattle.ntp_service_serve.specs.Port.{Told}
@@ -7,15 +8,19 @@ use Rattle.ntp_service_serve.specs.Sources.{Coming}
 use Rattle.ntp_server.specs.Rounds.{Parts}
 use Rattle.ntp_server.specs.declared.server.Server.{Server}
 
--- those of a server, by what each tells: its port, how many calls of that failed, its commands, its states and its observer (profile)
+-- those of a server, by what each tells: its port, how many calls of that failed, its commands, its states, how often their source was
+-- given time, its observer; and what its reporter tells (profile)
 abbrev pub parts_of : {P C R O A : Type 0} → (P → Option Told) → (P → ℕ) → (C → Option (Coming (Option (List ℕ))))
-    → (R → Option (Coming ReferenceState)) → (O → Option (List Observation)) → Server P C R O A → Parts
-parts_of told failures commands states seen server = record {
+    → (R → Option (Coming ReferenceState)) → (R → Option ℕ) → (O → Option (List Observation)) → Option (List (Option Moment))
+    → Server P C R O A → Parts
+parts_of told failures commands states tended seen shown server = record {
   port = told server.port;
   failures = failures server.port;
   commands = commands server.commands;
   applied = server.applied;
   states = states server.reference;
+  tended = tended server.reference;
   seen = seen server.observer;
+  shown = shown;
   service = server.service;
 }

@@ -14,7 +14,7 @@ use Rattle.ntp_service_serve.specs.Made.{Made, turn_of, events_in, outcomes_in, 
 use Rattle.ntp_service_serve.specs.Serving.{Follows}
 use Rattle.ntp_customer_files.specs.CommandsFile.{TakenLine, AreDue, lines_taken, line_events, line_outcomes, line_observations}
 use Rattle.ntp_server.specs.declared.server.Totals.{Totals}
-use Rattle.ntp_service_serve.specs.Sources.{Coming, Gives}
+use Rattle.ntp_service_serve.specs.Sources.{Coming, Gives, CountsOn}
 
 -- a look at the commands: what the source was asked with, how many lines were applied before, the octets that it gave, if any, and the
 -- lines that were taken (profile)
@@ -77,14 +77,17 @@ pub record AsksRight (r : Round) : Type 0 where
   pub waiting : All (λ l. l.asked ≡ None) idle
   pub come : last.asked ≡ receipt_in r.made
 
--- what the parts of a server tell, with how many calls of its port failed, how many lines were applied, and its service (profile)
+-- what the parts of a server and its reporter tell, with how many calls of its port failed, how many lines were applied, and its service
+-- (profile)
 pub record Parts : Type 0 where
   pub port : Option Told
   pub failures : ℕ
   pub commands : Option (Coming (Option (List ℕ)))
   pub applied : ℕ
   pub states : Option (Coming ReferenceState)
+  pub tended : Option ℕ
   pub seen : Option (List Observation)
+  pub shown : Option (List (Option Moment))
   pub service : Registry
 
 -- rounds were made at a port that is prompt or not, by a server of which this was told before and this after (profile)
@@ -96,6 +99,12 @@ pub record ServesRounds (A : Type 0) (prompt : Bool) (turns : ℕ) (before after
   pub due : AreDueInTurn before.applied (looks_of rounds) after.applied
   pub commands : Gives before.commands after.commands (map (λ l. l.asked) (looks_of rounds)) (map (λ l. l.given) (looks_of rounds))
   pub states : Gives before.states after.states (map (λ r. receipt_in r.made) rounds) (map (λ r. r.reference) rounds)
+  -- the source of the states was given time after each look but a round's last
+  pub tends : ℕ
+  pub waits : tends + turns ≡ length (looks_of rounds)
+  pub tended : CountsOn before.tended after.tended tends
+  -- the reporter was shown the server after each look, with what that had been asked with
+  pub reported : Sees before.shown after.shown (map (λ l. l.asked) (looks_of rounds))
   pub port : Follows (made_in rounds) before.port after.port
   pub observed : Sees before.seen after.seen (flat_map round_observations rounds)
   pub arrivals : totals.arrivals ≡ length (filter has_arrived (made_in rounds))

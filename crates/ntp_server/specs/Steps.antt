@@ -1,5 +1,5 @@
 -- Not to be believed: for proofs. What one look, a wait and one turn do.
-use Rattle.std.specs.Prelude.{◌≡◌, ℕ, ◌+◌, Bool, true, false, Option, None, List, [], ◌∷◌, map, flat_map, if◌then◌else◌, All}
+use Rattle.std.specs.Prelude.{◌≡◌, ℕ, ◌+◌, Bool, true, false, Option, None, List, [], ◌∷◌, length, map, flat_map, if◌then◌else◌, All}
 use Rattle.ntp_time.specs.declared.moment.Moment.{Moment}
 use Rattle.ntp_reply_packets.specs.Reference.{ReferenceState}
 use Rattle.ntp_events.specs.declared.event.Event.{Event}
@@ -13,7 +13,7 @@ use Rattle.ntp_service_serve.specs.Made.{is_failing, turn_outcome}
 use Rattle.ntp_service_serve.specs.Serving.{Follows}
 use Rattle.ntp_service_serve.specs.Sending.{was_sent, was_noted}
 use Rattle.ntp_customer_files.specs.CommandsFile.{line_events, line_outcomes, line_observations}
-use Rattle.ntp_service_serve.specs.Sources.{Gives}
+use Rattle.ntp_service_serve.specs.Sources.{Gives, CountsOn}
 use Rattle.ntp_server.specs.Rounds.{Look, Round, Parts, AreDueInTurn, HasLooks, AsksRight, receipt_in, round_events, round_outcomes, round_observations}
 
 -- what looks were asked with, and what they gave
@@ -65,6 +65,8 @@ pub record Waits (A : Type 0) (prompt : Bool) (before after : Parts) : Type 0 wh
   pub idle : IsIdle prompt looks
   pub asked : All (λ l. l.asked ≡ None) looks
   pub done : Looks A looks before after
+  pub tended : CountsOn before.tended after.tended (length looks)
+  pub reported : Sees before.shown after.shown (asked_of looks)
 
 -- a round was made, and its turn came to this
 pub record MakesRound (A : Type 0) (prompt : Bool) (before after : Parts) (outcome : TurnOutcome) : Type 0 where
@@ -74,6 +76,10 @@ pub record MakesRound (A : Type 0) (prompt : Bool) (before after : Parts) (outco
   pub due : AreDueInTurn before.applied round.looks after.applied
   pub commands : Gives before.commands after.commands (asked_of round.looks) (given_of round.looks)
   pub states : Gives before.states after.states (receipt_in round.made ∷ []) (round.reference ∷ [])
+  pub tends : ℕ
+  pub waits : tends + 1 ≡ length round.looks
+  pub tended : CountsOn before.tended after.tended tends
+  pub reported : Sees before.shown after.shown (asked_of round.looks)
   pub port : Follows (round.made ∷ []) before.port after.port
   pub observed : Sees before.seen after.seen (round_observations round)
   pub comes_to : outcome ≡ turn_outcome round.made

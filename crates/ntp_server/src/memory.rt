@@ -82,6 +82,8 @@ impl<A: Allocator> ReferenceSource for MemoryStates<A> {
         self.given = at + 1;
         self.states[at]
     }
+
+    fn tend(&mut self) {}
 }
 
 /// An observer in memory, with room for so many observations. It tells what it has seen as long as it had room for all (profile).

@@ -1,14 +1,23 @@
 //! Who is shown a server while it serves.
+ghost use Rattle.std.specs.Prelude.{Option, None, List, [], ◌∷◌};
+ghost use Rattle.ntp_time.specs.declared.moment.Moment.{Moment};
+ghost use Rattle.ntp_events.specs.Sees.{Sees};
 
 use ntp_time::Moment;
 
 /// Is shown a server `S` as it is, between its turns and while nothing comes (profile).
 ///
 /// It has the server behind a shared reference, and so can change nothing of what the server does.
+///
+/// It may tell what it was shown the server with.
 pub trait Reporter<S> {
+    // What it was shown a server with so far, where it tells that.
+    ghost shown: { Self → Option (List (Option Moment)) } = { λ _. None };
+
     /// Shows the server: after each turn, with when its datagram came, and with nothing where none could be received; and
     /// whenever a wait ended with none, with nothing.
-    fn report(&mut self, server: &S, receipt: Option<Moment>);
+    fn report(&mut self, server: &S, receipt: Option<Moment>)
+        ensures { Sees (shown self.old) (shown self.new) (receipt ∷ []) };
 }
 
 /// A reporter that does nothing.

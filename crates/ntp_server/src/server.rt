@@ -1,5 +1,5 @@
 //! A server, turn by turn.
-ghost use Rattle.std.specs.Prelude.{◌≡◌, ◌+◌, ◌-◌, ◌≤◌, ◌<◌, ◌^◌, option_map, IfOk, is_err, if◌then◌else◌};
+ghost use Rattle.std.specs.Prelude.{◌≡◌, ◌+◌, ◌-◌, ◌≤◌, ◌<◌, ◌^◌, None, option_map, IfOk, is_err, if◌then◌else◌};
 ghost use Rattle.std.specs.Result.{result_ok};
 ghost use Rattle.ntp_service_serve.specs.Port.{most_received_octets, ReceiveTells};
 ghost use Rattle.ntp_server.specs.Steps.{arrivals_in, replies_in, departures_in};
@@ -62,8 +62,8 @@ impl<
     pub fn serve(&mut self, turns: u64) -> Totals
         requires { P.failure_count self.old.port + turns < 2 ^ 64 }
         ensures { ServesRounds A P.is_prompt turns
-            (parts_of P.told P.failure_count C.coming R.coming O.seen self.old)
-            (parts_of P.told P.failure_count C.coming R.coming O.seen self.new) result }
+            (parts_of P.told P.failure_count C.coming R.coming R.tended O.seen None self.old)
+            (parts_of P.told P.failure_count C.coming R.coming R.tended O.seen None self.new) result }
     {
         self.serve_reported(turns, &mut NoReports)
     }
@@ -79,8 +79,8 @@ impl<
     ) -> Totals
         requires { P.failure_count self.old.port + turns < 2 ^ 64 }
         ensures { ServesRounds A P.is_prompt turns
-            (parts_of P.told P.failure_count C.coming R.coming O.seen self.old)
-            (parts_of P.told P.failure_count C.coming R.coming O.seen self.new) result }
+            (parts_of P.told P.failure_count C.coming R.coming R.tended O.seen (Q.shown reporter.old) self.old)
+            (parts_of P.told P.failure_count C.coming R.coming R.tended O.seen (Q.shown reporter.new) self.new) result }
     {
         let mut datagram = [0; MOST_RECEIVED_OCTETS];
         let mut totals = Totals {
@@ -103,8 +103,8 @@ impl<
     ) -> TurnOutcome
         requires { P.failure_count self.old.port < 2 ^ 64 - 1 }
         ensures { MakesRound A P.is_prompt
-            (parts_of P.told P.failure_count C.coming R.coming O.seen self.old)
-            (parts_of P.told P.failure_count C.coming R.coming O.seen self.new) result }
+            (parts_of P.told P.failure_count C.coming R.coming R.tended O.seen (Q.shown reporter.old) self.old)
+            (parts_of P.told P.failure_count C.coming R.coming R.tended O.seen (Q.shown reporter.new) self.new) result }
     {
         let received = self.wait(datagram, reporter);
         let receipt = receipt_of(&received);
@@ -134,8 +134,8 @@ impl<
         ensures turns { ReceiveTells (P.told self.old.port) (P.told self.new.port) result datagram.new }
         ensures reference { R.coming self.new.reference ≡ R.coming self.old.reference }
         ensures looks { Waits A P.is_prompt
-            (parts_of P.told P.failure_count C.coming R.coming O.seen self.old)
-            (parts_of P.told P.failure_count C.coming R.coming O.seen self.new) }
+            (parts_of P.told P.failure_count C.coming R.coming R.tended O.seen (Q.shown reporter.old) self.old)
+            (parts_of P.told P.failure_count C.coming R.coming R.tended O.seen (Q.shown reporter.new) self.new) }
     {
         for _ in 0..u64::MAX {
             if let Some(received) = self.port.receive_in_time(datagram) {
@@ -153,8 +153,8 @@ impl<
         ensures port { self.new.port ≡ self.old.port }
         ensures reference { self.new.reference ≡ self.old.reference }
         ensures looks { LooksOnce A receipt
-            (parts_of P.told P.failure_count C.coming R.coming O.seen self.old)
-            (parts_of P.told P.failure_count C.coming R.coming O.seen self.new) }
+            (parts_of P.told P.failure_count C.coming R.coming R.tended O.seen None self.old)
+            (parts_of P.told P.failure_count C.coming R.coming R.tended O.seen None self.new) }
     {
         let alloc = self.service.allocator();
         if let Some(octets) = self.commands.look(alloc, receipt) {

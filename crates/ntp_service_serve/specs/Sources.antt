@@ -1,5 +1,5 @@
 -- What the sources of a server give.
-use Rattle.std.specs.Prelude.{◌≡◌, Option, IfSome, IsSomeAnd, List, [], ◌∷◌, length, drop}
+use Rattle.std.specs.Prelude.{◌≡◌, ℕ, ◌+◌, Option, None, Some, IfSome, IsSomeAnd, List, [], ◌∷◌, length, drop}
 use Rattle.ntp_time.specs.declared.moment.Moment.{Moment}
 use Rattle.ntp_service_serve.specs.Sequence.{firsts}
 
@@ -18,3 +18,9 @@ answers (a ∷ asked) (f ∷ fs) = f a ∷ answers asked fs
 abbrev pub Gives : {X : Type 0} → Option (Coming X) → Option (Coming X) → List (Option Moment) → List X → Type 0
 Gives t u asked given = IfSome t (λ old. IsSomeAnd u (λ new. (given ≡ answers asked (firsts old.behind (length asked) old.coming))
     × (new ≡ record old { coming = drop (length asked) old.coming })))
+
+-- a count went on by these; one that is told no longer, or never was, tells nothing of them (profile)
+abbrev pub CountsOn : Option ℕ → Option ℕ → ℕ → Type 0
+CountsOn old None more = Unit {0}
+CountsOn None (Some new) more = ⊥
+CountsOn (Some old) (Some new) more = new ≡ old + more

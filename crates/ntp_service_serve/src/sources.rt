@@ -1,7 +1,7 @@
 //! Where a server has its commands and the state of its clock from.
 ghost use Rattle.std.specs.Prelude.{◌≡◌, ℕ, Option, None, Some, List, [], ◌∷◌, option_map};
 ghost use Rattle.ntp_reply_packets.specs.Reference.{ReferenceState};
-ghost use Rattle.ntp_service_serve.specs.Sources.{Coming, Gives};
+ghost use Rattle.ntp_service_serve.specs.Sources.{Coming, Gives, CountsOn};
 
 use ntp_reply::Reference;
 use ntp_time::Moment;
@@ -28,16 +28,20 @@ pub trait ReferenceSource {
     // What it will give from here on, where the source tells it.
     ghost coming: { Self → Option (Coming ReferenceState) } = { λ _. None };
 
+    // How many times it was given time to look after itself, where it tells that.
+    ghost tended: { Self → Option ℕ } = { λ _. None };
+
     /// The state that is in force. `receipt` is when the datagram came that is to be answered with it, and nothing where none
     /// could be received.
     fn in_force(&mut self, receipt: Option<Moment>) -> Reference
-        ensures { Gives (coming self.old) (coming self.new) (receipt ∷ []) (result ∷ []) };
+        ensures given { Gives (coming self.old) (coming self.new) (receipt ∷ []) (result ∷ []) }
+        ensures tended { tended self.new ≡ tended self.old };
 
     /// Time for the source to look after itself, while no datagram waits for its answer. What it tells of what it will give
     /// stays the same. A source that has nothing to look after does nothing.
     fn tend(&mut self)
-        ensures { coming self.new ≡ coming self.old }
-    {}
+        ensures coming { coming self.new ≡ coming self.old }
+        ensures tended { CountsOn (tended self.old) (tended self.new) 1 };
 }
 
 /// A state that is in force for ever.
@@ -50,4 +54,6 @@ impl ReferenceSource for FixedReference {
     fn in_force(&mut self, _receipt: Option<Moment>) -> Reference {
         self.0
     }
+
+    fn tend(&mut self) {}
 }

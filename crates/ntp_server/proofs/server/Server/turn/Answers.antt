@@ -8,7 +8,8 @@ returns g c =
     let told = g.P.Port.told in
     let received = subst (λ port. ReceiveTells (told c.args.self.now.port) (told port) c.wait-received.result c.wait-received.new.datagram)
     (sym c.look.ensures.port) c.wait-received.ensures.turns in
-    Makes-turn _ _ _ _ _ _ _ _ _ _ _ refl refl c.wait-received.ensures.looks c.look.ensures.looks
+    Makes-turn _ _ _ _ _ _ _ _ _ _ _ _ refl refl c.wait-received.ensures.looks c.look.ensures.looks
     c.receipt_of-receipt.ensures (ap g.R.ReferenceSource.coming c.look.ensures.reference ∙ c.wait-received.ensures.reference)
-    c.in_force-reference.ensures (ap g.P.Port.failure_count c.look.ensures.port ∙ c.wait-received.ensures.failures)
-    (c.answer_received-outcome.ensures _ received) c.turn.ensures
+    c.in_force-reference.ensures.given (c.in_force-reference.ensures.tended ∙ ap g.R.ReferenceSource.tended c.look.ensures.reference)
+    (ap g.P.Port.failure_count c.look.ensures.port ∙ c.wait-received.ensures.failures)
+    (c.answer_received-outcome.ensures _ received) c.turn.ensures c.report.ensures

@@ -9,6 +9,6 @@ invariant-loop g l = record {
   failures : g.P.Port.failure_count l.self.port ≡ g.P.Port.failure_count l.fn.self.port;
   reference : g.R.ReferenceSource.coming l.self.reference ≡ g.R.ReferenceSource.coming l.fn.self.reference;
   waits : Waits g.row.A.Denot g.P.TimedPort.is_prompt
-      (parts_of g.P.Port.told g.P.Port.failure_count g.C.CommandsSource.coming g.R.ReferenceSource.coming g.O.Observer.seen l.fn.self)
-      (parts_of g.P.Port.told g.P.Port.failure_count g.C.CommandsSource.coming g.R.ReferenceSource.coming g.O.Observer.seen l.self);
+      (parts_of g.P.Port.told g.P.Port.failure_count g.C.CommandsSource.coming g.R.ReferenceSource.coming g.R.ReferenceSource.tended g.O.Observer.seen (g.Q.Reporter.shown l.fn.reporter) l.fn.self)
+      (parts_of g.P.Port.told g.P.Port.failure_count g.C.CommandsSource.coming g.R.ReferenceSource.coming g.R.ReferenceSource.tended g.O.Observer.seen (g.Q.Reporter.shown l.reporter) l.self);
 }

@@ -1,7 +1,7 @@
 """A host that does for a program what a test tells it to: clocks that are set, a send that takes long, a `poll` that fails.
 
 The program is started with a C library in front of the C library's own, made with gcc or clang when it is first wanted, whose
-`clock_gettime`, `poll` and `sendto` do as a few numbers in a file say, which both have in memory. They are the host's calls else.
+`clock_gettime`, `poll`, `recvfrom` and `sendto` do as a few numbers in a file say, which both have in memory. They are the host's calls else.
 """
 import mmap
 import os
@@ -23,7 +23,7 @@ LIBRARY = r"""
 #include <unistd.h>
 
 // In the order of the names in Python: what is told, and behind it how many readings of the clocks there were.
-enum { WALL, MONOTONIC, SHOWN, SEND, POLLS, READINGS, NUMBERS };
+enum { WALL, MONOTONIC, SHOWN, SEND, POLLS, HOLD, READINGS, NUMBERS };
 
 static volatile int64_t at_first[NUMBERS], *told = at_first;
 
@@ -36,7 +36,25 @@ __attribute__((constructor)) static void begin(void) {
     told = shared;
 }
 
+static void wait(int64_t nanos) {
+    struct timespec span = {nanos / 1000000000, nanos % 1000000000};
+    if (nanos)
+        syscall(SYS_nanosleep, &span, 0);
+}
+
+// Whether a datagram was just received, or the host's clock was read just behind that.
+static enum { NOTHING, RECEIVED, STAMPED } reached;
+
+ssize_t recvfrom(int s, void *octets, size_t length, int flags, struct sockaddr *from, socklen_t *size) {
+    ssize_t received = syscall(SYS_recvfrom, s, octets, length, flags, from, size);
+    reached = received < 0 || !from ? NOTHING : RECEIVED;
+    return received;
+}
+
 int clock_gettime(clockid_t clock, struct timespec *time) {
+    if (clock == CLOCK_MONOTONIC && reached == STAMPED)
+        wait(told[HOLD]);
+    reached = clock == CLOCK_REALTIME && reached == RECEIVED ? STAMPED : NOTHING;
     int status = syscall(SYS_clock_gettime, clock, time);
     int64_t readings = told[READINGS]++, nanos = time->tv_sec * 1000000000ll + time->tv_nsec;
     if (clock == CLOCK_MONOTONIC)
@@ -57,23 +75,18 @@ int poll(struct pollfd *waits, nfds_t count, int timeout) {
     return syscall(SYS_ppoll, waits, count, timeout < 0 ? 0 : &limit, 0, 8);
 }
 
-static void wait_half(void) {
-    struct timespec half = {0, told[SEND] / 2};
-    if (half.tv_nsec)
-        syscall(SYS_nanosleep, &half, 0);
-}
-
 ssize_t sendto(int s, const void *octets, size_t length, int flags, const struct sockaddr *to, socklen_t size) {
-    wait_half();
+    wait(told[SEND] / 2);
     ssize_t sent = syscall(SYS_sendto, s, octets, length, flags, to, size);
     int error = errno;
-    wait_half();
+    wait(told[SEND] / 2);
     errno = error;
     return sent;
 }
 """
 
 SECOND = 1_000_000_000
+NUMBERS = 7
 
 
 def number(place):
@@ -99,8 +112,10 @@ class OddHost:
     send = number(3)
     # Where not 0, each look fails whether one descriptor can be read.
     polls = number(4)
+    # How many nanoseconds it is held up behind the reading of the host's clock for a datagram that came, before it reads the other clock.
+    hold = number(5)
     # How often the program has read a clock.
-    readings = number(5)
+    readings = number(6)
 
     def __init__(self, folder):
         """Its files stand in this folder. Where there is no compiler, it is a FileNotFoundError."""
@@ -108,9 +123,9 @@ class OddHost:
         if not os.path.exists(self.library):
             make(folder, self.library)
         with open(self.file, "w+b") as it:
-            it.write(bytes(8 * 6))
+            it.write(bytes(8 * NUMBERS))
             it.flush()
-            self.memory = mmap.mmap(it.fileno(), 8 * 6)
+            self.memory = mmap.mmap(it.fileno(), 8 * NUMBERS)
 
     def environment(self):
         return {**os.environ, "LD_PRELOAD": self.library, "ODD_HOST": self.file}

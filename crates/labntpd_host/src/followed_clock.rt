@@ -110,14 +110,16 @@ impl<'a, C: Clock + Copy + Drop> FollowedClock<'a, C> {
     }
 
     // Looks whether the host's clock was set, where a reading shows it. That may be one in which the process was held up, so the clocks
-    // are read anew.
-    fn glance(&mut self, shown: Reading) {
+    // are read anew, and the new reading takes its place: else it would tell as much less than the clock was set by.
+    fn glance(&mut self, shown: Reading) -> Reading {
         if !is_read(shown.clock) || !self.follower.is_set_since(shown) {
-            return;
+            return shown;
         }
-        if let Some(now) = self.reading() {
-            self.look(now);
-        }
+        let Some(now) = self.reading() else {
+            return shown;
+        };
+        self.look(now);
+        now
     }
 
     // Looks whether the host's clock was set. Where it was, no answer is waited for, and the daemon is asked again at once.
@@ -215,10 +217,9 @@ impl<'a, C: Clock + Copy + Drop> ReferenceSource for FollowedClock<'a, C> {
             return reference_unsynchronised();
         };
         // The ticks were read just after the receipt, and before anything that the exchange does.
-        let received = Reading { clock, ticks };
-        self.glance(received);
+        let now = self.glance(Reading { clock, ticks });
         self.exchange(ticks);
-        self.follower.in_force(received)
+        self.follower.in_force(now)
     }
 
     fn tend(&mut self) {

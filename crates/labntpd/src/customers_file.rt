@@ -1,5 +1,6 @@
 //! The customers file: what each customer has, what it was answered, and when its keys signed.
 
+use labntpd_host::new_file;
 use ntp_reports::{CustomerCounts, customer_line};
 use ntp_service_run::Service;
 use std::alloc::{AllocError, Global};
@@ -62,7 +63,7 @@ impl<'a> CustomersFile<'a> {
             return self.fault;
         }
         self.done = done;
-        match fs::create(rt, self.beside.as_str()) {
+        match new_file(rt, self.beside.as_str()) {
             Ok(file) => {
                 self.due = seconds.saturating_add(PERIOD);
                 self.writing = Some(Writing { file, customers: 0 });

@@ -47,21 +47,27 @@ pub fn judge_places<R: Files, F: Write>(
     configuration: &Configuration,
     faults: &mut F,
 ) -> Result<(), u8> {
-    match beside_statistics(alloc, configuration) {
-        Ok(beside) => judge_named(files, path, configuration, beside.as_str(), faults),
-        Err(_) => Err(memory_status(faults)),
+    let statistics = path_beside(alloc, &configuration.statistics);
+    let customers = path_beside(alloc, &configuration.customers);
+    match (statistics, customers) {
+        (Ok(statistics), Ok(customers)) => {
+            let (statistics, customers) = (statistics.as_str(), customers.as_str());
+            judge_named(files, path, configuration, statistics, customers, faults)
+        }
+        _ => Err(memory_status(faults)),
     }
 }
 
-// Judges where these files stand, and the one at `beside`.
+// Judges where these files stand, and those beside the statistics and the customers.
 fn judge_named<'a, R: Files, F: Write>(
     files: &R,
     path: &'a str,
     configuration: &'a Configuration,
-    beside: &'a str,
+    beside_statistics: &'a str,
+    beside_customers: &'a str,
     faults: &mut F,
 ) -> Result<(), u8> {
-    let named = named_in(path, configuration, beside);
+    let named = named_in(path, configuration, beside_statistics, beside_customers);
     for (place, file) in named.iter().enumerate() {
         let Some(file) = file else {
             continue;
@@ -96,9 +102,9 @@ pub fn tell_readers<R: Files, F: Write>(files: &R, path: &str, faults: &mut F) {
     }
 }
 
-// The path at which statistics are written before they get their name; the empty text where none are.
-fn beside_statistics(alloc: Global, configuration: &Configuration) -> io::Result<String> {
-    match &configuration.statistics {
+// The path at which a file is written before it gets its name; the empty text where there is none.
+fn path_beside(alloc: Global, path: &Option<String>) -> io::Result<String> {
+    match path {
         None => Ok(String::new(alloc)),
         Some(path) => Ok(format!(in alloc; "{path}.new")?),
     }
@@ -108,13 +114,15 @@ fn beside_statistics(alloc: Global, configuration: &Configuration) -> io::Result
 fn named_in<'a>(
     path: &'a str,
     configuration: &'a Configuration,
-    beside: &'a str,
-) -> [Option<Named<'a>>; 7] {
+    beside_statistics: &'a str,
+    beside_customers: &'a str,
+) -> [Option<Named<'a>>; 9] {
     let key_file = match &configuration.clock {
         ClockSource::Fixed => None,
         ClockSource::Daemon(daemon) => Some(daemon.key_file.as_str()),
     };
     let statistics = path_of(&configuration.statistics);
+    let customers = path_of(&configuration.customers);
     [
         file_at("the configuration", Some(path), Use::Read),
         file_at("register", Some(configuration.register.as_str()), Use::Read),
@@ -124,7 +132,13 @@ fn named_in<'a>(
         file_at("statistics", statistics, Use::Written),
         file_at(
             "statistics (FILE.new)",
-            statistics.map(|_| beside),
+            statistics.map(|_| beside_statistics),
+            Use::MadeAnew,
+        ),
+        file_at("customers", customers, Use::Written),
+        file_at(
+            "customers (FILE.new)",
+            customers.map(|_| beside_customers),
             Use::MadeAnew,
         ),
     ]

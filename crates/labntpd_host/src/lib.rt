@@ -14,4 +14,4 @@ pub use kernel_queue::{QueueState, queue_state};
 pub use log::{Log, LogForm, Priority, form_for, has_standard_streams, pause};
 pub use queued_udp::{BoundAt, HostClocks, LONGEST_WAIT, QueuedUdp};
 pub use socket::{bound, inherited, receive_buffer, set_receive_buffer, set_send_buffer};
-pub use whole_file::{emptied_file, replace_file};
+pub use whole_file::{emptied_file, new_file, replace_file};

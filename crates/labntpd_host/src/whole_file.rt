@@ -4,23 +4,27 @@ use ntp_host::not_regular;
 use std::fs::{self, Files, OpenFile, OpenOptions};
 use std::io::{self, ErrorKind, Write};
 
+/// A file that is made anew at a path, to be written: what stands there is taken away first, and no link is followed.
+pub fn new_file<R: Files>(files: &R, path: &str) -> io::Result<R::File> {
+    match fs::remove_file(files, path) {
+        Err(error) if error.kind() != ErrorKind::NotFound => return Err(error),
+        _ => {}
+    }
+    OpenOptions::new()
+        .write(true)
+        .create_new(true)
+        .open(files, path)
+}
+
 /// Writes a file beside the one at a path and gives it that one's name, so that who reads it sees either of them whole.
-/// `beside` is the path at which it is written, in the same directory. It is made anew: what stands there is taken away first, and
-/// no link is followed.
+/// `beside` is the path at which it is made anew, in the same directory.
 pub fn replace_file<R: Files>(
     files: &R,
     beside: &str,
     path: &str,
     octets: &[u8],
 ) -> io::Result<()> {
-    match fs::remove_file(files, beside) {
-        Err(error) if error.kind() != ErrorKind::NotFound => return Err(error),
-        _ => {}
-    }
-    let mut file = OpenOptions::new()
-        .write(true)
-        .create_new(true)
-        .open(files, beside)?;
+    let mut file = new_file(files, beside)?;
     file.write_all(octets)?;
     fs::rename(files, beside, path)
 }

@@ -9,9 +9,9 @@ use crate::starting::{Beginning, Prepared};
 use labntp_command_line::{DONE, IO_FAILED, memory_status, write_status};
 use labntpd_configuration::{ClockSource as ConfiguredClock, Configuration, Listen};
 use labntpd_host::{
-    BoundAt, ClockSource, FollowedClock, HostClocks, LONGEST_WAIT, Log, LogForm, QueuedUdp, bound,
-    emptied_file, form_for, has_standard_streams, inherited, receive_buffer, set_receive_buffer,
-    set_send_buffer,
+    BoundAt, ClockSource, FollowedClock, HostClocks, LONGEST_WAIT, Log, LogForm, QueuedUdp,
+    StartLines, bound, emptied_file, form_for, has_standard_streams, inherited, receive_buffer,
+    set_receive_buffer, set_send_buffer,
 };
 use ntp_freshness::{FreshPort, QueueWatch};
 use ntp_host::EachMillisecond;
@@ -47,7 +47,7 @@ type DaemonObserver<'a> = Counting<
 /// standard error.
 pub fn serve_status(rt: &HostRuntime, alloc: Global, prepared: Prepared) -> u8 {
     if !has_standard_streams() {
-        return write_status(&mut rt.stderr());
+        return write_status(&mut start_lines(rt));
     }
     let Prepared {
         configuration,
@@ -55,7 +55,7 @@ pub fn serve_status(rt: &HostRuntime, alloc: Global, prepared: Prepared) -> u8 {
     } = prepared;
     // It is judged before anything is written.
     let path = configuration.commands.as_str();
-    let commands = match begin_commands(rt, alloc, path, &mut rt.stderr()) {
+    let commands = match begin_commands(rt, alloc, path, &mut start_lines(rt)) {
         Ok(commands) => commands,
         Err(status) => return status,
     };
@@ -100,7 +100,7 @@ impl<'a> Parts<'a> {
         let reference = clock_source(rt, clocks, configuration, beginning)?;
         let observer = open_observer(rt, alloc, clocks, configuration, beginning)?;
         let Ok(room) = Vec::with_capacity(alloc, SOCKETS_ROOM) else {
-            return Err(memory_status(&mut rt.stderr()));
+            return Err(memory_status(&mut start_lines(rt)));
         };
         let queued = QueuedUdp::new(socket, bound, rt, clocks, rt, room);
         Ok(Parts {
@@ -162,10 +162,10 @@ fn begin<'a>(
     begun: Begun,
 ) -> Result<Housekeeping<'a>, u8> {
     let Ok(mut housekeeping) = Housekeeping::new(rt, alloc, clocks, configuration, begun) else {
-        return Err(memory_status(&mut rt.stderr()));
+        return Err(memory_status(&mut start_lines(rt)));
     };
     if writeln!(rt.stdout(), "serving {}", begun.bound.local).is_err() {
-        return Err(write_status(&mut rt.stderr()));
+        return Err(write_status(&mut start_lines(rt)));
     }
     housekeeping.begin();
     Ok(housekeeping)
@@ -176,10 +176,10 @@ fn failed<T>(rt: &HostRuntime, what: &str, answer: io::Result<T>) -> Result<T, u
     match answer {
         Ok(made) => Ok(made),
         Err(error) if error.kind() == ErrorKind::OutOfMemory => {
-            Err(memory_status(&mut rt.stderr()))
+            Err(memory_status(&mut start_lines(rt)))
         }
         Err(error) => {
-            let _ = writeln!(rt.stderr(), "{what}: {error}");
+            let _ = writeln!(start_lines(rt), "{what}: {error}");
             Err(IO_FAILED)
         }
     }
@@ -195,7 +195,7 @@ fn open_observer<'a>(
 ) -> Result<DaemonObserver<'a>, u8> {
     let answers = answers_file(rt, alloc, configuration)?;
     let Ok(log) = Log::new(alloc, rt.stderr(), log_form(rt)) else {
-        return Err(memory_status(&mut rt.stderr()));
+        return Err(memory_status(&mut start_lines(rt)));
     };
     Ok(Counting {
         counts: Counts::new(),
@@ -207,6 +207,11 @@ fn open_observer<'a>(
             },
         },
     })
+}
+
+/// What is told on standard error before the daemon serves.
+pub fn start_lines(rt: &HostRuntime) -> StartLines<Stderr> {
+    StartLines::new(rt.stderr(), log_form(rt))
 }
 
 // How lines of the log begin.
@@ -303,7 +308,7 @@ fn set_up(
     match failed(rt, "listen", socket.local_addr())? {
         SocketAddr::V4(local) => Ok(BoundAt { local, buffer }),
         SocketAddr::V6(_) => {
-            let _ = writeln!(rt.stderr(), "listen: an IPv4 socket is wanted");
+            let _ = writeln!(start_lines(rt), "listen: an IPv4 socket is wanted");
             Err(IO_FAILED)
         }
     }

@@ -11,7 +11,7 @@ mod receiving;
 mod register_faults;
 mod starting;
 
-use assembly::serve_status;
+use assembly::{serve_status, start_lines};
 use clap::error::ErrorKind;
 use files::{begin_commands, is_nearly_full, write_nearly_full};
 use labntp_command_line::{DONE, memory_status, unread_status, write_status};
@@ -28,7 +28,7 @@ fn main(rt: HostRuntime) -> ExitCode {
 
 // Does what the command line asks for, and gives the exit status.
 fn status(rt: &HostRuntime) -> u8 {
-    let mut faults = rt.stderr();
+    let mut faults = start_lines(rt);
     let words = match command_line(rt) {
         Ok(words) => words,
         Err(error) => return unread_status(&error, &mut faults),
@@ -45,7 +45,7 @@ fn status(rt: &HostRuntime) -> u8 {
 
 // Checks the files that a configuration names, or serves by them.
 fn job_status(rt: &HostRuntime, check: bool, config: &str) -> u8 {
-    let mut faults = rt.stderr();
+    let mut faults = start_lines(rt);
     let prepared = match prepare(rt, rt.alloc(), config, &mut faults) {
         Ok(prepared) => prepared,
         Err(status) => return status,
@@ -58,14 +58,14 @@ fn job_status(rt: &HostRuntime, check: bool, config: &str) -> u8 {
 
 // Reads the commands file too, and says that all is well.
 fn check_status(rt: &HostRuntime, configuration: &Configuration) -> u8 {
-    let mut faults = rt.stderr();
+    let mut faults = start_lines(rt);
     let path = configuration.commands.as_str();
     let octets = match begin_commands(rt, rt.alloc(), path, &mut faults) {
         Ok(commands) => commands.length(),
         Err(status) => return status,
     };
     if is_nearly_full(octets) {
-        let _ = write!(faults, "{path}: ");
+        let _ = write!(faults.warning(), "{path}: ");
         write_nearly_full(&mut faults, octets);
         let _ = writeln!(faults);
     }

@@ -2,6 +2,7 @@
 
 use labntp_command_line::{TEXT_FAULTY, memory_status};
 use labntpd_configuration::{ClockSource, Configuration};
+use labntpd_host::StartLines;
 use ntp_host::not_regular;
 use std::alloc::Global;
 use std::fs::{self, Files};
@@ -88,14 +89,14 @@ fn judge_named<'a, R: Files, F: Write>(
     Ok(())
 }
 
-/// Tells in a line to `faults` that others may read a file which has keys, where that is so.
-pub fn tell_readers<R: Files, F: Write>(files: &R, path: &str, faults: &mut F) {
+/// Warns in a line that others may read a file which has keys, where that is so.
+pub fn tell_readers<R: Files, F: Write + Drop>(files: &R, path: &str, faults: &mut StartLines<F>) {
     let Ok(metadata) = fs::metadata(files, path) else {
         return;
     };
     if metadata.is_file() && metadata.mode() & OTHERS != 0 {
         let _ = writeln!(
-            faults,
+            faults.warning(),
             "{path}: it has keys, and others than its owner and group may use it (mode {:o})",
             metadata.mode() & 0o777
         );

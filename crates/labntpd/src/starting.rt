@@ -6,6 +6,7 @@ use labntp_command_line::{IO_FAILED, TEXT_FAULTY, memory_status};
 use labntpd_configuration::{
     ClockDaemon, ClockSource, Configuration, ConfigurationFault, key_in_file, read_configuration,
 };
+use labntpd_host::StartLines;
 use ntp_clock::{ClockLimits, Follower};
 use ntp_customer_files::{Loaded, MOST_FILE_OCTETS, load_register};
 use ntp_events::Command;
@@ -44,11 +45,11 @@ pub struct Beginning {
 
 /// Reads the configuration file at a path and the files that it names, but the commands file. A fault is told in one line to `faults`,
 /// where a failed write is passed over, and gives the exit status. Files with keys that others may read are told too.
-pub fn prepare<R: Files, F: Write>(
+pub fn prepare<R: Files, F: Write + Drop>(
     files: &R,
     alloc: Global,
     path: &str,
-    faults: &mut F,
+    faults: &mut StartLines<F>,
 ) -> Result<Prepared, u8> {
     let text = small_text(files, alloc, path, faults)?;
     let configuration = match read_configuration(alloc, &text) {
@@ -118,11 +119,11 @@ fn reports_of(
 }
 
 // Who follows the clock daemon of a configuration, with the key of its key file.
-fn follower<R: Files, F: Write>(
+fn follower<R: Files, F: Write + Drop>(
     files: &R,
     alloc: Global,
     daemon: &ClockDaemon,
-    faults: &mut F,
+    faults: &mut StartLines<F>,
 ) -> Result<Follower, u8> {
     let path = daemon.key_file.as_str();
     let text = small_text(files, alloc, path, faults)?;

@@ -11,7 +11,7 @@ mod whole_file;
 
 pub use followed_clock::{ClockSource, FollowedClock};
 pub use kernel_queue::{QueueState, queue_state};
-pub use log::{Log, LogForm, Priority, form_for, has_standard_streams, pause};
+pub use log::{Log, LogForm, Priority, StartLines, form_for, has_standard_streams, pause};
 pub use queued_udp::{BoundAt, HostClocks, LONGEST_WAIT, QueuedUdp};
 pub use socket::{bound, inherited, receive_buffer, set_receive_buffer, set_send_buffer};
 pub use whole_file::{emptied_file, new_file, replace_file};

@@ -4,7 +4,7 @@ use libc::net::{POLLNVAL, POLLOUT, poll};
 use libc::types::pollfd;
 use std::alloc::{AllocError, Global};
 use std::fs::{self, Files};
-use std::io::Write;
+use std::io::{self, Write};
 use std::os::unix::fs::MetadataExt;
 
 /// Standard output.
@@ -86,6 +86,59 @@ impl<W: Write + Drop> Log<W> {
         if !has_room || !would_take() || self.out.write_all(&self.line).is_err() {
             self.dropped = self.dropped.saturating_add(1);
         }
+    }
+}
+
+/// What is told on standard error before the daemon serves, for which it waits: faults, and warnings. Each line begins as those of the log do.
+#[derive(Drop)]
+pub struct StartLines<W: Write + Drop> {
+    out: W,
+    form: LogForm,
+    // How much the line matters that begins next, and whether one was begun.
+    priority: Priority,
+    is_begun: bool,
+}
+
+impl<W: Write + Drop> StartLines<W> {
+    /// Lines that are written to `out`, which is standard error.
+    pub fn new(out: W, form: LogForm) -> StartLines<W> {
+        StartLines {
+            out,
+            form,
+            priority: Priority::Error,
+            is_begun: false,
+        }
+    }
+
+    /// Has the next line be a warning; those behind it are faults again.
+    pub fn warning(&mut self) -> &mut StartLines<W> {
+        self.priority = Priority::Warning;
+        self
+    }
+
+    // Writes the priority of a line that begins, where lines have one.
+    fn begin(&mut self) -> io::Result<()> {
+        if self.is_begun || self.form == LogForm::Plain {
+            return Ok(());
+        }
+        write!(self.out, "<{}>", self.priority as u8)
+    }
+}
+
+impl<W: Write + Drop> Write for StartLines<W> {
+    fn write(&mut self, octets: &[u8]) -> io::Result<usize> {
+        self.begin()?;
+        self.is_begun = true;
+        let count = self.out.write(octets)?;
+        if octets[..count.min(octets.len())].last() == Some(&b'\n') {
+            self.is_begun = false;
+            self.priority = Priority::Error;
+        }
+        Ok(count)
+    }
+
+    fn flush(&mut self) -> io::Result<()> {
+        self.out.flush()
     }
 }
 

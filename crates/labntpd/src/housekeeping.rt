@@ -160,8 +160,10 @@ pub struct Housekeeping<'a> {
     drops: u64,
     // How many lines of its log were not written, by the last statistics.
     log_dropped: u64,
-    // How long a datagram can have waited at most since the statistics were written last.
+    // How long a datagram that was taken since the statistics were written last can have waited at most, where that is known; and how many
+    // had been dropped as stale when that was last looked at.
     queue_wait: Option<u64>,
+    stale: u64,
     unreadable: u64,
 }
 
@@ -224,7 +226,8 @@ impl<'a> Housekeeping<'a> {
             ],
             drops: 0,
             log_dropped: 0,
-            queue_wait: None,
+            queue_wait: Some(0),
+            stale: 0,
             unreadable: 0,
         })
     }
@@ -477,12 +480,16 @@ impl<'a> Housekeeping<'a> {
         }
     }
 
-    // Keeps how long a datagram can have waited, where that is longer than what is kept.
-    fn see_wait(&mut self, waited: Option<u64>) {
-        if let Some(waited) = waited {
-            let longest = self.queue_wait.map_or(waited, |it| it.max(waited));
-            self.queue_wait = Some(longest);
+    // Keeps how long a datagram can have waited, where one was taken and that is longer than what is kept.
+    fn see_wait(&mut self, server: &Daemon<'_>, receipt: Option<Moment>) {
+        let stale = server.port.stale();
+        if receipt.is_some() || stale != self.stale {
+            self.queue_wait = match (self.queue_wait, server.port.waited()) {
+                (Some(longest), Some(waited)) => Some(longest.max(waited)),
+                _ => None,
+            };
         }
+        self.stale = stale;
     }
 
     // Writes the statistics, where there is a file for them.
@@ -501,7 +508,7 @@ impl<'a> Housekeeping<'a> {
             stale: server.port.stale(),
             kernel_drops: self.drops,
             receive_buffer: u64::from(self.begun.bound.buffer),
-            queue_wait: self.queue_wait.take(),
+            queue_wait: self.queue_wait,
             send_would_wait: server.port.port().would_wait(),
             sweeps: server.port.sweeps(),
             commands_lines: server.applied,
@@ -514,6 +521,7 @@ impl<'a> Housekeeping<'a> {
             start_time: self.start_time,
             version: VERSION,
         };
+        self.queue_wait = Some(0);
         file.text.clear();
         let rt = self.rt;
         let is_written = write_statistics(&mut file.text, &server.observer.counts, &gauges).is_ok()
@@ -544,7 +552,7 @@ impl<'a> Housekeeping<'a> {
 impl<'a, 'b> Reporter<Daemon<'b>> for Housekeeping<'a> {
     fn report(&mut self, server: &Daemon<'b>, receipt: Option<Moment>) {
         let ticks = self.clocks.ticks.get();
-        self.see_wait(server.port.waited());
+        self.see_wait(server, receipt);
         self.write_customers(server, ticks, receipt);
         if ticks < self.next {
             return;
@@ -674,6 +682,10 @@ fn belief_in(source: &ClockSource<'_, &HostRuntime>, now: Reading) -> Belief {
         Some(Doubt::Far) => Belief::Far,
         Some(Doubt::Set) => Belief::Set,
         None if follower.learned().is_some() => Belief::Believed,
+        // What an answer had told is forgotten where a later one says that its clock is not synchronised, and where none of them shows an
+        // update since the host's clock was set.
+        None if followed.is_unsynchronised() => Belief::Unsynchronised,
+        None if followed.has_answered() => Belief::Set,
         None => Belief::NoAnswer,
     }
 }

@@ -42,6 +42,8 @@ pub struct FollowedClock<'a, C: Clock + Copy + Drop> {
     // When an answer was looked for last.
     looked: u64,
     has_answered: bool,
+    // Whether the last answer said that its clock is not synchronised.
+    is_unsynchronised: bool,
 }
 
 // A reading of both clocks, and how long it took, in nanoseconds.
@@ -68,6 +70,7 @@ impl<'a, C: Clock + Copy + Drop> FollowedClock<'a, C> {
             is_outstanding: false,
             looked: 0,
             has_answered: false,
+            is_unsynchronised: false,
         }
     }
 
@@ -79,6 +82,11 @@ impl<'a, C: Clock + Copy + Drop> FollowedClock<'a, C> {
     /// Whether the daemon has told the state of its clock at all, were it that this is not synchronised.
     pub fn has_answered(&self) -> bool {
         self.has_answered
+    }
+
+    /// Whether the daemon's last answer said that its clock is not synchronised.
+    pub fn is_unsynchronised(&self) -> bool {
+        self.is_unsynchronised
     }
 
     // What both clocks show together; nothing where the host's could not be read. Where the process was held up between their
@@ -192,7 +200,10 @@ impl<'a, C: Clock + Copy + Drop> FollowedClock<'a, C> {
             self.look(now);
             let taken = self.follower.take(&octets[..length], now);
             if is_answer(taken) {
-                self.has_answered |= taken != Taken::Rate;
+                if taken != Taken::Rate {
+                    self.has_answered = true;
+                    self.is_unsynchronised = !matches!(taken, Taken::Sample(_));
+                }
                 self.expect_nothing();
                 return;
             }

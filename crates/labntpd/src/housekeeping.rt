@@ -9,6 +9,7 @@ use labntpd_host::{
     BoundAt, ClockSource, HostClocks, Log, LogForm, Priority, queue_state, replace_file,
 };
 use ntp_clock::{ClockAnswer, Doubt, Reading, reference_unsynchronised};
+use ntp_customer_files::AdmitFault;
 use ntp_host::moment_now;
 use ntp_reply::Reference;
 use ntp_reports::{
@@ -513,6 +514,7 @@ impl<'a> Housekeeping<'a> {
             sweeps: server.port.sweeps(),
             commands_lines: server.applied,
             commands_octets: Some(server.commands.inner().length() as u64),
+            commands_other_line: other_line(self.files),
             customers: commands.customers(),
             clock,
             log_lines_dropped: self.log_dropped.saturating_add(commands.dropped()),
@@ -565,6 +567,17 @@ impl<'a, 'b> Reporter<Daemon<'b>> for Housekeeping<'a> {
             .saturating_mul(SECOND_NANOS)
             .saturating_add(started);
         self.each_second(server);
+    }
+}
+
+// The first line of the commands file in whose place another one stands than was applied, if one does.
+fn other_line(files: [WatchedFile; 4]) -> Option<u64> {
+    let commands = files[Watched::Commands as usize];
+    match commands.seen {
+        Some(FileFault::Commands(CommandsFault::NotAdmitted(AdmitFault::OtherLine(number)))) => {
+            Some(number)
+        }
+        _ => None,
     }
 }
 

@@ -148,6 +148,8 @@ pub struct Gauges<'a> {
     pub commands_lines: u64,
     /// How many octets the commands file has. `None` where that is not known.
     pub commands_octets: Option<u64>,
+    /// The first line of the commands file in whose place another one stands than was applied. `None` where none does.
+    pub commands_other_line: Option<u64>,
     /// Customers that are enrolled.
     pub customers: u64,
     /// The state of the clock.
@@ -285,9 +287,15 @@ fn write_commands<W: Write>(out: &mut W, counts: &Counts, gauges: &Gauges<'_>) -
     let octets = "labntp_commands_octets";
     write_head(out, octets, "Octets of the commands file.", "gauge")?;
     match gauges.commands_octets {
-        Some(number) => writeln!(out, "{octets} {number}"),
-        None => writeln!(out, "{octets} NaN"),
+        Some(number) => writeln!(out, "{octets} {number}")?,
+        None => writeln!(out, "{octets} NaN")?,
     }
+    write_gauge(
+        out,
+        "labntp_commands_other_line",
+        "The first line that is not the one that was applied; 0 for none.",
+        gauges.commands_other_line.unwrap_or(0),
+    )
 }
 
 // The state of the clock.

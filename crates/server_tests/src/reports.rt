@@ -79,6 +79,9 @@ labntp_commands_lines 58
 # HELP labntp_commands_octets Octets of the commands file.
 # TYPE labntp_commands_octets gauge
 labntp_commands_octets 59
+# HELP labntp_commands_other_line The first line that is not the one that was applied; 0 for none.
+# TYPE labntp_commands_other_line gauge
+labntp_commands_other_line 60
 # HELP labntp_customers Customers that are enrolled.
 # TYPE labntp_customers gauge
 labntp_customers 52
@@ -247,6 +250,7 @@ fn gauges() -> Gauges<'static> {
         sweeps: 57,
         commands_lines: 58,
         commands_octets: Some(59),
+        commands_other_line: Some(60),
         customers: 52,
         clock: ClockGauges {
             is_synchronised: true,
@@ -317,12 +321,14 @@ fn a_clock_of_which_nothing_is_known_has_no_age(rt: HostRuntime) -> Result<(), F
         clock,
         queue_wait: None,
         commands_octets: None,
+        commands_other_line: None,
         ..gauges()
     };
     let written = write_statistics(&mut text, &Counts::new(), &gauges);
     assert!(rt; written.is_ok());
     let text = str::from_utf8(text.as_slice())?;
     assert!(rt; text.contains("\nlabntp_clock_synchronised 0\n"));
+    assert!(rt; text.contains("\nlabntp_commands_other_line 0\n"));
     for unknown in [
         "clock_age_seconds",
         "clock_offset_seconds",

@@ -10,19 +10,23 @@ use labntp_command_line::{DONE, IO_FAILED, memory_status, write_status};
 use labntpd_configuration::{ClockSource as ConfiguredClock, Configuration, Listen};
 use labntpd_host::{
     BoundAt, ClockSource, FollowedClock, HostClocks, LONGEST_WAIT, Log, LogForm, QueuedUdp,
-    StartLines, bound, emptied_file, form_for, has_standard_streams, inherited, receive_buffer,
-    set_receive_buffer, set_send_buffer,
+    StartLines, bound, emptied_file, form_for, has_standard_streams, inherited,
+    is_of_other_protocol, receive_buffer, set_receive_buffer, set_send_buffer,
 };
 use ntp_freshness::{FreshPort, QueueWatch};
 use ntp_host::EachMillisecond;
 use ntp_reports::{AnswerLines, Both, Counting, Counts, CustomerCounts};
 use ntp_server::Server;
 use std::alloc::Global;
-use std::fs::File;
+use std::fs::{self, File};
 use std::io::{self, ErrorKind, LineWriter, Stderr, Write};
 use std::net::{Ipv4Addr, SocketAddr, SocketAddrV4, UdpSocket};
+use std::os::unix::fs::MetadataExt;
 use std::time::Duration;
 use std::{env, process};
+
+/// The socket that was handed down, among what this process has open (proc(5)).
+const INHERITED: &str = "/proc/self/fd/3";
 
 /// A server of the daemon.
 pub type Daemon<'a> = Server<
@@ -95,7 +99,7 @@ impl<'a> Parts<'a> {
         ensures { IfOk result (λ parts. parts.port.failures ≡ 0) }
     {
         let watch = watch_from_now(rt, clocks, configuration);
-        let socket = open_socket(rt, configuration.listen)?;
+        let socket = open_socket(rt, alloc, configuration.listen)?;
         let bound = set_up(rt, &socket, configuration)?;
         let reference = clock_source(rt, clocks, configuration, beginning)?;
         let observer = open_observer(rt, alloc, clocks, configuration, beginning)?;
@@ -281,10 +285,10 @@ fn watch_from_now(
 }
 
 // The socket that is bound as the configuration says, or that was handed down.
-fn open_socket(rt: &HostRuntime, listen: Listen) -> Result<UdpSocket, u8> {
+fn open_socket(rt: &HostRuntime, alloc: Global, listen: Listen) -> Result<UdpSocket, u8> {
     let made = match listen {
         Listen::Bound(endpoint) => bind(rt, endpoint.socket_address()),
-        Listen::Inherited => handed_down(rt),
+        Listen::Inherited => handed_down(rt, alloc),
     };
     failed(rt, "listen", made)
 }
@@ -326,7 +330,7 @@ fn bind(rt: &HostRuntime, address: SocketAddrV4) -> io::Result<UdpSocket> {
 }
 
 // The socket that was handed down to this process, and to no other.
-fn handed_down(rt: &HostRuntime) -> io::Result<UdpSocket> {
+fn handed_down(rt: &HostRuntime, alloc: Global) -> io::Result<UdpSocket> {
     if !is_ours(rt) {
         let fault = "LISTEN_PID, the number of this process, is wanted: no socket is there";
         return Err(io::Error::new(ErrorKind::InvalidInput, fault));
@@ -335,7 +339,21 @@ fn handed_down(rt: &HostRuntime) -> io::Result<UdpSocket> {
         let fault = "LISTEN_FDS = 1, for one socket that was handed down, is wanted";
         return Err(io::Error::new(ErrorKind::InvalidInput, fault));
     }
-    inherited()
+    let socket = inherited()?;
+    if is_other(rt, alloc)? {
+        let fault = "a UDP socket is wanted";
+        return Err(io::Error::new(ErrorKind::InvalidInput, fault));
+    }
+    Ok(socket)
+}
+
+// Whether the kernel lists the socket that was handed down among those that are none of UDP.
+fn is_other(rt: &HostRuntime, alloc: Global) -> io::Result<bool> {
+    let mut room = Vec::with_capacity(alloc, SOCKETS_ROOM)?;
+    match fs::metadata(rt, INHERITED) {
+        Ok(metadata) => Ok(is_of_other_protocol(rt, metadata.ino(), &mut room)),
+        Err(_) => Ok(false),
+    }
 }
 
 // Whether what the environment says of sockets is meant for this process.

@@ -46,6 +46,36 @@ pub fn queue_state<R: Files>(
     None
 }
 
+/// The kernel's lists of IPv4 sockets that receive datagrams and are none of UDP (proc(5)).
+const OTHER_LISTS: [&str; 3] = ["/proc/net/udplite", "/proc/net/raw", "/proc/net/icmp"];
+
+/// Whether the kernel lists a socket of this inode among those that receive datagrams and are none of UDP. `room` is for a part of a list.
+pub fn is_of_other_protocol<R: Files>(files: &R, inode: u64, room: &mut Vec<u8>) -> bool {
+    OTHER_LISTS
+        .iter()
+        .any(|list| is_listed(files, list, inode, room).is_some())
+}
+
+// Nothing where a list has no socket of this inode, or cannot be read.
+fn is_listed<R: Files>(files: &R, list: &str, inode: u64, room: &mut Vec<u8>) -> Option<()> {
+    let mut file = fs::open(files, list).ok()?;
+    for _ in 0..MOST_PARTS {
+        let text = next_part(&mut file, room)?;
+        if text.lines().any(|line| has_inode(line, inode)) {
+            return Some(());
+        }
+    }
+    None
+}
+
+// Whether a line is that of a socket of this inode, which is its tenth word (proc(5)).
+fn has_inode(line: &str, inode: u64) -> bool {
+    match line.split_ascii_whitespace().nth(9) {
+        Some(word) => word.parse() == Ok(inode),
+        None => false,
+    }
+}
+
 // The next lines of the kernel's list; nothing behind its end.
 fn next_part<'a, F: Read>(file: &mut F, room: &'a mut Vec<u8>) -> Option<&'a str> {
     room.clear();

@@ -39,8 +39,9 @@ pub struct FollowedClock<'a, C: Clock + Copy + Drop> {
     // When the daemon was asked last, if it was since the host's clock was set.
     asked: Option<u64>,
     is_outstanding: bool,
-    // When an answer was looked for last.
+    // When an answer was looked for last, and when the host's clock was last seen to be set; 0 where it never was.
     looked: u64,
+    set_at: u64,
     has_answered: bool,
     // Whether the last answer said that its clock is not synchronised.
     is_unsynchronised: bool,
@@ -69,6 +70,7 @@ impl<'a, C: Clock + Copy + Drop> FollowedClock<'a, C> {
             asked: None,
             is_outstanding: false,
             looked: 0,
+            set_at: 0,
             has_answered: false,
             is_unsynchronised: false,
         }
@@ -117,10 +119,20 @@ impl<'a, C: Clock + Copy + Drop> FollowedClock<'a, C> {
         }
     }
 
+    // Whether the host's clock was seen to be set since the reading that the daemon's last answer rests on.
+    fn is_set_since_update(&self) -> bool {
+        match self.follower.learned() {
+            Some(answer) => answer.base.ticks < self.set_at,
+            None => false,
+        }
+    }
+
     // Looks whether the host's clock was set, where a reading shows it. That may be one in which the process was held up, so the clocks
-    // are read anew, and the new reading takes its place: else it would tell as much less than the clock was set by.
+    // are read anew, and the new reading takes its place: else it would tell as much less than the clock was set by. So it is as long as
+    // that is told.
     fn glance(&mut self, shown: Reading) -> Reading {
-        if !is_read(shown.clock) || !self.follower.is_set_since(shown) {
+        let is_doubtful = self.follower.is_set_since(shown) || self.is_set_since_update();
+        if !is_read(shown.clock) || !is_doubtful {
             return shown;
         }
         let Some(now) = self.reading() else {
@@ -133,6 +145,7 @@ impl<'a, C: Clock + Copy + Drop> FollowedClock<'a, C> {
     // Looks whether the host's clock was set. Where it was, no answer is waited for, and the daemon is asked again at once.
     fn look(&mut self, now: Reading) {
         if self.follower.look(now) {
+            self.set_at = now.ticks;
             self.asked = None;
             self.expect_nothing();
         }

@@ -86,6 +86,13 @@ impl Key {
         self.algorithm
     }
 
+    /// How many octets the key has.
+    pub fn octet_count(&self) -> usize
+        ensures { result ≡ length self.now.octets }
+    {
+        self.len
+    }
+
     // The key's octets.
     pub(crate) fn octets(&self) -> &[u8]
         ensures octets { result.now ≡ self.now.octets }

@@ -31,6 +31,7 @@ struct CustomerLine<'a> {
 struct KeyLine {
     number: u16,
     algorithm: &'static str,
+    octets: usize,
     last_signed: Option<String>,
 }
 
@@ -105,6 +106,7 @@ fn key_lines<A: Allocator + Copy>(
             lines.push(KeyLine {
                 number,
                 algorithm: algorithm_word(held.key.algorithm()),
+                octets: held.key.octet_count(),
                 last_signed: match report.last_signed(number) {
                     Some(moment) => Some(seconds_text(alloc, moment)?),
                     None => None,

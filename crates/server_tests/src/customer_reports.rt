@@ -19,7 +19,7 @@ const STRANGER: Address = Address([192, 0, 2, 99]);
 // The line of the customer after the two commands and three turns below. The time is that of Python's
 // `0xec00000000000000 / 2**32 - 2208988800`.
 const LINE: &str =
-    r#"{"address":"192.0.2.10","state":"enrolled","keys":[{"number":7,"algorithm":"md5","last_signed":"1750434176.000000000"},{"number":8,"algorithm":"sha1","last_signed":null}],"budget":10,"line":3,"answers":{"basic":1,"interleaved":0,"rate":1,"deny":1,"nak":0,"short":0,"long":0,"field-short":0,"field-unaligned":0,"field-past-end":0,"rest":0,"version":0,"mode":0,"bare":0,"muted":0,"over-budget":0}}
+    r#"{"address":"192.0.2.10","state":"enrolled","keys":[{"number":7,"algorithm":"md5","octets":3,"last_signed":"1750434176.000000000"},{"number":8,"algorithm":"sha1","octets":3,"last_signed":null}],"budget":10,"line":3,"answers":{"basic":1,"interleaved":0,"rate":1,"deny":1,"nak":0,"short":0,"long":0,"field-short":0,"field-unaligned":0,"field-past-end":0,"rest":0,"version":0,"mode":0,"bare":0,"muted":0,"over-budget":0}}
 "#;
 
 const REVOKED_LINE: &str =

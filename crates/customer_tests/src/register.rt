@@ -32,8 +32,20 @@ fn answer(
     match order {
         Order::Enrol => register.enrol(address, number, key),
         Order::Rollover => register.rollover(address, number, key),
+        Order::Retire | Order::Revoke => answer_without_key(register, order, address, number),
+    }
+}
+
+// What an order that gives no key is answered: of `Retire`, else of `Revoke`.
+fn answer_without_key(
+    register: &mut Agreeing,
+    order: Order,
+    address: Address,
+    number: u16,
+) -> Result<(), Refusal> {
+    match order {
         Order::Retire => register.retire(address, number),
-        Order::Revoke => register.revoke(address),
+        _ => register.revoke(address),
     }
 }
 

@@ -2,7 +2,7 @@
 ghost use Rattle.std.specs.Prelude.{◌≡◌, ◌≢◌};
 ghost use Rattle.ntp_loopback.specs.Words.{HasMet};
 
-use labntp_command_line::{DONE, memory_status, socket_status, write_status};
+use ntp_customer_files::{DONE, memory_status, socket_status, write_status};
 use ntp_loopback::{LoopbackFault, meet};
 use std::alloc::Allocator;
 use std::io::Write;

@@ -5,8 +5,9 @@
 mod loopback;
 mod serve_job;
 
-use labntp_command_line::{Job, job, replay_status, unread_status, usage_status};
+use labntp_command_line::{Job, job, replay_status};
 use loopback::loopback_status;
+use ntp_customer_files::{unread_status, usage_status};
 use ntp_service_replay::Watched;
 use serve_job::serve_status;
 use std::process::ExitCode;

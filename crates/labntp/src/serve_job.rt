@@ -2,8 +2,11 @@
 ghost use Rattle.std.specs.Prelude.{◌≡◌};
 ghost use Rattle.ntp_host.specs.Failures.{udp_failures};
 
-use labntp_command_line::{DONE, Serving, load_status, socket_status, write_status};
-use ntp_customer_files::{FaultLines, LoadFault, Loaded, MOST_FILE_OCTETS, load_register};
+use labntp_command_line::Serving;
+use ntp_customer_files::{
+    DONE, FaultLines, LoadFault, Loaded, MOST_FILE_OCTETS, load_register, load_status,
+    socket_status, write_status,
+};
 use ntp_host::{CommandsFile, UdpPort, read_file};
 use ntp_register_file::RegisterFault;
 use ntp_server::{Server, Totals};

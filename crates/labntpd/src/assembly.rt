@@ -6,13 +6,13 @@ use crate::files::{DaemonCommands, HeldCommands, begin_commands};
 use crate::housekeeping::{Begun, Housekeeping, SOCKETS_ROOM};
 use crate::receiving::Patience;
 use crate::starting::{Beginning, Prepared};
-use labntp_command_line::{DONE, IO_FAILED, memory_status, write_status};
 use labntpd_configuration::{ClockSource as ConfiguredClock, Configuration, Listen};
 use labntpd_host::{
     BoundAt, ClockSource, FollowedClock, HostClocks, LONGEST_WAIT, Log, LogForm, QueuedUdp,
     StartLines, bound, emptied_file, form_for, has_standard_streams, inherited,
     is_of_other_protocol, receive_buffer, set_receive_buffer, set_send_buffer,
 };
+use ntp_customer_files::{DONE, IO_FAILED, memory_status, write_status};
 use ntp_freshness::{FreshPort, QueueWatch};
 use ntp_host::EachMillisecond;
 use ntp_reports::{AnswerLines, Both, Counting, Counts, CustomerCounts};
@@ -38,7 +38,9 @@ pub type Daemon<'a> = Server<
 >;
 
 // Where its datagrams come from, and who is told what it does.
-type DaemonPort<'a> = FreshPort<QueuedUdp<'a, &'a HostRuntime, HostRuntime>>;
+type DaemonPort<'a> = FreshPort<
+    QueuedUdp<'a, UdpPort<&'a HostRuntime>, &'a HostRuntime, HostRuntime>,
+>;
 
 type DaemonObserver<'a> = Counting<
     Both<

@@ -1,8 +1,7 @@
 //! The commands file, which is held to what was applied of it.
 
 use crate::starting::unread_status;
-use labntp_command_line::{TEXT_FAULTY, memory_status};
-use ntp_customer_files::{AdmitFault, MOST_FILE_OCTETS};
+use ntp_customer_files::{AdmitFault, MOST_FILE_OCTETS, TEXT_FAULTY, memory_status};
 use ntp_host::{CommandsFile, EachMillisecond};
 use ntp_server::AdmittedCommands;
 use std::alloc::Global;

@@ -1,8 +1,8 @@
 //! Where the files of a configuration stand: no two of them at one place, and those that are written in directories that are there.
 
-use labntp_command_line::{TEXT_FAULTY, memory_status};
 use labntpd_configuration::{ClockSource, Configuration};
 use labntpd_host::StartLines;
+use ntp_customer_files::{TEXT_FAULTY, memory_status};
 use ntp_host::not_regular;
 use std::alloc::Global;
 use std::fs::{self, Files};

@@ -1,9 +1,8 @@
 //! What is wrong with a register file, and where.
 
 use crate::files::line_without_text;
-use labntp_command_line::{TEXT_FAULTY, load_status};
 use ntp_admin::{refusal_word, words};
-use ntp_customer_files::{LoadFault, MOST_FILE_OCTETS};
+use ntp_customer_files::{LoadFault, MOST_FILE_OCTETS, TEXT_FAULTY, load_status};
 use ntp_events::LineFault;
 use ntp_register_file::RegisterFault;
 use std::alloc::Global;

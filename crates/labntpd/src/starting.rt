@@ -2,13 +2,14 @@
 
 use crate::places::{judge_places, tell_readers};
 use crate::register_faults::register_status;
-use labntp_command_line::{IO_FAILED, TEXT_FAULTY, memory_status};
 use labntpd_configuration::{
     ClockDaemon, ClockSource, Configuration, ConfigurationFault, key_in_file, read_configuration,
 };
 use labntpd_host::StartLines;
 use ntp_clock::{ClockLimits, Follower};
-use ntp_customer_files::{Loaded, MOST_FILE_OCTETS, load_register};
+use ntp_customer_files::{
+    IO_FAILED, Loaded, MOST_FILE_OCTETS, TEXT_FAULTY, load_register, memory_status,
+};
 use ntp_events::Command;
 use ntp_host::read_regular_file;
 use ntp_register_file::read_register;

@@ -3,3 +3,4 @@ pub mod CommandsFile
 pub mod Admitting
 pub mod Applying
 pub mod Loading
+pub mod Starts

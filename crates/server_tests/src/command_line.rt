@@ -1,10 +1,9 @@
 //! The lines that tell faults, which no clause says; that each job is found at all; and replays that are refused memory.
 
-use labntp_command_line::{
-    DONE, IO_FAILED, Job, MEMORY_OUT, USAGE_REFUSED, job, load_status, replay_status,
-    unread_status, usage_status,
+use labntp_command_line::{Job, job, replay_status};
+use ntp_customer_files::{
+    DONE, IO_FAILED, LoadFault, MEMORY_OUT, USAGE_REFUSED, load_status, unread_status, usage_status,
 };
-use ntp_customer_files::LoadFault;
 use ntp_events::LineFault;
 use ntp_register::Refusal;
 use ntp_register_file::RegisterFault;

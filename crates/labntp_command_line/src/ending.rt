@@ -1,74 +1,14 @@
-//! What a run ends with: its status, and the line that tells a fault.
-ghost use Rattle.std.specs.Prelude.{◌≡◌, ◌⊎◌, ◌≢◌, ℕ, List, true, false, IfSome};
-ghost use Rattle.std.specs.IoError.{error_kind};
+//! What a replay ends with.
+ghost use Rattle.std.specs.Prelude.{◌≡◌, ◌⊎◌, ℕ, List, true, false, IfSome};
 ghost use Rattle.ntp_service_replay.specs.Replay.{most_reads};
 ghost use Rattle.ntp_service_replay.specs.Watched.{inner_of, has_failed, read_count, Wrote};
 ghost use Rattle.labntp_command_line.specs.Ends.{Ends, status_of};
 
-use ntp_customer_files::fault_word;
+use ntp_customer_files::{DONE, IO_FAILED, TEXT_FAULTY, fault_word, memory_status, write_status};
 use ntp_events::LineFault;
 use ntp_service_replay::{ReplayFault, ReplayFaultKind, Watched, replay};
 use std::alloc::Allocator;
-use std::io::{self, ErrorKind, Read, Write};
-
-/// All was done.
-pub const DONE: u8 = 0;
-
-/// The input text has a fault.
-pub const TEXT_FAULTY: u8 = 1;
-
-/// The command line was refused.
-pub const USAGE_REFUSED: u8 = 2;
-
-/// A read or a write failed.
-pub const IO_FAILED: u8 = 3;
-
-/// Memory ran out.
-pub const MEMORY_OUT: u8 = 4;
-
-/// Tells that the command line asks for nothing, and gives the exit status. A failed write is passed over.
-pub fn usage_status<F: Write>(faults: &mut F) -> u8
-    ensures { result ≡ 2 }
-{
-    let _ = writeln!(faults, "usage");
-    USAGE_REFUSED
-}
-
-/// Tells why the command line could not be read, and gives the exit status. A word that is no text is `usage`.
-/// A failed write is passed over.
-pub fn unread_status<F: Write>(error: &io::Error, faults: &mut F) -> u8
-    ensures memory { error_kind error.now ≡ ErrorKind.OutOfMemory → result ≡ 4 }
-    ensures usage { error_kind error.now ≢ ErrorKind.OutOfMemory → result ≡ 2 }
-{
-    match error.kind() {
-        ErrorKind::OutOfMemory => memory_status(faults),
-        _ => usage_status(faults),
-    }
-}
-
-/// Tells of want of memory, and gives the exit status. A failed write is passed over.
-pub fn memory_status<F: Write>(faults: &mut F) -> u8
-    ensures { result ≡ 4 }
-{
-    let _ = writeln!(faults, "memory");
-    MEMORY_OUT
-}
-
-/// Tells that a socket failed, and gives the exit status. A failed write is passed over.
-pub fn socket_status<F: Write>(faults: &mut F) -> u8
-    ensures { result ≡ 3 }
-{
-    let _ = writeln!(faults, "socket");
-    IO_FAILED
-}
-
-/// Tells that standard output failed, and gives the exit status. A failed write is passed over.
-pub fn write_status<F: Write>(faults: &mut F) -> u8
-    ensures { result ≡ 3 }
-{
-    let _ = writeln!(faults, "write");
-    IO_FAILED
-}
+use std::io::{Read, Write};
 
 /// Replays a script from a reader to a writer. A fault is told in one line to `faults`, where a failed write
 /// is passed over.
@@ -125,9 +65,6 @@ fn tell<F: Write>(fault: ReplayFault, faults: &mut F) -> u8
             let _ = writeln!(faults, "read");
             IO_FAILED
         }
-        ReplayFaultKind::Write => {
-            let _ = writeln!(faults, "write");
-            IO_FAILED
-        }
+        ReplayFaultKind::Write => write_status(faults),
     }
 }

@@ -1,10 +1,11 @@
 //! What a server ends with that could not begin.
 ghost use Rattle.std.specs.Prelude.{◌≡◌};
-ghost use Rattle.labntp_command_line.specs.Starts.{load_status, register_status};
+ghost use Rattle.ntp_customer_files.specs.Starts.{load_status, register_status};
 
+use crate::fault_words::fault_word;
+use crate::loading::LoadFault;
 use crate::status::{IO_FAILED, MEMORY_OUT, TEXT_FAULTY, memory_status};
 use ntp_admin::refusal_word;
-use ntp_customer_files::{LoadFault, fault_word};
 use ntp_events::LineFault;
 use ntp_register::Refusal;
 use ntp_register_file::RegisterFault;

@@ -14,7 +14,7 @@ use labntpd_host::{
 };
 use ntp_customer_files::{DONE, IO_FAILED, memory_status, write_status};
 use ntp_freshness::{FreshPort, QueueWatch};
-use ntp_host::EachMillisecond;
+use ntp_host::{EachMillisecond, UdpPort};
 use ntp_reports::{AnswerLines, Both, Counting, Counts, CustomerCounts};
 use ntp_server::Server;
 use std::alloc::Global;

@@ -1,7 +1,10 @@
 //! A port over a UDP socket whose queue can be asked.
 
-ghost use Rattle.std.specs.Prelude.{◌≡◌, ◌≤◌};
-ghost use Rattle.ntp_host.specs.Failures.{udp_failures};
+ghost use Rattle.std.specs.Prelude.{◌≡◌, ◌+◌, ◌-◌, ◌≤◌, ◌<◌, ◌^◌, Option, None, IfOk, IfErr, IfSome, IfNone, false, is_err, if◌then◌else◌};
+ghost use Rattle.std.specs.Option.{option_map_or};
+ghost use Rattle.ntp_service_serve.specs.Port.{Told, most_received_octets, ReceiveTells};
+ghost use Rattle.ntp_freshness.specs.Passing.{HandsOn};
+ghost use Rattle.labntpd_host.specs.Reading.{IsBetween, Reads};
 
 use crate::kernel_queue::{most_datagrams, queue_state};
 use crate::socket::{AtOnce, drop_at_once, send_at_once};
@@ -66,11 +69,11 @@ pub struct BoundAt {
     pub buffer: u32,
 }
 
-/// The calls of a port over one bound UDP socket, which tell of its queue too. No reply waits for room in the send buffer: one
-/// that would is not sent.
+/// The calls of a port over one bound UDP socket, which tell of its queue too. It receives by another port over the same socket,
+/// here `UdpPort`, and hands on what that gives. No reply waits for room in the send buffer: one that would is not sent.
 #[derive(Drop)]
-pub struct QueuedUdp<'a, C: Clock + Copy + Drop, R: Files> {
-    port: UdpPort<C>,
+pub struct QueuedUdp<'a, P: TimedPort, C: Clock + Copy + Drop, R: Files> {
+    port: P,
     descriptor: i32,
     clock: C,
     clocks: &'a HostClocks,
@@ -84,10 +87,10 @@ pub struct QueuedUdp<'a, C: Clock + Copy + Drop, R: Files> {
     has_sent: bool,
     failures: u64,
     would_wait: u64,
-    ghost counted: { udp_failures port ≤ failures },
+    ghost counted: { P.failure_count port ≤ failures },
 }
 
-impl<'a, C: Clock + Copy + Drop, R: Files> QueuedUdp<'a, C, R> {
+impl<'a, C: Clock + Copy + Drop, R: Files> QueuedUdp<'a, UdpPort<C>, C, R> {
     /// A port over a bound socket, with the longest wait that the socket's time limit gives. `room` is for what the kernel tells of its
     /// queue.
     pub fn new(
@@ -97,7 +100,7 @@ impl<'a, C: Clock + Copy + Drop, R: Files> QueuedUdp<'a, C, R> {
         clocks: &'a HostClocks,
         files: &'a R,
         room: Vec<u8>,
-    ) -> QueuedUdp<'a, C, R>
+    ) -> QueuedUdp<'a, UdpPort<C>, C, R>
         ensures { result.failures ≡ 0 }
     {
         QueuedUdp {
@@ -114,7 +117,9 @@ impl<'a, C: Clock + Copy + Drop, R: Files> QueuedUdp<'a, C, R> {
             would_wait: 0,
         }
     }
+}
 
+impl<'a, P: TimedPort, C: Clock + Copy + Drop, R: Files> QueuedUdp<'a, P, C, R> {
     /// How many replies were not sent since they would have waited for room in the send buffer, as far as the number can count.
     pub fn would_wait(&self) -> u64 {
         self.would_wait
@@ -129,7 +134,9 @@ impl<'a, C: Clock + Copy + Drop, R: Files> QueuedUdp<'a, C, R> {
 }
 
 // The middle of two moments of one era, where the second is not the earlier one; else the second.
-fn middle(first: Option<Moment>, second: Moment) -> Moment {
+fn middle(first: Option<Moment>, second: Moment) -> Moment
+    ensures { IsBetween first second result }
+{
     match first {
         Some(first) if first <= second && first.era == second.era => Moment {
             era: second.era,
@@ -148,10 +155,16 @@ fn readable(descriptor: i32) -> pollfd {
     }
 }
 
-impl<'a, C: Clock + Copy + Drop, R: Files> Port for QueuedUdp<'a, C, R> {
+impl<'a, P: TimedPort, C: Clock + Copy + Drop, R: Files> Port for QueuedUdp<'a, P, C, R> {
     ghost failure_count = { λ queued. queued.failures };
 
-    fn receive(&mut self, datagram: &mut DatagramRoom) -> Result<Arrival, PortFault> {
+    fn receive(&mut self, datagram: &mut DatagramRoom) -> Result<Arrival, PortFault>
+        requires { self.old.failures < 2 ^ 64 - 1 }
+        ensures length { IfOk result (λ arrival. arrival.length ≤ most_received_octets) }
+        ensures fault { IfErr result (λ fault. fault ≡ PortFault.Receive) }
+        ensures failures { self.new.failures ≡ self.old.failures + (if is_err result then 1 else 0) }
+        ensures below { ReceiveTells (P.told self.old.port) (P.told self.new.port) result datagram.new }
+    {
         self.has_sent = false;
         let received = self.port.receive(datagram);
         if received.is_err() {
@@ -162,7 +175,10 @@ impl<'a, C: Clock + Copy + Drop, R: Files> Port for QueuedUdp<'a, C, R> {
 
     /// What the host's clock shows. Just after a reply was sent it gives the middle between what the clock showed before it and what
     /// it shows now, which is nearer to the departure than either.
-    fn now(&mut self) -> Moment {
+    fn now(&mut self) -> Moment
+        ensures failures { self.new.failures ≡ self.old.failures }
+        ensures below { Reads self.old.has_sent self.old.shown (P.told self.old.port) (P.told self.new.port) result }
+    {
         let now = self.port.now();
         if self.has_sent {
             self.has_sent = false;
@@ -190,11 +206,18 @@ impl<'a, C: Clock + Copy + Drop, R: Files> Port for QueuedUdp<'a, C, R> {
     }
 }
 
-impl<'a, C: Clock + Copy + Drop, R: Files> TimedPort for QueuedUdp<'a, C, R> {
-    fn receive_in_time(
-        &mut self,
-        datagram: &mut DatagramRoom,
-    ) -> Option<Result<Arrival, PortFault>> {
+impl<'a, P: TimedPort, C: Clock + Copy + Drop, R: Files> TimedPort for QueuedUdp<'a, P, C, R> {
+    fn receive_in_time(&mut self, datagram: &mut DatagramRoom) -> Option<Result<Arrival, PortFault>>
+        // Of its own turns it tells nothing.
+        requires { self.old.failures < 2 ^ 64 - 1 }
+        ensures length { IfSome result (λ received. IfOk received (λ arrival. arrival.length ≤ most_received_octets)) }
+        ensures fault { IfSome result (λ received. IfErr received (λ fault. fault ≡ PortFault.Receive)) }
+        ensures failures { self.new.failures
+            ≡ self.old.failures + option_map_or (λ received. if is_err received then 1 else 0) result 0 }
+        ensures turns { IfSome result (λ received. ReceiveTells None None received datagram.new) }
+        ensures nothing { IfNone result ((false ≡ false) × (◌≡◌ {A = Option Told} None None)) }
+        ensures below { HandsOn (P.told self.old.port) (P.told self.new.port) result datagram.new }
+    {
         // After a reply that tells no time nobody asks for its departure.
         self.has_sent = false;
         let expected = self.clocks.expected.get();
@@ -209,7 +232,7 @@ impl<'a, C: Clock + Copy + Drop, R: Files> TimedPort for QueuedUdp<'a, C, R> {
     }
 }
 
-impl<'a, C: Clock + Copy + Drop, R: Files> QueuedPort for QueuedUdp<'a, C, R> {
+impl<'a, P: TimedPort, C: Clock + Copy + Drop, R: Files> QueuedPort for QueuedUdp<'a, P, C, R> {
     fn ticks(&mut self) -> u64 {
         self.clocks.read(&self.clock)
     }

@@ -290,6 +290,7 @@ impl<P: QueuedPort> Port for FreshPort<P> {
         Err(PortFault::Receive)
     }
 
+    /// The moment that the other port's clock shows, read once.
     fn now(&mut self) -> Moment
         ensures failures { self.new.failures ≡ self.old.failures }
         ensures watch { self.new.watch ≡ self.old.watch }
@@ -300,6 +301,7 @@ impl<P: QueuedPort> Port for FreshPort<P> {
         self.port.now()
     }
 
+    /// Sends a reply by the other port, once.
     fn send(&mut self, address: Address, port: u16, reply: &[u8]) -> Result<(), PortFault>
         requires { self.old.failures < 2 ^ 64 - 1 }
         ensures fault { IfErr result (λ fault. fault ≡ PortFault.Send) }

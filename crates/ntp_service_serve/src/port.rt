@@ -11,7 +11,7 @@ use ntp_time::Moment;
 /// still told from the longest packet (profile).
 pub const MOST_RECEIVED_OCTETS: usize = 1025;
 
-/// Room for a datagram that is received, of which no more is kept.
+/// Room for a datagram that is received. A longer one is cut.
 pub type DatagramRoom = [u8; MOST_RECEIVED_OCTETS];
 
 /// Why a call of a port gave nothing.

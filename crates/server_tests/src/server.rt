@@ -1,7 +1,7 @@
 //! What no contract says of a server: what three turns come to with commands between them, to the octet, that serving takes
 //! no memory where no commands change, that commands are carried out while nothing comes, when the source of the clock's
 //! state is given time, and when a reporter is shown the server. The digests are those of Python's `hashlib.md5` over the
-//! key `key` and the octets before the key number.
+//! key `key` and the octets before the key number, and of `hashlib.sha1` with the key `new`.
 ghost use Rattle.std.specs.Prelude.{◌≡◌};
 
 use ntp_admin::parse_command;
@@ -33,17 +33,29 @@ const ENROL: &str = "enrol 192.0.2.10 7 md5 6b6579 10";
 
 const REVOKE: &str = "revoke 192.0.2.10";
 
+/// A commands file that gives the customer two keys.
+const TWO_KEYS: &[u8] = b"enrol 192.0.2.10 7 md5 6b6579 10\nrollover 192.0.2.10 9 sha1 6e6577\n";
+
+/// A query that is signed under the newer one, with transmit stamp ec00001280000000.
+const NEWER_QUERY: &[u8] = b"\x23\x00\x06\x00\
+    \x00\x00\x00\x00\x00\x00\x00\x00\x00\x00\x00\x00\x00\x00\x00\x00\x00\x00\x00\x00\
+    \x00\x00\x00\x00\x00\x00\x00\x00\x00\x00\x00\x00\x00\x00\x00\x00\xec\x00\x00\x12\x80\x00\x00\x00\
+    \x00\x00\x00\x09\xc9\x04\xc7\xe4\x4c\xdb\x4d\xd6\xab\xb7\
+    \xd6\xcd\x78\x13\xea\xf4\x5e\x03\x69\x1d";
+
 /// The refusal of the second query.
 const DENIAL: &[u8] = b"\xe4\x00\x06\x00\
     \x00\x00\x00\x00\x00\x00\x00\x00DENY\x00\x00\x00\x00\x00\x00\x00\x00\
     \xec\x00\x00\x11\x80\x00\x00\x00\x00\x00\x00\x00\x00\x00\x00\x00\xec\x00\x00\x11\x80\x00\x00\x00";
 
-/// When three datagrams come.
+/// When datagrams come.
 const FIRST_RECEIPT: u64 = 0xec00_000f_9000_0000;
 
 const SECOND_RECEIPT: u64 = 0xec00_0010_9000_0000;
 
 const THIRD_RECEIPT: u64 = 0xec00_0011_9000_0000;
+
+const FOURTH_RECEIPT: u64 = 0xec00_0012_9000_0000;
 
 // What a server did.
 fn totals(arrivals: u64, sent: u64, departed: u64) -> Totals {
@@ -230,13 +242,14 @@ fn serving_takes_no_memory_where_no_commands_change(rt: HostRuntime) -> Result<(
     let coming = [
         (5001, SECOND_RECEIPT, FIRST_QUERY),
         (5002, THIRD_RECEIPT, SECOND_QUERY),
+        (5003, FOURTH_RECEIPT, NEWER_QUERY),
     ];
     let port = port(&memory, &coming)?;
-    let commands = commands(&memory, &[Some(ENROLMENT)])?;
+    let commands = commands(&memory, &[Some(TWO_KEYS)])?;
     let mut states = Vec::new(&memory);
     states.push(reference()?)?;
     let states = MemoryStates::new(states, reference()?);
-    let mut server = server(&memory, port, commands, states, 3)?;
+    let mut server = server(&memory, port, commands, states, 5)?;
     assert_eq!(rt;
         served(&rt, &mut server, 1, &mut NoReports),
         totals(1, 1, 1)
@@ -244,12 +257,12 @@ fn serving_takes_no_memory_where_no_commands_change(rt: HostRuntime) -> Result<(
     let before = memory.calls();
     memory.refuse_all();
     assert_eq!(rt;
-        served(&rt, &mut server, 2, &mut NoReports),
-        totals(1, 1, 1)
+        served(&rt, &mut server, 3, &mut NoReports),
+        totals(2, 2, 2)
     );
     assert_eq!(rt; memory.calls(), before);
     assert!(rt; server.observer.has_missed());
-    assert_eq!(rt; server.observer.seen().len(), 3);
+    assert_eq!(rt; server.observer.seen().len(), 5);
     Ok(())
 }
 

@@ -1,5 +1,5 @@
 -- What the clock of a port shows that takes the middle of two readings as a departure.
-use Rattle.std.specs.Prelude.{◌≡◌, ℕ, ◌≤◌, Bool, true, false, Option, None, Some}
+use Rattle.std.specs.Prelude.{◌≡◌, ◌≤◌, Bool, true, false, Option, None, Some}
 use Rattle.ntp_time.specs.declared.moment.Moment.{Moment}
 use Rattle.ntp_service_serve.specs.Port.{Told, NowTells}
 

@@ -1,5 +1,5 @@
 -- Whether the host's clock was set, and whether the daemon shows an update since.
-use Rattle.std.specs.Prelude.{ℕ, pos, ◌*◌, ◌^◌, Bool, true, false, not, ◌&&◌, ◌==◌, nat_lt, int_le, Option, Some, None}
+use Rattle.std.specs.Prelude.{pos, ◌*◌, ◌^◌, Bool, true, false, not, ◌&&◌, ◌==◌, nat_lt, int_le, Option, Some, None}
 use Rattle.ntp_time.specs.declared.stamp.Stamp.{Stamp}
 use Rattle.ntp_time.specs.declared.moment.Moment.{Moment}
 use Rattle.ntp_time.specs.Difference.{difference}

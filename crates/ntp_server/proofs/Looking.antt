@@ -123,13 +123,13 @@ module _ (A : Type 0) where
   -- ---- a wait
   pub Waits-none : (prompt : Bool) (p : Parts) → Waits A prompt p p
   Waits-none prompt p = record {
-      looks = [];
-      idle = idle prompt;
-      asked = λ k d below. absurd (omega (arith, below));
-      done = Looks-nil p;
-      tended = CountsOn-nil p.tended;
-      reported = Sees-nil p.shown;
-    }
+    looks = [];
+    idle = idle prompt;
+    asked = λ k d below. absurd (omega (arith, below));
+    done = Looks-nil p;
+    tended = CountsOn-nil p.tended;
+    reported = Sees-nil p.shown;
+  }
     where
       idle : (prompt : Bool) → IsIdle prompt []
       idle true = refl

@@ -57,7 +57,7 @@ Makes-turn A prompt asked p q r s blank reference received buffer outcome applie
     seen shows =
     let looks = waits.looks ++ looked.look ∷ [] in
     let all = Looks-append A waits.looks (looked.look ∷ []) p q r waits.done
-        (record { due = looked.done.due; commands = looked.done.commands; observed = looked.done.observed; tells = looked.done.tells }) in
+    (record { due = looked.done.due; commands = looked.done.commands; observed = looked.done.observed; tells = looked.done.tells }) in
     let right : asked ≡ receipt_in turn.made = receipt ∙ came turn.made received turn.arrived in
     record {
       round = record { looks = looks; reference = reference; made = turn.made };

@@ -1,5 +1,5 @@
 -- Commands that are done one after another.
-use Rattle.std.proofs.Common.{◌≡◌, ℕ, ◌+◌, ◌<◌, List, [], ◌∷◌, ◌++◌, zip, length, take, drop, get_or, arith, refl, sym, ap, ◌∙◌}
+use Rattle.std.proofs.Common.{◌≡◌, ℕ, ◌+◌, ◌<◌, List, [], ◌∷◌, ◌++◌, length, take, drop, get_or, arith, refl, sym, ap, ◌∙◌}
 use Rattle.std.specs.declared.alloc.Global.{Global}
 use Rattle.std.proofs.lemmas.List.{map-append, drop_more, take-append-drop, length-take-le}
 use Rattle.ntp_register.specs.Registry.{Registry}
@@ -7,6 +7,7 @@ use Rattle.ntp_register.specs.declared.refusal.Refusal.{Refusal}
 use Rattle.ntp_events.specs.declared.command.Command.{Command}
 use Rattle.ntp_events.specs.declared.event.Event.{Event}
 use Rattle.ntp_events.specs.declared.event.Event.TheVariants as event
+use Rattle.ntp_events.specs.declared.outcome.Outcome.{Outcome}
 use Rattle.ntp_events.specs.declared.outcome.Outcome.TheVariants as outcome
 use Rattle.ntp_service_run.specs.Headline.{StandsFor, TellsOne, Tells, kept}
 use Rattle.ntp_service_run.proofs.Runs.{Tells-nil, Tells-push}
@@ -14,7 +15,7 @@ use Rattle.ntp_customer_files.specs.Loading.{orders, all_done, Enrols, IsRefused
 
 -- a service was given commands and nothing before them, and each was done
 pub record Enrolled (commands : List Command) (service : Registry) : Type 0 where
-  pub tells : Tells {A = Global} [] (orders commands) (all_done commands) service
+  pub tells : Tells {A = Global} [] (all_done commands) service
 
 pub Enrolled-none : (service : Registry) → StandsFor {A = Global} service [] → Enrolled [] service
 Enrolled-none service stands = record { tells = Tells-nil [] service stands }
@@ -23,24 +24,17 @@ pub Enrolled-tells : (commands : List Command) (service : Registry) → Enrolled
 Enrolled-tells commands service e = e.tells
 
 -- what was done strikes nothing out
-kept-done : (commands : List Command) → kept {A = Global} (zip (orders commands) (all_done commands)) ≡ orders commands
+kept-done : (commands : List Command) → kept {A = Global} (all_done commands) ≡ orders commands
 kept-done [] = refl
 kept-done (c ∷ commands) = ap (λ es. event.Command c ∷ es) (kept-done commands)
-
-orders-more : (commands : List Command) (c : Command)
-    → orders {A = Global} (commands ++ c ∷ []) ≡ orders commands ++ event.Command c ∷ []
-orders-more commands c = map-append event.Command commands (c ∷ [])
-
-all_done-more : (commands : List Command) (c : Command) → all_done (commands ++ c ∷ []) ≡ all_done commands ++ outcome.Done ∷ []
-all_done-more commands c = map-append (λ x. outcome.Done) commands (c ∷ [])
 
 -- one command more
 pub Enrolled-more : (commands : List Command) (c : Command) (old new : Registry) → Enrolled commands old
     → ((history : List (Event Global)) → StandsFor old history → TellsOne history (event.Command c) outcome.Done new)
     → Enrolled (commands ++ c ∷ []) new
 Enrolled-more commands c old new e tells = record {
-  tells = rw (orders-more commands c, all_done-more commands c)
-      (Tells-push [] (orders commands) (all_done commands) old new (event.Command c) outcome.Done e.tells (λ stands. tells _ stands));
+  tells = rw (map-append {B = Event Global × Outcome} (λ x. (event.Command x, outcome.Done)) commands (c ∷ []))
+      (Tells-push [] (all_done commands) old new (event.Command c) outcome.Done e.tells (λ stands. tells _ stands));
 }
 
 -- the command behind those that were done is refused

@@ -31,7 +31,7 @@ pub ComesTo-command : (A : Type 0) (old new : Registry) (read : Result Command L
     → ComesTo A read o old new
 ComesTo-command A old new read c r o is said tells =
     subst (λ x. ComesTo A x o old new) (sym is)
-    (r, λ number. ap (λ x. observation.Command c ∷ observation.Line number x ∷ []) (sym said), λ history stands. Tells-one history _ _ old new stands (tells history stands))
+    (r, λ number. ap (λ x. observation.Command c ∷ observation.Line number x ∷ []) (sym said), λ history stands. Tells-one history _ _ new (tells history stands))
 
 -- there is no command
 pub ComesTo-fault : (A : Type 0) (s : Registry) (read : Result Command LineFault) (f : LineFault) → read ≡ Err f

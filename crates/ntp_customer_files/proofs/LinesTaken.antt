@@ -8,15 +8,9 @@ use Rattle.ntp_events.specs.Sees.{Sees}
 use Rattle.ntp_events.proofs.Seen.{Sees-nil, Sees-append}
 use Rattle.ntp_service_run.specs.Headline.{StandsFor, Tells}
 use Rattle.ntp_service_run.proofs.Runs.{Tells-nil, Tells-append}
-use Rattle.ntp_customer_files.specs.CommandsFile.{reading_of, TakenLine, events_read, outcomes_read, observed_read, line_events, line_outcomes, line_observations, CarriesOut}
+use Rattle.ntp_customer_files.specs.CommandsFile.{reading_of, TakenLine, happened_read, observed_read, happened_at_lines, line_observations, CarriesOut}
 
 -- ---- some lines and then others
-pub line_events-append : {A : Type 0} (xs ys : List TakenLine) → line_events {A = A} (xs ++ ys) ≡ line_events xs ++ line_events ys
-line_events-append xs ys = flat_map-append (λ t. events_read (reading_of t.line)) xs ys
-
-pub line_outcomes-append : (xs ys : List TakenLine) → line_outcomes (xs ++ ys) ≡ line_outcomes xs ++ line_outcomes ys
-line_outcomes-append xs ys = flat_map-append (λ t. outcomes_read (reading_of t.line) t.result) xs ys
-
 pub line_observations-append : (before : ℕ) (xs ys : List TakenLine)
     → line_observations before (xs ++ ys) ≡ line_observations before xs ++ line_observations (before + length xs) ys
 line_observations-append before [] ys = let count : before ≡ before + 0 = omega arith in ap (λ n. line_observations n ys) count
@@ -30,13 +24,10 @@ line_observations-append before (x ∷ xs) ys =
 
 -- ---- one line more
 module _ (taken : List TakenLine) (t : TakenLine) where
-  line_events-more : {A : Type 0} → line_events {A = A} (taken ++ t ∷ []) ≡ line_events taken ++ events_read (reading_of t.line)
-  line_events-more {A} = line_events-append taken (t ∷ [])
-      ∙ ap (λ es. line_events {A = A} taken ++ es) (append-nil (events_read (reading_of t.line)))
-
-  line_outcomes-more : line_outcomes (taken ++ t ∷ []) ≡ line_outcomes taken ++ outcomes_read (reading_of t.line) t.result
-  line_outcomes-more = line_outcomes-append taken (t ∷ [])
-      ∙ ap (λ os. line_outcomes taken ++ os) (append-nil (outcomes_read (reading_of t.line) t.result))
+  happened-more : {A : Type 0}
+      → happened_at_lines {A = A} (taken ++ t ∷ []) ≡ happened_at_lines taken ++ happened_read (reading_of t.line) t.result
+  happened-more {A} = flat_map-append (λ x. happened_read (reading_of x.line) x.result) taken (t ∷ [])
+      ∙ ap (λ l. happened_at_lines {A = A} taken ++ l) (append-nil (happened_read (reading_of t.line) t.result))
 
   line_observations-more : (before : ℕ) → line_observations before (taken ++ t ∷ [])
       ≡ line_observations before taken ++ observed_read (before + length taken + 1) (reading_of t.line) t.result
@@ -52,14 +43,11 @@ CarriesOut-none A before s seen = record { observed = Sees-nil seen; tells = λ 
 pub CarriesOut-more : (A : Type 0) (before : ℕ) (taken : List TakenLine) (t : TakenLine) (old mid new : Registry)
     (seen halfway told : Option (List Observation)) → CarriesOut A before taken old mid seen halfway
     → Sees halfway told (observed_read (before + length taken + 1) (reading_of t.line) t.result)
-    → ((history : List (Event A)) → StandsFor mid history
-    → Tells history (events_read (reading_of t.line)) (outcomes_read (reading_of t.line) t.result) new)
+    → ((history : List (Event A)) → StandsFor mid history → Tells history (happened_read (reading_of t.line) t.result) new)
     → CarriesOut A before (taken ++ t ∷ []) old new seen told
 CarriesOut-more A before taken t old mid new seen halfway told c observed tells = record {
   observed = subst (λ os. Sees seen told os) (sym (line_observations-more taken t before))
       (Sees-append seen halfway told _ _ c.observed observed);
-  tells = λ history stands.
-      subst (λ es. Tells history es (line_outcomes (taken ++ t ∷ [])) new) (sym (line_events-more taken t))
-      (subst (λ os. Tells history (line_events taken ++ events_read (reading_of t.line)) os new) (sym (line_outcomes-more taken t))
-      (Tells-append history _ _ _ _ mid new (c.tells history stands) (λ there. tells _ there)));
+  tells = λ history stands. subst (λ l. Tells history l new) (sym (happened-more taken t))
+      (Tells-append history _ _ mid new (c.tells history stands) (λ there. tells _ there));
 }

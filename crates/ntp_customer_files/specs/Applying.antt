@@ -10,7 +10,7 @@ use Rattle.ntp_events.specs.declared.observation.Observation.{Observation}
 use Rattle.ntp_events.specs.declared.observation.Observation.TheVariants as observation
 use Rattle.ntp_events.specs.Sees.{Sees}
 use Rattle.ntp_service_run.specs.Headline.{StandsFor, Tells}
-use Rattle.ntp_customer_files.specs.CommandsFile.{complete_lines, reading_of, TakenLine, events_read, outcomes_read, observed_read, lines_taken, CarriesOut}
+use Rattle.ntp_customer_files.specs.CommandsFile.{complete_lines, reading_of, TakenLine, happened_read, observed_read, lines_taken, CarriesOut}
 
 -- what an observer is told of a line that is read so, before it is carried out
 abbrev pub told_before : Result Command LineFault → List Observation
@@ -21,14 +21,13 @@ told_before (Err fault) = []
 abbrev pub ComesTo : (A : Type 0) → Result Command LineFault → LineOutcome → Registry → Registry → Type 0
 ComesTo A read outcome old new = (result : Result (Unit {0}) Refusal)
     × ((number : ℕ) → observed_read number (Some read) result ≡ told_before read ++ observation.Line number outcome ∷ [])
-    × ((history : List (Event A)) → StandsFor old history → Tells history (events_read (Some read)) (outcomes_read (Some read) result) new)
+    × ((history : List (Event A)) → StandsFor old history → Tells history (happened_read (Some read) result) new)
 
 -- the line with a number was taken
 abbrev pub AppliesLine : (A : Type 0) → ℕ → List ℕ → Registry → Registry → Option (List Observation) → Option (List Observation) → Type 0
 AppliesLine A number line old new seen told = (result : Result (Unit {0}) Refusal)
     × Sees seen told (observed_read number (reading_of line) result)
-    × ((history : List (Event A)) → StandsFor old history
-    → Tells history (events_read (reading_of line)) (outcomes_read (reading_of line) result) new)
+    × ((history : List (Event A)) → StandsFor old history → Tells history (happened_read (reading_of line) result) new)
 
 -- lines were taken, before which so many stand
 abbrev pub Applies :

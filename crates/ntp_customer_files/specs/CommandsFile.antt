@@ -44,15 +44,10 @@ pub record TakenLine : Type 0 where
   pub line : List ℕ
   pub result : Result (Unit {0}) Refusal
 
--- the event that a line is, read so (profile)
-abbrev pub events_read : {A : Type 0} → Option (Result Command LineFault) → List (Event A)
-events_read (Some (Ok command)) = event.Command command ∷ []
-events_read other = []
-
--- its outcome (profile)
-abbrev pub outcomes_read : Option (Result Command LineFault) → Result (Unit {0}) Refusal → List Outcome
-outcomes_read (Some (Ok command)) result = command_outcome result ∷ []
-outcomes_read other result = []
+-- what happened at a line that is read so: its command, if it is one, with what it came to (profile)
+abbrev pub happened_read : {A : Type 0} → Option (Result Command LineFault) → Result (Unit {0}) Refusal → List (Event A × Outcome)
+happened_read (Some (Ok command)) result = (event.Command command, command_outcome result) ∷ []
+happened_read other result = []
 
 -- what a command came to (profile)
 abbrev pub carried_out : Result (Unit {0}) Refusal → LineOutcome
@@ -65,13 +60,9 @@ observed_read number None result = []
 observed_read number (Some (Ok command)) result = observation.Command command ∷ observation.Line number (carried_out result) ∷ []
 observed_read number (Some (Err fault)) result = observation.Line number (Faulty fault) ∷ []
 
--- the events of lines that were taken, in their order (profile)
-abbrev pub line_events : {A : Type 0} → List TakenLine → List (Event A)
-line_events taken = flat_map (λ t. events_read (reading_of t.line)) taken
-
--- their outcomes (profile)
-abbrev pub line_outcomes : List TakenLine → List Outcome
-line_outcomes taken = flat_map (λ t. outcomes_read (reading_of t.line) t.result) taken
+-- what happened at lines that were taken, in their order (profile)
+abbrev pub happened_at_lines : {A : Type 0} → List TakenLine → List (Event A × Outcome)
+happened_at_lines taken = flat_map (λ t. happened_read (reading_of t.line) t.result) taken
 
 -- what an observer is told of them, where so many lines stand before the first (profile)
 abbrev pub line_observations : ℕ → List TakenLine → List Observation
@@ -82,11 +73,11 @@ line_observations before (t ∷ taken) = observed_read (before + 1) (reading_of 
 abbrev pub lines_taken : List TakenLine → List (List ℕ)
 lines_taken taken = map (λ t. t.line) taken
 
--- lines were carried out, each once: whatever history the service stood for, it tells their commands these outcomes, and the observer
--- is told what became of each (profile)
+-- lines were carried out, each once: whatever history the service stood for, it tells what happened at them, and the observer is told
+-- what became of each (profile)
 pub record CarriesOut (A : Type 0) (before : ℕ) (taken : List TakenLine) (old new : Registry) (seen told : Option (List Observation)) : Type 0 where
   pub observed : Sees seen told (line_observations before taken)
-  pub tells : (history : List (Event A)) → StandsFor old history → Tells history (line_events taken) (line_outcomes taken) new
+  pub tells : (history : List (Event A)) → StandsFor old history → Tells history (happened_at_lines taken) new
 
 -- the lines that are due in a file's octets were carried out (profile)
 pub record CarriesOutDue (A : Type 0) (applied : ℕ) (octets : List ℕ) (after : ℕ) (old new : Registry) (seen told : Option (List Observation)) : Type 0 where

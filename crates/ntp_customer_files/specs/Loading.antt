@@ -22,12 +22,12 @@ abbrev pub orders : {A : Type 0} → List Command → List (Event A)
 orders commands = map event.Command commands
 
 -- for each command, that it was done (profile)
-abbrev pub all_done : List Command → List Outcome
-all_done commands = map (λ command. outcome.Done) commands
+abbrev pub all_done : {A : Type 0} → List Command → List (Event A × Outcome)
+all_done commands = map (λ command. (event.Command command, outcome.Done)) commands
 
 -- a service was given commands and nothing before them, and each was done (profile)
 abbrev pub Enrols : List Command → Registry → Type 0
-Enrols commands service = Tells {A = Global} [] (orders commands) (all_done commands) service
+Enrols commands service = Tells {A = Global} [] (all_done commands) service
 
 -- what a register file gives: its reference state, and a service with its customers enrolled, in file order (profile)
 pub record Loads (octets : List ℕ) (reference : ReferenceState) (service : Registry) : Type 0 where

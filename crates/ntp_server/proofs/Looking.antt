@@ -11,10 +11,10 @@ use Rattle.ntp_service_run.specs.Headline.{Tells}
 use Rattle.ntp_service_run.proofs.Runs.{Tells-nil, Tells-append}
 use Rattle.ntp_service_serve.specs.Port.{Told}
 use Rattle.ntp_service_serve.specs.Sequence.{firsts}
-use Rattle.ntp_customer_files.specs.CommandsFile.{TakenLine, CarriesOut, CarriesOutDue, lines_taken, line_events, line_outcomes, line_observations}
+use Rattle.ntp_customer_files.specs.CommandsFile.{TakenLine, CarriesOut, CarriesOutDue, lines_taken, happened_at_lines, line_observations}
 use Rattle.ntp_service_serve.specs.Sources.{Coming, answers, Gives, CountsOn}
 use Rattle.ntp_server.specs.Rounds.{Look, Parts, AreDueAt, AreDueInTurn}
-use Rattle.ntp_server.specs.Steps.{Looks, LooksOnce, Waits, IsIdle, asked_of, given_of, looks_events, looks_outcomes, looks_observations}
+use Rattle.ntp_server.specs.Steps.{Looks, LooksOnce, Waits, IsIdle, asked_of, given_of, happened_at_looks, looks_observations}
 
 -- ---- what sources gave
 drop-nil : {X : Type 0} (n : ℕ) → drop {A = X} n [] ≡ []
@@ -82,10 +82,9 @@ module _ (A : Type 0) where
     observed = subst (λ l. Sees p.seen r.seen l) (sym (flat_map-append (λ l. line_observations l.applied l.taken) xs ys))
         (Sees-append p.seen q.seen r.seen (looks_observations xs) (looks_observations ys) x.observed y.observed);
     tells = λ history stands.
-        subst (λ es. Tells history es (looks_outcomes (xs ++ ys)) r.service) (sym (flat_map-append (λ l. line_events l.taken) xs ys))
-        (subst (λ os. Tells history (looks_events xs ++ looks_events ys) os r.service) (sym (flat_map-append (λ l. line_outcomes l.taken) xs ys))
-        (Tells-append history (looks_events xs) (looks_events ys) (looks_outcomes xs) (looks_outcomes ys) q.service r.service
-        (x.tells history stands) (λ stood. y.tells _ stood)));
+        subst (λ l. Tells history l r.service) (sym (flat_map-append (λ l. happened_at_lines l.taken) xs ys))
+        (Tells-append history (happened_at_looks xs) (happened_at_looks ys) q.service r.service
+        (x.tells history stands) (λ stood. y.tells _ stood));
   }
 
   Looks-one : (asked : Option Moment) (given : Option (List ℕ)) (taken : List TakenLine) (p q : Parts)
@@ -99,8 +98,7 @@ module _ (A : Type 0) where
       commands = gives;
       observed = subst (λ l. Sees p.seen q.seen l) (sym (append-nil (line_observations p.applied taken))) done.observed;
       tells = λ history stands.
-          subst (λ es. Tells history es (line_outcomes taken ++ []) q.service) (sym (append-nil (line_events taken)))
-          (subst (λ os. Tells history (line_events taken) os q.service) (sym (append-nil (line_outcomes taken))) (done.tells history stands));
+          subst (λ l. Tells history l q.service) (sym (append-nil (happened_at_lines taken))) (done.tells history stands);
     };
   }
 
@@ -117,7 +115,7 @@ module _ (A : Type 0) where
   Looks-nothing asked given p q applied seen service none gives =
       Looks-one asked None [] p q (refl, applied) (subst (λ o. Gives p.commands q.commands (asked ∷ []) (o ∷ [])) none gives) (record {
         observed = subst (λ l. Sees p.seen l []) (sym seen) (Sees-nil p.seen);
-        tells = λ history stands. subst (λ s. Tells history [] [] s) (sym service) (Tells-nil history p.service stands);
+        tells = λ history stands. subst (λ s. Tells history [] s) (sym service) (Tells-nil history p.service stands);
       })
 
   -- ---- a wait

@@ -19,15 +19,15 @@ use Rattle.ntp_service_run.specs.Headline.{Tells}
 use Rattle.ntp_service_run.proofs.Runs.{Tells-nil, Tells-append}
 use Rattle.ntp_service_serve.specs.declared.port.PortFault.{PortFault}
 use Rattle.ntp_service_serve.specs.Port.{IncomingValue}
-use Rattle.ntp_service_serve.specs.Made.{Made, Missed, Received, turn_of, arrival_of, events_in, outcomes_in, sent_in, has_arrived, has_departed, is_failing, turn_outcome}
+use Rattle.ntp_service_serve.specs.Made.{Made, Missed, Received, turn_of, arrival_of, happened_in_turn, sent_in, has_arrived, has_departed, is_failing, turn_outcome}
 use Rattle.ntp_service_serve.specs.Serving.{Follows, TurnMakes}
 use Rattle.ntp_service_serve.specs.Sending.{was_sent}
 use Rattle.ntp_service_serve.proofs.ManyTurns.{sent_of, count_of, Follows-nil, Follows-append}
 use Rattle.ntp_service_serve.proofs.Counting.{if_so, at-most-one, sent-one, noted-one, count-more}
 use Rattle.ntp_server.specs.declared.server.Totals.{Totals}
 use Rattle.ntp_service_serve.specs.Sources.{Gives, CountsOn}
-use Rattle.ntp_server.specs.Rounds.{Look, Round, Parts, AreDueInTurn, HasLooks, AsksRight, ServesRounds, looks_of, made_in, receipt_in, round_events, round_outcomes, round_observations}
-use Rattle.ntp_server.specs.Steps.{LooksOnce, Waits, IsIdle, MakesRound, asked_of, given_of, looks_events, looks_outcomes, looks_observations, receipts_of, states_of, arrivals_in, replies_in, departures_in}
+use Rattle.ntp_server.specs.Rounds.{Look, Round, Parts, AreDueInTurn, HasLooks, AsksRight, ServesRounds, looks_of, made_in, receipt_in, happened_in_round, round_observations}
+use Rattle.ntp_server.specs.Steps.{LooksOnce, Waits, IsIdle, MakesRound, asked_of, given_of, happened_at_looks, looks_observations, receipts_of, states_of, arrivals_in, replies_in, departures_in}
 use Rattle.ntp_server.proofs.Looking.{Gives-nil, Gives-append, CountsOn-nil, CountsOn-append, due-append, Looks-append}
 
 -- ---- a turn behind a wait and a look
@@ -78,8 +78,8 @@ Makes-turn A prompt asked p q r s blank reference received buffer outcome applie
           (subst (λ l. Sees r.seen s.seen (Turn l ∷ [])) turn.comes_to seen);
       comes_to = turn.comes_to;
       failures = omega (arith, failed, turn.failures);
-      tells = λ history stands. Tells-append history (looks_events looks) (events_in reference turn.made) (looks_outcomes looks)
-          (outcomes_in turn.made) r.service s.service (all.tells history stands) (λ stood. turn.tells _ stood);
+      tells = λ history stands. Tells-append history (happened_at_looks looks) (happened_in_turn reference turn.made) r.service s.service
+          (all.tells history stands) (λ stood. turn.tells _ stood);
     }
 
 -- ---- what lists of rounds come to
@@ -209,13 +209,9 @@ Serves-round A prompt n p q r a b outcome s m arrivals sent departed =
         count-more has_departed (made_in rounds) made,
       );
       failures = omega (arith, s.failures, m.failures, ap (count_of is_failing) turns, count-more is_failing (made_in rounds) made);
-      tells = λ history stands.
-          subst (λ es. Tells history es (flat_map round_outcomes (rounds ++ round ∷ [])) r.service)
-          (sym (flat_map-push round_events rounds round))
-          (subst (λ os. Tells history (flat_map round_events rounds ++ round_events round) os r.service)
-          (sym (flat_map-push round_outcomes rounds round))
-          (Tells-append history (flat_map round_events rounds) (round_events round) (flat_map round_outcomes rounds) (round_outcomes round)
-          q.service r.service (s.tells history stands) (λ stood. m.tells _ stood)));
+      tells = λ history stands. subst (λ l. Tells history l r.service) (sym (flat_map-push happened_in_round rounds round))
+          (Tells-append history (flat_map happened_in_round rounds) (happened_in_round round) q.service r.service
+          (s.tells history stands) (λ stood. m.tells _ stood));
     }
 
 -- how many there can be

@@ -10,9 +10,9 @@ use Rattle.ntp_events.specs.declared.observation.Observation.TheVariants.{Turn}
 use Rattle.ntp_events.specs.Sees.{Sees}
 use Rattle.ntp_service_run.specs.Headline.{StandsFor, Tells}
 use Rattle.ntp_service_serve.specs.Port.{Told}
-use Rattle.ntp_service_serve.specs.Made.{Made, turn_of, events_in, outcomes_in, sent_in, has_arrived, has_departed, is_failing, turn_outcome}
+use Rattle.ntp_service_serve.specs.Made.{Made, turn_of, happened_in_turn, sent_in, has_arrived, has_departed, is_failing, turn_outcome}
 use Rattle.ntp_service_serve.specs.Serving.{Follows}
-use Rattle.ntp_customer_files.specs.CommandsFile.{TakenLine, AreDue, lines_taken, line_events, line_outcomes, line_observations}
+use Rattle.ntp_customer_files.specs.CommandsFile.{TakenLine, AreDue, lines_taken, happened_at_lines, line_observations}
 use Rattle.ntp_server.specs.declared.server.Totals.{Totals}
 use Rattle.ntp_service_serve.specs.Sources.{Coming, Gives, CountsOn}
 
@@ -48,13 +48,9 @@ looks_of rounds = flat_map (λ r. r.looks) rounds
 abbrev pub made_in : List Round → List Made
 made_in rounds = map (λ r. r.made) rounds
 
--- the events of a round: the commands of the lines that were taken at its looks, then those of its turn (profile)
-abbrev pub round_events : {A : Type 0} → Round → List (Event A)
-round_events r = flat_map (λ l. line_events l.taken) r.looks ++ events_in r.reference r.made
-
--- their outcomes (profile)
-abbrev pub round_outcomes : Round → List Outcome
-round_outcomes r = flat_map (λ l. line_outcomes l.taken) r.looks ++ outcomes_in r.made
+-- what happened in a round: at the lines that were taken at its looks, then in its turn (profile)
+abbrev pub happened_in_round : {A : Type 0} → Round → List (Event A × Outcome)
+happened_in_round r = flat_map (λ l. happened_at_lines l.taken) r.looks ++ happened_in_turn r.reference r.made
 
 -- what an observer is told of a round: each line that was taken, then the turn (profile)
 abbrev pub round_observations : Round → List Observation
@@ -111,6 +107,5 @@ pub record ServesRounds (A : Type 0) (prompt : Bool) (turns : ℕ) (before after
   pub sent : totals.sent ≡ length (flat_map sent_in (made_in rounds))
   pub departed : totals.departed ≡ length (filter has_departed (made_in rounds))
   pub failures : after.failures ≡ before.failures + length (filter is_failing (made_in rounds))
-  -- whatever history the service stood for, it tells the rounds' events these outcomes
-  pub tells : (history : List (Event A)) → StandsFor before.service history
-      → Tells history (flat_map round_events rounds) (flat_map round_outcomes rounds) after.service
+  -- whatever history the service stood for, it tells what happened in the rounds
+  pub tells : (history : List (Event A)) → StandsFor before.service history → Tells history (flat_map happened_in_round rounds) after.service

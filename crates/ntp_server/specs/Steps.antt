@@ -12,9 +12,9 @@ use Rattle.ntp_service_run.specs.Headline.{StandsFor, Tells}
 use Rattle.ntp_service_serve.specs.Made.{is_failing, turn_outcome}
 use Rattle.ntp_service_serve.specs.Serving.{Follows}
 use Rattle.ntp_service_serve.specs.Sending.{was_sent, was_noted}
-use Rattle.ntp_customer_files.specs.CommandsFile.{line_events, line_outcomes, line_observations}
+use Rattle.ntp_customer_files.specs.CommandsFile.{happened_at_lines, line_observations}
 use Rattle.ntp_service_serve.specs.Sources.{Gives, CountsOn}
-use Rattle.ntp_server.specs.Rounds.{Look, Round, Parts, AreDueInTurn, HasLooks, AsksRight, receipt_in, round_events, round_outcomes, round_observations}
+use Rattle.ntp_server.specs.Rounds.{Look, Round, Parts, AreDueInTurn, HasLooks, AsksRight, receipt_in, happened_in_round, round_observations}
 
 -- what looks were asked with, and what they gave
 abbrev pub asked_of : List Look → List (Option Moment)
@@ -23,12 +23,9 @@ asked_of looks = map (λ l. l.asked) looks
 abbrev pub given_of : List Look → List (Option (List ℕ))
 given_of looks = map (λ l. l.given) looks
 
--- their events, the outcomes, and what an observer is told of them
-abbrev pub looks_events : {A : Type 0} → List Look → List (Event A)
-looks_events looks = flat_map (λ l. line_events l.taken) looks
-
-abbrev pub looks_outcomes : List Look → List Outcome
-looks_outcomes looks = flat_map (λ l. line_outcomes l.taken) looks
+-- what happened at them, and what an observer is told of them
+abbrev pub happened_at_looks : {A : Type 0} → List Look → List (Event A × Outcome)
+happened_at_looks looks = flat_map (λ l. happened_at_lines l.taken) looks
 
 abbrev pub looks_observations : List Look → List Observation
 looks_observations looks = flat_map (λ l. line_observations l.applied l.taken) looks
@@ -45,8 +42,7 @@ pub record Looks (A : Type 0) (looks : List Look) (before after : Parts) : Type 
   pub due : AreDueInTurn before.applied looks after.applied
   pub commands : Gives before.commands after.commands (asked_of looks) (given_of looks)
   pub observed : Sees before.seen after.seen (looks_observations looks)
-  pub tells : (history : List (Event A)) → StandsFor before.service history
-      → Tells history (looks_events looks) (looks_outcomes looks) after.service
+  pub tells : (history : List (Event A)) → StandsFor before.service history → Tells history (happened_at_looks looks) after.service
 
 -- a look was made, which asked with this
 pub record LooksOnce (A : Type 0) (asked : Option Moment) (before after : Parts) : Type 0 where
@@ -84,8 +80,7 @@ pub record MakesRound (A : Type 0) (prompt : Bool) (before after : Parts) (outco
   pub observed : Sees before.seen after.seen (round_observations round)
   pub comes_to : outcome ≡ turn_outcome round.made
   pub failures : after.failures ≡ before.failures + (if is_failing round.made then 1 else 0)
-  pub tells : (history : List (Event A)) → StandsFor before.service history
-      → Tells history (round_events round) (round_outcomes round) after.service
+  pub tells : (history : List (Event A)) → StandsFor before.service history → Tells history (happened_in_round round) after.service
 
 -- how many datagrams came in a turn
 abbrev pub arrivals_in : TurnOutcome → ℕ

@@ -1,8 +1,8 @@
 -- What one line adds to a replay, and what lines add one after another.
 use Rattle.std.proofs.Common.{◌≡◌, ℕ, true, false, List, [], ◌∷◌, ◌++◌, refl, sym, ap, ◌∙◌, subst, append_assoc, append-nil}
-use Rattle.std.specs.Prelude.{Bool, not, All, if◌then◌else◌}
+use Rattle.std.specs.Prelude.{Bool, not, All, map, if◌then◌else◌}
 use Rattle.std.specs.List.{AllZip}
-use Rattle.std.proofs.lemmas.List.{flat_map_more}
+use Rattle.std.proofs.lemmas.List.{flat_map_more, map-append}
 use Rattle.std.proofs.lemmas.List.Elements.{All-nil, All-cons, All-append, filter-append}
 use Rattle.ntp_register.specs.Registry.{Registry}
 use Rattle.ntp_events.specs.declared.event.Event.{Event}
@@ -54,8 +54,7 @@ module _ {A : Type 0} where
   -- nothing was replayed yet
   pub replays-nothing : (s : Registry) → StandsFor {A = A} s [] → Replays A [] [] s
   replays-nothing s stands = record {
-    events = [];
-    outcomes = [];
+    happened = [];
     readable = All-nil IsReadable;
     spelled = tt;
     tells = Tells-nil [] s stands;
@@ -66,12 +65,11 @@ module _ {A : Type 0} where
   replays-passed : (before : List (List ℕ)) (so_far line : List ℕ) (s : Registry) → Replays A before so_far s
       → IsReadable line → is_passed_over line ≡ true → Replays A (before ++ line ∷ []) (so_far ++ []) s
   replays-passed before so_far line s r readable passed = record {
-    events = r.events;
-    outcomes = r.outcomes;
+    happened = r.happened;
     readable = readable-more before line r.readable readable;
     spelled =
         let same = event_lines-more before line true passed ∙ append-nil (event_lines before) in
-        subst (λ lines. AllZip Spells lines r.events) (sym same) r.spelled;
+        subst (λ lines. AllZip Spells lines (map (λ p. p.0) r.happened)) (sym same) r.spelled;
     tells = r.tells;
     texts = append-nil so_far ∙ r.texts;
   }
@@ -81,13 +79,12 @@ module _ {A : Type 0} where
       → Replays A before so_far old → IsReadable line → is_passed_over line ≡ false → Spells line e → Takes old e o new
       → Replays A (before ++ line ∷ []) (so_far ++ outcome_text o) new
   replays-event before so_far line old new e o r readable event spells step = record {
-    events = r.events ++ e ∷ [];
-    outcomes = r.outcomes ++ o ∷ [];
+    happened = r.happened ++ (e, o) ∷ [];
     readable = readable-more before line r.readable readable;
-    spelled = subst (λ lines. AllZip Spells lines (r.events ++ e ∷ [])) (sym (event_lines-more before line false event))
-        (AllZip-more Spells (event_lines before) r.events line e r.spelled spells);
-    tells = Tells-push [] r.events r.outcomes old new e o r.tells (λ so_far. step _ so_far);
-    texts = ap (λ text. text ++ outcome_text o) r.texts ∙ flat_map_more outcome_text [] r.outcomes o;
+    spelled = rw (event_lines-more before line false event, map-append (λ p. p.0) r.happened ((e, o) ∷ []))
+        (AllZip-more Spells (event_lines before) (map (λ p. p.0) r.happened) line e r.spelled spells);
+    tells = Tells-push [] r.happened old new e o r.tells (λ so_far. step _ so_far);
+    texts = ap (λ text. text ++ outcome_text o) r.texts ∙ flat_map_more (λ p. outcome_text p.1) [] r.happened (e, o);
   }
 
   -- ---- whatever was replayed before

@@ -1,5 +1,5 @@
 -- What a replay of a script's lines writes, and where it stops.
-use Rattle.std.specs.Prelude.{◌≡◌, ◌⊎◌, ℕ, ◌+◌, ◌-◌, ◌^◌, ◌≤◌, ◌<◌, false, List, [], ◌∷◌, ◌++◌, length, All, flat_map, IsUtf8}
+use Rattle.std.specs.Prelude.{◌≡◌, ◌⊎◌, ℕ, ◌+◌, ◌-◌, ◌^◌, ◌≤◌, ◌<◌, false, List, [], ◌∷◌, ◌++◌, length, All, map, flat_map, IsUtf8}
 use Rattle.std.specs.List.{AllZip}
 use Rattle.ntp_register.specs.Registry.{Registry}
 use Rattle.ntp_events.specs.declared.event.Event.{Event}
@@ -17,15 +17,14 @@ use Rattle.ntp_service_replay.specs.Script.{most_line_octets, IsReadable, event_
 abbrev pub most_reads : ℕ
 most_reads = 2 ^ 32 - 1
 
--- the lines were replayed: those that are events spell events, to which a service that began with no customers
--- tells these outcomes, and what was written is the outcomes' texts, one after another
+-- the lines were replayed: those that are events spell the events of what happened, as a service tells it that began with no customers,
+-- and what was written is the outcomes' texts, one after another
 pub record Replays (A : Type 0) (lines : List (List ℕ)) (written : List ℕ) (service : Registry) : Type 0 where
-  pub events : List (Event A)
-  pub outcomes : List Outcome
+  pub happened : List (Event A × Outcome)
   pub readable : All IsReadable lines
-  pub spelled : AllZip Spells (event_lines lines) events
-  pub tells : Tells [] events outcomes service
-  pub texts : written ≡ flat_map outcome_text outcomes
+  pub spelled : AllZip Spells (event_lines lines) (map (λ p. p.0) happened)
+  pub tells : Tells [] happened service
+  pub texts : written ≡ flat_map (λ p. outcome_text p.1) happened
 
 -- why no more lines were answered, where some were replayed before and others follow; `part` was written for
 -- the first of those

@@ -1,5 +1,5 @@
 -- Forged datagrams change no answer to a genuine event.
-use Rattle.std.proofs.Common.{◌≡◌, ℕ, true, false, Some, None, List, [], ◌∷◌, zip, refl, sym, ap, ◌∙◌, true≢false, arith}
+use Rattle.std.proofs.Common.{◌≡◌, ℕ, true, false, Some, None, List, [], ◌∷◌, map, refl, sym, ap, ◌∙◌, true≢false, arith}
 use Rattle.ntp_time.specs.declared.moment.Moment.{Moment}
 use Rattle.ntp_packet.specs.Header.{HeaderFields}
 use Rattle.ntp_register.specs.declared.address.Address.{Address}
@@ -21,8 +21,9 @@ use Rattle.ntp_events.specs.declared.outcome.Outcome.{Outcome}
 use Rattle.ntp_events.specs.declared.outcome.Outcome.TheVariants as outcome
 use Rattle.ntp_service_run.specs.Events.{own}
 use Rattle.ntp_service_run.specs.Model.{answer_to, after_done, after, life_after, life_of, says_after}
-use Rattle.ntp_service_run.specs.Headline.{Tells, TellsOne, kept}
+use Rattle.ntp_service_run.specs.Headline.{Tells, TellsOne, happened_to}
 use Rattle.ntp_service_run.specs.Forgery.{is_signed_query, is_genuine, genuine, at_genuine, without_refusals, TellsWithoutForgeries}
+use Rattle.ntp_service_run.proofs.Histories.{events_of}
 use Rattle.ntp_service_run.proofs.Lives.{after_command}
 
 -- ---- one datagram
@@ -133,9 +134,19 @@ module _ {A : Type 0} where
       t.as_model refl ∙ sym (alike-answer (life_of (genuine lived)) (life_of lived) query (genuine-life lived) is)
 
   -- ---- a run
-  pub without-forgeries : (history events : List (Event A)) (outcomes : List Outcome) (s : Registry) → Tells history events outcomes s
-      → TellsWithoutForgeries history events outcomes
-  without-forgeries history events outcomes s t = λ a.
+  -- what is computed of what stands beside events is so of what stands beside the genuine ones
+  at_genuine-map : {X Y : Type 0} (f : X → Y) (life : Life) (events : List (Event A)) (beside : List X)
+      → at_genuine life events (map f beside) ≡ map f (at_genuine life events beside)
+  at_genuine-map f life [] beside = refl
+  at_genuine-map f life (e ∷ events) [] = refl
+  at_genuine-map f life (e ∷ events) (x ∷ beside) = grind (arith, at_genuine-map f (after life e) events beside)
+
+  pub without-forgeries : (history : List (Event A)) (happened : List (Event A × Outcome)) (s : Registry) → Tells history happened s
+      → TellsWithoutForgeries history happened
+  without-forgeries history happened s t = λ a.
       let past = own a history in
-      let now = own a (kept (zip events outcomes)) in
-      ap (at_genuine (life_of past) now) (t.told a) ∙ sym (alone (life_of (genuine past)) (life_of past) now (genuine-life past)).0
+      let now = happened_to a happened in
+      let events = events_of now in
+      sym (at_genuine-map (λ p. p.1) (life_of past) events now) ∙ ap (at_genuine (life_of past) events) (t.told a)
+      ∙ sym (alone (life_of (genuine past)) (life_of past) events (genuine-life past)).0
+      ∙ ap (says_after (life_of (genuine past))) (at_genuine-map (λ p. p.0) (life_of past) events now)

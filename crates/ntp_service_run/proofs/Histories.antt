@@ -1,5 +1,5 @@
 -- What one more event does to a history.
-use Rattle.std.proofs.Common.{◌≡◌, ◌≢◌, Bool, true, false, None, option_map, List, [], ◌∷◌, ◌++◌, refl, sym, ap, ◌∙◌, subst, append-nil, ⊎_elim, true≢false}
+use Rattle.std.proofs.Common.{◌≡◌, ◌≢◌, Bool, true, false, None, option_map, List, [], ◌∷◌, ◌++◌, map, refl, sym, ap, ◌∙◌, subst, append-nil, ⊎_elim, true≢false}
 use Rattle.std.specs.Prelude.{if◌then◌else◌}
 use Rattle.std.specs.Ordering.{is_eq}
 use Rattle.std.specs.declared.cmp.Ordering.{Ordering}
@@ -33,6 +33,10 @@ other-address a b ne = decided (address_eq a b) refl
     decided true e = absurd (ne (address_cmp-IsAntisymmetric a b (tie (address_cmp a b) (sym (address_eq-ties a b) ∙ e))))
 
 module _ {A : Type 0} where
+  -- the events of what happened
+  abbrev pub events_of : List (Event A × Outcome) → List (Event A)
+  events_of happened = map (λ p. p.0) happened
+
   pub own-append : (a : Address) (xs ys : List (Event A)) → own a (xs ++ ys) ≡ own a xs ++ own a ys
   own-append a xs ys = filter-append (names a) xs ys
 

@@ -1,7 +1,7 @@
 -- A list of events, one after another.
-use Rattle.std.proofs.Common.{◌≡◌, None, Bool, true, false, not, List, [], ◌∷◌, ◌++◌, map, filter, zip, cond, length, refl, sym, ap, ◌∙◌, subst, append_assoc, append-nil, arith, ⊎_elim}
+use Rattle.std.proofs.Common.{◌≡◌, None, Bool, true, false, not, List, [], ◌∷◌, ◌++◌, map, filter, zip, cond, length, refl, sym, ap, ap₂, ◌∙◌, subst, append_assoc, append-nil, arith, ⊎_elim}
 use Rattle.std.specs.Prelude.{◌&&◌, if◌then◌else◌}
-use Rattle.std.proofs.lemmas.List.{map-append, length-append}
+use Rattle.std.proofs.lemmas.List.{map-append}
 use Rattle.std.proofs.lemmas.List.Elements.{filter-append}
 use Rattle.ntp_register.specs.declared.address.Address.{Address}
 use Rattle.ntp_register.specs.Address.{address_eq}
@@ -11,30 +11,36 @@ use Rattle.ntp_reply.specs.Life.{Life}
 use Rattle.ntp_events.specs.declared.event.Event.{Event}
 use Rattle.ntp_events.specs.declared.outcome.Outcome.{Outcome}
 use Rattle.ntp_service_run.specs.Events.{address_of, names, own}
-use Rattle.ntp_service_run.specs.Model.{answer_to, after, life_after, life_of, says_after}
-use Rattle.ntp_service_run.specs.Headline.{StandsFor, HasCause, TellsOne, Tells, is_struck, kept, told_to}
-use Rattle.ntp_service_run.proofs.Histories.{own-append, life_after-append, other-address}
+use Rattle.ntp_service_run.specs.Model.{answer_to, after, life_after, life_of, says_after, FollowsModel}
+use Rattle.ntp_service_run.specs.Headline.{StandsFor, HasCause, TellsOne, Tells, is_struck, kept, happened_to}
+use Rattle.ntp_service_run.proofs.Histories.{events_of, own-append, life_after-append, other-address}
 
 module _ {A : Type 0} where
-  -- ---- some events and then others
-  says_after-append : (life : Life) (xs ys : List (Event A))
-      → says_after life (xs ++ ys) ≡ says_after life xs ++ says_after (life_after life xs) ys
-  says_after-append life [] ys = refl
-  says_after-append life (x ∷ xs) ys = ap (λ os. answer_to life x ∷ os) (says_after-append (after life x) xs ys)
-
-  zip-append : (xs ys : List (Event A)) (os ps : List Outcome) → length os ≡ length xs → zip (xs ++ ys) (os ++ ps) ≡ zip xs os ++ zip ys ps
-  zip-append [] ys [] ps e = refl
-  zip-append [] ys (o ∷ os) ps e = absurd (omega arith)
-  zip-append (x ∷ xs) ys [] ps e = absurd (omega arith)
-  zip-append (x ∷ xs) ys (o ∷ os) ps e = ap (λ l. (x, o) ∷ l) (zip-append xs ys os ps (omega arith))
-
+  -- ---- what happened, and then more
   kept-append : (xs ys : List (Event A × Outcome)) → kept (xs ++ ys) ≡ kept xs ++ kept ys
-  kept-append xs ys = ap (map (λ p. p.0)) (filter-append (λ p. not (is_struck p.1)) xs ys)
+  kept-append xs ys = ap events_of (filter-append (λ p. not (is_struck p.1)) xs ys)
       ∙ map-append (λ p. p.0) (filter (λ p. not (is_struck p.1)) xs) (filter (λ p. not (is_struck p.1)) ys)
 
-  told-append : (a : Address) (xs ys : List (Event A × Outcome)) → told_to a (xs ++ ys) ≡ told_to a xs ++ told_to a ys
-  told-append a xs ys = ap (map (λ p. p.1)) (filter-append (λ p. not (is_struck p.1) && names a p.0) xs ys)
-      ∙ map-append (λ p. p.1) (filter (λ p. not (is_struck p.1) && names a p.0) xs) (filter (λ p. not (is_struck p.1) && names a p.0) ys)
+  -- of the events that are kept, an address's own are those that happened to it
+  own-kept : (a : Address) (xs : List (Event A × Outcome)) → own a (kept xs) ≡ events_of (happened_to a xs)
+  own-kept a [] = refl
+  own-kept a (x ∷ xs) = grind (arith, own-kept a xs)
+
+  FollowsModel-append : (life : Life) (xs ys : List (Event A × Outcome)) → FollowsModel life xs
+      → FollowsModel (life_after life (events_of xs)) ys → FollowsModel life (xs ++ ys)
+  FollowsModel-append life [] ys first others = others
+  FollowsModel-append life (x ∷ xs) ys first others =
+      let here : x.1 ≡ answer_to life x.0 = cc in
+      let rest : FollowsModel (after life x.0) xs = cc in
+      ap₂ (λ o os. o ∷ os) here (FollowsModel-append (after life x.0) xs ys rest others)
+
+  -- events and outcomes, and one more of each
+  pub zip-push : (events : List (Event A)) (outcomes : List Outcome) (e : Event A) (o : Outcome) → length outcomes ≡ length events
+      → zip (events ++ e ∷ []) (outcomes ++ o ∷ []) ≡ zip events outcomes ++ (e, o) ∷ []
+  zip-push [] [] e o each = refl
+  zip-push [] (p ∷ outcomes) e o each = absurd (omega arith)
+  zip-push (x ∷ events) [] e o each = absurd (omega arith)
+  zip-push (x ∷ events) (p ∷ outcomes) e o each = ap (λ l. (x, p) ∷ l) (zip-push events outcomes e o (omega arith))
 
   -- ---- each command that is struck out has its cause, after those events before it that are not
   abbrev AreCaused : List (Event A) → List (Event A × Outcome) → Type 0
@@ -85,7 +91,7 @@ module _ {A : Type 0} where
         chosen true h = subst (λ l. StandsFor s l) (sym (append-nil history)) h
         chosen false h = h
 
-    one-told : (a : Address) → told_to a ((e, o) ∷ []) ≡ says_after (life_of (own a history)) (own a (kept ((e, o) ∷ [])))
+    one-told : (a : Address) → FollowsModel (life_of (own a history)) (happened_to a ((e, o) ∷ []))
     one-told a = ⊎_elim
         (λ same.
         let named : names a e ≡ true = ap (λ x. address_eq a x) (sym same) ∙ address_eq_equiv.refl a in
@@ -96,57 +102,47 @@ module _ {A : Type 0} where
         (same_or_other_address a (address_of e))
 
   -- ---- what a service tells
-  pub Tells-nil : (history : List (Event A)) (s : Registry) → StandsFor s history → Tells history [] [] s
+  pub Tells-nil : (history : List (Event A)) (s : Registry) → StandsFor s history → Tells history [] s
   Tells-nil history s stands = record {
-    each = refl;
     told = λ a. refl;
     causes = λ before behind e o is. absurd (nothing-there before behind (e, o) is);
     stands = subst (λ l. StandsFor s l) (sym (append-nil history)) stands;
   }
 
-  pub Tells-one : (history : List (Event A)) (e : Event A) (o : Outcome) (r s : Registry) → StandsFor r history
-      → TellsOne history e o s → Tells history (e ∷ []) (o ∷ []) s
-  Tells-one history e o r s stands one = record {
-    each = refl;
-    told = one-told history e o s one;
-    causes = AreCaused-one history e o one.cause;
-    stands = one-stands history e o s one;
-  }
+  pub Tells-one : (history : List (Event A)) (e : Event A) (o : Outcome) (s : Registry) → TellsOne history e o s
+      → Tells history ((e, o) ∷ []) s
+  Tells-one history e o s one =
+      record { told = one-told history e o s one; causes = AreCaused-one history e o one.cause; stands = one-stands history e o s one }
 
-  pub Tells-append : (history xs ys : List (Event A)) (os ps : List Outcome) (r s : Registry) → Tells history xs os r
-      → (StandsFor r (history ++ kept (zip xs os)) → Tells (history ++ kept (zip xs os)) ys ps s) → Tells history (xs ++ ys) (os ++ ps) s
-  Tells-append history xs ys os ps r s t more =
-      let first = zip xs os in
-      let others = zip ys ps in
+  pub Tells-append : (history : List (Event A)) (xs ys : List (Event A × Outcome)) (r s : Registry) → Tells history xs r
+      → (StandsFor r (history ++ kept xs) → Tells (history ++ kept xs) ys s) → Tells history (xs ++ ys) s
+  Tells-append history xs ys r s t more =
       let u = more t.stands in
-      let all : zip (xs ++ ys) (os ++ ps) ≡ first ++ others = zip-append xs ys os ps t.each in
-      let left : kept (zip (xs ++ ys) (os ++ ps)) ≡ kept first ++ kept others = ap kept all ∙ kept-append first others in
       record {
-        each = omega (arith, t.each, u.each, length-append xs ys, length-append os ps);
         told = λ a.
             let life = life_of (own a history) in
-            ap (told_to a) all ∙ told-append a first others
-            ∙ ap (λ l. l ++ told_to a others) (t.told a)
-            ∙ ap (λ l. says_after life (own a (kept first)) ++ l) (u.told a)
-            ∙ ap (λ l. says_after life (own a (kept first)) ++ says_after l (own a (kept others)))
-            (ap life_of (own-append a history (kept first)) ∙ life_after-append None (own a history) (own a (kept first)))
-            ∙ sym (says_after-append life (own a (kept first)) (own a (kept others)))
-            ∙ ap (says_after life) (sym (own-append a (kept first) (kept others)) ∙ ap (own a) (sym left));
-        causes = subst (AreCaused history) (sym all) (AreCaused-append history first others t.causes u.causes);
-        stands = subst (λ l. StandsFor s l) (append_assoc history (kept first) (kept others) ∙ ap (λ l. history ++ l) (sym left)) u.stands;
+            let events = events_of (happened_to a xs) in
+            let on : life_of (own a (history ++ kept xs)) ≡ life_after life events =
+            ap life_of (own-append a history (kept xs) ∙ ap (λ l. own a history ++ l) (own-kept a xs))
+            ∙ life_after-append None (own a history) events in
+            subst (FollowsModel life) (sym (filter-append (λ p. not (is_struck p.1) && names a p.0) xs ys))
+            (FollowsModel-append life (happened_to a xs) (happened_to a ys) (t.told a)
+            (subst (λ l. FollowsModel l (happened_to a ys)) on (u.told a)));
+        causes = AreCaused-append history xs ys t.causes u.causes;
+        stands = subst (λ l. StandsFor s l) (append_assoc history (kept xs) (kept ys) ∙ ap (λ l. history ++ l) (sym (kept-append xs ys))) u.stands;
       }
 
   -- one event more
-  pub Tells-push : (history events : List (Event A)) (outcomes : List Outcome) (r s : Registry) (e : Event A) (o : Outcome)
-      → Tells history events outcomes r
-      → (StandsFor r (history ++ kept (zip events outcomes)) → TellsOne (history ++ kept (zip events outcomes)) e o s)
-      → Tells history (events ++ e ∷ []) (outcomes ++ o ∷ []) s
-  Tells-push history events outcomes r s e o t step = Tells-append history events (e ∷ []) outcomes (o ∷ []) r s t
-      (λ stands. Tells-one (history ++ kept (zip events outcomes)) e o r s stands (step stands))
+  pub Tells-push : (history : List (Event A)) (happened : List (Event A × Outcome)) (r s : Registry) (e : Event A) (o : Outcome)
+      → Tells history happened r → (StandsFor r (history ++ kept happened) → TellsOne (history ++ kept happened) e o s)
+      → Tells history (happened ++ (e, o) ∷ []) s
+  Tells-push history happened r s e o t step = Tells-append history happened ((e, o) ∷ []) r s t
+      (λ stands. Tells-one (history ++ kept happened) e o s (step stands))
 
   -- two services that were told the same of an address tell it the same
-  pub alike : (a : Address) (h h' xs ys : List (Event A)) (os ps : List Outcome) (r s : Registry) → Tells h xs os r → Tells h' ys ps s
-      → own a h ≡ own a h' → own a (kept (zip xs os)) ≡ own a (kept (zip ys ps)) → told_to a (zip xs os) ≡ told_to a (zip ys ps)
-  alike a h h' xs ys os ps r s t u before now =
-      t.told a ∙ ap (λ past. says_after (life_of past) (own a (kept (zip xs os)))) before
+  pub alike : (a : Address) (h h' : List (Event A)) (xs ys : List (Event A × Outcome)) (r s : Registry) → Tells h xs r → Tells h' ys s
+      → own a h ≡ own a h' → events_of (happened_to a xs) ≡ events_of (happened_to a ys)
+      → map (λ p. p.1) (happened_to a xs) ≡ map (λ p. p.1) (happened_to a ys)
+  alike a h h' xs ys r s t u before now =
+      t.told a ∙ ap (λ past. says_after (life_of past) (events_of (happened_to a xs))) before
       ∙ ap (says_after (life_of (own a h'))) now ∙ sym (u.told a)

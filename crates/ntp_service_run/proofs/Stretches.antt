@@ -1,5 +1,5 @@
 -- Stretches of events with their outcomes, and how many replies they hold.
-use Rattle.std.proofs.Common.{◌≡◌, ◌≢◌, ℕ, suc, ◌+◌, ◌≤◌, ◌==◌, ◌&&◌, nat_lt, cond, Bool, false, List, [], ◌∷◌, ◌++◌, map, zip, filter_map, All, AllPairs, refl, sym, ap, ap₂, ◌∙◌, subst, append_assoc, arith}
+use Rattle.std.proofs.Common.{◌≡◌, ◌≢◌, ℕ, suc, ◌+◌, ◌≤◌, ◌==◌, ◌&&◌, nat_lt, cond, Bool, false, List, [], ◌∷◌, ◌++◌, filter_map, All, AllPairs, refl, ap, ap₂, ◌∙◌, subst, append_assoc, arith}
 use Rattle.std.proofs.lemmas.Bool.Decides.{nat_tests}
 use Rattle.std.proofs.lemmas.List.Elements.{All-head, All-tail}
 use Rattle.std.proofs.lemmas.List.Sums.{sum_by-cons}
@@ -14,9 +14,10 @@ use Rattle.ntp_events.specs.declared.event.Event.TheVariants as event
 use Rattle.ntp_events.specs.declared.outcome.Outcome.{Outcome}
 use Rattle.ntp_events.specs.declared.outcome.Outcome.TheVariants as outcome
 use Rattle.ntp_service_run.specs.Events.{own}
-use Rattle.ntp_service_run.specs.Model.{answer_to, after, life_after, life_of, says_after}
-use Rattle.ntp_service_run.specs.Headline.{Tells, kept}
+use Rattle.ntp_service_run.specs.Model.{answer_to, after, life_after, life_of, FollowsModel}
+use Rattle.ntp_service_run.specs.Headline.{Tells, happened_to}
 use Rattle.ntp_service_run.specs.Bound.{is_query_reply, is_refusal_reply, receipt_window, is_received_in, IsUnbroken, replies_in, most_query_replies, HasFewReplies, RepliesAreFew, TellsFew}
+use Rattle.ntp_service_run.proofs.Histories.{events_of}
 use Rattle.ntp_service_run.proofs.Bounds.{queries_left, refusals_left, one_if, Spends, spends-datagram, same-counts, same-most, left-at-most}
 
 -- ---- lists
@@ -38,13 +39,6 @@ room-more : (v w u : ℕ) (replied : Bool) (rest left next most : ℕ) → v ≤
 room-more v w u replied rest left next most from spends at_most few = grind (arith, nat_tests)
 
 module _ {A : Type 0} where
-  -- events with their answers, from a life on
-  abbrev answered : Life → List (Event A) → List (Event A × Outcome)
-  answered life events = zip events (says_after life events)
-
-  abbrev events_in : List (Event A × Outcome) → List (Event A)
-  events_in stretch = map (λ p. p.0) stretch
-
   abbrev windows : List (Event A × Outcome) → List ℕ
   windows stretch = filter_map (λ p. receipt_window p.0) stretch
 
@@ -73,17 +67,18 @@ module _ {A : Type 0} where
     pub queries : replies_in w is_query_reply stretch ≤ room v w (queries_left life w) (most_query_replies life)
     pub refusals : replies_in w is_refusal_reply stretch ≤ room v w (refusals_left life w) refusals_sent
 
-  in-room : (life : Life) (v w : ℕ) (events : List (Event A)) → IsUnbroken (answered life events)
-      → All (λ u. v ≤ u) (windows (answered life events)) → HasRoom life v w (answered life events)
-  in-room life v w [] s from = record { queries = omega arith; refusals = omega arith }
-  in-room life v w (event.Datagram address receipt transmit reference octets ∷ events) s from =
+  in-room : (life : Life) (v w : ℕ) (stretch : List (Event A × Outcome)) → FollowsModel life stretch → IsUnbroken stretch
+      → All (λ u. v ≤ u) (windows stretch) → HasRoom life v w stretch
+  in-room life v w [] follows s from = record { queries = omega arith; refusals = omega arith }
+  in-room life v w ((event.Datagram address receipt transmit reference octets, o) ∷ rest) follows s from =
       let e : Event A = event.Datagram address receipt transmit reference octets in
-      let o = answer_to life e in
+      let here : answer_to life e ≡ o = cc in
+      let later : FollowsModel (after life e) rest = cc in
       let u = window_of receipt in
-      let rest = answered (after life e) events in
-      let next = in-room (after life e) u w events (stretch-tail e o rest s) (pairs-head (λ x y. x ≤ y) u (windows rest) s.never_fall) in
+      let next = in-room (after life e) u w rest later (stretch-tail e o rest s) (pairs-head (λ x y. x ≤ y) u (windows rest) s.never_fall) in
       let spends : u ≡ w → Spends life (after life e) w o =
-      λ same. subst (λ x. Spends life (after life e) x o) same (spends-datagram life (occasion_of receipt transmit reference) octets) in
+      λ same. subst (λ x. Spends life (after life e) x o) same (subst (Spends life (after life e) u) here
+      (spends-datagram life (occasion_of receipt transmit reference) octets)) in
       let reached : v ≤ u = All-head (λ x. v ≤ x) u (windows rest) from in
       record {
         queries = rw (replies-cons w is_query_reply e o rest) (room-more v w u (is_query_reply o) _ _ (queries_left (after life e) w) _
@@ -92,58 +87,46 @@ module _ {A : Type 0} where
         refusals = rw (replies-cons w is_refusal_reply e o rest) (room-more v w u (is_refusal_reply o) _ _ (refusals_left (after life e) w) _
             reached (λ same. (spends same).refusals) (omega arith) next.refusals);
       }
-  in-room life v w (e ∷ events) s from =
-      let o = answer_to life e in
-      let rest = answered (after life e) events in
-      let next = in-room (after life e) v w events (stretch-tail e o rest s) from in
-      let same = same-counts w life e refl (All-head (λ p. p.1 ≢ outcome.Done) (e, o) rest s.none_done) in
+  in-room life v w ((e, o) ∷ rest) follows s from =
+      let here : o ≡ answer_to life e = cc in
+      let later : FollowsModel (after life e) rest = cc in
+      let next = in-room (after life e) v w rest later (stretch-tail e o rest s) from in
+      let undone = subst (λ x. x ≢ outcome.Done) here (All-head (λ p. p.1 ≢ outcome.Done) (e, o) rest s.none_done) in
+      let same = same-counts w life e refl undone in
       record {
         queries = omega (arith, next.queries, ap (λ n. room v w n.0 n.2) same, replies-cons w is_query_reply e o rest);
         refusals = omega (arith, next.refusals, ap (λ n. room v w n.1 refusals_sent) same, replies-cons w is_refusal_reply e o rest);
       }
 
-  few : (life : Life) (w : ℕ) (events : List (Event A)) → IsUnbroken (answered life events) → HasFewReplies life w (answered life events)
-  few life w events s =
-      let r = in-room life 0 w events s (λ i u within. omega arith) in
+  few : (life : Life) (w : ℕ) (stretch : List (Event A × Outcome)) → FollowsModel life stretch → IsUnbroken stretch
+      → HasFewReplies life w stretch
+  few life w stretch follows s =
+      let r = in-room life 0 w stretch follows s (λ i u within. omega arith) in
       record { queries = grind (arith, nat_tests, r.queries, left-at-most w life); refusals = grind (arith, nat_tests, r.refusals) }
 
   -- ---- a stretch among others
-  events-answered : (life : Life) (events : List (Event A)) → events_in (answered life events) ≡ events
-  events-answered life [] = refl
-  events-answered life (e ∷ events) = ap (λ l. e ∷ l) (events-answered (after life e) events)
+  -- what stands behind others follows the model from the life that they leave
+  follows-behind : (life : Life) (before rest : List (Event A × Outcome)) → FollowsModel life (before ++ rest)
+      → FollowsModel (life_after life (events_of before)) rest
+  follows-behind life [] rest follows = follows
+  follows-behind life (p ∷ before) rest follows =
+      let later : FollowsModel (after life p.0) (before ++ rest) = cc in follows-behind (after life p.0) before rest later
 
-  -- what stands behind others is answered in the life that they leave
-  answered-behind : (life : Life) (events : List (Event A)) (before rest : List (Event A × Outcome))
-      → answered life events ≡ before ++ rest → rest ≡ answered (life_after life (events_in before)) (events_in rest)
-  answered-behind life events [] rest is = sym is ∙ ap (answered life) (sym (events-answered life events) ∙ ap events_in is)
-  answered-behind life [] (p ∷ before) rest is = absurd cc
-  answered-behind life (e ∷ events) (p ∷ before) rest is =
-      let first : (e, answer_to life e) ≡ p = cc in
-      let others : answered (after life e) events ≡ before ++ rest = cc in
-      answered-behind (after life e) events before rest others
-      ∙ ap (λ x. answered (life_after (after life x) (events_in before)) (events_in rest)) (ap (λ q. q.0) first)
-
-  -- what stands before others is answered without them
-  answered-before : (life : Life) (stretch behind : List (Event A × Outcome))
-      → stretch ++ behind ≡ answered life (events_in (stretch ++ behind)) → stretch ≡ answered life (events_in stretch)
-  answered-before life [] behind is = refl
-  answered-before life (p ∷ stretch) behind is =
-      let first : p ≡ (p.0, answer_to life p.0) = cc in
-      let others : stretch ++ behind ≡ answered (after life p.0) (events_in (stretch ++ behind)) = cc in
-      ap₂ (λ q qs. q ∷ qs) first (answered-before (after life p.0) stretch behind others)
+  -- what stands before others follows it without them
+  follows-before : (life : Life) (stretch behind : List (Event A × Outcome)) → FollowsModel life (stretch ++ behind)
+      → FollowsModel life stretch
+  follows-before life [] behind follows = refl
+  follows-before life (p ∷ stretch) behind follows =
+      let here : p.1 ≡ answer_to life p.0 = cc in
+      let later : FollowsModel (after life p.0) (stretch ++ behind) = cc in
+      ap₂ (λ o os. o ∷ os) here (follows-before (after life p.0) stretch behind later)
 
   -- ---- the law, and what a service tells
-  pub few-replies : (life : Life) (events : List (Event A)) → RepliesAreFew life events (says_after life events)
-  few-replies life events w before stretch behind is s =
-      let begun = life_after life (events_in before) in
-      let mine : stretch ≡ answered begun (events_in stretch) = answered-before begun stretch behind
-      (answered-behind life events before (stretch ++ behind) (is ∙ append_assoc before stretch behind)) in
-      subst (λ l. HasFewReplies begun w l) (sym mine) (few begun w (events_in stretch) (subst (λ l. IsUnbroken l) mine s))
+  pub few-replies : (life : Life) (happened : List (Event A × Outcome)) → FollowsModel life happened → RepliesAreFew life happened
+  few-replies life happened follows w before stretch behind is s =
+      let mine = follows-behind life before (stretch ++ behind) (subst (FollowsModel life) (is ∙ append_assoc before stretch behind) follows) in
+      let begun = life_after life (events_of before) in few begun w stretch (follows-before begun stretch behind mine) s
 
-  pub tells-few : (history events : List (Event A)) (outcomes : List Outcome) (s : Registry) → Tells history events outcomes s
-      → TellsFew history events outcomes
-  tells-few history events outcomes s t = λ a.
-      let mine = own a (kept (zip events outcomes)) in
-      let life = life_of (own a history) in
-      subst (λ answers. RepliesAreFew life mine answers) (sym (t.told a))
-      (few-replies life mine)
+  pub tells-few : (history : List (Event A)) (happened : List (Event A × Outcome)) (s : Registry) → Tells history happened s
+      → TellsFew history happened
+  tells-few history happened s t = λ a. few-replies (life_of (own a history)) (happened_to a happened) (t.told a)

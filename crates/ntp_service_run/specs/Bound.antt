@@ -1,5 +1,5 @@
 -- How many replies an address gets in one window.
-use Rattle.std.specs.Prelude.{◌≡◌, ◌≢◌, ℕ, ◌+◌, ◌≤◌, ◌==◌, ◌&&◌, Bool, true, false, Option, Some, None, List, ◌++◌, map, zip, All, AllPairs, filter_map, count_by}
+use Rattle.std.specs.Prelude.{◌≡◌, ◌≢◌, ℕ, ◌+◌, ◌≤◌, ◌==◌, ◌&&◌, Bool, true, false, Option, Some, None, List, ◌++◌, map, All, AllPairs, filter_map, count_by}
 use Rattle.std.specs.Option.{option_map_or}
 use Rattle.ntp_time.specs.Moment.{window_of}
 use Rattle.ntp_register.specs.declared.address.Address.{Address}
@@ -12,7 +12,7 @@ use Rattle.ntp_events.specs.declared.outcome.Outcome.{Outcome}
 use Rattle.ntp_events.specs.declared.outcome.Outcome.TheVariants as outcome
 use Rattle.ntp_service_run.specs.Events.{own}
 use Rattle.ntp_service_run.specs.Model.{life_after, life_of}
-use Rattle.ntp_service_run.specs.Headline.{kept, told_to}
+use Rattle.ntp_service_run.specs.Headline.{happened_to}
 
 -- whether an outcome is a reply to a signed query: the time, or RATE (profile)
 abbrev pub is_query_reply : Outcome → Bool
@@ -54,14 +54,12 @@ pub record HasFewReplies {A : Type 0} (life : Life) (w : ℕ) (stretch : List (E
   pub queries : replies_in w is_query_reply stretch ≤ most_query_replies life
   pub refusals : replies_in w is_refusal_reply stretch ≤ refusals_sent
 
--- at events with these outcomes, from a life on, replies are few: in each unbroken stretch of them and in each window, by the life
--- in which the stretch begins, that is, the one that the events before it leave (profile)
-abbrev pub RepliesAreFew : {A : Type 0} → Life → List (Event A) → List Outcome → Type 0
-RepliesAreFew {A} life events outcomes =
-    (w : ℕ) (before stretch behind : List (Event A × Outcome)) → zip events outcomes ≡ before ++ stretch ++ behind
+-- of what happened, from a life on, replies are few: in each unbroken stretch of it and in each window, by the life in which the stretch
+-- begins, that is, the one that the events before it leave (profile)
+abbrev pub RepliesAreFew : {A : Type 0} → Life → List (Event A × Outcome) → Type 0
+RepliesAreFew {A} life happened = (w : ℕ) (before stretch behind : List (Event A × Outcome)) → happened ≡ before ++ stretch ++ behind
     → IsUnbroken stretch → HasFewReplies (life_after life (map (λ p. p.0) before)) w stretch
 
--- to each address replies are few: at its own events, of those with these outcomes that are not struck out, after a history (profile)
-abbrev pub TellsFew : {A : Type 0} → List (Event A) → List (Event A) → List Outcome → Type 0
-TellsFew history events outcomes = (address : Address)
-    → RepliesAreFew (life_of (own address history)) (own address (kept (zip events outcomes))) (told_to address (zip events outcomes))
+-- to each address replies are few, after a history (profile)
+abbrev pub TellsFew : {A : Type 0} → List (Event A) → List (Event A × Outcome) → Type 0
+TellsFew history happened = (address : Address) → RepliesAreFew (life_of (own address history)) (happened_to address happened)

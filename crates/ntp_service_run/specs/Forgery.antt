@@ -1,5 +1,5 @@
 -- What others forge in a customer's name, and what the customer is told without it.
-use Rattle.std.specs.Prelude.{◌≡◌, Bool, true, false, None, option_map, List, [], map, filter, zip, scan}
+use Rattle.std.specs.Prelude.{Bool, true, false, None, option_map, List, [], map, filter, zip, scan}
 use Rattle.std.specs.Option.{option_map_or}
 use Rattle.ntp_register.specs.declared.address.Address.{Address}
 use Rattle.ntp_customer.specs.Past.{Past}
@@ -9,8 +9,8 @@ use Rattle.ntp_events.specs.declared.event.Event.{Event}
 use Rattle.ntp_events.specs.declared.event.Event.TheVariants as event
 use Rattle.ntp_events.specs.declared.outcome.Outcome.{Outcome}
 use Rattle.ntp_service_run.specs.Events.{own}
-use Rattle.ntp_service_run.specs.Model.{after, life_of, says_after}
-use Rattle.ntp_service_run.specs.Headline.{kept, told_to}
+use Rattle.ntp_service_run.specs.Model.{after, life_of, FollowsModel}
+use Rattle.ntp_service_run.specs.Headline.{happened_to}
 
 -- whether a datagram of a kind is a signed query: its MAC is under one of the customer's keys (profile)
 abbrev pub is_signed_query : Kind → Bool
@@ -36,10 +36,9 @@ genuine events = at_genuine None events events
 abbrev pub without_refusals : Life → Life
 without_refusals life = option_map (λ (past : Past). record past { refusals = [] }) life
 
--- each address is told at its genuine events, of those that are not struck out, what the model of one customer gives to its genuine
--- events alone (profile)
-abbrev pub TellsWithoutForgeries : {A : Type 0} → List (Event A) → List (Event A) → List Outcome → Type 0
-TellsWithoutForgeries history events outcomes = (address : Address)
+-- what happened to each address at its genuine events follows the model of one customer, by the address's genuine events alone (profile)
+abbrev pub TellsWithoutForgeries : {A : Type 0} → List (Event A) → List (Event A × Outcome) → Type 0
+TellsWithoutForgeries history happened = (address : Address)
     → let past = own address history in
-    let now = own address (kept (zip events outcomes)) in
-    at_genuine (life_of past) now (told_to address (zip events outcomes)) ≡ says_after (life_of (genuine past)) (at_genuine (life_of past) now now)
+    let now = happened_to address happened in
+    FollowsModel (life_of (genuine past)) (at_genuine (life_of past) (map (λ p. p.0) now) now)

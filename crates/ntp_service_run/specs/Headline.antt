@@ -1,5 +1,5 @@
 -- What a service is, and what it tells each address.
-use Rattle.std.specs.Prelude.{◌≡◌, ◌≢◌, ◌↔◌, ℕ, Contains, Option, Some, None, option_map, Bool, false, not, ◌&&◌, if◌then◌else◌, Result, Ok, Err, List, [], ◌∷◌, ◌++◌, map, filter, zip, length}
+use Rattle.std.specs.Prelude.{◌≡◌, ◌≢◌, ◌↔◌, ℕ, Contains, Option, Some, None, option_map, Bool, false, not, ◌&&◌, if◌then◌else◌, Result, Ok, Err, List, [], ◌∷◌, ◌++◌, map, filter}
 use Rattle.std.specs.Option.{option_map_or}
 use Rattle.std.specs.Int.NonZero.{non_zero_u16_get}
 use Rattle.ntp_register.specs.declared.address.Address.{Address}
@@ -16,7 +16,7 @@ use Rattle.ntp_events.specs.declared.event.Event.TheVariants as event
 use Rattle.ntp_events.specs.declared.outcome.Outcome.{Outcome}
 use Rattle.ntp_events.specs.declared.outcome.Outcome.TheVariants as outcome
 use Rattle.ntp_service_run.specs.Events.{address_of, names, own}
-use Rattle.ntp_service_run.specs.Model.{life_of, says_after, answer_to}
+use Rattle.ntp_service_run.specs.Model.{life_of, answer_to, FollowsModel}
 
 -- a service stands for a history: of each address it has what is kept of the life that the address's own events leave, and an
 -- address holds a number exactly where it is enrolled with it (profile)
@@ -39,9 +39,9 @@ command_outcome (Err refusal) = outcome.Refused refusal
 abbrev pub kept : {A : Type 0} → List (Event A × Outcome) → List (Event A)
 kept happened = map (λ p. p.0) (filter (λ p. not (is_struck p.1)) happened)
 
--- what an address was told: the outcomes of the events that name it, without those that are struck out (profile)
-abbrev pub told_to : {A : Type 0} → Address → List (Event A × Outcome) → List Outcome
-told_to address happened = map (λ p. p.1) (filter (λ p. not (is_struck p.1) && names address p.0) happened)
+-- what happened to an address: the events that name it with their outcomes, without those that are struck out (profile)
+abbrev pub happened_to : {A : Type 0} → Address → List (Event A × Outcome) → List (Event A × Outcome)
+happened_to address happened = filter (λ p. not (is_struck p.1) && names address p.0) happened
 
 -- after a history, an address is enrolled with a number (profile)
 abbrev pub IsEnrolledWith : {A : Type 0} → List (Event A) → Address → ℕ → Type 0
@@ -76,13 +76,10 @@ pub record TellsOne {A : Type 0} (history : List (Event A)) (e : Event A) (o : O
   pub cause : HasCause history e o
   pub stands : StandsFor service (if is_struck o then history else history ++ e ∷ [])
 
--- the headline: to each address the outcomes of its own events are those that the model of one customer gives to its own
--- events alone, once what is struck out is left out of the list; what is struck out has its cause, after the events before it that
--- are not; and the service then stands for what it stood for, followed by the events that are left (profile)
-pub record Tells {A : Type 0} (history events : List (Event A)) (outcomes : List Outcome) (service : Registry) : Type 0 where
-  pub each : length outcomes ≡ length events
-  pub told : (address : Address) → told_to address (zip events outcomes)
-      ≡ says_after (life_of (own address history)) (own address (kept (zip events outcomes)))
-  pub causes : (before behind : List (Event A × Outcome)) (e : Event A) (o : Outcome) → zip events outcomes ≡ before ++ (e, o) ∷ behind
+-- the headline: what happened after a history to each address follows the model of one customer, by the address's own events alone; what
+-- is struck out has its cause, after the kept events before it; and the service then stands for the history and the kept events (profile)
+pub record Tells {A : Type 0} (history : List (Event A)) (happened : List (Event A × Outcome)) (service : Registry) : Type 0 where
+  pub told : (address : Address) → FollowsModel (life_of (own address history)) (happened_to address happened)
+  pub causes : (before behind : List (Event A × Outcome)) (e : Event A) (o : Outcome) → happened ≡ before ++ (e, o) ∷ behind
       → HasCause (history ++ kept before) e o
-  pub stands : StandsFor service (history ++ kept (zip events outcomes))
+  pub stands : StandsFor service (history ++ kept happened)

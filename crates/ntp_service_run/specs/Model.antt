@@ -1,5 +1,5 @@
 -- The model of one customer: what the events of one address are answered. There is no table and no neighbour in it.
-use Rattle.std.specs.Prelude.{Bool, false, List, [], fold, scan, if◌then◌else◌, Option, Some, None, is_some, option_map}
+use Rattle.std.specs.Prelude.{◌≡◌, Bool, false, List, [], map, fold, scan, if◌then◌else◌, Option, Some, None, is_some, option_map}
 use Rattle.std.specs.Option.{option_map_or}
 use Rattle.std.specs.Int.NonZero.{non_zero_u16_get}
 use Rattle.std.specs.declared.num.NonZeroU16.{NonZeroU16}
@@ -67,3 +67,7 @@ life_of events = life_after None events
 -- what events are answered, from a life on: each in the life that the events before it left (profile)
 abbrev pub says_after : {A : Type 0} → Life → List (Event A) → List Outcome
 says_after life events = scan after answer_to life events
+
+-- what happened follows the model, from a life on: its outcomes are what its events are answered (profile)
+abbrev pub FollowsModel : {A : Type 0} → Life → List (Event A × Outcome) → Type 0
+FollowsModel life happened = map (λ p. p.1) happened ≡ says_after life (map (λ p. p.0) happened)

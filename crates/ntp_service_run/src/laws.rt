@@ -1,6 +1,6 @@
 //! What holds of the definitions, whatever code meets them. Each function is a law: a call of it does
 //! nothing.
-ghost use Rattle.std.specs.Prelude.{◌≡◌, ℕ, ◌<◌, None, option_map, IfSome, List, zip};
+ghost use Rattle.std.specs.Prelude.{◌≡◌, ℕ, ◌<◌, None, option_map, IfSome, List, map};
 ghost use Rattle.ntp_budget.specs.Tally.{most_counted};
 ghost use Rattle.ntp_packet.specs.Header.{HeaderFields};
 ghost use Rattle.ntp_slots.specs.Exchanges.{AreSaved};
@@ -15,8 +15,8 @@ ghost use Rattle.ntp_reply.specs.Exchanged.{matched};
 ghost use Rattle.ntp_events.specs.declared.event.Event.{Event};
 ghost use Rattle.ntp_events.specs.declared.outcome.Outcome.{Outcome};
 ghost use Rattle.ntp_service_run.specs.Events.{own};
-ghost use Rattle.ntp_service_run.specs.Model.{life_of, answer_to, after, says_after};
-ghost use Rattle.ntp_service_run.specs.Headline.{StandsFor, Tells, IsEnrolledWith, kept, told_to};
+ghost use Rattle.ntp_service_run.specs.Model.{life_of, answer_to, after, says_after, FollowsModel};
+ghost use Rattle.ntp_service_run.specs.Headline.{StandsFor, Tells, IsEnrolledWith, happened_to};
 ghost use Rattle.ntp_service_run.specs.Forgery.{at_genuine, genuine, without_refusals, TellsWithoutForgeries};
 ghost use Rattle.ntp_service_run.specs.Bound.{RepliesAreFew, TellsFew};
 
@@ -32,12 +32,12 @@ pub fn what_is_kept_of_a_life_tells_all<A: Allocator>()
 /// No neighbour is felt: where two services were told of an address the same before and the same now,
 /// whatever they were told of others, they give that address the same outcomes.
 pub fn no_neighbour_is_felt<A: Allocator>()
-    ensures { (address : Address) (history other_history events other_events : List (Event A)) (outcomes other_outcomes : List Outcome)
+    ensures { (address : Address) (history other_history : List (Event A)) (happened other_happened : List (Event A × Outcome))
         (service other_service : Registry)
-        → Tells history events outcomes service → Tells other_history other_events other_outcomes other_service
+        → Tells history happened service → Tells other_history other_happened other_service
         → own address history ≡ own address other_history
-        → own address (kept (zip events outcomes)) ≡ own address (kept (zip other_events other_outcomes))
-        → told_to address (zip events outcomes) ≡ told_to address (zip other_events other_outcomes) }
+        → map (λ p. p.0) (happened_to address happened) ≡ map (λ p. p.0) (happened_to address other_happened)
+        → map (λ p. p.1) (happened_to address happened) ≡ map (λ p. p.1) (happened_to address other_happened) }
 {}
 
 /// No two addresses are enrolled with one key number.
@@ -77,19 +77,19 @@ pub fn forged_datagrams_change_nothing<A: Allocator>()
 /// their receipt in that window. Where receipts fall back into a window after another, or a command is done, a new count may
 /// begin.
 pub fn replies_in_a_window_are_few<A: Allocator>()
-    ensures { (life : Life) (events : List (Event A)) → RepliesAreFew life events (says_after life events) }
+    ensures { (life : Life) (happened : List (Event A × Outcome)) → FollowsModel life happened → RepliesAreFew life happened }
 {}
 
 /// No forgery is felt: where a service told its events the outcomes that the headline says, as `Service::run` and the loop of a server do, each
 /// address was told at its genuine events what the model gives to these alone.
 pub fn no_forgery_is_felt<A: Allocator>()
-    ensures { (history events : List (Event A)) (outcomes : List Outcome) (service : Registry)
-        → Tells history events outcomes service → TellsWithoutForgeries history events outcomes }
+    ensures { (history : List (Event A)) (happened : List (Event A × Outcome)) (service : Registry)
+        → Tells history happened service → TellsWithoutForgeries history happened }
 {}
 
 /// Few replies are told: where a service told its events the outcomes that the headline says, as `Service::run` and the loop of a server do, the
 /// replies to each address in a window are few.
 pub fn few_replies_are_told<A: Allocator>()
-    ensures { (history events : List (Event A)) (outcomes : List Outcome) (service : Registry)
-        → Tells history events outcomes service → TellsFew history events outcomes }
+    ensures { (history : List (Event A)) (happened : List (Event A × Outcome)) (service : Registry)
+        → Tells history happened service → TellsFew history happened }
 {}

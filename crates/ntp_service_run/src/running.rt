@@ -1,11 +1,7 @@
 //! A service over a list of events, and what no neighbour can change.
-ghost use Rattle.std.specs.Prelude.{◌≡◌, List, IfOk, OnErr};
-ghost use Rattle.ntp_register.specs.Registry.{Registry};
-ghost use Rattle.ntp_register.specs.declared.address.Address.{Address};
+ghost use Rattle.std.specs.Prelude.{◌≡◌, List, zip, length, IfOk, OnErr};
 ghost use Rattle.ntp_events.specs.declared.event.Event.{Event};
-ghost use Rattle.ntp_events.specs.declared.outcome.Outcome.{Outcome};
-ghost use Rattle.ntp_service_run.specs.Events.{own};
-ghost use Rattle.ntp_service_run.specs.Headline.{StandsFor, Tells, kept, told_to};
+ghost use Rattle.ntp_service_run.specs.Headline.{StandsFor, Tells};
 ghost use Rattle.ntp_service_run.specs.Forgery.{TellsWithoutForgeries};
 ghost use Rattle.ntp_service_run.specs.Bound.{TellsFew};
 
@@ -32,12 +28,13 @@ impl<A: Allocator + Copy> Service<A> {
     /// with `DENY` or a crypto-NAK. A receipt that falls back into an earlier window, or a command that is done, may begin a
     /// new count. The receipts are the moments that were handed in, and of all addresses together this says nothing.
     pub fn run(&mut self, events: &[Event<A>]) -> Result<Vec<Outcome, A>, NoMemory>
+        ensures each { IfOk result (λ outcomes. length outcomes.items ≡ length events.now) }
         ensures tells { IfOk result (λ outcomes. (history : List (Event A)) → StandsFor self.old history
-            → Tells history events.now outcomes.items self.new) }
+            → Tells history (zip events.now outcomes.items) self.new) }
         ensures forgeries { IfOk result (λ outcomes. (history : List (Event A)) → StandsFor self.old history
-            → TellsWithoutForgeries history events.now outcomes.items) }
+            → TellsWithoutForgeries history (zip events.now outcomes.items)) }
         ensures bound { IfOk result (λ outcomes. (history : List (Event A)) → StandsFor self.old history
-            → TellsFew history events.now outcomes.items) }
+            → TellsFew history (zip events.now outcomes.items)) }
         ensures refused { OnErr result (self.new ≡ self.old) }
     {
         let Ok(mut outcomes) = Vec::with_capacity(self.allocator(), events.len()) else {

@@ -1,5 +1,5 @@
 -- What a turn comes to, once a datagram was received, or could not be.
-use Rattle.std.proofs.Common.{◌≡◌, ℕ, ◌≤◌, true, false, Option, None, Some, Ok, Err, List, [], ◌∷◌, length, get_or, take, drop, map, refl, sym, ap, ◌∙◌, subst, append-nil, length-take, arith}
+use Rattle.std.proofs.Common.{◌≡◌, ℕ, ◌≤◌, false, Option, None, Some, Ok, Err, List, [], ◌∷◌, length, get_or, take, drop, refl, sym, ap, ◌∙◌, subst, append-nil, length-take, arith}
 use Rattle.std.proofs.lemmas.List.{take_all}
 use Rattle.ntp_time.specs.declared.moment.Moment.{Moment}
 use Rattle.ntp_register.specs.Registry.{Registry}
@@ -16,7 +16,7 @@ use Rattle.ntp_service_run.proofs.Runs.{Tells-nil, Tells-one, Tells-append}
 use Rattle.ntp_service_serve.specs.declared.memory_port.Sent.{Sent}
 use Rattle.ntp_service_serve.specs.declared.port.PortFault.{PortFault}
 use Rattle.ntp_service_serve.specs.Port.{IncomingValue, Readings, TurnValue, no_turn, Told, Arrives, Begins, ReceiveTells, NowTells, later, received}
-use Rattle.ntp_service_serve.specs.Made.{Missed, Received, turn_of, departing, arrival_of, sending_of}
+use Rattle.ntp_service_serve.specs.Made.{Missed, Received, turn_of, arrival_of, sending_of}
 use Rattle.ntp_service_serve.specs.Serving.{Follows, TurnMakes}
 use Rattle.ntp_service_serve.specs.Sending.{turn_with, IsInTurn, SendingMakes}
 use Rattle.ntp_service_serve.proofs.OneTurn.{follows-one}
@@ -152,9 +152,8 @@ answered A reference x buffer transmit t v u f g h s r q a sending k count told 
       octets = ap (λ l. Some l) k.octets;
       port = p.port;
       failures = omega (arith, p.failures, count);
-      tells = λ history stands. Tells-append history (first ∷ []) (map (λ saved. event.Departed d.address saved (p.clock true 1)) (departing p.sends a))
-          (outcome.Datagram a ∷ []) _ r q
-          (Tells-one history first (outcome.Datagram a) s r stands
+      tells = λ history stands. Tells-append history ((first, outcome.Datagram a) ∷ []) _ r q
+          (Tells-one history first (outcome.Datagram a) r
           (subst (λ e. TellsOne history e (outcome.Datagram a) r) same (told history stands)))
           (λ on. p.tells _ on);
     }

@@ -14,7 +14,7 @@ use Rattle.ntp_service_run.proofs.Runs.{Tells-nil, Tells-append}
 use Rattle.ntp_service_serve.specs.declared.port.PortFault.{PortFault}
 use Rattle.ntp_service_serve.specs.declared.serving.Served.{Served}
 use Rattle.ntp_service_serve.specs.Port.{IncomingValue, Readings, Told}
-use Rattle.ntp_service_serve.specs.Made.{Made, Missed, Received, events_in, outcomes_in, sent_in, has_arrived, has_departed, is_failing, sending_of, turn_outcome}
+use Rattle.ntp_service_serve.specs.Made.{Made, Missed, Received, happened_in_turn, sent_in, has_arrived, has_departed, is_failing, sending_of, turn_outcome}
 use Rattle.ntp_service_serve.specs.Serving.{ServeMakes, TurnMakes}
 use Rattle.ntp_service_serve.specs.Sending.{counted, was_sent, was_noted}
 use Rattle.ntp_service_serve.proofs.ManyTurns.{sent_of, count_of, count-append, Follows-nil, Follows-append}
@@ -126,11 +126,9 @@ ServeMakes-turn A reference n t u v f g i h s r q c x buffer o p came k =
       departed = omega (arith, p.departed, one.departed, count-more has_departed p.made m);
       failures = omega (arith, p.failures, k.failures, came, count-more is_failing p.made m);
       tells = λ history stands.
-          subst (λ es. Tells history es (flat_map outcomes_in (p.made ++ m ∷ [])) q)
-          (ap (λ l. flat_map (events_in reference) p.made ++ l) (sym (append-nil (events_in reference m)))
-          ∙ sym (flat_map-append (events_in reference) p.made (m ∷ [])))
-          (subst (λ os. Tells history (flat_map (events_in reference) p.made ++ events_in reference m) os q)
-          (ap (λ l. flat_map outcomes_in p.made ++ l) (sym (append-nil (outcomes_in m))) ∙ sym (flat_map-append outcomes_in p.made (m ∷ [])))
-          (Tells-append history (flat_map (events_in reference) p.made) (events_in reference m) (flat_map outcomes_in p.made) (outcomes_in m) r q
-          (p.tells history stands) (λ on. k.tells _ on)));
+          subst (λ l. Tells history l q)
+          (ap (λ l. flat_map (happened_in_turn reference) p.made ++ l) (sym (append-nil (happened_in_turn reference m)))
+          ∙ sym (flat_map-append (happened_in_turn reference) p.made (m ∷ [])))
+          (Tells-append history (flat_map (happened_in_turn reference) p.made) (happened_in_turn reference m) r q
+          (p.tells history stands) (λ on. k.tells _ on));
     }

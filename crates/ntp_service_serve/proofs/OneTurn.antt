@@ -271,7 +271,7 @@ module _ (from : IncomingValue) (transmit : Moment) where
             port = q.3;
             failures = omega (arith, count);
             tells = λ history stands.
-                rw (departing-time a saved was) (Tells-one history (event.Departed from.address saved (q.0 true 1)) (departure_outcome noted) s r stands
+                rw (departing-time a saved was) (Tells-one history (event.Departed from.address saved (q.0 true 1)) (departure_outcome noted) r
                 (subst (λ m. TellsOne history (event.Departed from.address saved m) (departure_outcome noted) r) (sym q.2)
                 (subst (λ x. TellsOne history (event.Departed x saved moment) (departure_outcome noted) r) (sym e) (told history stands))));
           }

@@ -41,17 +41,13 @@ abbrev pub departing : Bool → Answer → List Stamp
 departing true (answer.Time reply saved) = saved ∷ []
 departing sends other = []
 
--- the events of a turn: its datagram, with the first reading of the clock; and where the answer was time and was sent, the departure,
--- with the second, once a send was tried (profile)
-abbrev pub events_in : {A : Type 0} → ReferenceState → Made → List (Event A)
-events_in reference (Missed clock sends) = []
-events_in reference (Received d clock sends a noted) = event.Datagram d.address d.receipt (clock false 0) reference (received d)
-    ∷ map (λ saved. event.Departed d.address saved (clock true 1)) (departing sends a)
-
--- their outcomes (profile)
-abbrev pub outcomes_in : Made → List Outcome
-outcomes_in (Missed clock sends) = []
-outcomes_in (Received d clock sends a noted) = outcome.Datagram a ∷ map (λ saved. departure_outcome noted) (departing sends a)
+-- what happened in a turn: its datagram, with the first reading of the clock; and where the answer was time and was sent, the
+-- departure, with the second, once a send was tried (profile)
+abbrev pub happened_in_turn : {A : Type 0} → ReferenceState → Made → List (Event A × Outcome)
+happened_in_turn reference (Missed clock sends) = []
+happened_in_turn reference (Received d clock sends a noted) =
+    (event.Datagram d.address d.receipt (clock false 0) reference (received d), outcome.Datagram a)
+    ∷ map (λ saved. (event.Departed d.address saved (clock true 1), departure_outcome noted)) (departing sends a)
 
 -- what a turn sends: the reply, if any, to where the datagram came from (profile)
 abbrev pub sent_in : Made → List Sent

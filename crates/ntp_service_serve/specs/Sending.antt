@@ -56,8 +56,7 @@ pub record SendingMakes (A : Type 0) (answer : Answer) (from : IncomingValue) (t
   pub port : Follows (Received from clock sends answer noted ∷ []) t u
   pub failures : g ≡ f + (if is_failing (Received from clock sends answer noted) then 1 else 0)
   pub tells : (history : List (Event A)) → StandsFor service history
-      → Tells history (map (λ saved. event.Departed from.address saved (clock true 1)) (departing sends answer))
-      (map (λ saved. departure_outcome noted) (departing sends answer)) after
+      → Tells history (map (λ saved. (event.Departed from.address saved (clock true 1), departure_outcome noted)) (departing sends answer)) after
 
 -- whether a reply was sent
 abbrev pub was_sent : Sending → Bool

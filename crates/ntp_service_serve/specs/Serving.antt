@@ -11,7 +11,7 @@ use Rattle.ntp_service_serve.specs.declared.port.PortFault.{PortFault}
 use Rattle.ntp_service_serve.specs.declared.serving.Served.{Served}
 use Rattle.ntp_service_serve.specs.Sequence.{firsts}
 use Rattle.ntp_service_serve.specs.Port.{no_turn, Told, received}
-use Rattle.ntp_service_serve.specs.Made.{Made, turn_of, events_in, outcomes_in, sent_in, has_arrived, has_departed, is_failing, arrival_of, turn_outcome}
+use Rattle.ntp_service_serve.specs.Made.{Made, turn_of, happened_in_turn, sent_in, has_arrived, has_departed, is_failing, arrival_of, turn_outcome}
 
 -- what a port that tells its turns told before these turns and tells afterwards: they were those of its list, while it lasted, and what
 -- they sent was sent (profile)
@@ -25,7 +25,7 @@ abbrev pub Follows : List Made → Option Told → Option Told → Type 0
 Follows made t u = IfSome t (λ old. IsSomeAnd u (λ new. FollowsList made old new))
 
 -- a server made so many turns, at any port, whose failures were `f` before and are `g`: whatever history the service stood for, it tells
--- the turns' events these outcomes, and goes on to stand for that history and those events (profile)
+-- what happened in the turns, and goes on to stand for that history and this (profile)
 pub record ServeMakes (A : Type 0) (reference : ReferenceState) (turns : ℕ) (t u : Option Told) (f g : ℕ) (service after : Registry)
     (served : Served) : Type 0 where
   pub made : List Made
@@ -36,7 +36,7 @@ pub record ServeMakes (A : Type 0) (reference : ReferenceState) (turns : ℕ) (t
   pub departed : served.departed ≡ length (filter has_departed made)
   pub failures : g ≡ f + length (filter is_failing made)
   pub tells : (history : List (Event A)) → StandsFor service history
-      → Tells history (flat_map (events_in reference) made) (flat_map outcomes_in made) after
+      → Tells history (flat_map (happened_in_turn reference) made) after
 
 -- a turn in which this was received was made, and came to this; `t` is what the port told before it received, `f` its failures
 -- afterwards (profile)
@@ -49,4 +49,4 @@ pub record TurnMakes (A : Type 0) (reference : ReferenceState) (r : Result Arriv
   pub port : Follows (made ∷ []) t u
   -- a failure of `receive` itself is among `f`
   pub failures : g + (if is_err r then 1 else 0) ≡ f + (if is_failing made then 1 else 0)
-  pub tells : (history : List (Event A)) → StandsFor service history → Tells history (events_in reference made) (outcomes_in made) after
+  pub tells : (history : List (Event A)) → StandsFor service history → Tells history (happened_in_turn reference made) after

@@ -1,5 +1,6 @@
 //! The customers file: what each customer has, what it was answered, and when its keys signed.
 
+use crate::files::FileFault;
 use labntpd_host::new_file;
 use ntp_reports::{CustomerCounts, customer_line};
 use ntp_service_run::Service;
@@ -33,7 +34,7 @@ pub struct CustomersFile<'a> {
     // After how many seconds it is written again, whatever happens, and how many commands were carried out when it was begun last.
     due: u64,
     done: u64,
-    fault: Option<&'static str>,
+    fault: Option<FileFault>,
 }
 
 impl<'a> CustomersFile<'a> {
@@ -58,7 +59,7 @@ impl<'a> CustomersFile<'a> {
         rt: &HostRuntime,
         seconds: u64,
         done: u64,
-    ) -> Option<&'static str> {
+    ) -> Option<FileFault> {
         if self.writing.is_some() || (seconds < self.due && done == self.done) {
             return self.fault;
         }
@@ -68,9 +69,9 @@ impl<'a> CustomersFile<'a> {
                 self.due = seconds.saturating_add(PERIOD);
                 self.writing = Some(Writing { file, customers: 0 });
             }
-            Err(_) => {
+            Err(error) => {
                 self.due = seconds.saturating_add(PATIENCE);
-                self.fault = Some("cannot be written");
+                self.fault = Some(FileFault::Unwritten(error));
             }
         }
         self.fault
@@ -87,22 +88,23 @@ impl<'a> CustomersFile<'a> {
         let Some(mut writing) = self.writing.take() else {
             return;
         };
-        let is_written = self
-            .write_piece(&mut writing, counts, service, piece)
-            .is_ok();
-        if is_written && writing.customers < counts.len() {
+        let written = self.write_piece(&mut writing, counts, service, piece);
+        if written.is_ok() && writing.customers < counts.len() {
             self.writing = Some(writing);
             return;
         }
         drop(writing);
-        let is_replaced = is_written && fs::rename(rt, self.beside.as_str(), self.path).is_ok();
-        self.fault = if !is_replaced {
-            Some("cannot be written")
-        } else if counts.has_missed() {
-            Some("lacks a customer, for want of memory")
-        } else {
-            None
+        self.fault = match self.replace(rt, written) {
+            Err(error) => Some(FileFault::Unwritten(error)),
+            Ok(()) if counts.has_missed() => Some(FileFault::Incomplete),
+            Ok(()) => None,
         };
+    }
+
+    // Gives what was written the name of the customers file, where that went well.
+    fn replace(&self, rt: &HostRuntime, written: io::Result<()>) -> io::Result<()> {
+        written?;
+        fs::rename(rt, self.beside.as_str(), self.path)
     }
 
     // Writes of the next customers.

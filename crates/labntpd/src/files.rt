@@ -7,7 +7,7 @@ use ntp_server::AdmittedCommands;
 use std::alloc::Global;
 use std::fmt;
 use std::fs::Files;
-use std::io::Write;
+use std::io::{self, Write};
 
 /// From how many octets on a commands file is told to be nearly full: 80 in 100 of the most (profile).
 const NEARLY_FULL_OCTETS: usize = 838_860;
@@ -18,45 +18,66 @@ pub type HeldCommands<'a, R> = AdmittedCommands<CommandsFile<'a, R>, Global>;
 /// The commands of the daemon.
 pub type DaemonCommands<'a, R> = EachMillisecond<HeldCommands<'a, R>>;
 
-/// Why nothing of a commands file is carried out.
-#[derive(Clone, Copy, PartialEq, Eq)]
-pub enum CommandsFault {
-    /// There is none, it is no regular file, or it cannot be read.
-    Unreadable,
-    /// It was read, and may not be carried out.
+/// What is wrong with a file of the daemon.
+#[derive(Clone, Copy)]
+pub enum FileFault {
+    /// The commands file is not there, is no regular file, or cannot be read.
+    Unread(io::Error),
+    /// The commands file was read, and may not be carried out.
     NotAdmitted(AdmitFault),
+    /// It cannot be written.
+    Unwritten(io::Error),
+    /// The customers file lacks a customer for which there was no memory.
+    Incomplete,
 }
 
-impl CommandsFault {
+impl FileFault {
     /// What is wrong with a commands file by now, if anything.
-    pub fn of<R: Files>(commands: &HeldCommands<'_, R>) -> Option<CommandsFault> {
-        if !commands.source().is_read() {
-            return Some(CommandsFault::Unreadable);
+    pub fn of_commands<R: Files>(commands: &HeldCommands<'_, R>) -> Option<FileFault> {
+        match commands.source().fault() {
+            Some(error) => Some(FileFault::Unread(error)),
+            None => commands.fault().map(FileFault::NotAdmitted),
         }
-        match commands.fault() {
-            None => None,
-            Some(fault) => Some(CommandsFault::NotAdmitted(fault)),
+    }
+
+    /// Whether another fault is told alike.
+    pub fn is_told_as(&self, other: &FileFault) -> bool {
+        match (self, other) {
+            (FileFault::Unread(one), FileFault::Unread(other))
+            | (FileFault::Unwritten(one), FileFault::Unwritten(other)) => {
+                one.kind() == other.kind() && one.raw_os_error() == other.raw_os_error()
+            }
+            (FileFault::NotAdmitted(one), FileFault::NotAdmitted(other)) => one == other,
+            (FileFault::Incomplete, FileFault::Incomplete) => true,
+            _ => false,
         }
     }
 }
 
 /// What the log tells of it.
-impl fmt::Display for CommandsFault {
+impl fmt::Display for FileFault {
     fn fmt<W: fmt::Write>(&self, f: &mut fmt::Formatter<W>) -> fmt::Result {
         match self {
-            CommandsFault::Unreadable => return f.write_str("cannot be read"),
-            CommandsFault::NotAdmitted(AdmitFault::TooLong) => {
-                f.write_str("has more than 1,048,576 octets")?;
-            }
-            CommandsFault::NotAdmitted(AdmitFault::NotUtf8) => f.write_str("is not UTF-8")?,
-            CommandsFault::NotAdmitted(AdmitFault::OtherLine(number)) => {
-                write!(f, "line {number} is not the one that was applied")?;
-            }
-            CommandsFault::NotAdmitted(AdmitFault::NoMemory) => {
-                f.write_str("there is no memory for it")?;
+            FileFault::Unread(error) => write!(f, "cannot be read: {error}"),
+            FileFault::Unwritten(error) => write!(f, "cannot be written: {error}"),
+            FileFault::Incomplete => f.write_str("lacks a customer, for want of memory"),
+            FileFault::NotAdmitted(fault) => {
+                write_not_admitted(f, fault)?;
+                f.write_str("; no line is carried out")
             }
         }
-        f.write_str("; no line is carried out")
+    }
+}
+
+// Tells why a commands file may not be carried out.
+fn write_not_admitted<W: fmt::Write>(out: &mut W, fault: &AdmitFault) -> fmt::Result {
+    match fault {
+        AdmitFault::TooLong => write!(out, "has more than 1,048,576 octets"),
+        AdmitFault::NotUtf8 => out.write_str("is not UTF-8"),
+        AdmitFault::OtherLine(number) => {
+            write!(out, "line {number} is not the one that was applied")
+        }
+        AdmitFault::NoMemory => out.write_str("there is no memory for it"),
     }
 }
 

@@ -2,7 +2,7 @@
 
 use crate::assembly::Daemon;
 use crate::customers_file::CustomersFile;
-use crate::files::{CommandsFault, is_nearly_full, write_nearly_full};
+use crate::files::{FileFault, is_nearly_full, write_nearly_full};
 use labntpd_configuration::Configuration;
 use labntpd_configuration::command_line::VERSION;
 use labntpd_host::{
@@ -13,13 +13,12 @@ use ntp_customer_files::AdmitFault;
 use ntp_host::moment_now;
 use ntp_reply::Reference;
 use ntp_reports::{
-    Ask, Belief, ClockGauges, FileGauges, Gauges, Kind, LineAllowance, write_statistics,
+    Ask, Belief, ClockGauges, Counts, FileGauges, Gauges, Kind, LineAllowance, write_statistics,
 };
 use ntp_server::Reporter;
 use ntp_time::Moment;
 use std::alloc::{AllocError, Global};
-use std::fmt;
-use std::io::{Stderr, Write};
+use std::io::{self, Stderr, Write};
 use std::time::{SystemTime, UNIX_EPOCH};
 
 /// A second, a minute's seconds, and how many seconds lie between two writings of the statistics and between two totals (profile).
@@ -80,24 +79,6 @@ struct Told {
     is_nearly_full: bool,
 }
 
-// What is wrong with a file.
-#[derive(Clone, Copy, PartialEq, Eq)]
-enum FileFault {
-    // Nothing of the commands file is carried out.
-    Commands(CommandsFault),
-    // It cannot be written as it should be.
-    Written(&'static str),
-}
-
-impl fmt::Display for FileFault {
-    fn fmt<W: fmt::Write>(&self, f: &mut fmt::Formatter<W>) -> fmt::Result {
-        match self {
-            FileFault::Commands(fault) => fault.fmt(f),
-            FileFault::Written(words) => f.write_str(words),
-        }
-    }
-}
-
 // A file that can fail: what was wrong with it when it was last looked at, what was told of that last, and what is told where it is well
 // again.
 #[derive(Clone, Copy)]
@@ -114,6 +95,20 @@ struct StatisticsFile<'a> {
     path: &'a str,
     beside: String,
     text: Vec<u8>,
+}
+
+impl<'a> StatisticsFile<'a> {
+    // Replaces the statistics by these.
+    fn replace(
+        &mut self,
+        rt: &HostRuntime,
+        counts: &Counts,
+        gauges: &Gauges<'_>,
+    ) -> io::Result<()> {
+        self.text.clear();
+        write_statistics(&mut self.text, counts, gauges)?;
+        replace_file(rt, self.beside.as_str(), self.path, &self.text)
+    }
 }
 
 // The files that can fail.
@@ -139,6 +134,7 @@ struct Allowances {
 pub struct Housekeeping<'a> {
     rt: &'a HostRuntime,
     clocks: &'a HostClocks,
+    configuration: &'a Configuration,
     log: Log<Stderr>,
     allowances: Allowances,
     statistics: Option<StatisticsFile<'a>>,
@@ -192,6 +188,7 @@ impl<'a> Housekeeping<'a> {
         Ok(Housekeeping {
             rt,
             clocks,
+            configuration,
             log: Log::new(alloc, rt.stderr(), begun.form)?,
             allowances: Allowances {
                 clock: LineAllowance::new(),
@@ -390,16 +387,16 @@ impl<'a> Housekeeping<'a> {
     // Looks at each file, and logs what is wrong from now on, or is no longer.
     fn tell_files(&mut self, server: &Daemon<'_>) {
         let commands = server.commands.inner();
-        let fault = CommandsFault::of(commands);
-        self.see(Watched::Commands, fault.map(FileFault::Commands));
+        let fault = FileFault::of_commands(commands);
+        self.see(Watched::Commands, fault);
         if fault.is_none() {
             self.tell_nearly_full(commands.length());
         }
-        let is_answered = match &server.observer.inner.first {
-            Some(answers) => !answers.has_failed(),
-            None => true,
+        let unwritten = match &server.observer.inner.first {
+            Some(answers) => answers.fault(),
+            None => None,
         };
-        self.see(Watched::Answers, unless_well(is_answered));
+        self.see(Watched::Answers, unwritten.map(FileFault::Unwritten));
         self.tell_file(Watched::Commands);
         self.tell_file(Watched::Answers);
         self.tell_file(Watched::Statistics);
@@ -417,8 +414,9 @@ impl<'a> Housekeeping<'a> {
         }
         self.told.is_nearly_full = is_nearly_full;
         if is_nearly_full {
+            let path = self.configuration.commands.as_str();
             let line = self.log.begin(Priority::Warning);
-            let _ = write!(line, "commands file: ");
+            let _ = write!(line, "commands file {path}: ");
             write_nearly_full(line, octets);
             self.log.end();
         }
@@ -427,7 +425,7 @@ impl<'a> Housekeeping<'a> {
     // What is wrong with a file was looked for. It is counted where something is wrong that was not before.
     fn see(&mut self, which: Watched, fault: Option<FileFault>) {
         let place = which as usize;
-        if fault != self.files[place].seen && fault.is_some() {
+        if fault.is_some() && !are_told_alike(&fault, &self.files[place].seen) {
             self.unreadable = self.unreadable.saturating_add(1);
         }
         self.files[place].seen = fault;
@@ -438,17 +436,20 @@ impl<'a> Housekeeping<'a> {
         let place = which as usize;
         let file = self.files[place];
         let seconds = self.seconds;
-        if file.seen == file.told || !may_say(&mut self.allowances.files, seconds) {
+        if are_told_alike(&file.seen, &file.told) || !may_say(&mut self.allowances.files, seconds) {
             return;
         }
         self.files[place].told = file.seen;
-        let name = file.name;
+        let path = path_of(self.configuration, which);
+        let WatchedFile { name, again, .. } = file;
         let _ = match file.seen {
-            Some(fault) => write!(self.log.begin(Priority::Error), "{name} file: {fault}"),
+            Some(fault) => write!(
+                self.log.begin(Priority::Error),
+                "{name} file {path}: {fault}"
+            ),
             None => write!(
                 self.log.begin(Priority::Notice),
-                "{name} file: {}",
-                file.again
+                "{name} file {path}: {again}"
             ),
         };
         self.log.end();
@@ -462,7 +463,7 @@ impl<'a> Housekeeping<'a> {
             return;
         };
         let fault = customers.begin_in_time(rt, seconds, done);
-        self.see(Watched::Customers, fault.map(FileFault::Written));
+        self.see(Watched::Customers, fault);
     }
 
     // Goes on to write the customers, where that was begun: few of them beside datagrams, and more while none comes.
@@ -524,12 +525,9 @@ impl<'a> Housekeeping<'a> {
             version: VERSION,
         };
         self.queue_wait = Some(0);
-        file.text.clear();
-        let rt = self.rt;
-        let is_written = write_statistics(&mut file.text, &server.observer.counts, &gauges).is_ok()
-            && replace_file(rt, file.beside.as_str(), file.path, &file.text).is_ok();
+        let written = file.replace(self.rt, &server.observer.counts, &gauges);
         self.statistics = Some(file);
-        self.see(Watched::Statistics, unless_well(is_written));
+        self.see(Watched::Statistics, written.err().map(FileFault::Unwritten));
     }
 
     // Logs what was done so far.
@@ -574,9 +572,7 @@ impl<'a, 'b> Reporter<Daemon<'b>> for Housekeeping<'a> {
 fn other_line(files: [WatchedFile; 4]) -> Option<u64> {
     let commands = files[Watched::Commands as usize];
     match commands.seen {
-        Some(FileFault::Commands(CommandsFault::NotAdmitted(AdmitFault::OtherLine(number)))) => {
-            Some(number)
-        }
+        Some(FileFault::NotAdmitted(AdmitFault::OtherLine(number))) => Some(number),
         _ => None,
     }
 }
@@ -602,19 +598,37 @@ fn unseen(name: &'static str, again: &'static str) -> WatchedFile {
     }
 }
 
+// The path of a file that is watched; empty where the configuration has none.
+fn path_of<'a>(configuration: &'a Configuration, which: Watched) -> &'a str {
+    match which {
+        Watched::Commands => configuration.commands.as_str(),
+        Watched::Answers => written_path(&configuration.answers),
+        Watched::Statistics => written_path(&configuration.statistics),
+        Watched::Customers => written_path(&configuration.customers),
+    }
+}
+
+// The path of a file that is written, if it is; else nothing.
+fn written_path<'a>(path: &'a Option<String>) -> &'a str {
+    match path {
+        Some(path) => path.as_str(),
+        None => "",
+    }
+}
+
+// Whether of a file the same is told by what was wrong with it at two times.
+fn are_told_alike(one: &Option<FileFault>, other: &Option<FileFault>) -> bool {
+    match (one, other) {
+        (Some(one), Some(other)) => one.is_told_as(other),
+        (None, None) => true,
+        _ => false,
+    }
+}
+
 // Whether a line of a kind may be written now. It is asked for only where it may, so that what is told later is not counted as held.
 fn may_say(allowance: &mut LineAllowance, seconds: u64) -> bool {
     let minute = seconds / MINUTE;
     allowance.has_room(minute) && allowance.ask(minute) != Ask::Hold
-}
-
-// What is told of a file that is written, where it is not well.
-fn unless_well(is_well: bool) -> Option<FileFault> {
-    if is_well {
-        None
-    } else {
-        Some(FileFault::Written("cannot be written"))
-    }
 }
 
 // Whether the state of the clock can be told after so many seconds. A daemon that was just asked may not have answered yet.

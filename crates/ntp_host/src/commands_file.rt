@@ -39,8 +39,9 @@ pub struct CommandsFile<'a, R: Files> {
     path: &'a str,
     // How many octets are given at most, and one more.
     most: u32,
-    // The file that was read last; none where it could not be read.
+    // The file that was read last; none where it could not be read, and then why not.
     given: Option<Given<R::File>>,
+    fault: Option<io::Error>,
     // When what stands at the path was last asked for.
     asked: Option<Stamp>,
 }
@@ -92,6 +93,7 @@ impl<'a, R: Files> CommandsFile<'a, R> {
             path,
             most,
             given: None,
+            fault: None,
             asked: None,
         }
     }
@@ -99,14 +101,14 @@ impl<'a, R: Files> CommandsFile<'a, R> {
     /// Reads the whole file for the first time: its octets, cut to one more than the most, or why there are none. It takes memory
     /// from `alloc`.
     pub fn begin<A: Allocator + Copy>(&mut self, alloc: A) -> io::Result<Vec<u8, A>> {
-        let metadata = regular_metadata(self.files, self.path)?;
-        self.read_whole(alloc, Version::of(&metadata))
+        let found = self.version_at_path();
+        self.read_whole(alloc, found)
     }
 
-    /// Whether the file that stands at its path was read when it was last looked at. It was not before the first look, nor
-    /// where there was no regular file or it could not be read.
-    pub fn is_read(&self) -> bool {
-        self.given.is_some()
+    /// Why the file at its path could not be read when that was last tried: the system's error, or that a regular file is wanted.
+    /// Nothing where it was read, and before the first look.
+    pub fn fault(&self) -> Option<io::Error> {
+        self.fault
     }
 
     // Whether something happened to the file that was read last.
@@ -117,27 +119,28 @@ impl<'a, R: Files> CommandsFile<'a, R> {
         }
     }
 
-    // The version of the file that stands at the path; none where there is no regular file.
-    fn version_at_path(&self) -> Option<Version> {
-        let metadata = regular_metadata(self.files, self.path).ok()?;
-        Some(Version::of(&metadata))
+    // The version of the regular file that stands at the path, or why there is none.
+    fn version_at_path(&self) -> io::Result<Version> {
+        let metadata = regular_metadata(self.files, self.path)?;
+        Ok(Version::of(&metadata))
     }
 
-    // The version of the file that was read last.
-    fn version_given(&self) -> Option<Version> {
-        match &self.given {
-            Some(given) => Some(given.version),
-            None => None,
+    // Whether what was found at the path is the file that was read last, as it was.
+    fn is_given(&self, found: &io::Result<Version>) -> bool {
+        match (&self.given, found) {
+            (Some(given), Ok(version)) => given.version == *version,
+            _ => false,
         }
     }
 
-    // Reads the file that stands at the path. Its version was taken before, so one that changes in between is read once
-    // more.
+    // Reads the file that was found at the path, if a regular one was: to open a pipe might take for ever. Its version was taken
+    // before, so one that changes in between is read once more.
     fn read_whole<A: Allocator + Copy>(
         &mut self,
         alloc: A,
-        version: Version,
+        found: io::Result<Version>,
     ) -> io::Result<Vec<u8, A>> {
+        let version = found?;
         let mut file = fs::open(self.files, self.path)?;
         let octets = read_open(&mut file, alloc, self.most)?;
         self.given = Some(Given {
@@ -163,12 +166,13 @@ impl<'a, R: Files, A: Allocator + Copy> CommandsSource<A> for CommandsFile<'a, R
         if let Some(receipt) = receipt {
             self.asked = Some(receipt.stamp);
         }
-        let version = self.version_at_path();
-        if !has_changed && version == self.version_given() {
+        let found = self.version_at_path();
+        if !has_changed && self.is_given(&found) {
             return None;
         }
-        // It is read only where it is regular: to open a pipe might take for ever.
         self.given = None;
-        self.read_whole(alloc, version?).ok()
+        let read = self.read_whole(alloc, found);
+        self.fault = read.as_ref().err().copied();
+        read.ok()
     }
 }

@@ -1,6 +1,5 @@
 //! An observer that answers lines of commands.
-ghost use Rattle.std.specs.Prelude.{◌≡◌, OnOk, false};
-ghost use Rattle.std.specs.Bool.{OnFalse};
+ghost use Rattle.std.specs.Prelude.{◌≡◌, OnOk, None, IfNone};
 ghost use Rattle.std.specs.Io.KnownBytes.{Appends};
 ghost use Rattle.ntp_reports.specs.AnswerText.{answer_line};
 
@@ -14,32 +13,32 @@ use std::io::{self, Write};
 #[derive(Drop)]
 pub struct AnswerLines<W> {
     answers: W,
-    has_failed: bool,
+    fault: Option<io::Error>,
 }
 
 impl<W: Write> AnswerLines<W> {
     /// Writes to `answers` from here on.
     pub fn new(answers: W) -> AnswerLines<W>
         ensures answers { result.answers ≡ answers }
-        ensures has_failed { result.has_failed ≡ false }
+        ensures fault { result.fault ≡ None }
     {
         AnswerLines {
             answers,
-            has_failed: false,
+            fault: None,
         }
     }
 
-    /// Whether a write has failed so far.
-    pub fn has_failed(&self) -> bool
-        ensures { result ≡ self.now.has_failed }
+    /// Why the first write failed that did, if one has so far.
+    pub fn fault(&self) -> Option<io::Error>
+        ensures { result ≡ self.now.fault }
     {
-        self.has_failed
+        self.fault
     }
 
     // Writes what became of the line with a number.
     fn write_answer(&mut self, number: u64, outcome: LineOutcome) -> io::Result<()>
         ensures written { OnOk result (Appends (W.contents self.old.answers) (W.contents self.new.answers) (answer_line number outcome)) }
-        ensures kept { self.new.has_failed ≡ self.old.has_failed }
+        ensures kept { self.new.fault ≡ self.old.fault }
     {
         match outcome {
             LineOutcome::Done => writeln!(self.answers, "{number} done"),
@@ -63,13 +62,13 @@ impl<W: Write> Observer for AnswerLines<W> {
 
     // Where no write has failed, the answer was written, and every write before went well.
     fn line(&mut self, number: u64, outcome: LineOutcome)
-        ensures written { OnFalse self.new.has_failed
+        ensures written { IfNone self.new.fault
             (Appends (W.contents self.old.answers) (W.contents self.new.answers) (answer_line number outcome)) }
-        ensures noted { OnFalse self.new.has_failed (self.old.has_failed ≡ false) }
+        ensures noted { IfNone self.new.fault (self.old.fault ≡ None) }
     {
         // The run goes on whether or not somebody can be told.
-        if self.write_answer(number, outcome).is_err() {
-            self.has_failed = true;
+        if let Err(error) = self.write_answer(number, outcome) {
+            self.fault.get_or_insert(error);
         }
     }
 

@@ -355,8 +355,8 @@ fn lines_are_answered_without_memory(rt: HostRuntime) -> Result<(), Fail> {
     both.turn(&TurnOutcome::NothingReceived);
     both.line(3, LineOutcome::Refused(Refusal::AlreadyEnrolled));
     both.line(12, LineOutcome::Faulty(LineFault::KeyText));
-    assert!(rt; !both.first.has_failed());
-    assert!(rt; both.second.has_failed());
+    assert!(rt; both.first.fault().is_none());
+    assert!(rt; both.second.fault().is_some());
     assert_eq!(rt; memory.refused(), 0);
     assert_eq!(rt;
         str::from_utf8(first.as_slice()),

@@ -148,6 +148,40 @@ fn sparse_datagrams_are_answered(rt: HostRuntime) -> Result<(), Fail> {
     Ok(())
 }
 
+// A server of the customer over such a port.
+type FreshServer<A> = Server<
+    FreshPort<MemoryQueue<A>>,
+    MemoryCommands<A>,
+    FixedReference,
+    MemoryObserver<A>,
+    A,
+>;
+
+fn server_at<A: Allocator + Copy>(
+    alloc: A,
+    port: FreshPort<MemoryQueue<A>>,
+) -> Result<FreshServer<A>, Fail> {
+    Ok(Server {
+        port,
+        commands: MemoryCommands::new(Vec::new(alloc)),
+        applied: 0,
+        reference: FixedReference(reference()?),
+        observer: MemoryObserver::new(alloc, 1)?,
+        service: enrolled_service(alloc)?,
+    })
+}
+
+// How many datagrams came in one turn of it, how many replies were sent, and how many datagrams were dropped.
+fn one_turn<A: Allocator + Copy>(
+    server: &mut FreshServer<A>,
+) -> Result<(u64, u64, u64), &'static str> {
+    if server.port.failures() > 0 {
+        return Err("a call of the port has failed");
+    }
+    let totals = server.serve(1);
+    Ok((totals.arrivals, totals.sent, server.port.stale()))
+}
+
 #[test]
 fn what_is_answered_is_what_came_behind_the_stale_ones(rt: HostRuntime) -> Result<(), Fail> {
     let alloc = rt.alloc();
@@ -156,20 +190,8 @@ fn what_is_answered_is_what_came_behind_the_stale_ones(rt: HostRuntime) -> Resul
     turns.push(turn(alloc, 5002, 0xec00_0011_9000_0000, SECOND_QUERY, true)?)?;
     // The first waits for 4,900 ms, the second for 50 ms.
     let port = fresh(alloc, turns, &[200, 5_150], &[0, 5_100, 5_200])?;
-    let mut server = Server {
-        port,
-        commands: MemoryCommands::new(Vec::new(alloc)),
-        applied: 0,
-        reference: FixedReference(reference()?),
-        observer: MemoryObserver::new(alloc, 1)?,
-        service: enrolled_service(alloc)?,
-    };
-    assert!(rt; server.port.failures() == 0);
-    let totals = server.serve(1);
-    assert_eq!(rt;
-        (totals.arrivals, totals.sent, server.port.stale()),
-        (1, 1, 1)
-    );
+    let mut server = server_at(alloc, port)?;
+    assert_eq!(rt; one_turn(&mut server), Ok((1, 1, 1)));
     let sent = server.port.port().sent();
     assert_eq!(rt; sent.len(), 1);
     assert_eq!(rt; (sent[0].address, sent[0].port), (CUSTOMER, 5002));

@@ -1,6 +1,8 @@
 -- What is learned from the answers of the host's clock daemon.
-use Rattle.std.specs.Prelude.{ℕ, ℤ, ◌+ℤ◌, ◌-◌, ◌*◌, ◌^◌, nat_lt, if◌then◌else◌, Option, Some, None, option_map, option_and_then, Result, Ok, Err}
+use Rattle.std.specs.Prelude.{ℕ, ℤ, ◌+◌, ◌+ℤ◌, ◌-◌, ◌-ℤ◌, ◌*◌, ◌^◌, min, unsigned_abs, nat_lt, if◌then◌else◌, Option, Some, None, option_map, option_and_then, Result, Ok, Err}
+use Rattle.std.specs.Int.{div_ceil}
 use Rattle.ntp_time.specs.declared.stamp.Stamp.{Stamp}
+use Rattle.ntp_time.specs.declared.stamp.Short.{Short}
 use Rattle.ntp_time.specs.Difference.{difference}
 use Rattle.ntp_packet.specs.Header.{HeaderFields, no_stamp}
 use Rattle.ntp_request.specs.Request.{RequestValue}
@@ -53,9 +55,18 @@ asked f now = record (looked f now) {
   watch = record (looked f now).watch { seen = Some now };
 }
 
--- the state of its clock that a time reply tells (RFC 5905, 7.3)
-abbrev pub state_told : HeaderFields → ReferenceState
-state_told h = reference_of h.leap h.stratum h.precision h.root_delay h.root_dispersion h.reference_id h.reference
+-- the size of the round trip delay of a sample, in units of 2^-16 seconds and rounded up (RFC 5905, 8; rounded up: profile)
+abbrev pub delay_size : Sample → ℕ
+delay_size s = div_ceil (unsigned_abs (difference s.t4 s.t1 -ℤ difference s.t3 s.t2)) (2 ^ 16)
+
+-- the root delay by way of a time reply: the one that it tells, and the delay of the exchange, to the most that a packet can tell
+-- (RFC 5905, 11.2; to the most: profile)
+abbrev pub root_delay_by : HeaderFields → Sample → Short
+root_delay_by h s = record { 0 = min (2 ^ 32 - 1) (h.root_delay.0 + delay_size s) }
+
+-- the state of its clock that a time reply tells (RFC 5905, 7.3), with that root delay
+abbrev pub state_told : HeaderFields → Sample → ReferenceState
+state_told h s = reference_of h.leap h.stratum h.precision (root_delay_by h s) h.root_dispersion h.reference_id h.reference
 
 -- twice the offset of a sample, in units of 2^-32 seconds (RFC 5905, 8)
 abbrev pub offset_twice : Sample → ℤ
@@ -64,7 +75,7 @@ offset_twice s = difference s.t2 s.t1 +ℤ difference s.t3 s.t4
 -- the answer that a time reply is to the question of a reading, with what it rests on (profile)
 abbrev pub answer_of : HeaderFields → Sample → Reading → Reading → ClockAnswer
 answer_of h sample question base = record {
-  state = state_told h;
+  state = state_told h sample;
   offset_twice = offset_twice sample;
   sent = h.transmit;
   ticks = question.ticks;

@@ -7,7 +7,7 @@ use ntp_time::Stamp;
 /// An authentic answer of the host's clock daemon, and what it rests on.
 #[derive(Clone, Copy, Debug, PartialEq, Eq)]
 pub struct ClockAnswer {
-    /// The state of its clock that the daemon told.
+    /// The state of its clock that the daemon told, with the delay of the exchange in the root delay.
     pub state: Reference,
     /// Twice the offset of its clock from the host's, in units of 2^-32 seconds (RFC 5905, 8).
     pub offset_twice: i128,

@@ -8,7 +8,7 @@ ghost use Rattle.ntp_client.specs.Sample.{IsTimeReply};
 ghost use Rattle.ntp_client.specs.Taking.{taken_for, after_taken};
 ghost use Rattle.ntp_clock.specs.InForce.{age, is_followed, doubt_of, in_force};
 ghost use Rattle.ntp_clock.specs.Watching.{is_set_since};
-ghost use Rattle.ntp_clock.specs.Learning.{new_follower, looked, question, asked, base_of, learned_of, learned_after, told_after, slowed_after, period};
+ghost use Rattle.ntp_clock.specs.Learning.{new_follower, looked, question, asked, root_delay_by, base_of, learned_of, learned_after, told_after, slowed_after, period};
 
 use crate::believing::is_believed;
 use crate::doubt::doubt_of;
@@ -20,8 +20,11 @@ use ntp_mac::Key;
 use ntp_packet::Header;
 use ntp_reply_packets::Reference;
 use ntp_request::read_request;
-use ntp_time::Stamp;
+use ntp_time::{Short, Stamp};
 use std::marker::Model;
+
+/// How many units of 2^-32 seconds a unit of 2^-16 seconds has.
+const SHORT_UNITS: u128 = 1 << 16;
 
 /// A follower of the host's clock daemon. Contracts see what it knows: the client that asks the daemon, the
 /// limits, how the host's clock was set, the last answer, and when the daemon last asked for fewer questions.
@@ -238,7 +241,7 @@ fn learned_of(
         header.leap(),
         header.stratum(),
         header.precision(),
-        header.root_delay(),
+        root_delay_by(header, sample),
         header.root_dispersion(),
         header.reference_id(),
         header.reference(),
@@ -251,6 +254,15 @@ fn learned_of(
         ticks: question.ticks,
         base,
     })
+}
+
+// The root delay by way of a time reply: the one that it tells, and the delay of the exchange.
+fn root_delay_by(header: &Header, sample: Sample) -> Short
+    ensures { result ≡ root_delay_by header.now sample }
+{
+    let delay = sample.delay().unsigned_abs().div_ceil(SHORT_UNITS);
+    let sum = u128::from(header.root_delay().0) + delay;
+    Short(sum.min(u128::from(u32::MAX)) as u32)
 }
 
 // What a time reply to the question of a reading rests on.

@@ -11,6 +11,6 @@ pub struct ClockLimits {
     pub most_root_distance: Short,
     /// How long ago the daemon's clock may have been set at most, in seconds.
     pub most_reference_age: u64,
-    /// How far the host's clock may have been stepped since the answer at most, in nanoseconds.
+    /// How far the host's clock may have been set since the daemon last showed an update at most, in nanoseconds.
     pub most_step: u64,
 }

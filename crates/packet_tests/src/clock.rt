@@ -30,7 +30,7 @@ const UNITS: u64 = 1 << 32;
 const MILLISECOND: u64 = 1_000_000;
 
 /// When a request left and when the answer of chronyd 4.3, which followed another chronyd, came. Twice the offset is
-/// 296,323 - 99,762 = 196,561 units of 2^-32 s, or 1.5 units of 2^-16 s.
+/// 296,323 - 99,762 = 196,561 units of 2^-32 s, or 1.5 units of 2^-16 s; the delay is 684,032 - 287,947 = 396,085 of them, or 6.04.
 const ASKED: u64 = 0xeeaf_7485_63a5_4800;
 
 const ANSWERED: u64 = 0xeeaf_7485_63af_b800;
@@ -56,13 +56,13 @@ const HEADER_UNSYNCHRONISED: [u128; 3] = [
 
 const DIGEST_UNSYNCHRONISED: u128 = 0xed2c_6099_5a3a_3c07_398e_fcc0_b091_7556;
 
-// The state that chronyd told, with another dispersion, and with the best precision that is told.
+// The state that chronyd told, with the delay of the exchange, another dispersion, and the best precision that is told.
 fn state_of_chronyd(dispersion: u32) -> Result<Reference, BadReference> {
     Reference::new(
         0,
         4,
         -16,
-        Short(1),
+        Short(1 + 7),
         Short(dispersion),
         [127, 0, 0, 1],
         Stamp(0xeeaf_7485_22f1_ad4e),

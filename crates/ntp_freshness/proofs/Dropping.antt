@@ -1,5 +1,5 @@
 -- Datagrams that are dropped, and what is passed on in the end.
-use Rattle.std.proofs.Common.{◌≡◌, ℕ, ◌+◌, ◌-◌, ◌^◌, ◌≤◌, true, false, List, [], ◌∷◌, ◌++◌, Option, None, Result, refl, subst, ◌∙◌, arith, length-append}
+use Rattle.std.proofs.Common.{◌≡◌, ℕ, ◌+◌, ◌-◌, ◌^◌, ◌<◌, ◌≤◌, true, false, List, [], ◌∷◌, ◌++◌, Option, None, Result, refl, subst, ◌∙◌, arith, length-append}
 use Rattle.ntp_events.specs.declared.observation.Arrival.{Arrival}
 use Rattle.ntp_service_serve.specs.declared.port.PortFault.{PortFault}
 use Rattle.ntp_service_serve.specs.Port.{Told, DropTells}
@@ -12,7 +12,7 @@ use Rattle.ntp_freshness.specs.Freshness.{MayBeAnswered, IsInOrder}
 use Rattle.ntp_freshness.specs.Queue.{Tells, seen_in_drop}
 use Rattle.ntp_freshness.specs.Watch.{Watches, Counts, IsWaiting, longest_of}
 use Rattle.ntp_freshness.specs.Passing.{HandsOn}
-use Rattle.ntp_freshness.specs.Fresh.{InHand, Swept, AreStale, counted_on, PassesOn, Kept, kept, PassesOnFresh}
+use Rattle.ntp_freshness.specs.Fresh.{InHand, Swept, AreStale, counted_on, WasAsked, PassesOn, Kept, kept, PassesOnFresh}
 use Rattle.ntp_freshness.specs.Next.{ComesTo, drops_in, TakesNext, Drops}
 use Rattle.ntp_freshness.proofs.Seeing.{IsSeenFrom-same, IsSeenFrom-more, seen-in_drop}
 use Rattle.ntp_freshness.proofs.Keeping.{AreStale-append, counted-append, counts-one, StandsFor-Taken}
@@ -115,10 +115,25 @@ Drops-unswept watch reading next s t u q r fits drops tells = record {
   };
 }
 
+-- so many at least
+abbrev pub DropsMany : ℕ → Kept → Kept → Type 0
+DropsMany least a b = (drops : Drops a b) × (least ≤ drops.count)
+
+pub DropsMany-none : (k : Kept) → k.stale ≤ 2 ^ 64 - 1 → DropsMany 0 k k
+DropsMany-none k fits = (Drops-none k fits, omega arith)
+
+-- and one in hand, with what is swept out behind it
+pub DropsMany-more : (least : ℕ) (a b c d : Kept) (datagram : List ℕ) → DropsMany least a b → TakesNext b c Stale datagram → Drops c d
+    → DropsMany (least + 1) a d
+unfolding Drops-append Drops-taken
+DropsMany-more least a b c d datagram many takes swept =
+    (Drops-append a c d (Drops-append a b c many.0 (Drops-taken b c datagram takes)) swept, omega (arith, many.1))
+
 -- and then this is passed on
-pub Passes-end : (a b c : Kept) (next : Next) (result : Option (Result Arrival PortFault)) (datagram : List ℕ) → Drops a b
+pub Passes-end : (a b c : Kept) (next : Next) (result : Option (Result Arrival PortFault)) (datagram : List ℕ) (drops : Drops a b)
     → TakesNext b c next datagram → drops_in next ≡ 0 → HandsOn b.told c.told result datagram
-    → ((history after : List QueueEvent) → ComesTo (longest_of b.watch) history next after → PassesOn (longest_of b.watch) history result after)
+    → ((history after : List QueueEvent) → ComesTo (longest_of b.watch) history next after
+    → PassesOn (longest_of b.watch) history result after × WasAsked drops.count history result after)
     → PassesOnFresh a c result datagram
 Passes-end a b c next result datagram drops takes none hands passes = record {
   dropped = drops.count;
@@ -127,14 +142,16 @@ Passes-end a b c next result datagram drops takes none hands passes = record {
   longest = takes.longest ∙ drops.longest;
   fresh = λ history stands.
       let x = drops.each history stands in
-      let y = takes.each x.after x.stands in (
+      let y = takes.each x.after x.stands in
+      let passed = passes x.after y.after y.comes_to in (
         y.after,
         y.stands,
         record {
           dropped = x.dropped;
           between = x.after;
           stale = x.stale;
-          passed_on = subst (λ n. PassesOn n x.after result y.after) drops.longest (passes x.after y.after y.comes_to);
+          passed_on = subst (λ n. PassesOn n x.after result y.after) drops.longest passed.0;
+          asked = passed.1;
           as_many = x.as_many;
           seen = IsSeenFrom-more a.reading b.reading c.reading a.history b.history c.history history x.after y.after x.seen y.seen;
         },
@@ -142,8 +159,8 @@ Passes-end a b c next result datagram drops takes none hands passes = record {
 }
 
 -- or nothing, after so many
-pub Passes-out : (a b : Kept) (datagram : List ℕ) → Drops a b → PassesOnFresh a b None datagram
-Passes-out a b datagram drops = record {
+pub Passes-out : (a b : Kept) (datagram : List ℕ) (drops : Drops a b) → 0 < drops.count → PassesOnFresh a b None datagram
+Passes-out a b datagram drops some = record {
   dropped = drops.count;
   counted = drops.counted;
   turns = (b.told, drops.turns, TellsOn-same b.told);
@@ -157,6 +174,7 @@ Passes-out a b datagram drops = record {
           between = x.after;
           stale = x.stale;
           passed_on = ([], refl, refl);
+          asked = λ none. absurd (omega (arith, none, some));
           as_many = x.as_many;
           seen = x.seen;
         },

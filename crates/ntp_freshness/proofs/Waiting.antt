@@ -1,15 +1,15 @@
 -- Calls that pass on nothing, and then one more.
-use Rattle.std.proofs.Common.{◌≡◌, ℕ, ◌+◌, ◌-◌, ◌^◌, ◌≤◌, List, [], ◌∷◌, ◌++◌, length, Option, None, Some, Result, Ok, Err, refl, sym, ap, subst, ◌∙◌, arith, append_assoc, length-append}
+use Rattle.std.proofs.Common.{◌≡◌, ℕ, ◌+◌, ◌<◌, ◌⊎◌, inl, inr, List, [], ◌∷◌, ◌++◌, length, Option, None, Some, Result, Ok, Err, refl, sym, ap, subst, ◌∙◌, arith, append_assoc, length-append}
 use Rattle.ntp_events.specs.declared.observation.Arrival.{Arrival}
 use Rattle.ntp_service_serve.specs.declared.port.PortFault.{PortFault}
 use Rattle.ntp_freshness.specs.declared.queue_event.QueueEvent.{QueueEvent}
 use Rattle.ntp_freshness.specs.declared.queue_event.QueueEvent.TheVariants.{Held, Looked, Taken, Read}
 use Rattle.ntp_freshness.specs.Freshness.{takes, MayBeAnswered, WasLookedAt, WasCounted, oldest_look}
 use Rattle.ntp_freshness.specs.Watch.{longest_of}
-use Rattle.ntp_freshness.specs.Fresh.{Take, history_before, history_after, Dropped, InHand, Swept, history_dropped, IsStale, AreStale, PassesOn, Kept, ReceivesFresh, PassesOnFresh}
-use Rattle.ntp_freshness.proofs.Seeing.{IsSeenFrom-same, IsSeenFrom-more}
+use Rattle.ntp_freshness.specs.Fresh.{Take, history_before, history_after, Dropped, InHand, Swept, history_dropped, IsStale, AreStale, WasAsked, PassesOn, Kept, ReceivesFresh, PassesOnFresh}
+use Rattle.ntp_freshness.proofs.Seeing.{IsSeenFrom-more}
 use Rattle.ntp_freshness.proofs.Keeping.{AreStale-append, counted-append}
-use Rattle.ntp_freshness.proofs.Passing.{TellsOn-same, DropsTurns-on, DropsTurns-append}
+use Rattle.ntp_freshness.proofs.Passing.{DropsTurns-on, DropsTurns-append}
 
 takes-append : (xs ys : List QueueEvent) → takes (xs ++ ys) ≡ takes xs + takes ys
 takes-append [] ys = omega arith
@@ -75,26 +75,37 @@ PassesOn-earlier longest seen history after (Some (Ok arrival)) quiet passed = (
   passed.2 ∙ sym (history_after-earlier passed.0 seen history quiet),
 )
 
+-- whether the queue was found empty, where more was seen before
+WasAsked-earlier : (seen history after : List QueueEvent) (result : Option (Result Arrival PortFault))
+    → WasAsked 0 (seen ++ history) result after → WasAsked 0 history result after
+WasAsked-earlier seen history after (Some received) asked = tt
+WasAsked-earlier seen history after None asked = λ none.
+    let x = asked none in
+    (x.0, x.1 ++ seen, x.2, x.3 ∙ ap (λ xs. x.0 ++ Held 0 x.2 ∷ xs) (sym (append_assoc x.1 seen history)))
+
 -- what is dropped, and then passed on, where more was seen before
 record Goes (longest : ℕ) (history after : List QueueEvent) (count : ℕ) (result : Option (Result Arrival PortFault)) : Type 0 where
   dropped : List Dropped
   between : List QueueEvent
   stale : AreStale longest history dropped between
   passed_on : PassesOn longest between result after
+  asked : WasAsked count between result after
   as_many : length dropped ≡ count
 
 Goes-earlier : (longest : ℕ) (seen history between after : List QueueEvent) (dropped : List Dropped)
     (result : Option (Result Arrival PortFault)) → takes seen ≡ 0 → AreStale longest (seen ++ history) dropped between
-    → PassesOn longest between result after → Goes longest history after (length dropped) result
+    → PassesOn longest between result after → WasAsked (length dropped) between result after
+    → Goes longest history after (length dropped) result
 unfolding earlier
-Goes-earlier longest seen history between after [] result quiet stale passed = record {
+Goes-earlier longest seen history between after [] result quiet stale passed asked = record {
   dropped = [];
   between = history;
   stale = refl;
   passed_on = PassesOn-earlier longest seen history after result quiet (subst (λ xs. PassesOn longest xs result after) stale passed);
+  asked = WasAsked-earlier seen history after result (subst (λ xs. WasAsked 0 xs result after) stale asked);
   as_many = refl;
 }
-Goes-earlier longest seen history between after (one ∷ dropped) result quiet stale passed = record {
+Goes-earlier longest seen history between after (one ∷ dropped) result quiet stale passed asked = record {
   dropped = earlier_dropped one seen quiet ∷ dropped;
   between = between;
   stale = (
@@ -102,8 +113,14 @@ Goes-earlier longest seen history between after (one ∷ dropped) result quiet s
     subst (λ xs. AreStale longest xs dropped between) (sym (history_dropped-earlier one seen history quiet)) stale.1,
   );
   passed_on = passed;
+  asked = asked;
   as_many = refl;
 }
+
+WasAsked-more : (m n : ℕ) (history after : List QueueEvent) (result : Option (Result Arrival PortFault)) → WasAsked n history result after
+    → WasAsked (m + n) history result after
+WasAsked-more m n history after (Some received) asked = tt
+WasAsked-more m n history after None asked = λ none. asked (omega (arith, none))
 
 -- nothing was passed on, and then this
 ReceivesFresh-more : (a b c : Kept) (m n : ℕ) (h k l : List QueueEvent) (result : Option (Result Arrival PortFault))
@@ -115,17 +132,19 @@ ReceivesFresh-more a b c m n h k l result longest first second =
     subst (λ xs. AreStale (longest_of a.watch) xs second.dropped second.between) nothing.2
     (subst (λ w. AreStale w k second.dropped second.between) longest second.stale) in
     let goes = Goes-earlier (longest_of a.watch) nothing.0 first.between second.between l second.dropped result nothing.1 stale
-    (subst (λ w. PassesOn w second.between result l) longest second.passed_on) in
+    (subst (λ w. PassesOn w second.between result l) longest second.passed_on)
+    (subst (λ n. WasAsked n second.between result l) (sym second.as_many) second.asked) in
     record {
       dropped = first.dropped ++ goes.dropped;
       between = goes.between;
       stale = AreStale-append (longest_of a.watch) h first.between goes.between first.dropped goes.dropped first.stale goes.stale;
       passed_on = goes.passed_on;
+      asked = WasAsked-more m n goes.between l result (subst (λ x. WasAsked x goes.between result l) second.as_many goes.asked);
       as_many = omega (arith, length-append first.dropped goes.dropped, first.as_many, goes.as_many, second.as_many);
       seen = IsSeenFrom-more a.reading b.reading c.reading a.history b.history c.history h k l first.seen second.seen;
     }
 
-pub Passes-more : (a b c : Kept) (result : Option (Result Arrival PortFault)) (datagram later : List ℕ) → PassesOnFresh a b None datagram
+Passes-more : (a b c : Kept) (result : Option (Result Arrival PortFault)) (datagram later : List ℕ) → PassesOnFresh a b None datagram
     → PassesOnFresh b c result later → PassesOnFresh a c result later
 Passes-more a b c result datagram later first second = record {
   dropped = first.dropped + second.dropped;
@@ -143,23 +162,17 @@ Passes-more a b c result datagram later first second = record {
       (y.0, y.1, ReceivesFresh-more a b c first.dropped second.dropped history x.0 y.0 result first.longest x.2 y.2);
 }
 
--- nothing yet
-pub Passes-none : (k : Kept) (datagram : List ℕ) → k.stale ≤ 2 ^ 64 - 1 → PassesOnFresh k k None datagram
-Passes-none k datagram fits = record {
-  dropped = 0;
-  counted = omega (arith, fits);
-  turns = (k.told, TellsOn-same k.told, TellsOn-same k.told);
-  longest = refl;
-  fresh = λ history stands. (
-    history,
-    stands,
-    record {
-      dropped = [];
-      between = history;
-      stale = refl;
-      passed_on = ([], refl, refl);
-      as_many = refl;
-      seen = IsSeenFrom-same k.reading k.history history;
-    },
-  );
-}
+-- after so many calls nothing was passed on: nothing yet, after none
+abbrev pub HasWaited : ℕ → Kept → Kept → List ℕ → Type 0
+HasWaited count old new datagram = ((count ≡ 0) × (old ≡ new)) ⊎ PassesOnFresh old new None datagram
+
+-- and then this
+pub Passes-after : (count : ℕ) (a b c : Kept) (result : Option (Result Arrival PortFault)) (datagram later : List ℕ) → HasWaited count a b datagram
+    → PassesOnFresh b c result later → PassesOnFresh a c result later
+Passes-after count a b c result datagram later (inl none) second = subst (λ k. PassesOnFresh k c result later) (sym none.1) second
+Passes-after count a b c result datagram later (inr first) second = Passes-more a b c result datagram later first second
+
+-- nothing, after some
+pub Passes-nothing : (count : ℕ) (a b : Kept) (datagram : List ℕ) → 0 < count → HasWaited count a b datagram → PassesOnFresh a b None datagram
+Passes-nothing count a b datagram some (inl none) = absurd (omega (arith, none.0, some))
+Passes-nothing count a b datagram some (inr passes) = passes

@@ -4,7 +4,7 @@ use Rattle.ntp_events.specs.declared.observation.Arrival.{Arrival}
 use Rattle.ntp_service_serve.specs.declared.port.PortFault.{PortFault}
 use Rattle.ntp_service_serve.specs.Port.{Told}
 use Rattle.ntp_freshness.specs.declared.queue_event.QueueEvent.{QueueEvent}
-use Rattle.ntp_freshness.specs.declared.queue_event.QueueEvent.TheVariants.{Taken, Read}
+use Rattle.ntp_freshness.specs.declared.queue_event.QueueEvent.TheVariants.{Held, Taken, Read}
 use Rattle.ntp_freshness.specs.declared.queue_watch.QueueWatch.{QueueWatch}
 use Rattle.ntp_freshness.specs.Freshness.{takes, moment_of, IsInOrder, MayBeAnswered, WasLookedAt, WasCounted, oldest_look}
 use Rattle.ntp_freshness.specs.Queue.{last_reading, SeesMore}
@@ -67,6 +67,16 @@ AreStale longest history (dropped ∷ more) after =
 abbrev pub NothingTaken : List QueueEvent → List QueueEvent → Type 0
 NothingTaken history after = (seen : List QueueEvent) × (takes seen ≡ 0) × (after ≡ seen ++ history)
 
+-- the queue was found empty by a call that ran after the history (profile)
+abbrev pub FoundEmpty : List QueueEvent → List QueueEvent → Type 0
+FoundEmpty history after =
+    (since : List QueueEvent) × (seen : List QueueEvent) × (at : ℕ) × (after ≡ since ++ Held 0 at ∷ (seen ++ history))
+
+-- where nothing is passed on and none was dropped, the queue was found empty (profile)
+abbrev pub WasAsked : ℕ → List QueueEvent → Option (Result Arrival PortFault) → List QueueEvent → Type 0
+WasAsked count history None after = count ≡ 0 → FoundEmpty history after
+WasAsked count history (Some received) after = Unit {0}
+
 -- what is passed on: a datagram that may be answered, or nothing that was taken (profile)
 abbrev pub PassesOn : ℕ → List QueueEvent → Option (Result Arrival PortFault) → List QueueEvent → Type 0
 PassesOn longest history (Some (Ok arrival)) after =
@@ -108,13 +118,14 @@ kept watch reading next_look stale told history =
 abbrev pub Stands : Kept → List QueueEvent → Type 0
 Stands k history = StandsFor k.watch k.reading k.next_look history
 
--- from the queue of the port below were taken so many datagrams that may not be answered, which are dropped, and then what is passed on
--- (profile)
+-- from the queue of the port below were taken so many datagrams that may not be answered, which are dropped, and then what is passed on:
+-- nothing only where some were dropped, or the queue was found empty (profile)
 pub record ReceivesFresh (old new : Kept) (count : ℕ) (history after : List QueueEvent) (result : Option (Result Arrival PortFault)) : Type 0 where
   pub dropped : List Dropped
   pub between : List QueueEvent
   pub stale : AreStale (longest_of old.watch) history dropped between
   pub passed_on : PassesOn (longest_of old.watch) between result after
+  pub asked : WasAsked count between result after
   pub as_many : length dropped ≡ count
   pub seen : IsSeenFrom old.reading new.reading old.history new.history history after
 

@@ -7,11 +7,11 @@ use Rattle.ntp_freshness.specs.declared.fresh_port.Next.TheVariants.{Nothing, Fa
 use Rattle.ntp_freshness.specs.Freshness.{takes, MayBeAnswered, WasLookedAt}
 use Rattle.ntp_freshness.specs.Watch.{longest_of}
 use Rattle.ntp_freshness.specs.Passing.{DropsTurns}
-use Rattle.ntp_freshness.specs.Fresh.{Stands, Take, Dropped, InHand, IsStale, history_before, history_after, AreStale, NothingTaken, counted_on, IsSeenFrom, Kept}
+use Rattle.ntp_freshness.specs.Fresh.{Stands, Take, Dropped, InHand, IsStale, history_before, history_after, AreStale, NothingTaken, FoundEmpty, counted_on, IsSeenFrom, Kept}
 
 -- what was taken
 abbrev pub ComesTo : ℕ → List QueueEvent → Next → List QueueEvent → Type 0
-ComesTo longest history Nothing after = NothingTaken history after
+ComesTo longest history Nothing after = NothingTaken history after × FoundEmpty history after
 ComesTo longest history (Fault fault) after = NothingTaken history after
 ComesTo longest history (Fresh arrival) after =
     (take : Take) × MayBeAnswered longest (history_before take history) take.now × (after ≡ history_after take history)

@@ -112,7 +112,7 @@ impl<P: QueuedPort> FreshPort<P> {
     }
 
     /// Receives a datagram that may be answered, where one comes in time: those that may not be answered, and come before it, are
-    /// dropped and counted. Nothing where none did, or where the queue was swept several times.
+    /// dropped and counted. Nothing where none did, or where the queue was swept several times: so never without a look at it.
     ///
     /// Whatever history the watch stood for, it goes on to stand for one more, with which this is so; and where the other port
     /// tells what it saw, it is just that. Where it tells its turns, what is passed on is its next one, behind as many as were dropped.
@@ -128,7 +128,7 @@ impl<P: QueuedPort> FreshPort<P> {
         ensures fresh { PassesOnFresh (kept self.old.watch self.old.reading self.old.next_look self.old.stale (P.told self.old.port) (P.history self.old.port))
             (kept self.new.watch self.new.reading self.new.next_look self.new.stale (P.told self.new.port) (P.history self.new.port)) result datagram.new }
     {
-        for _ in 0..MOST_SWEEPS {
+        for _sweep in 0..MOST_SWEEPS {
             match self.take_next(datagram) {
                 Next::Nothing => return None,
                 Next::Fault(fault) => return Some(Err(fault)),
@@ -281,7 +281,7 @@ impl<P: QueuedPort> Port for FreshPort<P> {
             (kept self.new.watch self.new.reading self.new.next_look self.new.stale (P.told self.new.port) (P.history self.new.port)) given datagram.new
             × (result ≡ option_map_or (λ received. received) given (Err PortFault.Receive)) }
     {
-        for _ in 0..u64::MAX {
+        for _wait in 0..u64::MAX {
             if let Some(received) = self.receive_fresh(datagram) {
                 return received;
             }

@@ -1,4 +1,4 @@
-use Rattle.std.proofs.Common.{inl, ◌≡◌, ◌≤◌, ◌∷◌, ◌++◌, None, Some, Ok, Err, true, false, refl, sym, ap, subst, ◌∙◌, arith}
+use Rattle.std.proofs.Common.{inl, ◌≡◌, ◌≤◌, [], ◌∷◌, ◌++◌, None, Some, Ok, Err, true, false, refl, sym, ap, subst, ◌∙◌, arith}
 use Rattle.ntp_freshness.specs.declared.queue_event.QueueEvent.TheVariants.{Held, Taken, Read}
 use Rattle.ntp_freshness.specs.Watch.{longest_of}
 use Rattle.ntp_freshness.specs.Freshness.{MayBeAnswered, WasLookedAt, oldest_look}
@@ -30,7 +30,7 @@ returns-in_default-clause-next g c =
                 (g.P.QueuedPort.history c.look.new.self.port) (g.P.QueuedPort.history c.take_in_time-received.new.self)
                 (g.P.QueuedPort.history c.ticks.new.self) None None history known look.seen refl
                 c.in_default.ensures.history c.max-self.ensures c.ticks.ensures.history;
-            comes_to = (Read now ∷ (Held 0 before ∷ look.events), look.quiet, refl);
+            comes_to = ((Read now ∷ (Held 0 before ∷ look.events), look.quiet, refl), (Read now ∷ [], look.events, before, refl));
           };
     }
 

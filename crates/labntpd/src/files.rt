@@ -1,4 +1,4 @@
-//! The commands file, which is held to what was applied of it.
+//! What the daemon reads and writes while it serves, and why that fails: the commands file is held to what was applied of it.
 
 use crate::starting::unread_status;
 use ntp_customer_files::{AdmitFault, MOST_FILE_OCTETS, TEXT_FAULTY, memory_status};

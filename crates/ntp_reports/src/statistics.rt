@@ -111,7 +111,7 @@ pub struct ClockGauges {
     pub root_dispersion: Short,
     /// How far the daemon's clock was from the host's at its last answer, in nanoseconds. `None` where there is none.
     pub offset: Option<i64>,
-    /// Whether the daemon is believed, and why not. `None` where it is not, and it is not known why.
+    /// Whether the daemon is believed, and why not.
     pub belief: Belief,
 }
 
@@ -140,7 +140,7 @@ pub struct Gauges<'a> {
     /// How long a datagram can have waited in the queue at most since the statistics were written last, in nanoseconds. `None` where that is
     /// not known.
     pub queue_wait: Option<u64>,
-    /// Replies that were not sent, since the socket would have waited.
+    /// Replies that were not sent, since the socket would have waited. They count as failed sends too.
     pub send_would_wait: u64,
     /// Times that the queue was swept.
     pub sweeps: u64,

@@ -1,11 +1,11 @@
 //! Customers are served, day and night.
 ghost use Rattle.std.specs.Prelude.{◌≡◌, IfOk};
 
-use crate::command_log::CommandLog;
-use crate::files::{DaemonCommands, HeldCommands, begin_commands};
-use crate::housekeeping::{Begun, Housekeeping, SOCKETS_ROOM};
-use crate::receiving::Patience;
 use crate::starting::{Beginning, Prepared};
+use labntpd_assembly::{
+    Begun, DaemonObserver, HeldCommands, Host, Parts, SOCKETS_ROOM, ServeFault, begin_commands,
+    observer, serve,
+};
 use labntpd_configuration::{ClockSource as ConfiguredClock, Configuration, Listen};
 use labntpd_host::{
     BoundAt, ClockSource, FollowedClock, HostClocks, LONGEST_WAIT, Log, LogForm, QueuedUdp,
@@ -14,9 +14,8 @@ use labntpd_host::{
 };
 use ntp_customer_files::{DONE, IO_FAILED, memory_status, write_status};
 use ntp_freshness::{FreshPort, QueueWatch};
-use ntp_host::{EachMillisecond, UdpPort};
-use ntp_reports::{AnswerLines, Both, Counting, Counts, CustomerCounts};
-use ntp_server::Server;
+use ntp_host::UdpPort;
+use ntp_reports::AnswerLines;
 use std::alloc::Global;
 use std::fs::{self, File};
 use std::io::{self, ErrorKind, LineWriter, Stderr, Write};
@@ -28,26 +27,13 @@ use std::{env, process};
 /// The socket that was handed down, among what this process has open (proc(5)).
 const INHERITED: &str = "/proc/self/fd/3";
 
-/// A server of the daemon.
-pub type Daemon<'a> = Server<
-    DaemonPort<'a>,
-    DaemonCommands<'a, HostRuntime>,
-    ClockSource<'a, &'a HostRuntime>,
-    DaemonObserver<'a>,
-    Global,
->;
-
-// Where its datagrams come from, and who is told what it does.
-type DaemonPort<'a> = FreshPort<
+// Where the datagrams of the daemon come from.
+type UdpQueue<'a> = FreshPort<
     QueuedUdp<'a, UdpPort<&'a HostRuntime>, &'a HostRuntime, HostRuntime>,
 >;
 
-type DaemonObserver<'a> = Counting<
-    Both<
-        Option<AnswerLines<LineWriter<File>>>,
-        Both<CommandLog<'a, Stderr>, Option<CustomerCounts>>,
-    >,
->;
+// Who is told what it does.
+type HostObserver<'a> = DaemonObserver<'a, Stderr, LineWriter<File>>;
 
 /// Serves by what was prepared, for ever. Gives the exit status where that cannot begin; a fault is told in one line on
 /// standard error.
@@ -66,30 +52,28 @@ pub fn serve_status(rt: &HostRuntime, alloc: Global, prepared: Prepared) -> u8 {
         Err(status) => return status,
     };
     let clocks = HostClocks::new();
-    match Parts::open(rt, alloc, &clocks, &configuration, &mut beginning) {
-        Ok(parts) => serve(
-            rt,
-            alloc,
-            &clocks,
-            &configuration,
-            beginning,
-            commands,
-            parts,
-        ),
+    let host = Host {
+        rt,
+        alloc,
+        clocks: &clocks,
+        configuration: &configuration,
+    };
+    match Opened::open(rt, alloc, &clocks, &configuration, &mut beginning) {
+        Ok(opened) => serve_opened(host, beginning, commands, opened),
         Err(status) => status,
     }
 }
 
-// What a server has of its host.
+// What was opened for a server on its host.
 #[derive(Drop)]
-struct Parts<'a> {
-    port: DaemonPort<'a>,
+struct Opened<'a> {
+    port: UdpQueue<'a>,
     bound: BoundAt,
     reference: ClockSource<'a, &'a HostRuntime>,
-    observer: DaemonObserver<'a>,
+    observer: HostObserver<'a>,
 }
 
-impl<'a> Parts<'a> {
+impl<'a> Opened<'a> {
     // Opens the socket first: where another server has its port, nothing of that one's is touched.
     fn open(
         rt: &'a HostRuntime,
@@ -97,8 +81,8 @@ impl<'a> Parts<'a> {
         clocks: &'a HostClocks,
         configuration: &Configuration,
         beginning: &mut Beginning,
-    ) -> Result<Parts<'a>, u8>
-        ensures { IfOk result (λ parts. parts.port.failures ≡ 0) }
+    ) -> Result<Opened<'a>, u8>
+        ensures { IfOk result (λ opened. opened.port.failures ≡ 0) }
     {
         let watch = watch_from_now(rt, clocks, configuration);
         let socket = open_socket(rt, alloc, configuration.listen)?;
@@ -109,7 +93,7 @@ impl<'a> Parts<'a> {
             return Err(memory_status(&mut start_lines(rt)));
         };
         let queued = QueuedUdp::new(socket, bound, rt, clocks, rt, room);
-        Ok(Parts {
+        Ok(Opened {
             port: FreshPort::new(queued, watch),
             bound,
             reference,
@@ -118,18 +102,16 @@ impl<'a> Parts<'a> {
     }
 }
 
-// Serves by what was prepared and opened, and gives the exit status.
-fn serve(
-    rt: &HostRuntime,
-    alloc: Global,
-    clocks: &HostClocks,
-    configuration: &Configuration,
+// Serves for ever by what was prepared and opened, and gives the exit status.
+fn serve_opened<'a>(
+    host: Host<'a, HostRuntime>,
     beginning: Beginning,
-    commands: HeldCommands<'_, HostRuntime>,
-    parts: Parts<'_>,
+    commands: HeldCommands<'a, HostRuntime>,
+    opened: Opened<'a>,
 ) -> u8
-    requires { parts.port.failures ≡ 0 }
+    requires { opened.port.failures ≡ 0 }
 {
+    let rt = host.rt;
     let Beginning {
         loaded,
         customers,
@@ -137,44 +119,25 @@ fn serve(
         ..
     } = beginning;
     let begun = Begun {
-        bound: parts.bound,
-        wanted_buffer: configuration.receive_buffer,
+        bound: opened.bound,
+        wanted_buffer: host.configuration.receive_buffer,
         customers,
         digests,
         form: log_form(rt),
     };
-    let mut patience = match begin(rt, alloc, clocks, configuration, begun) {
-        Ok(housekeeping) => Patience::new(housekeeping),
-        Err(status) => return status,
-    };
-    let mut server: Daemon<'_> = Server {
-        port: parts.port,
-        commands: EachMillisecond::new(commands),
-        applied: 0,
-        reference: parts.reference,
-        observer: parts.observer,
+    let parts = Parts {
+        port: opened.port,
+        commands,
+        reference: opened.reference,
+        observer: opened.observer,
         service: loaded.service,
+        log: rt.stderr(),
     };
-    server.serve_reported(u64::MAX, &mut patience);
-    DONE
-}
-
-// Says that it serves.
-fn begin<'a>(
-    rt: &'a HostRuntime,
-    alloc: Global,
-    clocks: &'a HostClocks,
-    configuration: &'a Configuration,
-    begun: Begun,
-) -> Result<Housekeeping<'a>, u8> {
-    let Ok(mut housekeeping) = Housekeeping::new(rt, alloc, clocks, configuration, begun) else {
-        return Err(memory_status(&mut start_lines(rt)));
-    };
-    if writeln!(rt.stdout(), "serving {}", begun.bound.local).is_err() {
-        return Err(write_status(&mut start_lines(rt)));
+    match serve(host, parts, begun, &mut rt.stdout(), u64::MAX) {
+        Ok(_) => DONE,
+        Err(ServeFault::NoMemory) => memory_status(&mut start_lines(rt)),
+        Err(ServeFault::NotSaid) => write_status(&mut start_lines(rt)),
     }
-    housekeeping.begin();
-    Ok(housekeeping)
 }
 
 // Tells what failed, and gives the exit status.
@@ -198,21 +161,13 @@ fn open_observer<'a>(
     clocks: &'a HostClocks,
     configuration: &Configuration,
     beginning: &mut Beginning,
-) -> Result<DaemonObserver<'a>, u8> {
+) -> Result<HostObserver<'a>, u8> {
     let answers = answers_file(rt, alloc, configuration)?;
     let Ok(log) = Log::new(alloc, rt.stderr(), log_form(rt)) else {
         return Err(memory_status(&mut start_lines(rt)));
     };
-    Ok(Counting {
-        counts: Counts::new(),
-        inner: Both {
-            first: answers,
-            second: Both {
-                first: CommandLog::new(log, clocks, beginning.customers),
-                second: beginning.reports.take(),
-            },
-        },
-    })
+    let reports = beginning.reports.take();
+    Ok(observer(answers, log, clocks, beginning.customers, reports))
 }
 
 /// What is told on standard error before the daemon serves.

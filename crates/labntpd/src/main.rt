@@ -2,18 +2,13 @@
 #![tactic(auto)]
 
 mod assembly;
-mod command_log;
-mod customers_file;
-mod files;
-mod housekeeping;
 mod places;
-mod receiving;
 mod register_faults;
 mod starting;
 
 use assembly::{serve_status, start_lines};
 use clap::error::ErrorKind;
-use files::{begin_commands, is_nearly_full, write_nearly_full};
+use labntpd_assembly::{begin_commands, is_nearly_full, write_nearly_full};
 use labntpd_configuration::Configuration;
 use labntpd_configuration::command_line::{Asked, parse};
 use ntp_customer_files::{DONE, memory_status, unread_status, write_status};

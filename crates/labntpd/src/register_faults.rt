@@ -1,6 +1,6 @@
 //! What is wrong with a register file, and where.
 
-use crate::files::line_without_text;
+use labntpd_assembly::line_without_text;
 use ntp_admin::{refusal_word, words};
 use ntp_customer_files::{LoadFault, MOST_FILE_OCTETS, TEXT_FAULTY, load_status};
 use ntp_events::LineFault;

@@ -2,14 +2,13 @@
 
 use crate::places::{judge_places, tell_readers};
 use crate::register_faults::register_status;
+use labntpd_assembly::unread_status;
 use labntpd_configuration::{
     ClockDaemon, ClockSource, Configuration, ConfigurationFault, key_in_file, read_configuration,
 };
 use labntpd_host::StartLines;
 use ntp_clock::{ClockLimits, Follower};
-use ntp_customer_files::{
-    IO_FAILED, Loaded, MOST_FILE_OCTETS, TEXT_FAULTY, load_register, memory_status,
-};
+use ntp_customer_files::{Loaded, MOST_FILE_OCTETS, TEXT_FAULTY, load_register, memory_status};
 use ntp_events::Command;
 use ntp_host::read_regular_file;
 use ntp_register_file::read_register;
@@ -18,7 +17,7 @@ use ntp_time::Short;
 use sha2::{Digest, Sha256};
 use std::alloc::Global;
 use std::fs::Files;
-use std::io::{self, ErrorKind, Write};
+use std::io::Write;
 
 /// How many octets a configuration file and a key file have at most (profile).
 const MOST_SMALL_FILE_OCTETS: u32 = 65_536;
@@ -170,13 +169,4 @@ fn small_text<R: Files, F: Write>(
             Err(TEXT_FAULTY)
         }
     }
-}
-
-/// Tells that a file could not be read, and gives the exit status.
-pub fn unread_status<F: Write>(path: &str, error: &io::Error, faults: &mut F) -> u8 {
-    if error.kind() == ErrorKind::OutOfMemory {
-        return memory_status(faults);
-    }
-    let _ = writeln!(faults, "{path}: {error}");
-    IO_FAILED
 }

@@ -1,25 +1,25 @@
 //! What the daemon does beside serving: statistics, the customers file and its log.
 
-use crate::assembly::Daemon;
+use crate::clock_told::{DaemonClock, is_synchronised};
 use crate::customers_file::CustomersFile;
 use crate::files::{FileFault, is_nearly_full, write_nearly_full};
+use crate::parts::{Daemon, DaemonPort, Host};
 use labntpd_configuration::Configuration;
 use labntpd_configuration::command_line::VERSION;
-use labntpd_host::{
-    BoundAt, ClockSource, HostClocks, Log, LogForm, Priority, queue_state, replace_file,
-};
-use ntp_clock::{ClockAnswer, Doubt, Reading, reference_unsynchronised};
+use labntpd_host::{BoundAt, HostClocks, Log, LogForm, Priority, queue_state, replace_file};
+use ntp_clock::{Reading, reference_unsynchronised};
 use ntp_customer_files::AdmitFault;
 use ntp_host::moment_now;
 use ntp_reply::Reference;
 use ntp_reports::{
-    Ask, Belief, ClockGauges, Counts, FileGauges, Gauges, Kind, LineAllowance, write_statistics,
+    Ask, ClockGauges, Counts, FileGauges, Gauges, Kind, LineAllowance, write_statistics,
 };
 use ntp_server::Reporter;
 use ntp_time::Moment;
-use std::alloc::{AllocError, Global};
-use std::io::{self, Stderr, Write};
-use std::time::{SystemTime, UNIX_EPOCH};
+use std::alloc::AllocError;
+use std::fs::Files;
+use std::io::{self, Write};
+use std::time::{Clock, SystemTime, UNIX_EPOCH};
 
 /// A second, a minute's seconds, and how many seconds lie between two writings of the statistics and between two totals (profile).
 const SECOND_NANOS: u64 = 1_000_000_000;
@@ -38,19 +38,17 @@ const PIECE_PERIOD: u64 = 10_000_000;
 
 const IDLE_PIECE: usize = 1_024;
 
-/// The leap indicator of an unsynchronised clock (RFC 5905, 7.3).
-const UNSYNCHRONISED_LEAP: u8 = 3;
-
 /// The leap indicator where no leap second is announced (RFC 5905, 7.3).
 const NO_LEAP: u8 = 0;
 
 /// After how many seconds a clock's daemon that has not answered yet is told as such (profile).
 const CLOCK_PATIENCE: u64 = 2;
 
-/// How much room the statistics have, and a part of the kernel's list of sockets, in octets.
+/// How much room the statistics have, in octets.
 const STATISTICS_ROOM: usize = 16_384;
 
-pub(crate) const SOCKETS_ROOM: usize = 65_536;
+/// How much room a part of the kernel's list of sockets has, in octets.
+pub const SOCKETS_ROOM: usize = 65_536;
 
 /// What is known of a daemon when it begins to serve.
 #[derive(Clone, Copy)]
@@ -99,15 +97,15 @@ struct StatisticsFile<'a> {
 
 impl<'a> StatisticsFile<'a> {
     // Replaces the statistics by these.
-    fn replace(
+    fn replace<R: Files>(
         &mut self,
-        rt: &HostRuntime,
+        files: &R,
         counts: &Counts,
         gauges: &Gauges<'_>,
     ) -> io::Result<()> {
         self.text.clear();
         write_statistics(&mut self.text, counts, gauges)?;
-        replace_file(rt, self.beside.as_str(), self.path, &self.text)
+        replace_file(files, self.beside.as_str(), self.path, &self.text)
     }
 }
 
@@ -131,14 +129,14 @@ struct Allowances {
 
 /// Writes statistics, customers and the log, once a second at most; a large customers file in pieces.
 #[derive(Drop)]
-pub struct Housekeeping<'a> {
-    rt: &'a HostRuntime,
+pub struct Housekeeping<'a, R: Files + Clock, L: Write + Drop> {
+    rt: &'a R,
     clocks: &'a HostClocks,
     configuration: &'a Configuration,
-    log: Log<Stderr>,
+    log: Log<L>,
     allowances: Allowances,
     statistics: Option<StatisticsFile<'a>>,
-    customers: Option<CustomersFile<'a>>,
+    customers: Option<CustomersFile<'a, R>>,
     // What the monotonic clock shows when the next piece of that file may be written beside datagrams.
     piece_due: u64,
     sockets: Vec<u8>,
@@ -164,15 +162,19 @@ pub struct Housekeeping<'a> {
     unreadable: u64,
 }
 
-impl<'a> Housekeeping<'a> {
-    /// What is done beside a server that begins now. The room for its texts is taken from `alloc` here, and none later.
+impl<'a, R: Files + Clock, L: Write + Drop> Housekeeping<'a, R, L> {
+    /// What is done beside a server that begins now, and logged to `log`. The room for its texts is taken here, and none later.
     pub fn new(
-        rt: &'a HostRuntime,
-        alloc: Global,
-        clocks: &'a HostClocks,
-        configuration: &'a Configuration,
+        host: Host<'a, R>,
+        log: L,
         begun: Begun,
-    ) -> Result<Housekeeping<'a>, AllocError> {
+    ) -> Result<Housekeeping<'a, R, L>, AllocError> {
+        let Host {
+            rt,
+            alloc,
+            clocks,
+            configuration,
+        } = host;
         let statistics = match &configuration.statistics {
             None => None,
             Some(path) => Some(StatisticsFile {
@@ -183,13 +185,13 @@ impl<'a> Housekeeping<'a> {
         };
         let customers = match &configuration.customers {
             None => None,
-            Some(path) => Some(CustomersFile::new(alloc, path.as_str())?),
+            Some(path) => Some(CustomersFile::new(rt, alloc, path.as_str())?),
         };
         Ok(Housekeeping {
             rt,
             clocks,
             configuration,
-            log: Log::new(alloc, rt.stderr(), begun.form)?,
+            log: Log::new(alloc, log, begun.form)?,
             allowances: Allowances {
                 clock: LineAllowance::new(),
                 stale: LineAllowance::new(),
@@ -257,14 +259,18 @@ impl<'a> Housekeeping<'a> {
     }
 
     // What is done once a second.
-    fn each_second(&mut self, server: &Daemon<'_>) {
+    fn each_second<P: DaemonPort, S: DaemonClock, W: Write + Drop>(
+        &mut self,
+        server: &Daemon<'_, P, R, S, L, W>,
+    ) {
         let (rt, clocks) = (self.rt, self.clocks);
         let now = Reading {
             clock: moment_now(rt),
-            ticks: clocks.read(&rt),
+            ticks: clocks.read(rt),
         };
         let state = server.reference.state(now);
-        if is_clock_known(&server.reference, self.seconds) {
+        // A clock's daemon that was just asked may not have answered yet.
+        if server.reference.has_answered() || self.seconds >= CLOCK_PATIENCE {
             self.tell_clock(&state);
         }
         self.tell_stale(server.port.stale());
@@ -273,7 +279,7 @@ impl<'a> Housekeeping<'a> {
         self.tell_files(server);
         if self.seconds >= self.statistics_due {
             self.statistics_due = self.seconds.saturating_add(STATISTICS_PERIOD);
-            self.write_statistics(server, clock_gauges(&server.reference, &state, now));
+            self.write_statistics(server, server.reference.gauges(&state, now));
         }
         if self.seconds >= self.totals_due {
             self.totals_due = self.seconds.saturating_add(TOTALS_PERIOD);
@@ -385,7 +391,10 @@ impl<'a> Housekeeping<'a> {
     }
 
     // Looks at each file, and logs what is wrong from now on, or is no longer.
-    fn tell_files(&mut self, server: &Daemon<'_>) {
+    fn tell_files<P: DaemonPort, S: DaemonClock, W: Write + Drop>(
+        &mut self,
+        server: &Daemon<'_, P, R, S, L, W>,
+    ) {
         let commands = server.commands.inner();
         let fault = FileFault::of_commands(commands);
         self.see(Watched::Commands, fault);
@@ -456,34 +465,45 @@ impl<'a> Housekeeping<'a> {
     }
 
     // Begins to write the customers, where it is time to, and sees whether that goes well.
-    fn begin_customers(&mut self, server: &Daemon<'_>) {
-        let (rt, seconds) = (self.rt, self.seconds);
+    fn begin_customers<P: DaemonPort, S: DaemonClock, W: Write + Drop>(
+        &mut self,
+        server: &Daemon<'_, P, R, S, L, W>,
+    ) {
+        let seconds = self.seconds;
         let done = server.observer.counts.count(Kind::Done);
         let Some(customers) = &mut self.customers else {
             return;
         };
-        let fault = customers.begin_in_time(rt, seconds, done);
+        let fault = customers.begin_in_time(seconds, done);
         self.see(Watched::Customers, fault);
     }
 
     // Goes on to write the customers, where that was begun: few of them beside datagrams, and more while none comes.
-    fn write_customers(&mut self, server: &Daemon<'_>, ticks: u64, receipt: Option<Moment>) {
+    fn write_customers<P: DaemonPort, S: DaemonClock, W: Write + Drop>(
+        &mut self,
+        server: &Daemon<'_, P, R, S, L, W>,
+        ticks: u64,
+        receipt: Option<Moment>,
+    ) {
         if receipt.is_some() && ticks < self.piece_due {
             return;
         }
         self.piece_due = ticks.saturating_add(PIECE_PERIOD);
         let piece = if receipt.is_none() { IDLE_PIECE } else { PIECE };
-        let rt = self.rt;
         let Some(reports) = &server.observer.inner.second.second else {
             return;
         };
         if let Some(file) = &mut self.customers {
-            file.go_on(rt, reports, &server.service, piece);
+            file.go_on(reports, &server.service, piece);
         }
     }
 
     // Keeps how long a datagram can have waited, where one was taken and that is longer than what is kept.
-    fn see_wait(&mut self, server: &Daemon<'_>, receipt: Option<Moment>) {
+    fn see_wait<P: DaemonPort, S: DaemonClock, W: Write + Drop>(
+        &mut self,
+        server: &Daemon<'_, P, R, S, L, W>,
+        receipt: Option<Moment>,
+    ) {
         let stale = server.port.stale();
         if receipt.is_some() || stale != self.stale {
             self.queue_wait = match (self.queue_wait, server.port.waited()) {
@@ -495,7 +515,11 @@ impl<'a> Housekeeping<'a> {
     }
 
     // Writes the statistics, where there is a file for them.
-    fn write_statistics(&mut self, server: &Daemon<'_>, clock: ClockGauges) {
+    fn write_statistics<P: DaemonPort, S: DaemonClock, W: Write + Drop>(
+        &mut self,
+        server: &Daemon<'_, P, R, S, L, W>,
+        clock: ClockGauges,
+    ) {
         if let Some(state) = queue_state(self.rt, self.begun.bound.local, &mut self.sockets) {
             self.drops = state.drops;
         }
@@ -531,7 +555,10 @@ impl<'a> Housekeeping<'a> {
     }
 
     // Logs what was done so far.
-    fn tell_totals(&mut self, server: &Daemon<'_>) {
+    fn tell_totals<P: DaemonPort, S: DaemonClock, W: Write + Drop>(
+        &mut self,
+        server: &Daemon<'_, P, R, S, L, W>,
+    ) {
         let counts = &server.observer.counts;
         let time = counts
             .count(Kind::Basic)
@@ -549,8 +576,16 @@ impl<'a> Housekeeping<'a> {
     }
 }
 
-impl<'a, 'b> Reporter<Daemon<'b>> for Housekeeping<'a> {
-    fn report(&mut self, server: &Daemon<'b>, receipt: Option<Moment>) {
+impl<
+    'a,
+    'b,
+    P: DaemonPort,
+    R: Files + Clock,
+    S: DaemonClock,
+    L: Write + Drop,
+    W: Write + Drop,
+> Reporter<Daemon<'b, P, R, S, L, W>> for Housekeeping<'a, R, L> {
+    fn report(&mut self, server: &Daemon<'b, P, R, S, L, W>, receipt: Option<Moment>) {
         let ticks = self.clocks.ticks.get();
         self.see_wait(server, receipt);
         self.write_customers(server, ticks, receipt);
@@ -631,41 +666,6 @@ fn may_say(allowance: &mut LineAllowance, seconds: u64) -> bool {
     allowance.has_room(minute) && allowance.ask(minute) != Ask::Hold
 }
 
-// Whether the state of the clock can be told after so many seconds. A daemon that was just asked may not have answered yet.
-fn is_clock_known(source: &ClockSource<'_, &HostRuntime>, seconds: u64) -> bool {
-    match source {
-        ClockSource::Fixed(_) => true,
-        ClockSource::Followed(followed) => followed.has_answered() || seconds >= CLOCK_PATIENCE,
-    }
-}
-
-// What is told of the clock in the statistics, where replies tell a state.
-fn clock_gauges(
-    source: &ClockSource<'_, &HostRuntime>,
-    state: &Reference,
-    now: Reading,
-) -> ClockGauges {
-    let age = match source {
-        ClockSource::Fixed(_) => None,
-        ClockSource::Followed(followed) => followed.follower().age(now.ticks),
-    };
-    ClockGauges {
-        is_synchronised: is_synchronised(state),
-        age,
-        stratum: state.stratum(),
-        leap: state.leap(),
-        root_delay: state.root_delay(),
-        root_dispersion: state.root_dispersion(),
-        offset: offset_of(source),
-        belief: belief_in(source, now),
-    }
-}
-
-// Whether a state is that of a synchronised clock.
-fn is_synchronised(state: &Reference) -> bool {
-    state.leap() != UNSYNCHRONISED_LEAP
-}
-
 // Whether a state that was told is that of a synchronised clock with the stratum and the reference of another one.
 fn is_told_as(told: &Reference, state: &Reference) -> bool {
     is_synchronised(told) && told.stratum() == state.stratum() && told.id() == state.id()
@@ -680,43 +680,6 @@ fn leap_word(leap: u8) -> &'static str {
     }
 }
 
-// How far the clock's daemon was from the host's clock at its last answer, in nanoseconds.
-fn offset_of(source: &ClockSource<'_, &HostRuntime>) -> Option<i64> {
-    let ClockSource::Followed(followed) = source else {
-        return None;
-    };
-    followed.follower().learned().map(offset_nanos)
-}
-
-// The offset of an answer, which it has twice, in units of 2^-32 seconds.
-fn offset_nanos(answer: &ClockAnswer) -> i64 {
-    let nanos = answer.offset_twice.saturating_mul(i128::from(SECOND_NANOS)) / (1 << 33);
-    let farthest = if nanos < 0 { i64::MIN } else { i64::MAX };
-    i64::try_from(nanos).unwrap_or(farthest)
-}
-
-// Whether the clock's daemon is believed, and else why not.
-fn belief_in(source: &ClockSource<'_, &HostRuntime>, now: Reading) -> Belief {
-    let ClockSource::Followed(followed) = source else {
-        return Belief::Fixed;
-    };
-    let follower = followed.follower();
-    match follower.doubt(now) {
-        Some(Doubt::Old) => Belief::Old,
-        Some(Doubt::Unsynchronised) => Belief::Unsynchronised,
-        Some(Doubt::ReferenceOld) => Belief::ReferenceOld,
-        Some(Doubt::ReferenceAhead) => Belief::ReferenceAhead,
-        Some(Doubt::Far) => Belief::Far,
-        Some(Doubt::Set) => Belief::Set,
-        None if follower.learned().is_some() => Belief::Believed,
-        // What an answer had told is forgotten where a later one says that its clock is not synchronised, and where none of them shows an
-        // update since the host's clock was set.
-        None if followed.is_unsynchronised() => Belief::Unsynchronised,
-        None if followed.has_answered() => Belief::Set,
-        None => Belief::NoAnswer,
-    }
-}
-
 // Writes a digest in hexadecimal digits.
 fn write_digest(line: &mut Vec<u8>, digest: &[u8; 32]) {
     for octet in digest {
@@ -725,8 +688,8 @@ fn write_digest(line: &mut Vec<u8>, digest: &[u8; 32]) {
 }
 
 // The time of the host's clock, in nanoseconds since 1970; 0 where it cannot be read.
-fn nanos_since_1970(rt: &HostRuntime) -> u64 {
-    let Ok(now) = SystemTime::now(rt) else {
+fn nanos_since_1970<C: Clock>(clock: &C) -> u64 {
+    let Ok(now) = SystemTime::now(clock) else {
         return 0;
     };
     let Ok(since) = now.duration_since(UNIX_EPOCH) else {

@@ -5,7 +5,7 @@ use labntpd_host::new_file;
 use ntp_reports::{CustomerCounts, customer_line};
 use ntp_service_run::Service;
 use std::alloc::{AllocError, Global};
-use std::fs::{self, File};
+use std::fs::{self, Files};
 use std::io::{self, Write};
 
 /// How many seconds lie between two writings where nothing changed (profile).
@@ -16,31 +16,37 @@ const PATIENCE: u64 = 10;
 
 // A file that is being written, and how many customers were written of.
 #[derive(Drop)]
-struct Writing {
-    file: File,
+struct Writing<F: Drop> {
+    file: F,
     customers: usize,
 }
 
 /// Writes the customers file: it is replaced as a whole when a command was carried out, and each minute. Each piece of it has the
 /// customers as they are when it is written.
 #[derive(Drop)]
-pub struct CustomersFile<'a> {
+pub struct CustomersFile<'a, R: Files> {
+    files: &'a R,
     path: &'a str,
     // The path of the file beside it in which it is written.
     beside: String,
     alloc: Global,
     text: Vec<u8>,
-    writing: Option<Writing>,
+    writing: Option<Writing<R::File>>,
     // After how many seconds it is written again, whatever happens, and how many commands were carried out when it was begun last.
     due: u64,
     done: u64,
     fault: Option<FileFault>,
 }
 
-impl<'a> CustomersFile<'a> {
+impl<'a, R: Files> CustomersFile<'a, R> {
     /// The file at a path, which is due at once. It takes memory for its text from `alloc`.
-    pub fn new(alloc: Global, path: &'a str) -> Result<CustomersFile<'a>, AllocError> {
+    pub fn new(
+        files: &'a R,
+        alloc: Global,
+        path: &'a str,
+    ) -> Result<CustomersFile<'a, R>, AllocError> {
         Ok(CustomersFile {
+            files,
             path,
             beside: format!(in alloc; "{path}.new")?,
             alloc,
@@ -54,17 +60,12 @@ impl<'a> CustomersFile<'a> {
 
     /// Begins to write it where that is due after so many seconds, or where another number of commands was carried out. Gives what is wrong
     /// with it by now, if anything.
-    pub fn begin_in_time(
-        &mut self,
-        rt: &HostRuntime,
-        seconds: u64,
-        done: u64,
-    ) -> Option<FileFault> {
+    pub fn begin_in_time(&mut self, seconds: u64, done: u64) -> Option<FileFault> {
         if self.writing.is_some() || (seconds < self.due && done == self.done) {
             return self.fault;
         }
         self.done = done;
-        match new_file(rt, self.beside.as_str()) {
+        match new_file(self.files, self.beside.as_str()) {
             Ok(file) => {
                 self.due = seconds.saturating_add(PERIOD);
                 self.writing = Some(Writing { file, customers: 0 });
@@ -78,13 +79,7 @@ impl<'a> CustomersFile<'a> {
     }
 
     /// Writes the next piece, of so many customers, where it was begun.
-    pub fn go_on(
-        &mut self,
-        rt: &HostRuntime,
-        counts: &CustomerCounts,
-        service: &Service,
-        piece: usize,
-    ) {
+    pub fn go_on(&mut self, counts: &CustomerCounts, service: &Service, piece: usize) {
         let Some(mut writing) = self.writing.take() else {
             return;
         };
@@ -94,7 +89,7 @@ impl<'a> CustomersFile<'a> {
             return;
         }
         drop(writing);
-        self.fault = match self.replace(rt, written) {
+        self.fault = match self.replace(written) {
             Err(error) => Some(FileFault::Unwritten(error)),
             Ok(()) if counts.has_missed() => Some(FileFault::Incomplete),
             Ok(()) => None,
@@ -102,15 +97,15 @@ impl<'a> CustomersFile<'a> {
     }
 
     // Gives what was written the name of the customers file, where that went well.
-    fn replace(&self, rt: &HostRuntime, written: io::Result<()>) -> io::Result<()> {
+    fn replace(&self, written: io::Result<()>) -> io::Result<()> {
         written?;
-        fs::rename(rt, self.beside.as_str(), self.path)
+        fs::rename(self.files, self.beside.as_str(), self.path)
     }
 
     // Writes of the next customers.
     fn write_piece(
         &mut self,
-        writing: &mut Writing,
+        writing: &mut Writing<R::File>,
         counts: &CustomerCounts,
         service: &Service,
         piece: usize,

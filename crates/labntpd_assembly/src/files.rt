@@ -1,13 +1,12 @@
 //! What the daemon reads and writes while it serves, and why that fails: the commands file is held to what was applied of it.
 
-use crate::starting::unread_status;
-use ntp_customer_files::{AdmitFault, MOST_FILE_OCTETS, TEXT_FAULTY, memory_status};
+use ntp_customer_files::{AdmitFault, IO_FAILED, MOST_FILE_OCTETS, TEXT_FAULTY, memory_status};
 use ntp_host::{CommandsFile, EachMillisecond};
 use ntp_server::AdmittedCommands;
 use std::alloc::Global;
 use std::fmt;
 use std::fs::Files;
-use std::io::{self, Write};
+use std::io::{self, ErrorKind, Write};
 
 /// From how many octets on a commands file is told to be nearly full: 80 in 100 of the most (profile).
 const NEARLY_FULL_OCTETS: usize = 838_860;
@@ -132,4 +131,13 @@ pub fn line_without_text(octets: &[u8]) -> u64 {
     };
     let line_feeds = octets.iter().take(valid).filter(|octet| **octet == b'\n');
     line_feeds.count() as u64 + 1
+}
+
+/// Tells that a file could not be read, and gives the exit status.
+pub fn unread_status<F: Write>(path: &str, error: &io::Error, faults: &mut F) -> u8 {
+    if error.kind() == ErrorKind::OutOfMemory {
+        return memory_status(faults);
+    }
+    let _ = writeln!(faults, "{path}: {error}");
+    IO_FAILED
 }

@@ -1,11 +1,15 @@
 //! What is done where no datagram can be received.
 
-use crate::assembly::Daemon;
+use crate::clock_told::DaemonClock;
 use crate::housekeeping::Housekeeping;
+use crate::parts::{Daemon, DaemonPort};
 use labntpd_host::pause;
 use ntp_reports::Kind;
 use ntp_server::Reporter;
 use ntp_time::Moment;
+use std::fs::Files;
+use std::io::Write;
+use std::time::Clock;
 
 /// How many receives fail one after another before each is followed by a pause (profile).
 const MOST_IN_A_ROW: u64 = 100;
@@ -16,16 +20,16 @@ const PAUSE_MILLISECONDS: i32 = 30;
 /// Does what is done beside a server; and where receives fail again and again, as at a socket that somebody has shut down, it tells so
 /// and pauses after each, so that they do not take a whole processor.
 #[derive(Drop)]
-pub struct Patience<'a> {
-    housekeeping: Housekeeping<'a>,
+pub struct Patience<'a, R: Files + Clock, L: Write + Drop> {
+    housekeeping: Housekeeping<'a, R, L>,
     // How many receives had failed when it was shown the server last, and how many of these one after another.
     failed: u64,
     in_a_row: u64,
 }
 
-impl<'a> Patience<'a> {
+impl<'a, R: Files + Clock, L: Write + Drop> Patience<'a, R, L> {
     /// Beside a server of which no receive has failed.
-    pub fn new(housekeeping: Housekeeping<'a>) -> Patience<'a> {
+    pub fn new(housekeeping: Housekeeping<'a, R, L>) -> Patience<'a, R, L> {
         Patience {
             housekeeping,
             failed: 0,
@@ -34,8 +38,16 @@ impl<'a> Patience<'a> {
     }
 }
 
-impl<'a, 'b> Reporter<Daemon<'b>> for Patience<'a> {
-    fn report(&mut self, server: &Daemon<'b>, receipt: Option<Moment>) {
+impl<
+    'a,
+    'b,
+    P: DaemonPort,
+    R: Files + Clock,
+    S: DaemonClock,
+    L: Write + Drop,
+    W: Write + Drop,
+> Reporter<Daemon<'b, P, R, S, L, W>> for Patience<'a, R, L> {
+    fn report(&mut self, server: &Daemon<'b, P, R, S, L, W>, receipt: Option<Moment>) {
         let failed = server.observer.counts.count(Kind::NothingReceived);
         self.in_a_row = if failed == self.failed {
             0

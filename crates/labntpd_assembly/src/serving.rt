@@ -1,0 +1,83 @@
+//! A daemon is put together, and serves.
+ghost use Rattle.std.specs.Prelude.{◌≡◌, IfOk};
+ghost use Rattle.labntpd_assembly.specs.Assembled.{ServesFromStart};
+
+use crate::clock_told::DaemonClock;
+use crate::housekeeping::{Begun, Housekeeping};
+use crate::parts::{Daemon, DaemonPort, Host, Parts};
+use crate::receiving::Patience;
+use ntp_host::EachMillisecond;
+use ntp_server::Server;
+use std::fs::Files;
+use std::io::Write;
+use std::time::Clock;
+
+/// Why a daemon did not begin to serve.
+#[derive(Clone, Copy, Debug, PartialEq, Eq)]
+pub enum ServeFault {
+    /// There was no memory for what it does beside serving.
+    NoMemory,
+    /// It could not say that it serves.
+    NotSaid,
+}
+
+/// Puts a daemon together out of its parts, says on `out` that it serves, and serves for so many turns, with all that it does beside
+/// it. Gives the daemon as it is then.
+///
+/// It makes the rounds of `serve_reported`, from the service of the parts on, with no line of the commands file applied before. Of what
+/// the other parts tell this says nothing.
+pub fn serve<'a, P, R, S, L, W, N>(
+    host: Host<'a, R>,
+    parts: Parts<'a, P, R, S, L, W>,
+    begun: Begun,
+    out: &mut N,
+    turns: u64,
+) -> Result<Daemon<'a, P, R, S, L, W>, ServeFault>
+where
+    P: DaemonPort + Drop,
+    R: Files + Clock,
+    S: DaemonClock + Drop,
+    L: Write + Drop,
+    W: Write + Drop,
+    N: Write,
+    requires { parts.port.failures ≡ 0 }
+    ensures { IfOk result (λ daemon. ServesFromStart turns parts.entry.service daemon.service daemon.applied) }
+{
+    let Parts {
+        port,
+        commands,
+        reference,
+        observer,
+        service,
+        log,
+    } = parts;
+    let housekeeping = begin(host, log, begun, out)?;
+    let mut patience = Patience::new(housekeeping);
+    let mut server = Server {
+        port,
+        commands: EachMillisecond::new(commands),
+        applied: 0,
+        reference,
+        observer,
+        service,
+    };
+    server.serve_reported(turns, &mut patience);
+    Ok(server)
+}
+
+// Says that it serves.
+fn begin<'a, R: Files + Clock, L: Write + Drop, N: Write>(
+    host: Host<'a, R>,
+    log: L,
+    begun: Begun,
+    out: &mut N,
+) -> Result<Housekeeping<'a, R, L>, ServeFault> {
+    let Ok(mut housekeeping) = Housekeeping::new(host, log, begun) else {
+        return Err(ServeFault::NoMemory);
+    };
+    if writeln!(out, "serving {}", begun.bound.local).is_err() {
+        return Err(ServeFault::NotSaid);
+    }
+    housekeeping.begin();
+    Ok(housekeeping)
+}

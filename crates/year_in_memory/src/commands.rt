@@ -1,0 +1,32 @@
+//! The lines that are appended to the commands file in the year, each with its day.
+
+/// Lines that are done, refused, faulty and passed over. The keys are `key`, `other`, `clock`, `newer` and `last`.
+pub const LINES: [(u16, &str); 27] = [
+    (0, "# the customers of a year"),
+    (0, "enrol 192.0.2.10 7 md5 6b6579 10"),
+    (0, "enrol 192.0.2.20 8 sha1 6f74686572 3"),
+    (1, "enrol 192.0.2.10 9 md5 6b6579 10"),
+    (1, "enrol 192.0.2.40 7 md5 6b6579 10"),
+    (2, "enrol 192.0.2.40 0 md5 6b6579 10"),
+    (2, "enrol 192.0.2.256 40 md5 6b6579 10"),
+    (10, "budget 192.0.2.20 4"),
+    (11, "budget 192.0.2.50 4"),
+    (20, "budget 192.0.2.20 5"),
+    (21, "budget 192.0.2.20 0"),
+    (30, "enrol 192.0.2.30 30 md5 636c6f636b 10"),
+    (31, "retire 192.0.2.30 30"),
+    (100, "rollover 192.0.2.30 31 sha1 6e65776572"),
+    (101, "rollover 192.0.2.30 31 sha1 6e65776572"),
+    (102, "rollover 192.0.2.30 33 sha1 6e65776572"),
+    (103, "retire 192.0.2.30 99"),
+    (104, "retire 192.0.2.30"),
+    (105, ""),
+    (120, "retire 192.0.2.30 30"),
+    (150, "budget 192.0.2.20 3"),
+    (199, "remove 192.0.2.30"),
+    (200, "revoke 192.0.2.30"),
+    (201, "revoke 192.0.2.30"),
+    (250, "enrol 192.0.2.30 32 md5 6c617374 10"),
+    (300, "rollover 192.0.2.10 70 sha256 6b6579"),
+    (301, "rollover 192.0.2.10 70 sha1 6b6"),
+];

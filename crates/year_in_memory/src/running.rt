@@ -1,0 +1,170 @@
+//! The assembly of the daemon, run over parts in memory.
+
+use crate::files::{ANSWERS, COMMANDS, Disk, LOG, MemoryFile};
+use crate::host::MemoryHost;
+use crate::judging::Expected;
+use crate::queue::YearQueue;
+use crate::script::{DueLine, Script};
+use labntpd_assembly::{
+    Begun, DaemonObserver, HeldCommands, Host, Parts, begin_commands, observer, serve,
+};
+use labntpd_configuration::{Configuration, read_configuration};
+use labntpd_host::{BoundAt, ClockSource, HostClocks, Log, LogForm, emptied_file};
+use ntp_freshness::{FreshPort, MemoryQueue, QueueWatch};
+use ntp_reply::Reference;
+use ntp_reports::{AnswerLines, Counts, CustomerCounts};
+use ntp_service_run::Service;
+use ntp_service_serve::{MemoryPort, Port};
+use std::alloc::Global;
+use std::cell::Cell;
+use std::io::LineWriter;
+use std::net::{Ipv4Addr, SocketAddrV4};
+use std::test::Fail;
+
+/// The configuration of the daemon. What it names of the host beside files is not there.
+const CONFIGURATION: &str = "listen = \"192.0.2.1:123\"\n\
+    register = \"/register.toml\"\n\
+    commands = \"/commands\"\n\
+    answers = \"/answers\"\n\
+    statistics = \"/statistics\"\n\
+    customers = \"/customers\"\n\
+    [clock]\n\
+    source = \"fixed\"\n";
+
+/// What is found when the script is over.
+#[derive(Drop)]
+pub struct Found {
+    /// Whether just the expected replies were sent.
+    pub are_replies_right: bool,
+    /// What was counted.
+    pub counts: Counts,
+    /// How many datagrams were dropped as stale.
+    pub stale: u64,
+    /// How many lines of commands were applied.
+    pub applied: u64,
+}
+
+// The parts of the daemon.
+type YearParts<'a, 'd> = Parts<
+    'a,
+    YearQueue<'a, 'd>,
+    MemoryHost<'d>,
+    ClockSource<'a, &'a MemoryHost<'d>>,
+    MemoryFile<'d>,
+    LineWriter<MemoryFile<'d>>,
+>;
+
+/// Runs the assembly of the daemon by a script, on a disk with no file, and tells what is found then.
+pub fn run(alloc: Global, disk: &Disk, script: Script, expected: &Expected) -> Result<Found, Fail> {
+    let memory_host = MemoryHost {
+        disk,
+        nanos: Cell::new(0),
+    };
+    disk.made(COMMANDS)?;
+    let clocks = HostClocks::new();
+    let Ok(configuration) = read_configuration(alloc, CONFIGURATION) else {
+        return Err(Fail::new("the configuration cannot be read"));
+    };
+    let Script {
+        reference,
+        turns,
+        due,
+        readings,
+        lines,
+        ..
+    } = script;
+    let count = readings.len();
+    let memory = MemoryPort::new(alloc, turns)?;
+    let queue = MemoryQueue::new(alloc, memory, due, readings, 0)?;
+    let host = Host {
+        rt: &memory_host,
+        alloc,
+        clocks: &clocks,
+        configuration: &configuration,
+    };
+    judged(host, &lines, queue, count, reference, expected)
+}
+
+// What is found when the script is over.
+fn judged<'a, 'd>(
+    host: Host<'a, MemoryHost<'d>>,
+    lines: &'a [DueLine],
+    queue: MemoryQueue,
+    readings: usize,
+    reference: Reference,
+    expected: &Expected,
+) -> Result<Found, Fail> {
+    let queue = YearQueue::new(queue, host.rt, host.clocks, lines, readings);
+    let parts = year_parts(&host, queue, reference)?;
+    if parts.port.failures() != 0 {
+        return Err(Fail::new("a call has failed by now"));
+    }
+    let begun = known_at_start(host.configuration.receive_buffer);
+    let mut said = Vec::new(host.alloc);
+    let Ok(daemon) = serve(host, parts, begun, &mut said, expected.turns) else {
+        return Err(Fail::new("the daemon does not begin to serve"));
+    };
+    Ok(Found {
+        are_replies_right: expected.are_sent(daemon.port.port().sent()),
+        counts: daemon.observer.counts,
+        stale: daemon.port.stale(),
+        applied: daemon.applied,
+    })
+}
+
+// The parts of the daemon, over a queue.
+fn year_parts<'a, 'd>(
+    host: &Host<'a, MemoryHost<'d>>,
+    queue: YearQueue<'a, 'd>,
+    reference: Reference,
+) -> Result<YearParts<'a, 'd>, Fail> {
+    let watch = QueueWatch::new(host.configuration.longest_wait);
+    Ok(Parts {
+        port: FreshPort::new(queue, watch),
+        commands: commands(host.alloc, host.rt, host.configuration)?,
+        reference: ClockSource::Fixed(reference),
+        observer: year_observer(host.alloc, host.rt, host.clocks)?,
+        service: Service::new(host.alloc),
+        log: emptied_file(host.rt, LOG)?,
+    })
+}
+
+// What is known of the daemon when it begins.
+fn known_at_start(wanted_buffer: u32) -> Begun {
+    Begun {
+        bound: BoundAt {
+            local: SocketAddrV4::new(Ipv4Addr::new(192, 0, 2, 1), 123),
+            buffer: 0,
+        },
+        wanted_buffer,
+        customers: 0,
+        digests: [[0; 32]; 2],
+        form: LogForm::Plain,
+    }
+}
+
+// The commands file, which is empty.
+fn commands<'a, 'd>(
+    alloc: Global,
+    host: &'a MemoryHost<'d>,
+    configuration: &'a Configuration,
+) -> Result<HeldCommands<'a, MemoryHost<'d>>, Fail> {
+    let path = configuration.commands.as_str();
+    match begin_commands(host, alloc, path, &mut Vec::new(alloc)) {
+        Ok(commands) => Ok(commands),
+        Err(_) => Err(Fail::new("the commands file cannot be read")),
+    }
+}
+
+// Who is told what the daemon does.
+fn year_observer<'a, 'd>(
+    alloc: Global,
+    host: &'a MemoryHost<'d>,
+    clocks: &'a HostClocks,
+) -> Result<DaemonObserver<'a, MemoryFile<'d>, LineWriter<MemoryFile<'d>>>, Fail> {
+    let answers = LineWriter::new(alloc, emptied_file(host, ANSWERS)?)?;
+    let log = Log::new(alloc, emptied_file(host, LOG)?, LogForm::Plain)?;
+    let answers = Some(AnswerLines::new(answers));
+    let reports = Some(CustomerCounts::new(alloc));
+    Ok(observer(answers, log, clocks, 0, reports))
+}

@@ -1,4 +1,6 @@
 //! What a daemon works with.
+ghost use Rattle.std.specs.Prelude.{◌≡◌};
+ghost use Rattle.ntp_reports.specs.Counted.{nothing_counted};
 
 use crate::command_log::CommandLog;
 use crate::files::{DaemonCommands, HeldCommands};
@@ -41,15 +43,19 @@ pub type DaemonObserver<'a, L, W> = Counting<
     Both<Option<AnswerLines<W>>, Both<CommandLog<'a, L>, Option<CustomerCounts>>>,
 >;
 
-/// Who is told what a daemon does that has so many customers by now: answers are written where there is somebody who writes them, and
-/// customers are reported of where `reports` is there.
+/// Who is told what a daemon does that has so many customers by now. Nothing is counted yet. Lines are answered by `answers` and customers
+/// reported of by `reports`, where these are there.
 pub fn observer<'a, L: Write + Drop, W: Write + Drop>(
     answers: Option<AnswerLines<W>>,
     log: Log<L>,
     clocks: &'a HostClocks,
     customers: u64,
     reports: Option<CustomerCounts>,
-) -> DaemonObserver<'a, L, W> {
+) -> DaemonObserver<'a, L, W>
+    ensures counts { result.counts ≡ nothing_counted }
+    ensures answers { result.inner.first ≡ answers }
+    ensures reports { result.inner.second.second ≡ reports }
+{
     Counting {
         counts: Counts::new(),
         inner: Both {

@@ -24,6 +24,7 @@ A customer is written ADDRESS/NUMBER/ALGORITHM/KEY, the key in hexadecimal; an a
 
 import hashlib
 import random
+import re
 import select
 import socket
 import struct
@@ -33,6 +34,10 @@ import time
 HOST = "127.0.0.1"
 WAIT = 5.0
 SINCE_1900 = 2_208_988_800
+# To how many octets chrony and NTPsec cut a digest of version 4.
+LONGEST_DIGEST = 20
+# The kind of the extension fields that are sent: one of those for experiments.
+FIELD_KIND = 0xF0FF
 
 
 def now():
@@ -51,7 +56,7 @@ class Customer:
     def mac(self, octets):
         if self.number is None:
             return b""
-        return struct.pack(">I", self.number) + hashlib.new(self.algorithm, self.key + octets).digest()
+        return struct.pack(">I", self.number) + hashlib.new(self.algorithm, self.key + octets).digest()[:LONGEST_DIGEST]
 
     def socket(self, port):
         s = socket.socket(socket.AF_INET, socket.SOCK_DGRAM)
@@ -60,11 +65,15 @@ class Customer:
         return s
 
 
+def first_octet(form):
+    """No leap second, version 4 and mode 3, where the form names no other: `version-3`, `mode-1`, `version-1-mode-0`."""
+    named = {word: int(number) for word, number in re.findall(r"(version|mode)-(\d)", form)}
+    return named.get("version", 4) << 3 | named.get("mode", 3)
+
+
 def query(customer, form="plain", origin=0, receive=0):
     """The octets of a query, and its transmit stamp."""
-    first = {"version-2": 0x13, "version-3": 0x1B, "mode-4": 0x24}.get(form, 0x23)
-    transmit = now()
-    header = struct.pack(">B3x20xQQQ", first, origin, receive, transmit)
+    header = struct.pack(">B3x20xQQQ", first_octet(form), origin, receive, 0 if form == "unsent" else now())
     if form == "empty":
         return b""
     if form == "short":
@@ -73,10 +82,20 @@ def query(customer, form="plain", origin=0, receive=0):
         return header + struct.pack(">I", customer.number)
     if form == "rest":
         return header + bytes(16)
+    if form == "control":               # the variables of the server: version 2, mode 6, operation 2
+        return struct.pack(">BBH8x", 0x16, 2, 1)
+    if form == "private":               # its newest clients, as ntpdc asked: version 2, mode 7, implementation 3, request 42
+        return struct.pack(">BBBB44x", 0x17, 0, 3, 42)
+    if form.startswith("behind-"):      # so many zeros behind the header
+        return header + bytes(int(form[7:]))
     if form.startswith("field-"):       # a field of zeros, to this many octets in all
         length = int(form[6:]) - 48 - len(customer.mac(b""))
-        header += struct.pack(">HH", 0x0104, length) + bytes(length - 4)
+        header += struct.pack(">HH", FIELD_KIND, length) + bytes(length - 4)
+    if form.startswith("claims-"):      # a field of 28 octets that names this length
+        header += struct.pack(">HH", FIELD_KIND, int(form[7:])) + bytes(24)
     packet = header + customer.mac(header)
+    if form.startswith("more-"):        # so many zeros behind the MAC
+        return packet + bytes(int(form[5:]))
     if form == "wrong":
         packet = packet[:-1] + bytes([packet[-1] ^ 1])
     return packet

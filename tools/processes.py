@@ -23,14 +23,16 @@ class Table:
         for child, parent in self.parent.items():
             self.children.setdefault(parent, []).append(child)
 
+    def family(self, process):
+        """A process and all that it has started, and these, and so on."""
+        found = [process]
+        for it in found:
+            found += self.children.get(it, [])
+        return found
+
     def used(self, process):
         """How many seconds of processors a process and all that it has started have used."""
-        total, left = 0, [process]
-        while left:
-            it = left.pop()
-            total += self.own.get(it, 0)
-            left += self.children.get(it, [])
-        return total
+        return sum(self.own.get(it, 0) for it in self.family(process))
 
 
 def children():

@@ -1,12 +1,13 @@
 //! What is written of a customer: a line of JSON.
 
+use crate::counted_kinds::answers;
 use crate::counts::Counts;
 use crate::customer_report::CustomerReport;
 use crate::kind::Kind;
 use ntp_mac::Algorithm;
 use ntp_register::{Address, Customer};
 use ntp_time::Moment;
-use serde::Serialize;
+use serde::{Described, Serialize, Serializer};
 use std::alloc::{AllocError, Allocator, Global};
 
 /// The seconds from 1900-01-01 to 1970-01-01 (RFC 5905, 6).
@@ -23,7 +24,7 @@ struct CustomerLine<'a> {
     keys: Vec<KeyLine>,
     budget: Option<u16>,
     line: u64,
-    answers: AnswersLine,
+    answers: AnswerCounts,
 }
 
 // What is written of a key: all but its octets.
@@ -35,26 +36,25 @@ struct KeyLine {
     last_signed: Option<String>,
 }
 
-// How often a customer got each answer, in the words of the statistics.
-#[derive(Clone, Copy, Serialize)]
-#[serde(rename_all = "kebab-case")]
-struct AnswersLine {
-    basic: u64,
-    interleaved: u64,
-    rate: u64,
-    deny: u64,
-    nak: u64,
-    short: u64,
-    long: u64,
-    field_short: u64,
-    field_unaligned: u64,
-    field_past_end: u64,
-    rest: u64,
-    version: u64,
-    mode: u64,
-    bare: u64,
-    muted: u64,
-    over_budget: u64,
+// How often a customer got each answer, in the words of the statistics; all but that of an address that was never enrolled.
+#[derive(Clone, Copy)]
+struct AnswerCounts {
+    counts: Counts,
+}
+
+impl Described for AnswerCounts {}
+
+impl Serialize for AnswerCounts {
+    fn serialize<S: Serializer>(&self, out: &mut S) -> Result<(), S::Error> {
+        out.begin_map(None)?;
+        for (kind, _, word) in answers() {
+            if *kind != Kind::Unregistered {
+                out.key(word)?;
+                out.u64(self.counts.count(*kind))?;
+            }
+        }
+        out.end_map()
+    }
 }
 
 /// The line of a customer at an address, with its line feed: an object of JSON (RFC 8259). It has no key. The memory for it is taken
@@ -82,7 +82,9 @@ pub fn customer_line<A: Allocator + Copy>(
             None
         },
         line: report.line(),
-        answers: answers_line(report.counts()),
+        answers: AnswerCounts {
+            counts: *report.counts(),
+        },
     };
     let Ok(mut octets) = serde_json::to_vec(alloc, &line) else {
         return Err(AllocError);
@@ -132,26 +134,4 @@ fn seconds_text(alloc: Global, moment: Moment) -> Result<String, AllocError> {
     let nanos = ((units & 0xffff_ffff) * SECOND_NANOS) >> 32;
     let seconds = seconds.saturating_sub(UNIX_EPOCH);
     format!(in alloc; "{seconds}.{nanos:09}")
-}
-
-// How often each answer was given.
-fn answers_line(counts: &Counts) -> AnswersLine {
-    AnswersLine {
-        basic: counts.count(Kind::Basic),
-        interleaved: counts.count(Kind::Interleaved),
-        rate: counts.count(Kind::Rate),
-        deny: counts.count(Kind::Deny),
-        nak: counts.count(Kind::Nak),
-        short: counts.count(Kind::Short),
-        long: counts.count(Kind::Long),
-        field_short: counts.count(Kind::FieldShort),
-        field_unaligned: counts.count(Kind::FieldUnaligned),
-        field_past_end: counts.count(Kind::FieldPastEnd),
-        rest: counts.count(Kind::Rest),
-        version: counts.count(Kind::Version),
-        mode: counts.count(Kind::Mode),
-        bare: counts.count(Kind::Bare),
-        muted: counts.count(Kind::Muted),
-        over_budget: counts.count(Kind::OverBudget),
-    }
 }

@@ -3,6 +3,7 @@
 
 mod answer_lines;
 mod both;
+mod counted_kinds;
 mod counting;
 mod counts;
 mod customer_counts;

@@ -1,5 +1,6 @@
 //! Statistics in the text form of Prometheus.
 
+use crate::counted_kinds::{CountedKind, answers, commands};
 use crate::counts::Counts;
 use crate::kind::Kind;
 use ntp_time::Short;
@@ -7,56 +8,6 @@ use std::io::{self, Write};
 
 /// How many nanoseconds a second has.
 const SECOND_NANOS: u64 = 1_000_000_000;
-
-/// The answers to datagrams, each with its labels.
-const ANSWERS: [(Kind, &str); 17] = [
-    (Kind::Basic, r#"answer="time",mode="basic""#),
-    (Kind::Interleaved, r#"answer="time",mode="interleaved""#),
-    (Kind::Rate, r#"answer="rate""#),
-    (Kind::Deny, r#"answer="deny""#),
-    (Kind::Nak, r#"answer="nak""#),
-    (
-        Kind::Unregistered,
-        r#"answer="silent",reason="unregistered""#,
-    ),
-    (Kind::Short, r#"answer="silent",reason="short""#),
-    (Kind::Long, r#"answer="silent",reason="long""#),
-    (Kind::FieldShort, r#"answer="silent",reason="field-short""#),
-    (
-        Kind::FieldUnaligned,
-        r#"answer="silent",reason="field-unaligned""#,
-    ),
-    (
-        Kind::FieldPastEnd,
-        r#"answer="silent",reason="field-past-end""#,
-    ),
-    (Kind::Rest, r#"answer="silent",reason="rest""#),
-    (Kind::Version, r#"answer="silent",reason="version""#),
-    (Kind::Mode, r#"answer="silent",reason="mode""#),
-    (Kind::Bare, r#"answer="silent",reason="bare""#),
-    (Kind::Muted, r#"answer="silent",reason="muted""#),
-    (Kind::OverBudget, r#"answer="silent",reason="over-budget""#),
-];
-
-/// What became of lines of commands, each with its labels.
-const COMMANDS: [(Kind, &str); 10] = [
-    (Kind::Done, r#"answer="done""#),
-    (
-        Kind::AlreadyEnrolled,
-        r#"answer="refused",reason="already-enrolled""#,
-    ),
-    (Kind::KeyTaken, r#"answer="refused",reason="key-taken""#),
-    (Kind::NoMemory, r#"answer="refused",reason="no-memory""#),
-    (
-        Kind::NotEnrolled,
-        r#"answer="refused",reason="not-enrolled""#,
-    ),
-    (Kind::SameNumber, r#"answer="refused",reason="same-number""#),
-    (Kind::RoomFull, r#"answer="refused",reason="room-full""#),
-    (Kind::OnlyKey, r#"answer="refused",reason="only-key""#),
-    (Kind::NotHeld, r#"answer="refused",reason="not-held""#),
-    (Kind::Faulty, r#"answer="faulty""#),
-];
 
 /// Whether the state that the host's clock daemon tells is believed, and why not.
 #[derive(Clone, Copy, Debug, PartialEq, Eq)]
@@ -81,21 +32,20 @@ pub enum Belief {
     Set,
 }
 
-/// Each belief, with its label.
 const BELIEFS: [(Belief, &str); 9] = [
-    (Belief::Believed, r#"why="believed""#),
-    (Belief::Fixed, r#"why="fixed""#),
-    (Belief::NoAnswer, r#"why="no-answer""#),
-    (Belief::Old, r#"why="old""#),
-    (Belief::Unsynchronised, r#"why="unsynchronised""#),
-    (Belief::ReferenceOld, r#"why="reference-old""#),
-    (Belief::ReferenceAhead, r#"why="reference-ahead""#),
-    (Belief::Far, r#"why="far""#),
-    (Belief::Set, r#"why="set""#),
+    (Belief::Believed, "believed"),
+    (Belief::Fixed, "fixed"),
+    (Belief::NoAnswer, "no-answer"),
+    (Belief::Old, "old"),
+    (Belief::Unsynchronised, "unsynchronised"),
+    (Belief::ReferenceOld, "reference-old"),
+    (Belief::ReferenceAhead, "reference-ahead"),
+    (Belief::Far, "far"),
+    (Belief::Set, "set"),
 ];
 
 /// The state of the clock that replies tell.
-#[derive(Clone, Copy, Debug, PartialEq, Eq)]
+#[derive(Clone, Copy)]
 pub struct ClockGauges {
     /// Whether replies say that the clock is synchronised.
     pub is_synchronised: bool,
@@ -116,7 +66,7 @@ pub struct ClockGauges {
 }
 
 /// Which of the files can be read or written.
-#[derive(Clone, Copy, Debug, PartialEq, Eq)]
+#[derive(Clone, Copy)]
 pub struct FileGauges {
     /// The commands file can be read, and its lines are carried out.
     pub commands: bool,
@@ -129,7 +79,7 @@ pub struct FileGauges {
 }
 
 /// What is told beside the counts of turns and lines.
-#[derive(Clone, Copy, Debug, PartialEq, Eq)]
+#[derive(Clone, Copy)]
 pub struct Gauges<'a> {
     /// Datagrams that were dropped, since they may have waited for too long.
     pub stale: u64,
@@ -166,6 +116,35 @@ pub struct Gauges<'a> {
     pub version: &'a str,
 }
 
+// Whether a metric only grows, or comes and goes.
+#[derive(Clone, Copy)]
+enum Sort {
+    Counter,
+    Gauge,
+}
+
+// What a metric has behind its name. A number or a time that is not known is `NaN`.
+#[derive(Clone, Copy)]
+enum Samples<'a> {
+    Number(Option<u64>),
+    // In nanoseconds.
+    Seconds(Option<u64>),
+    SignedSeconds(Option<i64>),
+    Counts(&'static [CountedKind]),
+    Belief(Belief),
+    Files(FileGauges),
+    Version(&'a str),
+}
+
+// A metric, with its help.
+#[derive(Clone, Copy)]
+struct Metric<'a> {
+    name: &'static str,
+    sort: Sort,
+    help: &'static str,
+    samples: Samples<'a>,
+}
+
 /// Writes the counts and gauges in the text form of Prometheus, each with its help and its type. It takes no memory.
 ///
 /// Seconds are decimals with nine places. The age of a clock of which nothing is known is `NaN`.
@@ -178,224 +157,275 @@ pub fn write_statistics<W: Write>(
     counts: &Counts,
     gauges: &Gauges<'_>,
 ) -> io::Result<()> {
-    write_answers(out, counts)?;
-    write_failures(out, counts, gauges)?;
-    write_socket(out, gauges)?;
-    write_commands(out, counts, gauges)?;
-    write_gauge(
-        out,
-        "labntp_customers",
-        "Customers that are enrolled.",
-        gauges.customers,
-    )?;
-    write_clock(out, &gauges.clock)?;
-    write_program(out, gauges)
-}
-
-// The answers to datagrams.
-fn write_answers<W: Write>(out: &mut W, counts: &Counts) -> io::Result<()> {
-    let name = "labntp_answers_total";
-    write_head(out, name, "Answers to datagrams.", "counter")?;
-    for (kind, labels) in ANSWERS {
-        let count = counts.count(kind);
-        writeln!(out, "{name}{{{labels}}} {count}")?;
+    for metric in datagram_metrics(counts, gauges) {
+        write_metric(out, counts, &metric)?;
+    }
+    for metric in command_metrics(gauges) {
+        write_metric(out, counts, &metric)?;
+    }
+    for metric in clock_metrics(&gauges.clock) {
+        write_metric(out, counts, &metric)?;
+    }
+    for metric in program_metrics(gauges) {
+        write_metric(out, counts, &metric)?;
     }
     Ok(())
 }
 
-// What failed, and what was dropped.
-fn write_failures<W: Write>(out: &mut W, counts: &Counts, gauges: &Gauges<'_>) -> io::Result<()> {
-    let not_received = counts.count(Kind::NothingReceived);
-    write_counter(
-        out,
-        "labntp_receive_failures_total",
-        "Calls that received no datagram.",
-        not_received,
-    )?;
-    let not_sent = counts.count(Kind::NotSent);
-    write_counter(
-        out,
-        "labntp_send_failures_total",
-        "Replies that could not be sent.",
-        not_sent,
-    )?;
-    write_counter(
-        out,
-        "labntp_stale_total",
-        "Datagrams that were dropped, since they may have waited for too long.",
-        gauges.stale,
-    )?;
-    write_counter(
-        out,
-        "labntp_kernel_drops_total",
-        "Datagrams that the kernel dropped for want of room.",
-        gauges.kernel_drops,
-    )?;
-    let noted = counts.count(Kind::Noted);
-    write_counter(
-        out,
-        "labntp_departures_noted_total",
-        "Replies whose departure was noted.",
-        noted,
-    )
+// What is told of datagrams, of the socket and of its queue.
+fn datagram_metrics(counts: &Counts, gauges: &Gauges<'_>) -> [Metric<'static>; 10] {
+    [
+        Metric {
+            name: "labntp_answers_total",
+            sort: Sort::Counter,
+            help: "Answers to datagrams.",
+            samples: Samples::Counts(answers()),
+        },
+        Metric {
+            name: "labntp_receive_failures_total",
+            sort: Sort::Counter,
+            help: "Calls that received no datagram.",
+            samples: Samples::Number(Some(counts.count(Kind::NothingReceived))),
+        },
+        Metric {
+            name: "labntp_send_failures_total",
+            sort: Sort::Counter,
+            help: "Replies that could not be sent.",
+            samples: Samples::Number(Some(counts.count(Kind::NotSent))),
+        },
+        Metric {
+            name: "labntp_stale_total",
+            sort: Sort::Counter,
+            help: "Datagrams that were dropped, since they may have waited for too long.",
+            samples: Samples::Number(Some(gauges.stale)),
+        },
+        Metric {
+            name: "labntp_kernel_drops_total",
+            sort: Sort::Counter,
+            help: "Datagrams that the kernel dropped for want of room.",
+            samples: Samples::Number(Some(gauges.kernel_drops)),
+        },
+        Metric {
+            name: "labntp_departures_noted_total",
+            sort: Sort::Counter,
+            help: "Replies whose departure was noted.",
+            samples: Samples::Number(Some(counts.count(Kind::Noted))),
+        },
+        Metric {
+            name: "labntp_receive_buffer_octets",
+            sort: Sort::Gauge,
+            help: "The socket's receive buffer, as the kernel counts.",
+            samples: Samples::Number(Some(gauges.receive_buffer)),
+        },
+        Metric {
+            name: "labntp_queue_wait_seconds",
+            sort: Sort::Gauge,
+            help: "How long a datagram can have waited at most.",
+            samples: Samples::Seconds(gauges.queue_wait),
+        },
+        Metric {
+            name: "labntp_send_would_wait_total",
+            sort: Sort::Counter,
+            help: "Replies that were not sent, since the socket would have waited.",
+            samples: Samples::Number(Some(gauges.send_would_wait)),
+        },
+        Metric {
+            name: "labntp_sweeps_total",
+            sort: Sort::Counter,
+            help: "Times that the queue was swept.",
+            samples: Samples::Number(Some(gauges.sweeps)),
+        },
+    ]
 }
 
-// What is told of the socket and of its queue.
-fn write_socket<W: Write>(out: &mut W, gauges: &Gauges<'_>) -> io::Result<()> {
-    write_gauge(
-        out,
-        "labntp_receive_buffer_octets",
-        "The socket's receive buffer, as the kernel counts.",
-        gauges.receive_buffer,
-    )?;
-    let wait = "labntp_queue_wait_seconds";
-    write_head(
-        out,
-        wait,
-        "How long a datagram can have waited at most.",
-        "gauge",
-    )?;
-    write_seconds_or_nan(out, wait, gauges.queue_wait)?;
-    write_counter(
-        out,
-        "labntp_send_would_wait_total",
-        "Replies that were not sent, since the socket would have waited.",
-        gauges.send_would_wait,
-    )?;
-    write_counter(
-        out,
-        "labntp_sweeps_total",
-        "Times that the queue was swept.",
-        gauges.sweeps,
-    )
+// What is told of commands and customers.
+fn command_metrics(gauges: &Gauges<'_>) -> [Metric<'static>; 5] {
+    [
+        Metric {
+            name: "labntp_commands_total",
+            sort: Sort::Counter,
+            help: "Lines of commands.",
+            samples: Samples::Counts(commands()),
+        },
+        Metric {
+            name: "labntp_commands_lines",
+            sort: Sort::Gauge,
+            help: "Lines of the commands file that are applied.",
+            samples: Samples::Number(Some(gauges.commands_lines)),
+        },
+        Metric {
+            name: "labntp_commands_octets",
+            sort: Sort::Gauge,
+            help: "Octets of the commands file.",
+            samples: Samples::Number(gauges.commands_octets),
+        },
+        Metric {
+            name: "labntp_commands_other_line",
+            sort: Sort::Gauge,
+            help: "The first line that is not the one that was applied; 0 for none.",
+            samples: Samples::Number(Some(gauges.commands_other_line.unwrap_or(0))),
+        },
+        Metric {
+            name: "labntp_customers",
+            sort: Sort::Gauge,
+            help: "Customers that are enrolled.",
+            samples: Samples::Number(Some(gauges.customers)),
+        },
+    ]
 }
 
-// What became of lines of commands.
-fn write_commands<W: Write>(out: &mut W, counts: &Counts, gauges: &Gauges<'_>) -> io::Result<()> {
-    let name = "labntp_commands_total";
-    write_head(out, name, "Lines of commands.", "counter")?;
-    for (kind, labels) in COMMANDS {
-        let count = counts.count(kind);
-        writeln!(out, "{name}{{{labels}}} {count}")?;
-    }
-    write_gauge(
-        out,
-        "labntp_commands_lines",
-        "Lines of the commands file that are applied.",
-        gauges.commands_lines,
-    )?;
-    let octets = "labntp_commands_octets";
-    write_head(out, octets, "Octets of the commands file.", "gauge")?;
-    match gauges.commands_octets {
-        Some(number) => writeln!(out, "{octets} {number}")?,
-        None => writeln!(out, "{octets} NaN")?,
-    }
-    write_gauge(
-        out,
-        "labntp_commands_other_line",
-        "The first line that is not the one that was applied; 0 for none.",
-        gauges.commands_other_line.unwrap_or(0),
-    )
-}
-
-// The state of the clock.
-fn write_clock<W: Write>(out: &mut W, clock: &ClockGauges) -> io::Result<()> {
-    write_gauge(
-        out,
-        "labntp_clock_synchronised",
-        "Whether replies say that the clock is synchronised.",
-        u64::from(clock.is_synchronised),
-    )?;
-    let age = "labntp_clock_age_seconds";
-    write_head(out, age, "How old what is known of the clock is.", "gauge")?;
-    write_seconds_or_nan(out, age, clock.age)?;
-    write_gauge(
-        out,
-        "labntp_clock_stratum",
-        "The stratum that replies tell.",
-        u64::from(clock.stratum),
-    )?;
-    write_gauge(
-        out,
-        "labntp_clock_leap",
-        "The leap indicator that replies tell.",
-        u64::from(clock.leap),
-    )?;
-    let delay = "labntp_clock_root_delay_seconds";
-    write_head(out, delay, "The root delay that replies tell.", "gauge")?;
-    write_seconds(out, delay, nanos_of(clock.root_delay))?;
-    let dispersion = "labntp_clock_root_dispersion_seconds";
-    write_head(
-        out,
-        dispersion,
-        "The root dispersion that replies tell.",
-        "gauge",
-    )?;
-    write_seconds(out, dispersion, nanos_of(clock.root_dispersion))?;
-    write_offset(out, clock.offset)?;
-    write_belief(out, clock.belief)
-}
-
-// How far the daemon's clock was from the host's: below 0 where it was behind.
-fn write_offset<W: Write>(out: &mut W, offset: Option<i64>) -> io::Result<()> {
-    let name = "labntp_clock_offset_seconds";
-    let help = "How far the daemon's clock was from the host's at its last answer.";
-    write_head(out, name, help, "gauge")?;
-    match offset {
-        Some(nanos) if nanos < 0 => {
-            write!(out, "{name} -")?;
-            write_decimal(out, nanos.unsigned_abs())
-        }
-        Some(nanos) => write_seconds(out, name, nanos.unsigned_abs()),
-        None => writeln!(out, "{name} NaN"),
-    }
-}
-
-// Whether the daemon is believed, and why not: of all reasons 1 stands at the one that there is.
-fn write_belief<W: Write>(out: &mut W, belief: Belief) -> io::Result<()> {
-    let name = "labntp_clock_believed";
-    let help = "Whether the clock's daemon is believed, or why not.";
-    write_head(out, name, help, "gauge")?;
-    for (each, label) in BELIEFS {
-        let is_so = u8::from(belief == each);
-        writeln!(out, "{name}{{{label}}} {is_so}")?;
-    }
-    Ok(())
+// What is told of the clock.
+fn clock_metrics(clock: &ClockGauges) -> [Metric<'static>; 8] {
+    [
+        Metric {
+            name: "labntp_clock_synchronised",
+            sort: Sort::Gauge,
+            help: "Whether replies say that the clock is synchronised.",
+            samples: Samples::Number(Some(u64::from(clock.is_synchronised))),
+        },
+        Metric {
+            name: "labntp_clock_age_seconds",
+            sort: Sort::Gauge,
+            help: "How old what is known of the clock is.",
+            samples: Samples::Seconds(clock.age),
+        },
+        Metric {
+            name: "labntp_clock_stratum",
+            sort: Sort::Gauge,
+            help: "The stratum that replies tell.",
+            samples: Samples::Number(Some(u64::from(clock.stratum))),
+        },
+        Metric {
+            name: "labntp_clock_leap",
+            sort: Sort::Gauge,
+            help: "The leap indicator that replies tell.",
+            samples: Samples::Number(Some(u64::from(clock.leap))),
+        },
+        Metric {
+            name: "labntp_clock_root_delay_seconds",
+            sort: Sort::Gauge,
+            help: "The root delay that replies tell.",
+            samples: Samples::Seconds(Some(nanos_of(clock.root_delay))),
+        },
+        Metric {
+            name: "labntp_clock_root_dispersion_seconds",
+            sort: Sort::Gauge,
+            help: "The root dispersion that replies tell.",
+            samples: Samples::Seconds(Some(nanos_of(clock.root_dispersion))),
+        },
+        Metric {
+            name: "labntp_clock_offset_seconds",
+            sort: Sort::Gauge,
+            help: "How far the daemon's clock was from the host's at its last answer.",
+            samples: Samples::SignedSeconds(clock.offset),
+        },
+        Metric {
+            name: "labntp_clock_believed",
+            sort: Sort::Gauge,
+            help: "Whether the clock's daemon is believed, or why not.",
+            samples: Samples::Belief(clock.belief),
+        },
+    ]
 }
 
 // What the program tells of itself.
-fn write_program<W: Write>(out: &mut W, gauges: &Gauges<'_>) -> io::Result<()> {
-    write_counter(
-        out,
-        "labntp_log_lines_dropped_total",
-        "Lines of the log that were not written.",
-        gauges.log_lines_dropped,
-    )?;
-    write_counter(
-        out,
-        "labntp_files_unreadable_total",
-        "Times that a file began to fail, at reading or writing.",
-        gauges.files_unreadable,
-    )?;
-    write_files(out, &gauges.files)?;
-    let start = "labntp_start_time_seconds";
-    write_head(
-        out,
-        start,
-        "When the server was started, since 1970.",
-        "gauge",
-    )?;
-    write_seconds(out, start, gauges.start_time)?;
-    let info = "labntp_build_info";
-    write_head(out, info, "The version of the server.", "gauge")?;
-    let version = gauges.version;
-    writeln!(out, "{info}{{version=\"{version}\"}} 1")
+fn program_metrics<'a>(gauges: &Gauges<'a>) -> [Metric<'a>; 5] {
+    [
+        Metric {
+            name: "labntp_log_lines_dropped_total",
+            sort: Sort::Counter,
+            help: "Lines of the log that were not written.",
+            samples: Samples::Number(Some(gauges.log_lines_dropped)),
+        },
+        Metric {
+            name: "labntp_files_unreadable_total",
+            sort: Sort::Counter,
+            help: "Times that a file began to fail, at reading or writing.",
+            samples: Samples::Number(Some(gauges.files_unreadable)),
+        },
+        Metric {
+            name: "labntp_file_ok",
+            sort: Sort::Gauge,
+            help: "Whether a file can be read or written.",
+            samples: Samples::Files(gauges.files),
+        },
+        Metric {
+            name: "labntp_start_time_seconds",
+            sort: Sort::Gauge,
+            help: "When the server was started, since 1970.",
+            samples: Samples::Seconds(Some(gauges.start_time)),
+        },
+        Metric {
+            name: "labntp_build_info",
+            sort: Sort::Gauge,
+            help: "The version of the server.",
+            samples: Samples::Version(gauges.version),
+        },
+    ]
+}
+
+// A metric with its help, its type and its samples.
+fn write_metric<W: Write>(out: &mut W, counts: &Counts, metric: &Metric<'_>) -> io::Result<()> {
+    let Metric { name, help, .. } = *metric;
+    let sort = match metric.sort {
+        Sort::Counter => "counter",
+        Sort::Gauge => "gauge",
+    };
+    write!(out, "# HELP {name} {help}\n# TYPE {name} {sort}\n")?;
+    match metric.samples {
+        Samples::Number(Some(number)) => writeln!(out, "{name} {number}"),
+        Samples::Seconds(Some(nanos)) => write_seconds(out, name, "", nanos),
+        Samples::SignedSeconds(Some(nanos)) => {
+            let sign = if nanos < 0 { "-" } else { "" };
+            write_seconds(out, name, sign, nanos.unsigned_abs())
+        }
+        Samples::Number(None) | Samples::Seconds(None) | Samples::SignedSeconds(None) => {
+            writeln!(out, "{name} NaN")
+        }
+        Samples::Counts(kinds) => write_counts(out, name, counts, kinds),
+        Samples::Belief(belief) => write_belief(out, name, belief),
+        Samples::Files(files) => write_files(out, name, files),
+        Samples::Version(version) => writeln!(out, "{name}{{version=\"{version}\"}} 1"),
+    }
+}
+
+// A time in seconds with nine decimals.
+fn write_seconds<W: Write>(out: &mut W, name: &str, sign: &str, nanos: u64) -> io::Result<()> {
+    let whole = nanos / SECOND_NANOS;
+    let rest = nanos % SECOND_NANOS;
+    writeln!(out, "{name} {sign}{whole}.{rest:09}")
+}
+
+// How often each of these kinds was counted.
+fn write_counts<W: Write>(
+    out: &mut W,
+    name: &str,
+    counts: &Counts,
+    kinds: &[CountedKind],
+) -> io::Result<()> {
+    for (kind, label, word) in kinds {
+        let count = counts.count(*kind);
+        writeln!(out, "{name}{{{label}=\"{word}\"}} {count}")?;
+    }
+    Ok(())
+}
+
+// Each belief, with its word.
+fn beliefs() -> &'static [(Belief, &'static str)] {
+    &BELIEFS
+}
+
+// Whether the daemon is believed, and why not: of all reasons 1 stands at the one that there is.
+fn write_belief<W: Write>(out: &mut W, name: &str, belief: Belief) -> io::Result<()> {
+    for (each, word) in beliefs() {
+        let is_so = u8::from(belief == *each);
+        writeln!(out, "{name}{{why=\"{word}\"}} {is_so}")?;
+    }
+    Ok(())
 }
 
 // Which files are well.
-fn write_files<W: Write>(out: &mut W, files: &FileGauges) -> io::Result<()> {
-    let name = "labntp_file_ok";
-    write_head(out, name, "Whether a file can be read or written.", "gauge")?;
+fn write_files<W: Write>(out: &mut W, name: &str, files: FileGauges) -> io::Result<()> {
     for (file, is_well) in [
         ("commands", files.commands),
         ("answers", files.answers),
@@ -406,45 +436,6 @@ fn write_files<W: Write>(out: &mut W, files: &FileGauges) -> io::Result<()> {
         writeln!(out, "{name}{{file=\"{file}\"}} {is_well}")?;
     }
     Ok(())
-}
-
-// A number that only grows.
-fn write_counter<W: Write>(out: &mut W, name: &str, help: &str, count: u64) -> io::Result<()> {
-    write_head(out, name, help, "counter")?;
-    writeln!(out, "{name} {count}")
-}
-
-// A number that comes and goes.
-fn write_gauge<W: Write>(out: &mut W, name: &str, help: &str, number: u64) -> io::Result<()> {
-    write_head(out, name, help, "gauge")?;
-    writeln!(out, "{name} {number}")
-}
-
-// What stands before a metric: its help and its type.
-fn write_head<W: Write>(out: &mut W, name: &str, help: &str, sort: &str) -> io::Result<()> {
-    writeln!(out, "# HELP {name} {help}")?;
-    writeln!(out, "# TYPE {name} {sort}")
-}
-
-// A time in seconds with nine decimals.
-fn write_seconds<W: Write>(out: &mut W, name: &str, nanos: u64) -> io::Result<()> {
-    write!(out, "{name} ")?;
-    write_decimal(out, nanos)
-}
-
-// The same, or that it is not known.
-fn write_seconds_or_nan<W: Write>(out: &mut W, name: &str, nanos: Option<u64>) -> io::Result<()> {
-    match nanos {
-        Some(nanos) => write_seconds(out, name, nanos),
-        None => writeln!(out, "{name} NaN"),
-    }
-}
-
-// The seconds that so many nanoseconds are, with nine decimals.
-fn write_decimal<W: Write>(out: &mut W, nanos: u64) -> io::Result<()> {
-    let whole = nanos / SECOND_NANOS;
-    let rest = nanos % SECOND_NANOS;
-    writeln!(out, "{whole}.{rest:09}")
 }
 
 // A time in the short format, of which 2^16 units are a second, in nanoseconds, rounded down.

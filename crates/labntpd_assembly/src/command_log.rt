@@ -23,7 +23,11 @@ pub struct CommandLog<'a, W: Write + Drop> {
 
 impl<'a, W: Write + Drop> CommandLog<'a, W> {
     /// Logs to `log`, where so many customers are enrolled by now.
-    pub fn new(log: Log<W>, clocks: &'a HostClocks, customers: u64) -> CommandLog<'a, W> {
+    pub fn new(log: Log<W>, clocks: &'a HostClocks, customers: u64) -> CommandLog<'a, W>
+        ensures log { result.log ≡ log }
+        ensures customers { result.customers ≡ customers }
+        ensures subject { result.subject ≡ None }
+    {
         CommandLog {
             log,
             allowance: LineAllowance::new(),
@@ -34,7 +38,9 @@ impl<'a, W: Write + Drop> CommandLog<'a, W> {
     }
 
     /// How many customers are enrolled.
-    pub fn customers(&self) -> u64 {
+    pub fn customers(&self) -> u64
+        ensures { result ≡ self.now.customers }
+    {
         self.customers
     }
 

@@ -54,6 +54,8 @@ pub fn observer<'a, L: Write + Drop, W: Write + Drop>(
 ) -> DaemonObserver<'a, L, W>
     ensures counts { result.counts ≡ nothing_counted }
     ensures answers { result.inner.first ≡ answers }
+    ensures log { result.inner.second.first.log ≡ log }
+    ensures customers { result.inner.second.first.customers ≡ customers }
     ensures reports { result.inner.second.second ≡ reports }
 {
     Counting {

@@ -1,4 +1,5 @@
 //! What the daemon does beside serving: statistics, the customers file and its log.
+ghost use Rattle.std.specs.Prelude.{◌≡◌};
 
 use crate::clock_told::{DaemonClock, is_synchronised};
 use crate::customers_file::CustomersFile;
@@ -156,7 +157,7 @@ pub struct Housekeeping<'a, R: Files + Clock, L: Write + Drop> {
     // How many lines of its log were not written, by the last statistics.
     log_dropped: u64,
     // How long a datagram that was taken since the statistics were written last can have waited at most, where that is known; and how many
-    // had been dropped as stale when that was last looked at.
+    // had been dropped as stale when it was shown the server last.
     queue_wait: Option<u64>,
     stale: u64,
     unreadable: u64,
@@ -256,6 +257,28 @@ impl<'a, R: Files + Clock, L: Write + Drop> Housekeeping<'a, R, L> {
             "receive buffer: {wanted_buffer} octets wanted, {buffer} given, as the kernel counts"
         );
         self.log.end();
+    }
+
+    // Does what is due: something in each turn, and the rest once a second.
+    fn do_what_is_due<P: DaemonPort, S: DaemonClock, W: Write + Drop>(
+        &mut self,
+        server: &Daemon<'_, P, R, S, L, W>,
+        receipt: Option<Moment>,
+    ) {
+        let ticks = self.clocks.ticks.get();
+        self.see_wait(server, receipt);
+        self.write_customers(server, ticks, receipt);
+        if ticks < self.next {
+            return;
+        }
+        let started = *self.started.get_or_insert(ticks);
+        self.seconds = ticks.saturating_sub(started) / SECOND_NANOS;
+        self.next = self
+            .seconds
+            .saturating_add(1)
+            .saturating_mul(SECOND_NANOS)
+            .saturating_add(started);
+        self.each_second(server);
     }
 
     // What is done once a second.
@@ -504,14 +527,12 @@ impl<'a, R: Files + Clock, L: Write + Drop> Housekeeping<'a, R, L> {
         server: &Daemon<'_, P, R, S, L, W>,
         receipt: Option<Moment>,
     ) {
-        let stale = server.port.stale();
-        if receipt.is_some() || stale != self.stale {
+        if receipt.is_some() || server.port.stale() != self.stale {
             self.queue_wait = match (self.queue_wait, server.port.waited()) {
                 (Some(longest), Some(waited)) => Some(longest.max(waited)),
                 _ => None,
             };
         }
-        self.stale = stale;
     }
 
     // Writes the statistics, where there is a file for them.
@@ -585,21 +606,12 @@ impl<
     L: Write + Drop,
     W: Write + Drop,
 > Reporter<Daemon<'b, P, R, S, L, W>> for Housekeeping<'a, R, L> {
+    // It knows how many stale datagrams a server has dropped.
+    ghost knows = { λ h server. h.stale ≡ server.port.stale };
+
     fn report(&mut self, server: &Daemon<'b, P, R, S, L, W>, receipt: Option<Moment>) {
-        let ticks = self.clocks.ticks.get();
-        self.see_wait(server, receipt);
-        self.write_customers(server, ticks, receipt);
-        if ticks < self.next {
-            return;
-        }
-        let started = *self.started.get_or_insert(ticks);
-        self.seconds = ticks.saturating_sub(started) / SECOND_NANOS;
-        self.next = self
-            .seconds
-            .saturating_add(1)
-            .saturating_mul(SECOND_NANOS)
-            .saturating_add(started);
-        self.each_second(server);
+        self.do_what_is_due(server, receipt);
+        self.stale = server.port.stale();
     }
 }
 

@@ -1,4 +1,7 @@
 //! What is done where no datagram can be received.
+ghost use Rattle.std.specs.Prelude.{◌≡◌};
+ghost use Rattle.ntp_reports.specs.declared.kind.Kind.TheVariants.{NothingReceived};
+ghost use Rattle.ntp_reports.specs.Counted.{count_at};
 
 use crate::clock_told::DaemonClock;
 use crate::housekeeping::Housekeeping;
@@ -47,6 +50,9 @@ impl<
     L: Write + Drop,
     W: Write + Drop,
 > Reporter<Daemon<'b, P, R, S, L, W>> for Patience<'a, R, L> {
+    // It knows how many receives of a server have failed; and its housekeeping, how many stale datagrams it has dropped.
+    ghost knows = { λ p server. (p.failed ≡ count_at server.observer.counts NothingReceived) × (p.housekeeping.stale ≡ server.port.stale) };
+
     fn report(&mut self, server: &Daemon<'b, P, R, S, L, W>, receipt: Option<Moment>) {
         let failed = server.observer.counts.count(Kind::NothingReceived);
         self.in_a_row = if failed == self.failed {

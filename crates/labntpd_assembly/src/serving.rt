@@ -1,5 +1,6 @@
 //! A daemon is put together, and serves.
-ghost use Rattle.std.specs.Prelude.{◌≡◌, IfOk};
+ghost use Rattle.std.specs.Prelude.{◌≡◌, ◌+◌, ◌<◌, ◌^◌, IfOk};
+ghost use Rattle.ntp_reports.specs.Counted.{count_at};
 ghost use Rattle.labntpd_assembly.specs.Assembled.{ServesFromStart};
 
 use crate::clock_told::DaemonClock;
@@ -7,6 +8,7 @@ use crate::housekeeping::{Begun, Housekeeping};
 use crate::parts::{Daemon, DaemonPort, Host, Parts};
 use crate::receiving::Patience;
 use ntp_host::EachMillisecond;
+use ntp_reports::Kind;
 use ntp_server::Server;
 use std::fs::Files;
 use std::io::Write;
@@ -52,7 +54,6 @@ where
         log,
     } = parts;
     let housekeeping = begin(host, log, begun, out)?;
-    let mut patience = Patience::new(housekeeping);
     let mut server = Server {
         port,
         commands: EachMillisecond::new(commands),
@@ -61,8 +62,32 @@ where
         observer,
         service,
     };
-    server.serve_reported(turns, &mut patience);
+    let _beside = serve_beside(&mut server, housekeeping, turns);
     Ok(server)
+}
+
+// Serves for so many turns, and has its housekeeping done beside it. Gives who did it, as it is then: behind the last turn it knows how many
+// receives have failed, and how many stale datagrams were dropped.
+fn serve_beside<'a, P, R, S, L, W>(
+    server: &mut Daemon<'a, P, R, S, L, W>,
+    housekeeping: Housekeeping<'a, R, L>,
+    turns: u64,
+) -> Patience<'a, R, L>
+where
+    P: DaemonPort + Drop,
+    R: Files + Clock,
+    S: DaemonClock + Drop,
+    L: Write + Drop,
+    W: Write + Drop,
+    requires failures { server.old.port.failures + turns < 2 ^ 64 }
+    requires none { server.old.applied ≡ 0 }
+    ensures serves { ServesFromStart turns server.old.service server.new.service server.new.applied }
+    ensures receives { 0 < turns → result.failed ≡ count_at server.new.observer.counts Kind.NothingReceived }
+    ensures stale { 0 < turns → result.housekeeping.stale ≡ server.new.port.stale }
+{
+    let mut patience = Patience::new(housekeeping);
+    server.serve_reported(turns, &mut patience);
+    patience
 }
 
 // Says that it serves.

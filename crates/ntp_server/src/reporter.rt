@@ -9,15 +9,19 @@ use ntp_time::Moment;
 ///
 /// It has the server behind a shared reference, and so can change nothing of what the server does.
 ///
-/// It may tell what it was shown the server with.
+/// It may tell what it was shown the server with, and what it knows of a server that it was shown last.
 pub trait Reporter<S> {
     // What it was shown a server with so far, where it tells that.
     ghost shown: { Self → Option (List (Option Moment)) } = { λ _. None };
 
+    // That what it knows is of a server as it is, where it tells that.
+    ghost knows: { Self → S → Type 0 } = { λ _ _. Unit {0} };
+
     /// Shows the server: after each turn, with when its datagram came, and with nothing where none could be received; and
     /// whenever a wait ended with none, with nothing.
     fn report(&mut self, server: &S, receipt: Option<Moment>)
-        ensures { Sees (shown self.old) (shown self.new) (receipt ∷ []) };
+        ensures shown { Sees (shown self.old) (shown self.new) (receipt ∷ []) }
+        ensures known { knows self.new server.now };
 }
 
 /// A reporter that does nothing.

@@ -71,16 +71,18 @@ impl<
     /// The same, and a reporter is shown this server as it is: after each turn, with when its datagram came, and with nothing
     /// where none could be received; and whenever a wait ended with none, with nothing, once the commands that were due are
     /// carried out and the source of the clock's state has looked after itself. It sees the server behind a shared
-    /// reference: what the server does is the same whatever the reporter does.
+    /// reference: what the server does is the same whatever the reporter does. Behind the last turn it has been shown the server as it
+    /// is then.
     pub fn serve_reported<Q: Reporter<Server<P, C, R, O, A>>>(
         &mut self,
         turns: u64,
         reporter: &mut Q,
     ) -> Totals
         requires { P.failure_count self.old.port + turns < 2 ^ 64 }
-        ensures { ServesRounds A P.is_prompt turns
+        ensures rounds { ServesRounds A P.is_prompt turns
             (parts_of P.told P.failure_count C.coming R.coming R.tended O.seen (Q.shown reporter.old) self.old)
             (parts_of P.told P.failure_count C.coming R.coming R.tended O.seen (Q.shown reporter.new) self.new) result }
+        ensures known { 0 < turns → Q.knows reporter.new self.new }
     {
         let mut datagram = [0; MOST_RECEIVED_OCTETS];
         let mut totals = Totals {
@@ -102,9 +104,10 @@ impl<
         reporter: &mut Q,
     ) -> TurnOutcome
         requires { P.failure_count self.old.port < 2 ^ 64 - 1 }
-        ensures { MakesRound A P.is_prompt
+        ensures made { MakesRound A P.is_prompt
             (parts_of P.told P.failure_count C.coming R.coming R.tended O.seen (Q.shown reporter.old) self.old)
             (parts_of P.told P.failure_count C.coming R.coming R.tended O.seen (Q.shown reporter.new) self.new) result }
+        ensures known { Q.knows reporter.new self.new }
     {
         let received = self.wait(datagram, reporter);
         let receipt = receipt_of(&received);

@@ -3,8 +3,8 @@ use Rattle.ntp_service_serve.specs.Port.{ReceiveTells}
 use Rattle.ntp_server.proofs.Making.{Makes-turn}
 use Rattle.ntp_server.proofs.server.Server.turn.Goals as goal
 
-pub returns : goal.returns
-returns g c =
+pub returns-clause-made : goal.returns-clause-made
+returns-clause-made g c =
     let told = g.P.Port.told in
     let received = subst (λ port. ReceiveTells (told c.args.self.now.port) (told port) c.wait-received.result c.wait-received.new.datagram)
     (sym c.look.ensures.port) c.wait-received.ensures.turns in
@@ -12,4 +12,4 @@ returns g c =
     c.receipt_of-receipt.ensures (ap g.R.ReferenceSource.coming c.look.ensures.reference ∙ c.wait-received.ensures.reference)
     c.in_force-reference.ensures.given (c.in_force-reference.ensures.tended ∙ ap g.R.ReferenceSource.tended c.look.ensures.reference)
     (ap g.P.Port.failure_count c.look.ensures.port ∙ c.wait-received.ensures.failures)
-    (c.answer_received-outcome.ensures _ received) c.turn.ensures c.report.ensures
+    (c.answer_received-outcome.ensures _ received) c.turn.ensures c.report.ensures.shown

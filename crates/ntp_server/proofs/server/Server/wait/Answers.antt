@@ -11,5 +11,5 @@ loop-preserved g c = record {
   failures = omega (arith, ap g.P.Port.failure_count c.look.ensures.port, c.in_default.ensures.failures, c.loop.invariant.failures);
   reference = c.tend.ensures.coming ∙ ap g.R.ReferenceSource.coming c.look.ensures.reference ∙ c.loop.invariant.reference;
   waits = Waits-more _ _ _ _ _ _ _ _ _ _ _ _ c.in_default.ensures.nothing.0 c.loop.invariant.waits c.look.ensures.looks
-      (ap g.R.ReferenceSource.tended c.look.ensures.reference) c.tend.ensures.tended c.report.ensures;
+      (ap g.R.ReferenceSource.tended c.look.ensures.reference) c.tend.ensures.tended c.report.ensures.shown;
 }

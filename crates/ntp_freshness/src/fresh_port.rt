@@ -4,6 +4,7 @@ ghost use Rattle.std.specs.Option.{option_map_or};
 ghost use Rattle.ntp_service_serve.specs.Port.{most_received_octets, NowTells, SendTells};
 ghost use Rattle.ntp_freshness.specs.declared.queue_event.QueueEvent.{QueueEvent};
 ghost use Rattle.ntp_freshness.specs.Freshness.{moment_of, IsInOrder, oldest_look};
+ghost use Rattle.ntp_freshness.specs.Queue.{ReadsClock};
 ghost use Rattle.ntp_freshness.specs.Watch.{Watches, Counts, longest_of, kept_after};
 ghost use Rattle.ntp_freshness.specs.Fresh.{StandsFor, IsShown, kept, PassesOnFresh};
 ghost use Rattle.ntp_freshness.specs.Next.{TakesNext, Looks, Drops, failures_in};
@@ -65,7 +66,10 @@ impl<P: QueuedPort> FreshPort<P> {
             → StandsFor result.watch result.reading result.next_look history }
         ensures watch { result.watch ≡ watch }
         ensures shown { IsShown result.reading (P.history result.port) }
+        ensures turns { P.told result.port ≡ P.told port }
+        ensures history { ReadsClock (P.history port) (P.history result.port) result.reading }
         ensures stale { result.stale ≡ 0 }
+        ensures sweeps { result.sweeps ≡ 0 }
         ensures failures { result.failures ≡ P.failure_count port }
     {
         let reading = port.ticks();
@@ -295,7 +299,9 @@ impl<P: QueuedPort> Port for FreshPort<P> {
         ensures failures { self.new.failures ≡ self.old.failures }
         ensures watch { self.new.watch ≡ self.old.watch }
         ensures reading { self.new.reading ≡ self.old.reading }
+        ensures next_look { self.new.next_look ≡ self.old.next_look }
         ensures stale { self.new.stale ≡ self.old.stale }
+        ensures sweeps { self.new.sweeps ≡ self.old.sweeps }
         ensures turns { NowTells (P.told self.old.port) (P.told self.new.port) result }
     {
         self.port.now()
@@ -308,7 +314,9 @@ impl<P: QueuedPort> Port for FreshPort<P> {
         ensures failures { self.new.failures ≡ self.old.failures + (if is_err result then 1 else 0) }
         ensures watch { self.new.watch ≡ self.old.watch }
         ensures reading { self.new.reading ≡ self.old.reading }
+        ensures next_look { self.new.next_look ≡ self.old.next_look }
         ensures stale { self.new.stale ≡ self.old.stale }
+        ensures sweeps { self.new.sweeps ≡ self.old.sweeps }
         ensures turns { SendTells (P.told self.old.port) (P.told self.new.port) address port reply.now result }
     {
         let sent = self.port.send(address, port, reply);

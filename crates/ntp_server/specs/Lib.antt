@@ -2,3 +2,4 @@ pub mod Memory
 pub mod Rounds
 pub mod Steps
 pub mod Parts
+pub mod HandingOn

@@ -1,9 +1,11 @@
 //! A commands file whose applied lines are held to.
-ghost use Rattle.std.specs.Prelude.{◌≡◌, None, [], ◌∷◌, IfSome, IfNone, IfOk, IfErr, option_map};
+ghost use Rattle.std.specs.Prelude.{◌≡◌, ℕ, Option, None, Some, List, [], ◌∷◌, length, IfSome, IfNone, IsSomeAnd, IfOk, IfErr, option_map};
+ghost use Rattle.std.specs.Option.{option_or};
 ghost use Rattle.ntp_customer_files.specs.FileText.{IsText};
 ghost use Rattle.ntp_customer_files.specs.CommandsFile.{complete_lines};
 ghost use Rattle.ntp_customer_files.specs.Admitting.{Continues, HasAdmitFault};
 ghost use Rattle.ntp_service_serve.specs.Sources.{Gives};
+ghost use Rattle.ntp_server.specs.HandingOn.{HandsOnBegun, HandsOn, waiting_after};
 
 use ntp_customer_files::{AdmitFault, AppliedLines};
 use ntp_service_serve::CommandsSource;
@@ -30,7 +32,12 @@ pub struct AdmittedCommands<C, A: Allocator = Global> {
 impl<C: Drop, A: Allocator + Copy> AdmittedCommands<C, A> {
     /// A source of which nothing was handed on yet. What it keeps is kept in `alloc`.
     pub fn new(source: C, alloc: A) -> AdmittedCommands<C, A>
-        ensures { result.lines ≡ [] }
+        ensures lines { result.lines ≡ [] }
+        ensures source { result.source ≡ source }
+        ensures begun { result.begun ≡ None }
+        ensures waiting { result.waiting ≡ None }
+        ensures fault { result.fault ≡ None }
+        ensures length { result.length ≡ 0 }
     {
         AdmittedCommands {
             source,
@@ -50,6 +57,11 @@ impl<C: Drop, A: Allocator + Copy> AdmittedCommands<C, A> {
         octets: Vec<u8, A>,
     ) -> Result<AdmittedCommands<C, A>, AdmitFault>
         ensures admitted { IfOk result (λ commands. IsText octets.items × (commands.lines ≡ complete_lines octets.items)) }
+        ensures source { IfOk result (λ commands. commands.source ≡ source) }
+        ensures begun { IfOk result (λ commands. commands.begun ≡ Some octets) }
+        ensures waiting { IfOk result (λ commands. commands.waiting ≡ None) }
+        ensures well { IfOk result (λ commands. commands.fault ≡ None) }
+        ensures length { IfOk result (λ commands. commands.length ≡ length octets.items) }
         ensures fault { IfErr result (λ fault. HasAdmitFault [] octets.items fault) }
     {
         let mut lines = AppliedLines::new(alloc);
@@ -67,31 +79,59 @@ impl<C: Drop, A: Allocator + Copy> AdmittedCommands<C, A> {
     }
 
     /// The source.
-    pub fn source(&self) -> &C {
+    pub fn source(&self) -> &C
+        ensures { result.now ≡ self.now.source }
+    {
         &self.source
     }
 
     /// Why what was looked at last was not handed on; nothing where it was.
-    pub fn fault(&self) -> Option<AdmitFault> {
+    pub fn fault(&self) -> Option<AdmitFault>
+        ensures { result ≡ self.now.fault }
+    {
         self.fault
     }
 
     /// How many octets that had which was looked at last.
-    pub fn length(&self) -> usize {
+    pub fn length(&self) -> usize
+        ensures { result ≡ self.now.length }
+    {
         self.length
     }
 
     // Gives octets, if there are some, where they are admitted; else what was read before, where it was not handed on yet.
     fn admitted_or_begun(&mut self, octets: Option<Vec<u8, A>>) -> Option<Vec<u8, A>>
+        ensures source { self.new.source ≡ self.old.source }
+        ensures handed_on { HandsOn self.old.lines (option_map (λ o. o.items) octets) (option_map (λ o. o.items) self.old.begun)
+            self.new.fault (option_map (λ o. o.items) result) }
+        ensures once { self.new.begun ≡ None }
+        ensures waiting { option_map (λ o. o.items) self.new.waiting
+            ≡ waiting_after (option_map (λ o. o.items) octets) self.new.fault (option_map (λ o. o.items) self.old.waiting) }
+        ensures length { IfSome octets (λ o. self.new.length ≡ length o.items) }
         ensures admitted { IfSome result (λ given. Continues self.old.lines given.items × (self.new.lines ≡ complete_lines given.items)) }
         ensures kept { IfNone result (self.new.lines ≡ self.old.lines) }
     {
-        if let Some(octets) = octets {
-            if let Some(given) = self.admitted(octets) {
-                self.begun = None;
-                return Some(given);
-            }
-        }
+        let Some(octets) = octets else {
+            return self.begun_if_admitted();
+        };
+        let Some(given) = self.admitted(octets) else {
+            return self.begun_if_admitted();
+        };
+        self.begun = None;
+        Some(given)
+    }
+
+    // Gives what was read before, where it was not handed on yet and is admitted.
+    fn begun_if_admitted(&mut self) -> Option<Vec<u8, A>>
+        ensures source { self.new.source ≡ self.old.source }
+        ensures fault { self.new.fault ≡ self.old.fault }
+        ensures waiting { self.new.waiting ≡ self.old.waiting }
+        ensures length { self.new.length ≡ self.old.length }
+        ensures handed_on { HandsOnBegun self.old.lines (option_map (λ o. o.items) self.old.begun) (option_map (λ o. o.items) result) }
+        ensures once { self.new.begun ≡ None }
+        ensures admitted { IfSome result (λ given. Continues self.old.lines given.items × (self.new.lines ≡ complete_lines given.items)) }
+        ensures kept { IfNone result (self.new.lines ≡ self.old.lines) }
+    {
         let Some(octets) = self.begun.take() else {
             return None;
         };
@@ -104,6 +144,12 @@ impl<C: Drop, A: Allocator + Copy> AdmittedCommands<C, A> {
     // Gives octets where they are admitted.
     fn admitted(&mut self, octets: Vec<u8, A>) -> Option<Vec<u8, A>>
         ensures source { self.new.source ≡ self.old.source }
+        ensures begun { self.new.begun ≡ self.old.begun }
+        ensures well { IfSome result (λ _. self.new.fault ≡ None) }
+        ensures fault { IfNone result (IsSomeAnd self.new.fault (λ fault. HasAdmitFault self.old.lines octets.items fault)) }
+        ensures waiting { option_map (λ o. o.items) self.new.waiting
+            ≡ waiting_after (Some octets.items) self.new.fault (option_map (λ o. o.items) self.old.waiting) }
+        ensures length { self.new.length ≡ length octets.items }
         ensures admitted { IfSome result (λ given. (given.items ≡ octets.items) × Continues self.old.lines octets.items
             × (self.new.lines ≡ complete_lines octets.items)) }
         ensures kept { IfNone result (self.new.lines ≡ self.old.lines) }
@@ -134,10 +180,18 @@ impl<C: CommandsSource<A> + Drop, A: Allocator + Copy> CommandsSource<A>
         ensures told { Gives None None (receipt ∷ []) (option_map (λ octets. octets.items) result ∷ []) }
         ensures admitted { IfSome result (λ octets. Continues self.old.lines octets.items × (self.new.lines ≡ complete_lines octets.items)) }
         ensures kept { IfNone result (self.new.lines ≡ self.old.lines) }
+        ensures handed_on { (given : Option (List ℕ)) × Gives (C.coming self.old.source) (C.coming self.new.source) (receipt ∷ []) (given ∷ [])
+            × (let looked = option_or given (option_map (λ o. o.items) self.old.waiting) in
+            HandsOn self.old.lines looked (option_map (λ o. o.items) self.old.begun) self.new.fault (option_map (λ o. o.items) result)
+            × (option_map (λ o. o.items) self.new.waiting ≡ waiting_after looked self.new.fault None)
+            × IfSome looked (λ octets. self.new.length ≡ length octets)) }
+        ensures once { self.new.begun ≡ None }
     {
+        // What waited is looked at once more at most: later octets take its place.
+        let waiting = self.waiting.take();
         let octets = match self.source.look(alloc, receipt) {
             Some(octets) => Some(octets),
-            None => self.waiting.take(),
+            None => waiting,
         };
         self.admitted_or_begun(octets)
     }

@@ -1,5 +1,5 @@
 -- What an observer reports of customers.
-use Rattle.std.specs.Prelude.{◌≡◌, ℕ, Bool, false, ◌==◌, if◌then◌else◌, Option, None, Some, option_and_then, IfSome, List, filter, filter_map, reverse, slice_get}
+use Rattle.std.specs.Prelude.{◌≡◌, ℕ, ◌⊎◌, Bool, false, true, ◌==◌, if◌then◌else◌, Option, None, Some, option_and_then, IfSome, List, filter, filter_map, reverse, slice_get}
 use Rattle.std.specs.Map.{lookup}
 use Rattle.ntp_time.specs.declared.moment.Moment.{Moment}
 use Rattle.ntp_register.specs.declared.address.Address.{Address}
@@ -85,6 +85,19 @@ module _ {A : Type 0} where
   abbrev pub IsTold : CustomerCounts A → CustomerCounts A → Option Command → ℕ → Type 0
   IsTold old new None line = AreSame old new
   IsTold old new (Some command) line = CarriedOut old new command line
+
+  -- memory was refused for the report of the address that a command names, which had none: all reports are as they were (profile)
+  abbrev pub HasMissed : CustomerCounts A → CustomerCounts A → Command → Type 0
+  HasMissed old new command = (report_at old (address_in command) ≡ None) × AreSame old new × (new.has_missed ≡ true)
+
+  -- a command was carried out by a line, or its report was missed (profile)
+  abbrev pub CarriedOutOrMissed : CustomerCounts A → CustomerCounts A → Command → ℕ → Type 0
+  CarriedOutOrMissed old new command line = CarriedOut old new command line ⊎ HasMissed old new command
+
+  -- so a line carried out this command, or none (profile)
+  abbrev pub IsToldOrMissed : CustomerCounts A → CustomerCounts A → Option Command → ℕ → Type 0
+  IsToldOrMissed old new None line = AreSame old new
+  IsToldOrMissed old new (Some command) line = CarriedOutOrMissed old new command line
 
   -- a turn of an address was taken; no public clause cites this
   pub record TakesTurn (outcome : TurnOutcome) (address : Address) (old new : CustomerCounts A) : Type 0 where

@@ -1,5 +1,5 @@
 //! An observer that answers lines of commands.
-ghost use Rattle.std.specs.Prelude.{◌≡◌, OnOk, None, IfNone};
+ghost use Rattle.std.specs.Prelude.{◌≡◌, OnOk, None, Some, IfNone, IfSome};
 ghost use Rattle.std.specs.Io.KnownBytes.{Appends};
 ghost use Rattle.ntp_reports.specs.AnswerText.{answer_line};
 
@@ -65,6 +65,7 @@ impl<W: Write> Observer for AnswerLines<W> {
         ensures written { IfNone self.new.fault
             (Appends (W.contents self.old.answers) (W.contents self.new.answers) (answer_line number outcome)) }
         ensures noted { IfNone self.new.fault (self.old.fault ≡ None) }
+        ensures first { IfSome self.old.fault (λ fault. self.new.fault ≡ Some fault) }
     {
         // The run goes on whether or not somebody can be told.
         if let Err(error) = self.write_answer(number, outcome) {

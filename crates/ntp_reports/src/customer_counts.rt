@@ -1,10 +1,10 @@
 //! An observer that reports of each customer.
-ghost use Rattle.std.specs.Prelude.{◌≡◌, ℕ, false, Some, None, is_some, option_copied, option_map, OnOk, List, [], ◌∷◌, ◌++◌, length, slice_get};
+ghost use Rattle.std.specs.Prelude.{◌≡◌, ℕ, false, Some, None, is_some, option_copied, option_map, OnOk, OnErr, List, [], ◌∷◌, ◌++◌, length, slice_get};
 ghost use Rattle.std.specs.Map.Iter.{deref_pair};
 ghost use Rattle.std.specs.Bool.{OnFalse};
 ghost use Rattle.ntp_register.specs.declared.address.Address.{Address};
 ghost use Rattle.ntp_events.specs.declared.observation.Observation.{Observation};
-ghost use Rattle.ntp_reports.specs.Reported.{report_at, address_in, done_in, AreSame, HasReport, CarriedOut, IsTold, TakesTurn, CountsOf, SignsAs};
+ghost use Rattle.ntp_reports.specs.Reported.{report_at, address_in, done_in, AreSame, HasReport, CarriedOut, IsTold, CarriedOutOrMissed, IsToldOrMissed, TakesTurn, CountsOf, SignsAs};
 
 use crate::customer_report::{CustomerReport, report_after};
 use indexmap::IndexMap;
@@ -74,7 +74,8 @@ impl<A: Allocator + Copy> CustomerCounts<A> {
     /// Reports of the customer that a command enrolled, which was carried out before any line of commands: line 0. Whether it found the
     /// memory for it.
     pub fn enrolled_at_start(&mut self, command: &Command)
-        ensures { OnFalse self.new.has_missed (CarriedOut self.old self.new command.now 0) }
+        ensures reported { OnFalse self.new.has_missed (CarriedOut self.old self.new command.now 0) }
+        ensures or_missed { CarriedOutOrMissed self.old self.new command.now 0 }
     {
         self.note(command, 0);
     }
@@ -82,6 +83,7 @@ impl<A: Allocator + Copy> CustomerCounts<A> {
     // Reports that a command was carried out by a line, or notes that memory was refused.
     fn note(&mut self, command: &Command, line: u64)
         ensures reported { OnFalse self.new.has_missed (CarriedOut self.old self.new command.now line) }
+        ensures or_missed { CarriedOutOrMissed self.old self.new command.now line }
         ensures missed { OnFalse self.new.has_missed (self.old.has_missed ≡ false) }
         ensures heard { self.new.heard ≡ self.old.heard }
     {
@@ -93,6 +95,8 @@ impl<A: Allocator + Copy> CustomerCounts<A> {
     // Reports that a command was carried out by a line.
     fn carried_out(&mut self, command: &Command, line: u64) -> Result<(), AllocError>
         ensures ok { OnOk result (CarriedOut self.old self.new command.now line) }
+        ensures absent { OnErr result (report_at self.old (address_in command.now) ≡ None) }
+        ensures err { OnErr result (AreSame self.old self.new) }
         ensures missed { self.new.has_missed ≡ self.old.has_missed }
         ensures heard { self.new.heard ≡ self.old.heard }
     {
@@ -107,6 +111,8 @@ impl<A: Allocator + Copy> CustomerCounts<A> {
     // Puts the report of an address, where it has one or has none.
     fn put(&mut self, address: Address, report: CustomerReport) -> Result<(), AllocError>
         ensures ok { OnOk result (HasReport self.old self.new address (Some report)) }
+        ensures absent { OnErr result (report_at self.old address ≡ None) }
+        ensures err { OnErr result (AreSame self.old self.new) }
         ensures missed { self.new.has_missed ≡ self.old.has_missed }
         ensures heard { self.new.heard ≡ self.old.heard }
     {
@@ -137,6 +143,7 @@ impl<A: Allocator + Copy> Observer for CustomerCounts<A> {
     // A line that was done carried out the command that was heard of before it.
     fn line(&mut self, number: u64, outcome: LineOutcome)
         ensures reported { OnFalse self.new.has_missed (IsTold self.old self.new (done_in self.old.heard outcome) number) }
+        ensures or_missed { IsToldOrMissed self.old self.new (done_in self.old.heard outcome) number }
         ensures missed { OnFalse self.new.has_missed (self.old.has_missed ≡ false) }
         ensures heard { self.new.heard ≡ None }
     {

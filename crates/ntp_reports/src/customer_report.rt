@@ -1,5 +1,5 @@
 //! What is reported of one customer.
-ghost use Rattle.std.specs.Prelude.{◌≡◌, option_map, option_and_then};
+ghost use Rattle.std.specs.Prelude.{◌≡◌, [], ◌∷◌, option_map, option_and_then};
 ghost use Rattle.ntp_reports.specs.Customers.{new_key, enrolled_again, rolled_over, retired, revoked, report_after, key_in, unless_named, used_by, Takes};
 
 use crate::counts::Counts;
@@ -49,7 +49,9 @@ impl CustomerReport {
     }
 
     /// The numbers of its keys, the older one's first.
-    pub fn numbers(&self) -> [Option<u16>; 2] {
+    pub fn numbers(&self) -> [Option<u16>; 2]
+        ensures { result ≡ option_map (λ key. key.number) self.now.first ∷ option_map (λ key. key.number) self.now.second ∷ [] }
+    {
         [
             self.first.map(|key| key.number),
             self.second.map(|key| key.number),

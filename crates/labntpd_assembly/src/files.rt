@@ -1,12 +1,14 @@
 //! What the daemon reads and writes while it serves, and why that fails: the commands file is held to what was applied of it.
 
-use ntp_customer_files::{AdmitFault, IO_FAILED, MOST_FILE_OCTETS, TEXT_FAULTY, memory_status};
+use ntp_customer_files::{
+    AdmitFault, MOST_FILE_OCTETS, TEXT_FAULTY, failed_status, line_without_text, memory_status,
+};
 use ntp_host::{CommandsFile, EachMillisecond};
 use ntp_server::AdmittedCommands;
 use std::alloc::Global;
 use std::fmt;
 use std::fs::Files;
-use std::io::{self, ErrorKind, Write};
+use std::io::{self, Write};
 
 /// From how many octets on a commands file is told to be nearly full: 80 in 100 of the most (profile).
 const NEARLY_FULL_OCTETS: usize = 838_860;
@@ -103,7 +105,7 @@ pub fn begin_commands<'a, R: Files, F: Write>(
     let mut file = CommandsFile::new(files, path, MOST_FILE_OCTETS as u32);
     let octets: Vec<u8> = match file.begin(alloc) {
         Ok(octets) => octets,
-        Err(error) => return Err(unread_status(path, &error, faults)),
+        Err(error) => return Err(failed_status(path, &error, faults)),
     };
     let line = line_without_text(&octets);
     match AdmittedCommands::begun(file, alloc, octets) {
@@ -121,23 +123,4 @@ pub fn begin_commands<'a, R: Files, F: Write>(
             Err(TEXT_FAULTY)
         }
     }
-}
-
-/// The number of the first line, counted from 1, that is no UTF-8; that of the last one where all are.
-pub fn line_without_text(octets: &[u8]) -> u64 {
-    let valid = match str::from_utf8(octets) {
-        Ok(_) => octets.len(),
-        Err(error) => error.valid_up_to(),
-    };
-    let line_feeds = octets.iter().take(valid).filter(|octet| **octet == b'\n');
-    line_feeds.count() as u64 + 1
-}
-
-/// Tells that a file could not be read, and gives the exit status.
-pub fn unread_status<F: Write>(path: &str, error: &io::Error, faults: &mut F) -> u8 {
-    if error.kind() == ErrorKind::OutOfMemory {
-        return memory_status(faults);
-    }
-    let _ = writeln!(faults, "{path}: {error}");
-    IO_FAILED
 }

@@ -7,7 +7,9 @@ use crate::files::{FileFault, is_nearly_full, write_nearly_full};
 use crate::parts::{Daemon, DaemonPort, Host};
 use labntpd_configuration::Configuration;
 use labntpd_configuration::command_line::VERSION;
-use labntpd_host::{BoundAt, HostClocks, Log, LogForm, Priority, queue_state, replace_file};
+use labntpd_host::{
+    BoundAt, HostClocks, Log, LogForm, Priority, SOCKETS_ROOM, queue_state, replace_file,
+};
 use ntp_clock::{Reading, reference_unsynchronised};
 use ntp_customer_files::AdmitFault;
 use ntp_host::moment_now;
@@ -47,9 +49,6 @@ const CLOCK_PATIENCE: u64 = 2;
 
 /// How much room the statistics have, in octets.
 const STATISTICS_ROOM: usize = 16_384;
-
-/// How much room a part of the kernel's list of sockets has, in octets.
-pub const SOCKETS_ROOM: usize = 65_536;
 
 /// What is known of a daemon when it begins to serve.
 #[derive(Clone, Copy)]

@@ -4,9 +4,9 @@ use std::fs::{self, Files};
 use std::io::Read;
 use std::net::SocketAddrV4;
 
-/// How many octets of the kernel's list of sockets are read at once: those of 512 lines, each of which has 128 with its line
-/// feed.
-const PART_OCTETS: u64 = 65_536;
+/// How many octets of the kernel's list of sockets are read at once, and how much room is wanted for them: 512 lines of 128 octets each,
+/// with its line feed.
+pub const SOCKETS_ROOM: usize = 65_536;
 
 /// How many such parts are read at most.
 const MOST_PARTS: u32 = 16;
@@ -79,7 +79,7 @@ fn has_inode(line: &str, inode: u64) -> bool {
 // The next lines of the kernel's list; nothing behind its end.
 fn next_part<'a, F: Read>(file: &mut F, room: &'a mut Vec<u8>) -> Option<&'a str> {
     room.clear();
-    file.take(PART_OCTETS).read_to_end(room).ok()?;
+    file.take(SOCKETS_ROOM as u64).read_to_end(room).ok()?;
     if room.is_empty() {
         return None;
     }

@@ -10,7 +10,7 @@ mod socket;
 mod whole_file;
 
 pub use followed_clock::{ClockSource, FollowedClock};
-pub use kernel_queue::{QueueState, is_of_other_protocol, queue_state};
+pub use kernel_queue::{QueueState, SOCKETS_ROOM, is_of_other_protocol, queue_state};
 pub use log::{Log, LogForm, Priority, StartLines, form_for, has_standard_streams, pause};
 pub use queued_udp::{BoundAt, HostClocks, LONGEST_WAIT, QueuedUdp};
 pub use socket::{bound, inherited, receive_buffer, set_receive_buffer, set_send_buffer};

@@ -16,11 +16,11 @@ pub use applied_lines::{AdmitFault, AppliedLines};
 pub use commands::{apply_commands, commands_step};
 pub use fault_lines::FaultLines;
 pub use fault_words::fault_word;
-pub use file_text::MOST_FILE_OCTETS;
+pub use file_text::{MOST_FILE_OCTETS, line_without_text};
 pub use laws::what_is_due_stands_behind_what_was_applied;
 pub use loading::{LoadFault, Loaded, load_register};
 pub use starting::load_status;
 pub use status::{
-    DONE, IO_FAILED, MEMORY_OUT, TEXT_FAULTY, USAGE_REFUSED, memory_status, socket_status,
-    unread_status, usage_status, write_status,
+    DONE, IO_FAILED, MEMORY_OUT, TEXT_FAULTY, USAGE_REFUSED, failed_status, memory_status,
+    socket_status, unread_status, usage_status, write_status,
 };

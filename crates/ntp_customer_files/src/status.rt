@@ -39,6 +39,18 @@ pub fn unread_status<F: Write>(error: &io::Error, faults: &mut F) -> u8
     }
 }
 
+/// Tells what a file, a socket or a setting of this name failed with, and gives the exit status. A failed write is passed over.
+pub fn failed_status<F: Write>(name: &str, error: &io::Error, faults: &mut F) -> u8
+    ensures memory { error_kind error.now ≡ ErrorKind.OutOfMemory → result ≡ 4 }
+    ensures failed { error_kind error.now ≢ ErrorKind.OutOfMemory → result ≡ 3 }
+{
+    if error.kind() == ErrorKind::OutOfMemory {
+        return memory_status(faults);
+    }
+    let _ = writeln!(faults, "{name}: {error}");
+    IO_FAILED
+}
+
 /// Tells of want of memory, and gives the exit status. A failed write is passed over.
 pub fn memory_status<F: Write>(faults: &mut F) -> u8
     ensures { result ≡ 4 }

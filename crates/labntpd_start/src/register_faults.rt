@@ -1,8 +1,9 @@
 //! What is wrong with a register file, and where.
 
-use labntpd_assembly::line_without_text;
 use ntp_admin::{refusal_word, words};
-use ntp_customer_files::{LoadFault, MOST_FILE_OCTETS, TEXT_FAULTY, load_status};
+use ntp_customer_files::{
+    LoadFault, MOST_FILE_OCTETS, TEXT_FAULTY, line_without_text, load_status,
+};
 use ntp_events::LineFault;
 use ntp_register_file::RegisterFault;
 use std::alloc::Global;

@@ -2,13 +2,14 @@
 
 use crate::places::{judge_places, tell_readers};
 use crate::register_faults::register_status;
-use labntpd_assembly::unread_status;
 use labntpd_configuration::{
     ClockDaemon, ClockSource, Configuration, ConfigurationFault, key_in_file, read_configuration,
 };
 use labntpd_host::StartLines;
 use ntp_clock::{ClockLimits, Follower};
-use ntp_customer_files::{Loaded, MOST_FILE_OCTETS, TEXT_FAULTY, load_register, memory_status};
+use ntp_customer_files::{
+    Loaded, MOST_FILE_OCTETS, TEXT_FAULTY, failed_status, load_register, memory_status,
+};
 use ntp_events::Command;
 use ntp_host::read_regular_file;
 use ntp_register_file::read_register;
@@ -68,7 +69,7 @@ pub fn prepare<R: Files, F: Write + Drop>(
     let register_path = configuration.register.as_str();
     let register = match read_regular_file(files, alloc, register_path, MOST_FILE_OCTETS as u32) {
         Ok(octets) => octets,
-        Err(error) => return Err(unread_status(register_path, &error, faults)),
+        Err(error) => return Err(failed_status(register_path, &error, faults)),
     };
     let loaded = match load_register(alloc, &register) {
         Ok(loaded) => loaded,
@@ -153,7 +154,7 @@ fn small_text<R: Files, F: Write>(
 ) -> Result<String, u8> {
     let octets = match read_regular_file(files, alloc, path, MOST_SMALL_FILE_OCTETS) {
         Ok(octets) => octets,
-        Err(error) => return Err(unread_status(path, &error, faults)),
+        Err(error) => return Err(failed_status(path, &error, faults)),
     };
     if octets.len() > MOST_SMALL_FILE_OCTETS as usize {
         let _ = writeln!(

@@ -182,11 +182,16 @@ def status(unit):
 
 # ---- What is changed there
 
+def blocks_of(text, heading):
+    """The blocks of shell commands below a heading."""
+    part = text.split(f"\n## {heading}\n")[1].split("\n## ")[0]
+    return [textwrap.dedent(it) for it in re.findall(r"^ *```sh\n(.*?)^ *```$", part, re.M | re.S)]
+
+
 def commands_of(page, heading):
-    """The blocks of shell commands below a heading of a page."""
+    """The same of a page that was handed over."""
     with open(f"{GIVEN}/{page}") as it:
-        text = it.read().split(f"\n## {heading}\n")[1].split("\n## ")[0]
-    return [textwrap.dedent(it) for it in re.findall(r"^ *```sh\n(.*?)^ *```$", text, re.M | re.S)]
+        return blocks_of(it.read(), heading)
 
 
 def edit(path, *changes):

@@ -1,0 +1,6 @@
+mod Hearing
+mod KeyForms
+mod KeyLines
+mod Leasts
+mod Rounding
+mod Texts

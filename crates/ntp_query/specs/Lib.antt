@@ -1,0 +1,9 @@
+pub mod Nanos
+pub mod Answer
+pub mod Outcome
+pub mod Exchange
+pub mod KeyFile
+pub mod Server
+pub mod Reasons
+pub mod Text
+pub mod Check

@@ -1,0 +1,71 @@
+//! What a reply that gave a sample tells.
+ghost use Rattle.std.specs.Prelude.{◌≡◌, ◌<◌, ◌^◌};
+ghost use Rattle.ntp_query.specs.Answer.{answer_of, offset_of, delay_of, root_distance_of};
+
+use crate::Nanos;
+use ntp_client::Sample;
+use ntp_packet::Header;
+
+/// How many units of 2^-33 seconds a second has: those of twice an offset.
+const OFFSET_UNITS: u64 = 1 << 33;
+
+/// How many units of 2^-32 seconds a second has: those of a delay.
+const DELAY_UNITS: u64 = 1 << 32;
+
+/// How many units of 2^-17 seconds a second has: those of twice a root distance.
+const ROOT_UNITS: u64 = 1 << 17;
+
+/// A sample, and what the reply that gave it tells of the server's clock.
+#[derive(Clone, Copy, Debug, PartialEq, Eq)]
+pub struct Answer {
+    /// The four stamps.
+    pub sample: Sample,
+    /// The leap indicator: 0 no warning, 1 the last minute has 61 seconds, 2 it has 59 (RFC 5905, 7.3).
+    pub leap: u8,
+    /// The stratum: 1 primary, 2 to 15 secondary (RFC 5905, 7.3).
+    pub stratum: u8,
+    /// The reference identifier (RFC 5905, 7.3).
+    pub reference_id: [u8; 4],
+    /// The root delay, in units of 2^-16 seconds (RFC 5905, 7.3).
+    pub root_delay: u32,
+    /// The root dispersion, in units of 2^-16 seconds (RFC 5905, 7.3).
+    pub root_dispersion: u32,
+}
+
+impl Answer {
+    // What a reply with this header tells, which gave this sample.
+    pub(crate) fn of(sample: Sample, header: &Header) -> Answer
+        ensures { result ≡ answer_of sample header.now }
+    {
+        Answer {
+            sample,
+            leap: header.leap(),
+            stratum: header.stratum(),
+            reference_id: header.reference_id(),
+            root_delay: header.root_delay().0,
+            root_dispersion: header.root_dispersion().0,
+        }
+    }
+
+    /// The offset of the server's clock from this host's (RFC 5905, 8).
+    pub fn offset(&self) -> Nanos
+        ensures { result.0 ≡ offset_of self.now }
+    {
+        Nanos::of_units(self.sample.offset_twice(), OFFSET_UNITS)
+    }
+
+    /// The round trip delay (RFC 5905, 8).
+    pub fn delay(&self) -> Nanos
+        ensures { result.0 ≡ delay_of self.now }
+    {
+        Nanos::of_units(self.sample.delay(), DELAY_UNITS)
+    }
+
+    /// The root distance that the server tells: half its root delay, and its root dispersion (RFC 5905, 11.2).
+    pub fn root_distance(&self) -> Nanos
+        ensures { result.0 ≡ root_distance_of self.now }
+    {
+        let units = i128::from(self.root_delay) + 2 * i128::from(self.root_dispersion);
+        Nanos::of_units(units, ROOT_UNITS)
+    }
+}

@@ -1,0 +1,132 @@
+//! A key file in the form of chrony (chrony.conf(5), `keyfile`).
+ghost use Rattle.std.specs.Prelude.{◌≡◌, map, IfOk};
+ghost use Rattle.std.specs.Option.{option_map};
+ghost use Rattle.ntp_query.specs.KeyFile.{space_for, is_key_line, algorithm_of, key_octets, key_in_words, key_in_line, key_in_text};
+
+use crate::key_words::KeyWords;
+use ntp_admin::words;
+use ntp_mac::{Algorithm, Key};
+use std::alloc::{AllocError, Global};
+
+/// Why a key file gives no key with a number.
+#[derive(Clone, Copy)]
+pub enum KeyFileFault {
+    /// No line has the number.
+    Missing,
+    /// The first line that has the number has a fault. Lines are counted from 1.
+    Line { line: u64, fault: KeyLineFault },
+}
+
+/// What is wrong with a line of a key file. The first that applies is told.
+#[derive(Clone, Copy)]
+pub enum KeyLineFault {
+    /// It has neither two words nor three.
+    Words,
+    /// The algorithm is neither `MD5` nor `SHA1`.
+    Algorithm,
+    /// The key is neither 1 to 32 octets, behind `ASCII:` or alone, nor 2 to 64 hexadecimal digits, an even number, behind `HEX:`.
+    Key,
+}
+
+/// The octets of a key file with spaces in the place of tabulators and carriage returns, which separate words as they do (profile). It takes
+/// memory from `alloc`.
+pub fn spaced(alloc: Global, octets: &[u8]) -> Result<Vec<u8>, AllocError>
+    ensures { IfOk result (λ made. made.items ≡ map space_for octets.now) }
+{
+    octets.iter().map(|octet| space_for(*octet)).collect(alloc)
+}
+
+// An octet, or a space in the place of a blank.
+fn space_for(octet: u8) -> u8
+    ensures { result ≡ space_for octet }
+{
+    if octet == b'\t' || octet == b'\r' {
+        b' '
+    } else {
+        octet
+    }
+}
+
+/// The key with a number, 1 to 65,535, in a text of lines `NUMBER [MD5|SHA1] [ASCII:|HEX:]KEY`, with spaces between the words. With no
+/// algorithm it is for MD5, and with no form its octets are those of the word. The first line whose first word is the number counts. No
+/// other line is judged, so a comment, which begins with `#`, `%`, `;` or `!`, and a key of another algorithm do no harm (profile).
+pub fn key_in_text(text: &str, number: u16) -> Result<Key, KeyFileFault>
+    ensures { result ≡ key_in_text number text.now }
+{
+    let mut rest = text;
+    let mut line = 1;
+    while let Some((first, others)) = rest.split_once('\n') {
+        if is_key_line(first, number) {
+            return key_in_line(line, first);
+        }
+        rest = others;
+        line += 1;
+    }
+    if is_key_line(rest, number) {
+        return key_in_line(line, rest);
+    }
+    Err(KeyFileFault::Missing)
+}
+
+// Whether the first word of a line is a number.
+fn is_key_line(line: &str, number: u16) -> bool
+    ensures { result ≡ is_key_line number line.now }
+{
+    match KeyWords::new(line).next() {
+        Some(word) => words::number(word).is_some_and(|found| found.get() == number),
+        None => false,
+    }
+}
+
+// The key of the line with this place.
+fn key_in_line(line: u64, text: &str) -> Result<Key, KeyFileFault>
+    ensures { result ≡ key_in_line line text.now }
+{
+    match key_in_words(text) {
+        Ok(key) => Ok(key),
+        Err(fault) => Err(KeyFileFault::Line { line, fault }),
+    }
+}
+
+// The key of the words of a line.
+fn key_in_words(text: &str) -> Result<Key, KeyLineFault>
+    ensures { result ≡ key_in_words text.now }
+{
+    let mut words = KeyWords::new(text);
+    let _number = words.next().ok_or(KeyLineFault::Words)?;
+    let second = words.next().ok_or(KeyLineFault::Words)?;
+    match words.next() {
+        None => key_of(Algorithm::Md5, second).ok_or(KeyLineFault::Key),
+        Some(third) => {
+            if words.next().is_some() {
+                return Err(KeyLineFault::Words);
+            }
+            let algorithm = algorithm_of(second).ok_or(KeyLineFault::Algorithm)?;
+            key_of(algorithm, third).ok_or(KeyLineFault::Key)
+        }
+    }
+}
+
+// The algorithm that a word names.
+fn algorithm_of(word: &str) -> Option<Algorithm>
+    ensures { result ≡ algorithm_of word.now }
+{
+    match word {
+        "MD5" => Some(Algorithm::Md5),
+        "SHA1" => Some(Algorithm::Sha1),
+        _ => None,
+    }
+}
+
+// The key that a word writes.
+fn key_of(algorithm: Algorithm, word: &str) -> Option<Key>
+    ensures { result ≡ option_map (λ octets. record { algorithm = algorithm; octets = octets }) (key_octets word.now) }
+{
+    if let Some(digits) = word.strip_prefix("HEX:") {
+        return words::key(algorithm, digits);
+    }
+    match word.strip_prefix("ASCII:") {
+        Some(text) => Key::new(algorithm, text.as_bytes()).ok(),
+        None => Key::new(algorithm, word.as_bytes()).ok(),
+    }
+}

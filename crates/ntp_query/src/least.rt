@@ -1,0 +1,34 @@
+//! The sample of least delay.
+ghost use Rattle.std.specs.Prelude.{◌≡◌, ◌≤ℤ◌, ◌⊎◌, Some, Contains, IfSome, IsNone};
+ghost use Rattle.ntp_query.specs.Answer.{delay_units_of};
+
+use crate::{Answer, Outcome};
+
+/// Of the samples that some queries gave one of least delay, which tells the offset best (RFC 5905, 10); nothing where none gave a sample.
+pub fn least_delay(outcomes: &[Outcome]) -> Option<Answer>
+    ensures given { IfSome result (λ answer. Contains outcomes.now (Outcome.Answered answer)) }
+    ensures least { IfSome result (λ answer. (other : Answer) → Contains outcomes.now (Outcome.Answered other)
+        → delay_units_of answer.sample ≤ℤ delay_units_of other.sample) }
+    ensures none { IsNone result → (answer : Answer) → ¬ Contains outcomes.now (Outcome.Answered answer) }
+{
+    let mut least: Option<Answer> = None;
+    for outcome in outcomes {
+        match outcome.answer() {
+            Some(answer) => least = Some(quicker(least, answer)),
+            None => {}
+        }
+    }
+    least
+}
+
+// The one of less delay; the first where both have the same.
+fn quicker(least: Option<Answer>, next: Answer) -> Answer
+    ensures given { (result ≡ next) ⊎ (least ≡ Some result) }
+    ensures next { delay_units_of result.sample ≤ℤ delay_units_of next.sample }
+    ensures least { IfSome least (λ other. delay_units_of result.sample ≤ℤ delay_units_of other.sample) }
+{
+    match least {
+        Some(least) if least.sample.delay() <= next.sample.delay() => least,
+        _ => next,
+    }
+}

@@ -1,0 +1,61 @@
+//! What came of a query.
+ghost use Rattle.std.specs.Prelude.{◌≡◌, false};
+ghost use Rattle.ntp_query.specs.Outcome.{heard, answer_in, ends};
+
+use crate::Answer;
+use ntp_client::{Client, Distrust, Taken};
+use ntp_request::read_request;
+use ntp_time::Moment;
+
+/// What came of a query.
+#[derive(Clone, Copy, Debug, PartialEq, Eq)]
+pub enum Outcome {
+    /// An authentic time reply.
+    Answered(Answer),
+    /// An authentic kiss `RATE`: the server is asked too often.
+    Rate,
+    /// The kiss `DENY`, which is not authentic.
+    Deny,
+    /// A crypto-NAK, which is not authentic.
+    Nak,
+    /// Octets that were not taken for a reply, and why.
+    Refused(Distrust),
+    /// Nothing.
+    Silence,
+}
+
+/// What a client takes octets for that arrive at a moment of its clock, and for a sample what their header tells.
+pub fn hear(client: &mut Client, octets: &[u8], at: Moment) -> Outcome
+    ensures outcome { result ≡ heard client.old octets.now at }
+    ensures waits { ends result ≡ false → client.new ≡ client.old }
+{
+    match client.take(octets, at) {
+        Taken::Sample(sample) => match read_request(octets) {
+            Ok(reply) => Outcome::Answered(Answer::of(sample, &reply.header)),
+            Err(fault) => Outcome::Refused(Distrust::Malformed(fault)),
+        },
+        Taken::Rate => Outcome::Rate,
+        Taken::Deny => Outcome::Deny,
+        Taken::Nak => Outcome::Nak,
+        Taken::Refused(why) => Outcome::Refused(why),
+    }
+}
+
+impl Outcome {
+    /// The sample and what it was told with, if this is one.
+    pub fn answer(&self) -> Option<Answer>
+        ensures { result ≡ answer_in self.now }
+    {
+        match self {
+            Outcome::Answered(answer) => Some(*answer),
+            _ => None,
+        }
+    }
+
+    // Whether it ends the query: it is authentic.
+    pub(crate) fn ends(&self) -> bool
+        ensures { result ≡ ends self.now }
+    {
+        matches!(self, Outcome::Answered(_) | Outcome::Rate)
+    }
+}

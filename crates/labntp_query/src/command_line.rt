@@ -1,0 +1,235 @@
+//! The words of the command line.
+
+use clap::builder::ValueParser;
+use clap::error::ErrorKind;
+use clap::{Arg, ArgAction, ArgMatches, Command, Error};
+use ntp_query::{Limits, Server, server_in};
+use std::alloc::{AllocError, Global};
+use std::num::{self, NonZero};
+
+/// The program's version.
+const VERSION: &str = "0.1.0";
+
+/// How many nanoseconds a second has.
+const SECOND_NANOS: f64 = 1_000_000_000.0;
+
+/// What stands at the end of the help.
+const AFTER_HELP: &str = "\
+Each query has a line: how it was answered, the offset of the server's clock from this host's, the delay, and what the server tells of its \
+clock. No clock is set, and no key is shown. The key file is chrony's: lines NUMBER [MD5|SHA1] [ASCII:|HEX:]KEY.
+
+With --max-.. or --warn-.. it is a check for monitoring, with one line.
+
+Examples:
+  labntp-query --key-file keys --number 7 192.0.2.1
+  labntp-query --key-file keys --number 7 --count 4 --json 192.0.2.1:20123
+  labntp-query --key-file keys --number 7 --max-offset 0.1 --warn-offset 0.01 192.0.2.1
+
+Exit status: 0 a query gave a sample; 1 none did; 2 other words; 3 the key file or the socket; 4 want of memory.
+Of a check: 0 well; 1 a warning; 2 critical; 3 nothing could be asked.";
+
+/// What the words of a command line ask for. Times are in nanoseconds.
+#[derive(Clone, Copy)]
+pub struct Asked<'a> {
+    /// The server.
+    pub server: Server,
+    /// The word that names it.
+    pub server_word: &'a str,
+    /// The path of the key file.
+    pub key_file: &'a str,
+    /// The number of the key.
+    pub number: NonZero<u16>,
+    /// How many queries there are.
+    pub count: u32,
+    /// How long the next one is waited with.
+    pub interval: u64,
+    /// How long its replies are waited for.
+    pub timeout: u64,
+    /// Whether objects of JSON are printed.
+    pub json: bool,
+    /// Whether it is a check by limits.
+    pub is_check: bool,
+    /// What is critical.
+    pub most: Limits,
+    /// What is a warning.
+    pub warn: Limits,
+}
+
+/// What the words ask for, of which the first is the program's name. Else the error that tells the user why: its kind may be a request for
+/// the help or the version, or memory may have run out.
+pub fn parse<'a>(alloc: Global, words: &'a [String]) -> Result<Asked<'a>, Error> {
+    let matches = command(alloc)?.try_get_matches_from(words)?;
+    match asked_in(&matches) {
+        Ok(asked) => Ok(asked),
+        Err(message) => { Err(command(alloc)?.error(ErrorKind::ValueValidation, message)?) }
+    }
+}
+
+// What the matches ask for; else what is wrong with them.
+fn asked_in<'a>(matches: &ArgMatches<'a>) -> Result<Asked<'a>, &'static str> {
+    let server_word = matches
+        .get_str("server")
+        .ok_or("ADDRESS[:PORT] is missing")?;
+    let server = server_in(server_word).ok_or(
+        "ADDRESS[:PORT]: an IPv4 address, with a port or without, is wanted",
+    )?;
+    let number = matches
+        .get_one::<u16>("number")
+        .and_then(NonZero::<u16>::new);
+    let most = limits(matches, ["max-offset", "max-stratum", "max-root-distance"])?;
+    let warn = limits(
+        matches,
+        ["warn-offset", "warn-stratum", "warn-root-distance"],
+    )?;
+    Ok(Asked {
+        server,
+        server_word,
+        key_file: matches
+            .get_str("key-file")
+            .ok_or("--key-file FILE is missing")?,
+        number: number.ok_or("--number N is missing")?,
+        count: matches.get_one::<u32>("count").unwrap_or(1),
+        interval: nanos_at(matches, "interval", 100_000_000, 3_600_000_000_000)
+            .ok_or("--interval S: 0.1 to 3600 seconds are wanted")?
+            .unwrap_or(2_000_000_000),
+        timeout: nanos_at(matches, "timeout", 10_000_000, 60_000_000_000)
+            .ok_or("--timeout S: 0.01 to 60 seconds are wanted")?
+            .unwrap_or(5_000_000_000),
+        json: matches.get_flag("json"),
+        is_check: is_limited(&most) || is_limited(&warn),
+        most,
+        warn,
+    })
+}
+
+// The limits behind these names.
+fn limits(matches: &ArgMatches<'_>, names: [&str; 3]) -> Result<Limits, &'static str> {
+    let [offset, stratum, root_distance] = names;
+    let wanted = "--max-.. S and --warn-.. S: 0 to 1000000 seconds are wanted";
+    Ok(Limits {
+        offset: nanos_at(matches, offset, 0, 1_000_000_000_000_000).ok_or(wanted)?,
+        stratum: matches.get_one::<u64>(stratum),
+        root_distance: nanos_at(matches, root_distance, 0, 1_000_000_000_000_000).ok_or(wanted)?,
+    })
+}
+
+// Whether anything is limited.
+fn is_limited(limits: &Limits) -> bool {
+    limits.offset.is_some() || limits.stratum.is_some() || limits.root_distance.is_some()
+}
+
+// The seconds behind a name in nanoseconds, or that the words lack the name; nothing where they are out of their range.
+fn nanos_at(matches: &ArgMatches<'_>, name: &str, least: u64, most: u64) -> Option<Option<u64>> {
+    let Some(seconds) = matches.get_one::<f64>(name) else {
+        return Some(None);
+    };
+    if !(seconds >= 0.0) {
+        return None;
+    }
+    let nanos = num::saturating_f64_to_u64((seconds * SECOND_NANOS).round());
+    if least <= nanos && nanos <= most {
+        Some(Some(nanos))
+    } else {
+        None
+    }
+}
+
+// The command line, with its help.
+fn command<'a>(alloc: Global) -> Result<Command<'a>, AllocError> {
+    let command = Command::new(alloc, "labntp-query")
+        .version(VERSION)
+        .about("Asks an NTP server for the time under a key, and tells what came of it")
+        .after_help(AFTER_HELP)
+        .arg(value(alloc, "key-file", "FILE", "The key file").required(true))?
+        .arg(number(alloc, "number", "N", 1, 65_535, "The number of the key").required(true))?
+        .arg(number(
+            alloc,
+            "count",
+            "K",
+            1,
+            1_000,
+            "How many queries [default: 1]",
+        ))?
+        .arg(seconds(
+            alloc,
+            "interval",
+            "How long the next query is waited with [default: 2]",
+        ))?
+        .arg(seconds(
+            alloc,
+            "timeout",
+            "How long each reply is waited for [default: 5]",
+        ))?
+        .arg(
+            Arg::new(alloc, "json")
+                .long("json")
+                .action(ArgAction::SetTrue)
+                .help("Prints an object of JSON for each query"),
+        )?;
+    limited(alloc, command)?.arg(
+        Arg::new(alloc, "server")
+            .value_name("ADDRESS[:PORT]")
+            .required(true)
+            .action(ArgAction::Set)
+            .help("The server; port 123 where none is given"),
+    )
+}
+
+// The command with what makes a check of it.
+fn limited<'a>(alloc: Global, command: Command<'a>) -> Result<Command<'a>, AllocError> {
+    command
+        .arg(seconds(alloc, "max-offset", "Critical: a greater offset"))?
+        .arg(number(
+            alloc,
+            "max-stratum",
+            "N",
+            0,
+            16,
+            "Critical: a greater stratum",
+        ))?
+        .arg(seconds(
+            alloc,
+            "max-root-distance",
+            "Critical: a greater root distance",
+        ))?
+        .arg(seconds(alloc, "warn-offset", "A warning: a greater offset"))?
+        .arg(number(
+            alloc,
+            "warn-stratum",
+            "N",
+            0,
+            16,
+            "A warning: a greater stratum",
+        ))?
+        .arg(seconds(
+            alloc,
+            "warn-root-distance",
+            "A warning: a greater root distance",
+        ))
+}
+
+// A name with a value.
+fn value<'a>(alloc: Global, name: &'a str, shown: &'a str, help: &'a str) -> Arg<'a> {
+    Arg::new(alloc, name)
+        .long(name)
+        .value_name(shown)
+        .action(ArgAction::Set)
+        .help(help)
+}
+
+// A name with a whole number.
+fn number<'a>(
+    alloc: Global,
+    name: &'a str,
+    shown: &'a str,
+    least: u64,
+    most: u64,
+    help: &'a str,
+) -> Arg<'a> {
+    value(alloc, name, shown, help).value_parser(ValueParser::unsigned(least, most))
+}
+
+// A name with a number of seconds.
+fn seconds<'a>(alloc: Global, name: &'a str, help: &'a str) -> Arg<'a> {
+    value(alloc, name, "S", help).value_parser(ValueParser::Float)
+}

@@ -1,0 +1,53 @@
+//! The key, from its file.
+
+use crate::command_line::Asked;
+use crate::faults::Faults;
+use ntp_host::read_regular_file;
+use ntp_mac::Key;
+use ntp_query::{KeyFileFault, KeyLineFault, key_in_text, spaced};
+
+/// How many octets a key file has at most (profile).
+const MOST_OCTETS: u32 = 65_536;
+
+/// The key that is asked for. A fault is told in one line, and gives the exit status.
+pub fn read_key(rt: &HostRuntime, asked: &Asked<'_>, faults: Faults) -> Result<Key, u8> {
+    let path = asked.key_file;
+    let octets = match read_regular_file(rt, rt.alloc(), path, MOST_OCTETS) {
+        Ok(octets) => octets,
+        Err(error) => return Err(faults.of_system(rt, path, &error)),
+    };
+    if octets.len() > MOST_OCTETS as usize {
+        return Err(faults.told(
+            rt,
+            format_args!("{path}: at most {MOST_OCTETS} octets are wanted"),
+        ));
+    }
+    let Ok(octets) = spaced(rt.alloc(), &octets) else {
+        return Err(faults.memory(rt));
+    };
+    let Ok(text) = str::from_utf8(&octets) else {
+        return Err(faults.told(rt, format_args!("{path}: this is no UTF-8")));
+    };
+    let number = asked.number.get();
+    match key_in_text(text, number) {
+        Ok(key) => Ok(key),
+        Err(KeyFileFault::Missing) => {
+            Err(faults.told(rt, format_args!("{path}: there is no key {number}")))
+        }
+        Err(KeyFileFault::Line { line, fault }) => {
+            let wanted = wanted(fault);
+            Err(faults.told(rt, format_args!("{path}: line {line}: {wanted}")))
+        }
+    }
+}
+
+// What is wanted in place of a line's fault.
+fn wanted(fault: KeyLineFault) -> &'static str {
+    match fault {
+        KeyLineFault::Words => "NUMBER [MD5|SHA1] [ASCII:|HEX:]KEY is wanted",
+        KeyLineFault::Algorithm => "MD5 or SHA1 is wanted",
+        KeyLineFault::Key => {
+            "a key of 1 to 32 octets is wanted, behind HEX: in 2 to 64 hexadecimal digits"
+        }
+    }
+}

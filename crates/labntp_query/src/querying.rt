@@ -1,0 +1,106 @@
+//! Queries, one after another, and what is told of them.
+
+use crate::command_line::Asked;
+use crate::faults::Faults;
+use crate::json::outcome_line;
+use crate::key::read_key;
+use crate::udp_link::UdpLink;
+use ntp_client::Client;
+use ntp_query::{Check, Least, Outcome, ask, check_status, least_delay, verdict_of};
+use std::io::Write;
+
+/// A query gave a sample.
+const SAMPLED: u8 = 0;
+
+/// None did.
+const NO_SAMPLE: u8 = 1;
+
+/// Asks as often as is wanted, tells what came of it, and gives the exit status. A fault is told in one line.
+pub fn query_status(rt: &HostRuntime, asked: &Asked<'_>) -> u8 {
+    let faults = Faults::new(asked.is_check);
+    match outcomes(rt, asked, faults) {
+        Ok(outcomes) => end_status(rt, asked, &outcomes, faults),
+        Err(status) => status,
+    }
+}
+
+// What came of each query; else the exit status.
+fn outcomes(rt: &HostRuntime, asked: &Asked<'_>, faults: Faults) -> Result<Vec<Outcome>, u8> {
+    let mut client = Client::new(read_key(rt, asked, faults)?, asked.number.get());
+    let mut link = match UdpLink::open(rt, asked.server, asked.timeout) {
+        Ok(link) => link,
+        Err(error) => return Err(faults.of_system(rt, asked.server_word, &error)),
+    };
+    let mut outcomes = Vec::new(rt.alloc());
+    for place in 0..asked.count {
+        if place > 0 {
+            link.pause(asked.interval);
+        }
+        let outcome = match ask(&mut client, &mut link) {
+            Ok(outcome) => outcome,
+            Err(error) => return Err(faults.of_system(rt, asked.server_word, &error)),
+        };
+        tell(rt, asked, &outcome, faults)?;
+        if outcomes.push(outcome).is_err() {
+            return Err(faults.memory(rt));
+        }
+    }
+    Ok(outcomes)
+}
+
+// Tells what came of a query, unless a check tells it at the end.
+fn tell(rt: &HostRuntime, asked: &Asked<'_>, outcome: &Outcome, faults: Faults) -> Result<(), u8> {
+    let written = if asked.json {
+        let Ok(line) = outcome_line(rt.alloc(), asked, outcome) else {
+            return Err(faults.memory(rt));
+        };
+        rt.stdout().write_all(&line)
+    } else if asked.is_check {
+        Ok(())
+    } else {
+        writeln!(rt.stdout(), "{outcome}")
+    };
+    match written {
+        Ok(()) => Ok(()),
+        Err(_) => Err(faults.told(rt, "write")),
+    }
+}
+
+// Tells what all came to, and gives the exit status.
+fn end_status(rt: &HostRuntime, asked: &Asked<'_>, outcomes: &[Outcome], faults: Faults) -> u8 {
+    let least = least_delay(outcomes);
+    let samples = outcomes.iter().filter(|it| it.answer().is_some()).count();
+    let samples = u32::try_from(samples).unwrap_or(u32::MAX);
+    let queries = asked.count;
+    if asked.is_check {
+        let verdict = verdict_of(
+            &asked.most,
+            &asked.warn,
+            least,
+            queries.saturating_sub(samples),
+        );
+        let check = Check {
+            verdict,
+            least,
+            latest: outcomes.last().copied().unwrap_or(Outcome::Silence),
+        };
+        if !asked.json && writeln!(rt.stdout(), "{check}").is_err() {
+            return faults.told(rt, "write");
+        }
+        return check_status(verdict);
+    }
+    let Some(answer) = least else {
+        return NO_SAMPLE;
+    };
+    if queries > 1 && !asked.json {
+        let least = Least {
+            answer,
+            samples,
+            queries,
+        };
+        if writeln!(rt.stdout(), "{least}").is_err() {
+            return faults.told(rt, "write");
+        }
+    }
+    SAMPLED
+}

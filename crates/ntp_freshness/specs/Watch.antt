@@ -1,5 +1,5 @@
 -- What is kept of a history.
-use Rattle.std.specs.Prelude.{◌≡◌, ℕ, suc, ◌+◌, ◌<◌, ◌++◌, nat_le, ◌&&◌, if◌then◌else◌, Option, None, Some, List, [], ◌∷◌}
+use Rattle.std.specs.Prelude.{◌≡◌, ℕ, suc, ◌+◌, ◌*◌, ◌/◌, ◌<◌, ◌≤◌, ◌⊎◌, ◌++◌, nat_le, ◌&&◌, if◌then◌else◌, Option, None, Some, List, [], ◌∷◌}
 use Rattle.ntp_freshness.specs.declared.queue_event.QueueEvent.{QueueEvent}
 use Rattle.ntp_freshness.specs.declared.queue_event.QueueEvent.TheVariants.{Held, Looked, Taken, Read}
 use Rattle.ntp_freshness.specs.declared.queue_watch.QueueWatch.{QueueWatch}
@@ -12,6 +12,15 @@ longest_of watch = watch.longest
 -- datagrams that were seen in the queue may still be in it
 abbrev pub IsWaiting : QueueWatch → Type 0
 IsWaiting watch = 0 < watch.waiting
+
+-- it is known of what is taken next that it came no longer than this before `now`
+abbrev pub IsKnownWithin : ℕ → QueueWatch → ℕ → Type 0
+IsKnownWithin longest watch now = (at : ℕ) × (watch.known ≡ Some at) × (now ≤ at + longest)
+
+-- the queue was counted where that had to be known: datagrams that were seen in it may still be in it, or it is known of what is taken next
+-- that it came not long before `now` (profile)
+abbrev pub IsCounted : QueueWatch → ℕ → Type 0
+IsCounted watch now = IsWaiting watch ⊎ IsKnownWithin (longest_of watch / 10 * 3) watch now
 
 -- the newest moment of which it is known, after so many more takes, that what is taken next came after it
 abbrev pub known_after : ℕ → List QueueEvent → Option ℕ

@@ -5,8 +5,8 @@ ghost use Rattle.ntp_service_serve.specs.Port.{most_received_octets, NowTells, S
 ghost use Rattle.ntp_freshness.specs.declared.queue_event.QueueEvent.{QueueEvent};
 ghost use Rattle.ntp_freshness.specs.Freshness.{moment_of, IsInOrder, oldest_look};
 ghost use Rattle.ntp_freshness.specs.Queue.{ReadsClock};
-ghost use Rattle.ntp_freshness.specs.Watch.{Watches, Counts, longest_of, kept_after};
-ghost use Rattle.ntp_freshness.specs.Fresh.{StandsFor, IsShown, kept, PassesOnFresh};
+ghost use Rattle.ntp_freshness.specs.Watch.{Watches, Counts, longest_of, IsCounted, kept_after};
+ghost use Rattle.ntp_freshness.specs.Fresh.{StandsFor, IsShown, counted_on, kept, PassesOnFresh};
 ghost use Rattle.ntp_freshness.specs.Next.{TakesNext, Looks, Drops, failures_in};
 
 use crate::queue_watch::QueueWatch;
@@ -199,6 +199,7 @@ impl<P: QueuedPort> FreshPort<P> {
         ensures failures { self.new.failures ≡ self.old.failures }
         ensures drops { Drops (kept self.old.watch self.old.reading self.old.next_look self.old.stale (P.told self.old.port) (P.history self.old.port))
             (kept self.new.watch self.new.reading self.new.next_look self.new.stale (P.told self.new.port) (P.history self.new.port)) }
+        ensures did { self.new.stale ≡ counted_on self.old.stale (if result then 1 else 0) }
     {
         let stale = self.stale;
         if !self.watch.is_waiting() {
@@ -220,6 +221,7 @@ impl<P: QueuedPort> FreshPort<P> {
         ensures failures { self.new.failures ≡ self.old.failures }
         ensures looks { Looks (kept self.old.watch self.old.reading self.old.next_look self.old.stale (P.told self.old.port) (P.history self.old.port))
             (kept self.new.watch self.new.reading self.new.next_look self.new.stale (P.told self.new.port) (P.history self.new.port)) (Some (oldest_look (longest_of self.old.watch))) }
+        ensures counted { self.old.next_look ≤ self.old.reading → IsCounted self.new.watch self.old.reading }
     {
         if self.reading >= self.next_look {
             self.look_where_due();
@@ -232,6 +234,7 @@ impl<P: QueuedPort> FreshPort<P> {
         ensures failures { self.new.failures ≡ self.old.failures }
         ensures looks { Looks (kept self.old.watch self.old.reading self.old.next_look self.old.stale (P.told self.old.port) (P.history self.old.port))
             (kept self.new.watch self.new.reading self.new.next_look self.new.stale (P.told self.new.port) (P.history self.new.port)) (Some (longest_of self.old.watch / 10)) }
+        ensures counted { IsCounted self.new.watch self.old.reading }
     {
         if self.watch.is_due(self.reading) {
             self.look_now();
@@ -243,6 +246,7 @@ impl<P: QueuedPort> FreshPort<P> {
         ensures failures { self.new.failures ≡ self.old.failures }
         ensures looks { Looks (kept self.old.watch self.old.reading self.old.next_look self.old.stale (P.told self.old.port) (P.history self.old.port))
             (kept self.new.watch self.new.reading self.new.next_look self.new.stale (P.told self.new.port) (P.history self.new.port)) (Some 0) }
+        ensures counted { IsCounted self.new.watch self.old.reading }
     {
         self.look_whether_empty();
         self.look_how_many();
@@ -264,6 +268,7 @@ impl<P: QueuedPort> FreshPort<P> {
         ensures failures { self.new.failures ≡ self.old.failures }
         ensures looks { Looks (kept self.old.watch self.old.reading self.old.next_look self.old.stale (P.told self.old.port) (P.history self.old.port))
             (kept self.new.watch self.new.reading self.new.next_look self.new.stale (P.told self.new.port) (P.history self.new.port)) None }
+        ensures counted { IsCounted self.new.watch self.old.reading }
     {
         if !self.watch.is_waiting() && self.watch.is_old(self.reading) {
             let count = self.port.most_held();

@@ -1,5 +1,5 @@
 //! A queue in memory.
-ghost use Rattle.std.specs.Prelude.{◌≡◌, ◌≤◌, ◌<◌, [], ◌∷◌, ◌++◌, false, Some, IfOk, IsTrue, reverse, vec_len};
+ghost use Rattle.std.specs.Prelude.{◌≡◌, ◌≤◌, ◌<◌, [], ◌∷◌, ◌++◌, false, Some, IfOk, IsTrue, reverse, slice_index, vec_len, ◌↔◌};
 ghost use Rattle.ntp_freshness.specs.Queue.{last_reading};
 
 use crate::queue_event::QueueEvent;
@@ -102,7 +102,7 @@ impl<A: Allocator> MemoryQueue<A> {
 
     // Whether the next datagram has come by a moment.
     fn has_come_by(&self, moment: u64) -> bool
-        ensures { IsTrue result → self.now.taken < vec_len self.now.due }
+        ensures { IsTrue result ↔ ((self.now.taken < vec_len self.now.due) × (slice_index self.now.due.items self.now.taken ≤ moment)) }
     {
         self.taken < self.due.len() && self.due[self.taken] <= moment
     }

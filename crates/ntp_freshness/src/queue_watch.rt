@@ -1,8 +1,8 @@
 //! What is kept of a queue, to know after which moment its next datagram came.
-ghost use Rattle.std.specs.Prelude.{◌≡◌, ℕ, ◌+◌, ◌/◌, ◌<◌, ◌↔◌, ◌⊎◌, List, [], ◌∷◌, Some, IsTrue, false};
+ghost use Rattle.std.specs.Prelude.{◌≡◌, ℕ, ◌+◌, ◌*◌, ◌/◌, ◌<◌, ◌↔◌, ◌⊎◌, List, [], ◌∷◌, Some, IsTrue, false};
 ghost use Rattle.ntp_freshness.specs.declared.queue_event.QueueEvent.{QueueEvent};
 ghost use Rattle.ntp_freshness.specs.Freshness.{MayBeAnswered, IsInOrder};
-ghost use Rattle.ntp_freshness.specs.Watch.{Watches, Counts, IsWaiting, longest_of, kept_after};
+ghost use Rattle.ntp_freshness.specs.Watch.{Watches, Counts, IsWaiting, IsKnownWithin, longest_of, kept_after};
 
 /// Into how many parts the longest time is divided that a datagram may wait: what is known of the queue is looked for anew
 /// where it is one part old by a look whether the queue is empty, and by a count where it is three parts old (profile).
@@ -43,6 +43,8 @@ impl QueueWatch {
         ensures watches { (history : List QueueEvent) → (count ≡ 0) ⊎ (IsWaiting self.old → ⊥) → Watches self.old history
             → Watches self.new (QueueEvent.Held count at ∷ history) }
         ensures counts { (history : List QueueEvent) → Counts self.new (QueueEvent.Held count at ∷ history) }
+        ensures waiting { self.new.waiting ≡ count }
+        ensures known { count ≡ 0 → self.new.known ≡ Some at }
         ensures longest { longest_of self.new ≡ longest_of self.old }
     {
         if count == 0 {
@@ -89,7 +91,9 @@ impl QueueWatch {
     }
 
     // How many datagrams that were in the queue when it was looked at may still be in it; 0 where that is not waited for.
-    pub(crate) fn waiting(&self) -> u64 {
+    pub(crate) fn waiting(&self) -> u64
+        ensures { result ≡ self.now.waiting }
+    {
         self.waiting
     }
 
@@ -101,7 +105,9 @@ impl QueueWatch {
     }
 
     // Whether it is time to count what is in it.
-    pub(crate) fn is_old(&self, now: u64) -> bool {
+    pub(crate) fn is_old(&self, now: u64) -> bool
+        ensures { result ≡ false → IsKnownWithin (longest_of self.now / 10 * 3) self.now now }
+    {
         !self.is_known_within(now, self.longest / PARTS * PARTS_UNCOUNTED)
     }
 

@@ -66,8 +66,8 @@ where
     Ok(server)
 }
 
-// Serves for so many turns, and has its housekeeping done beside it. Gives who did it, as it is then: behind the last turn it knows how many
-// receives have failed, and how many stale datagrams were dropped.
+// Serves, and has its housekeeping done beside it. Gives who did it, as it is then: behind the last turn it knows how many receives have
+// failed, and how many stale datagrams were dropped.
 fn serve_beside<'a, P, R, S, L, W>(
     server: &mut Daemon<'a, P, R, S, L, W>,
     housekeeping: Housekeeping<'a, R, L>,

@@ -7,7 +7,7 @@
 1. What the pages say of the sources that is counted, drawn or named: `tests/belief --check`, `tests/crates --check` and `tests/pages --check`, a
    case each.
 2. `rt ci`, the toolchain's gate: every proof and test from nothing, the wrong bodies of must-fail/, and each program by two compilers.
-3. `tests/run`: both programs, as they were built, from outside.
+3. `tests/run`: the programs, as they were built, from outside.
 4. `tools/wrong_bodies`: those of wrong-bodies/, many in one check. All with `--whole`; else those of the crates that changed since the last
    whole run, and a tenth of the others, another one each day.
 

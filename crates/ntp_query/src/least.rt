@@ -21,7 +21,7 @@ pub fn least_delay(outcomes: &[Outcome]) -> Option<Answer>
     least
 }
 
-// The one of less delay; the first where both have the same.
+// One of no more delay than the other.
 fn quicker(least: Option<Answer>, next: Answer) -> Answer
     ensures given { (result ≡ next) ⊎ (least ≡ Some result) }
     ensures next { delay_units_of result.sample ≤ℤ delay_units_of next.sample }

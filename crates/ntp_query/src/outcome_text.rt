@@ -32,7 +32,7 @@ impl fmt::Display for Identifier {
 
     fn fmt<W: fmt::Write>(&self, f: &mut fmt::Formatter<W>) -> fmt::Result {
         let mut digits = [0; 8];
-        hex::encode_to_slice(self.0, &mut digits).map_err(|_| fmt::Error)?;
+        hex::encode_to_slice(self.0, &mut digits).unwrap();
         f.write_str(str::from_utf8(&digits).map_err(|_| fmt::Error)?)
     }
 }

@@ -18,15 +18,15 @@ const AFTER_HELP: &str = "\
 Each query has a line: how it was answered, the offset of the server's clock from this host's, the delay, and what the server tells of its \
 clock. No clock is set, and no key is shown. The key file is chrony's: lines NUMBER [MD5|SHA1] [ASCII:|HEX:]KEY.
 
-With --max-.. or --warn-.. it is a check for monitoring, with one line.
+With --max-.. or --warn-.. it is a check for monitoring, with one line (with --json its objects).
 
 Examples:
   labntp-query --key-file keys --number 7 192.0.2.1
   labntp-query --key-file keys --number 7 --count 4 --json 192.0.2.1:20123
   labntp-query --key-file keys --number 7 --max-offset 0.1 --warn-offset 0.01 192.0.2.1
 
-Exit status: 0 a query gave a sample; 1 none did; 2 other words; 3 the key file or the socket; 4 want of memory.
-Of a check: 0 well; 1 a warning; 2 critical; 3 nothing could be asked.";
+Exit status: 0 a query gave a sample; 1 none did; 2 other words; 3 a word is no text, or the key file, the socket or a write failed; 4 want of memory.
+Of a check: 0 well; 1 a warning; 2 critical; 3 unknown: other words, or anything failed.";
 
 /// What the words of a command line ask for. Times are in nanoseconds.
 #[derive(Clone, Copy)]

@@ -54,13 +54,14 @@ impl Faults {
         NOT_ASKED
     }
 
-    /// Tells why the command line could not be read, and gives the exit status. A word that is no text is `usage`.
+    /// Tells why the command line could not be read, and gives the exit status: that of a check too, since nobody knows whether one is asked
+    /// for. A word that is no text is `usage`.
     pub fn unread(self, rt: &HostRuntime, error: &io::Error) -> u8 {
-        if error.kind() == ErrorKind::OutOfMemory {
-            return self.memory(rt);
-        }
-        self.tell(rt, "usage");
-        USAGE_REFUSED
+        let what = match error.kind() {
+            ErrorKind::OutOfMemory => "memory",
+            _ => "usage",
+        };
+        self.told(rt, what)
     }
 
     // Tells of it.

@@ -66,7 +66,7 @@ fn identifier(alloc: Global, answer: Option<Answer>) -> Result<Option<String>, A
     }
 }
 
-// A time in seconds. Up to 104 days the float prints with the very decimals that the time has.
+// A time in seconds. Up to 2^23 seconds the float prints with the very decimals that the time has.
 fn seconds(time: Nanos) -> f64 {
     nearest_i64_to_f64(time.0) / 1_000_000_000.0
 }

@@ -52,7 +52,7 @@ impl Outcome {
         }
     }
 
-    // Whether it ends the query: it is authentic.
+    // Whether it ends the query: a sample and a RATE do, which are authentic.
     pub(crate) fn ends(&self) -> bool
         ensures { result ≡ ends self.now }
     {

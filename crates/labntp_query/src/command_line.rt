@@ -55,7 +55,7 @@ pub struct Asked<'a> {
     pub warn: Limits,
 }
 
-/// What the words ask for, of which the first is the program's name. Else the error that tells the user why: its kind may be a request for
+/// What the words ask for; the first is the program's name. Else the error that tells the user why: its kind may be a request for
 /// the help or the version, or memory may have run out.
 pub fn parse<'a>(alloc: Global, words: &'a [String]) -> Result<Asked<'a>, Error> {
     let matches = command(alloc)?.try_get_matches_from(words)?;

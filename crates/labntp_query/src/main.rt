@@ -42,7 +42,7 @@ fn status(rt: &HostRuntime) -> u8 {
     }
 }
 
-// The words of the command line, of which the first is the program's name.
+// The words of the command line; the first is the program's name.
 fn words(rt: &HostRuntime) -> io::Result<Vec<String>> {
     Ok(env::args(rt)?.collect(rt.alloc())?)
 }

@@ -38,7 +38,7 @@ impl<'a, R: Net + Clock> UdpLink<'a, R> {
 }
 
 impl<'a, R: Clock> UdpLink<'a, R> {
-    /// Waits for so many nanoseconds. What comes meanwhile is dropped.
+    /// Waits for a time, in nanoseconds. What comes meanwhile is dropped.
     pub fn pause(&mut self, nanos: u64) {
         self.begin(Duration::from_nanos(nanos));
         let mut room = empty_room();

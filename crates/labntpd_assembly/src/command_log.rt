@@ -10,7 +10,7 @@ use std::io::Write;
 /// A minute, in nanoseconds.
 const MINUTE_NANOS: u64 = 60_000_000_000;
 
-/// Logs each line of commands, ten a minute at most, and counts the customers that are enrolled.
+/// Logs lines of commands, ten a minute at most and one for those held back, and counts the customers that are enrolled.
 #[derive(Drop)]
 pub struct CommandLog<'a, W: Write + Drop> {
     log: Log<W>,

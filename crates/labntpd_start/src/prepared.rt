@@ -44,7 +44,7 @@ pub struct Beginning {
     pub digests: [[u8; 32]; 2],
 }
 
-/// Reads the configuration file at a path and the files that it names, but the commands file. A fault is told in one line to `faults`,
+/// Reads the configuration file at a path, and the register and the key file that it names. A fault is told in one line to `faults`,
 /// where a failed write is passed over, and gives the exit status. Files with keys that others may read are told too.
 pub fn prepare<R: Files, F: Write + Drop>(
     files: &R,

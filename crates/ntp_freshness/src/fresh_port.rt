@@ -28,7 +28,7 @@ const MOST_SWEEPS: u32 = 4;
 ///
 /// Where one is too old, so are those behind it that were in the queue when it was looked at last: these are swept out, one
 /// after another, and neither the clock nor the queue is asked in between. So what came after that look is reached
-/// soonest. One is dropped from hand only where the queue was looked at in time before, and swept out only where a look had counted it.
+/// soonest. One is dropped from hand only where the queue was looked at in time before, and a sweep takes out no more than a look counted.
 ///
 /// The other port's waits have to end well within that time: else a datagram that came during a long wait is dropped.
 #[derive(Drop)]

@@ -9,7 +9,7 @@ use Rattle.ntp_query.specs.Answer.{offset_of, delay_of, root_distance_of}
 use Rattle.ntp_query.specs.Text.{figures, least_text}
 use Rattle.ntp_query.specs.Check.{performance}
 
--- pieces, of which some are one
+-- pieces; some are one
 five-five : (a b c d e f g h i j : List ℕ) → a ++ (b ++ (c ++ (d ++ (e ++ (f ++ (g ++ (h ++ (i ++ j))))))))
     ≡ (a ++ b ++ c ++ d ++ e) ++ f ++ g ++ h ++ i ++ j
 five-five a b c d e f g h i j = simp append_assoc

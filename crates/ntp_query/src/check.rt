@@ -27,7 +27,7 @@ pub enum Measure {
 /// What is wrong with a server.
 #[derive(Clone, Copy)]
 pub enum Cause {
-    /// No query gave a sample: there is no answer, or the server's clock is not synchronised.
+    /// No query gave a sample.
     NoSample,
     /// This is above its limit.
     Above(Measure),

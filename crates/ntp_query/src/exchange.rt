@@ -47,7 +47,7 @@ pub trait Link {
         ensures coming { coming self.new ≡ coming self.old }
         ensures sent { OnOk result (Sends (sent self.old) (sent self.new) request.now) };
 
-    /// Receives the next datagram into the front of `room`, cut to 1,025 octets; nothing where none came until the time limit.
+    /// Receives the next datagram into the front of `room`, cut to 1,025 octets; nothing where none came until the time limit, or the link failed.
     fn receive(&mut self, room: &mut Room) -> Option<Received>
         ensures length { IfSome result (λ received. received.length ≤ 1025) }
         ensures came { IfSome result (λ received. Comes (coming self.old) (coming self.new) (take received.length room.new) received.at) }

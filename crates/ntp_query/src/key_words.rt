@@ -4,7 +4,7 @@ ghost use Rattle.ntp_query.specs.KeyFile.{words};
 
 use std::marker::Model;
 
-/// The words of a line that are still to be read: what stands between spaces, of which there may be several in a row.
+/// The words of a line that are still to be read: what stands between spaces. Several spaces may stand in a row.
 #[derive(Drop)]
 pub(crate) struct KeyWords<'a> {
     rest: &'a str,

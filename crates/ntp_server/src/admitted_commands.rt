@@ -13,7 +13,7 @@ use ntp_time::Moment;
 use std::alloc::{Allocator, Global};
 
 /// A source of commands that hands on what another one gives only where it begins with the complete lines of what it handed on
-/// before (profile). So what a server carries out of it stands behind just what it has applied.
+/// before, or of what was read at the start (profile).
 ///
 /// It keeps a copy of what it handed on last.
 #[derive(Drop)]

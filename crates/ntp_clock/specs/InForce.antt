@@ -5,7 +5,7 @@ use Rattle.ntp_time.specs.declared.moment.Moment.{Moment}
 use Rattle.ntp_time.specs.Moment.{units}
 use Rattle.ntp_time.specs.Difference.{difference}
 use Rattle.ntp_packet.specs.Header.{no_short, no_stamp}
-use Rattle.ntp_reply_packets.specs.Reference.{ReferenceState, reference_of}
+use Rattle.ntp_reply.specs.Reference.{ReferenceState, reference_of}
 use Rattle.ntp_clock.specs.declared.answer.ClockAnswer.{ClockAnswer}
 use Rattle.ntp_clock.specs.declared.doubt.Doubt.{Doubt}
 use Rattle.ntp_clock.specs.declared.doubt.Doubt.TheVariants.{Old, Unsynchronised, ReferenceOld, ReferenceAhead, Far, Set}

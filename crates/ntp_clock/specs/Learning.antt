@@ -15,7 +15,7 @@ use Rattle.ntp_client.specs.declared.sample.Sample.{Sample}
 use Rattle.ntp_client.specs.declared.taken.Taken.{Taken}
 use Rattle.ntp_client.specs.declared.taken.Taken.TheVariants as taken
 use Rattle.ntp_client.specs.declared.taken.Distrust.TheVariants as distrust
-use Rattle.ntp_reply_packets.specs.Reference.{ReferenceState, reference_of}
+use Rattle.ntp_reply.specs.Reference.{ReferenceState, reference_of}
 use Rattle.ntp_clock.specs.declared.answer.ClockAnswer.{ClockAnswer}
 use Rattle.ntp_clock.specs.declared.limits.ClockLimits.{ClockLimits}
 use Rattle.ntp_clock.specs.declared.reading.Reading.{Reading}

@@ -1,7 +1,7 @@
 //! An answer of the host's clock daemon.
 
 use crate::Reading;
-use ntp_reply_packets::Reference;
+use ntp_reply::Reference;
 use ntp_time::Stamp;
 
 /// An authentic answer of the host's clock daemon, and what it rests on.

@@ -18,7 +18,7 @@ use crate::{ClockAnswer, ClockLimits, ClockWatch, Doubt, Reading, state_in_force
 use ntp_client::{Client, Distrust, Outgoing, Sample, Taken};
 use ntp_mac::Key;
 use ntp_packet::Header;
-use ntp_reply_packets::Reference;
+use ntp_reply::Reference;
 use ntp_request::read_request;
 use ntp_time::{Short, Stamp};
 use std::marker::Model;

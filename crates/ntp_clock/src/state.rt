@@ -1,12 +1,12 @@
 //! The state that replies tell.
 ghost use Rattle.std.specs.Prelude.{◌≡◌, true, option_copied};
-ghost use Rattle.ntp_reply_packets.specs.Reference.{reference_of};
+ghost use Rattle.ntp_reply.specs.Reference.{reference_of};
 ghost use Rattle.ntp_clock.specs.InForce.{unsynchronised, is_read, where_read, is_synchronised, precision_told, grown, in_force};
 
 use crate::believing::is_believed;
 use crate::growing::dispersion;
 use crate::{ClockAnswer, ClockLimits, Reading};
-use ntp_reply_packets::Reference;
+use ntp_reply::Reference;
 use ntp_time::{Moment, Short, Stamp};
 
 /// The leap indicator of an unsynchronised clock (RFC 5905, 7.3).

@@ -9,7 +9,7 @@ use Rattle.ntp_client.specs.State.{ClientState}
 use Rattle.ntp_client.specs.Query.{query_fields, next_query, after_query}
 use Rattle.ntp_customer.specs.Customer.{Enrolment, held_in}
 use Rattle.ntp_customer.specs.Past.{Past}
-use Rattle.ntp_reply_packets.specs.declared.occasion.Occasion.{Occasion}
+use Rattle.ntp_reply.specs.declared.occasion.Occasion.{Occasion}
 use Rattle.ntp_reply.specs.Kind.{Signed, octets_kind, kind_of}
 use Rattle.ntp_reply.specs.Verdict.{kind_answer, verdict}
 use Rattle.ntp_meeting.specs.Meeting.{Waits, SharesKey, request_octets}

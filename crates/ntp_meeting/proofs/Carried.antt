@@ -17,8 +17,8 @@ use Rattle.ntp_client.specs.Query.{query_fields}
 use Rattle.ntp_client.specs.Pairing.{exchange_of}
 use Rattle.ntp_client.specs.Taking.{exchange_with, after_taken}
 use Rattle.ntp_customer.specs.Past.{Past}
-use Rattle.ntp_reply_packets.specs.Replies.{time_fields}
-use Rattle.ntp_reply_packets.specs.declared.occasion.Occasion.{Occasion}
+use Rattle.ntp_reply.specs.Replies.{time_fields}
+use Rattle.ntp_reply.specs.declared.occasion.Occasion.{Occasion}
 use Rattle.ntp_reply.specs.Life.{recent_of, recent_in}
 use Rattle.ntp_reply.specs.Kind.{Signed}
 use Rattle.ntp_reply.specs.Exchanged.{matched, stamps_of}

@@ -9,10 +9,10 @@ use Rattle.ntp_packet.specs.Header.{IsHeader}
 use Rattle.ntp_client.specs.declared.exchange.Exchange.{Exchange}
 use Rattle.ntp_client.specs.declared.exchange.Outstanding.{Outstanding}
 use Rattle.ntp_client.specs.Query.{query_fields, origin_of, receive_of, transmit_of}
-use Rattle.ntp_reply_packets.specs.Reference.{ReferenceState}
-use Rattle.ntp_reply_packets.specs.Replies.{reply_fields, kiss_code, kiss_transmit, kiss_fields}
-use Rattle.ntp_reply_packets.specs.declared.kiss.Kiss.{Kiss}
-use Rattle.ntp_reply_packets.specs.declared.kiss.Kiss.TheVariants.{Rate, Deny}
+use Rattle.ntp_reply.specs.Reference.{ReferenceState}
+use Rattle.ntp_reply.specs.Replies.{reply_fields, kiss_code, kiss_transmit, kiss_fields}
+use Rattle.ntp_reply.specs.declared.kiss.Kiss.{Kiss}
+use Rattle.ntp_reply.specs.declared.kiss.Kiss.TheVariants.{Rate, Deny}
 use Rattle.ntp_meeting.specs.Meeting.{FitsPacket}
 use Rattle.ntp_meeting.proofs.Octets.{Octets, four}
 

@@ -20,8 +20,8 @@ use Rattle.ntp_client.specs.Query.{query_fields}
 use Rattle.ntp_client.specs.Taking.{taken_for}
 use Rattle.ntp_client.proofs.Pairings.{basic-pairing, interleaved-pairing}
 use Rattle.ntp_customer.specs.Past.{Past}
-use Rattle.ntp_reply_packets.specs.Replies.{time_fields, sealed}
-use Rattle.ntp_reply_packets.specs.declared.occasion.Occasion.{Occasion}
+use Rattle.ntp_reply.specs.Replies.{time_fields, sealed}
+use Rattle.ntp_reply.specs.declared.occasion.Occasion.{Occasion}
 use Rattle.ntp_reply.specs.Life.{Life, recent_of}
 use Rattle.ntp_reply.specs.Kind.{kind_of}
 use Rattle.ntp_reply.specs.Exchanged.{matched, stamps_of}

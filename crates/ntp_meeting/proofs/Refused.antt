@@ -8,9 +8,9 @@ use Rattle.ntp_mac.specs.Key.{SymmetricKey}
 use Rattle.ntp_mac.specs.Reading.{reading_of}
 use Rattle.ntp_customer.specs.Customer.{budget_of}
 use Rattle.ntp_customer.specs.Past.{Past}
-use Rattle.ntp_reply_packets.specs.declared.occasion.Occasion.{Occasion}
-use Rattle.ntp_reply_packets.specs.Replies.{basic_fields, kiss_fields, sealed}
-use Rattle.ntp_reply_packets.specs.declared.kiss.Kiss.TheVariants.{Rate, Deny}
+use Rattle.ntp_reply.specs.declared.occasion.Occasion.{Occasion}
+use Rattle.ntp_reply.specs.Replies.{basic_fields, kiss_fields, sealed}
+use Rattle.ntp_reply.specs.declared.kiss.Kiss.TheVariants.{Rate, Deny}
 use Rattle.ntp_reply.specs.Life.{Life, recent_of}
 use Rattle.ntp_reply.specs.Exchanged.{stamps_of}
 use Rattle.ntp_reply.specs.Kind.{Kind, PassedOver, RefusedByDeny, RefusedByNak, Signed, kind_of}

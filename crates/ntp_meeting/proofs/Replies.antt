@@ -24,10 +24,10 @@ use Rattle.ntp_client.proofs.Pairings.{basic-pairing}
 use Rattle.ntp_client.proofs.Authentic.{time-taken}
 use Rattle.ntp_client.proofs.Takings.{read-taken, paired-taken, signed-taken}
 use Rattle.ntp_customer.specs.Past.{Past}
-use Rattle.ntp_reply_packets.specs.Reference.{ReferenceState, IsReference}
-use Rattle.ntp_reply_packets.specs.Replies.{reply_fields, basic_fields, kiss_fields, shown_stratum, sealed}
-use Rattle.ntp_reply_packets.specs.declared.occasion.Occasion.{Occasion}
-use Rattle.ntp_reply_packets.specs.declared.kiss.Kiss.TheVariants.{Rate, Deny}
+use Rattle.ntp_reply.specs.Reference.{ReferenceState, IsReference}
+use Rattle.ntp_reply.specs.Replies.{reply_fields, basic_fields, kiss_fields, shown_stratum, sealed}
+use Rattle.ntp_reply.specs.declared.occasion.Occasion.{Occasion}
+use Rattle.ntp_reply.specs.declared.kiss.Kiss.TheVariants.{Rate, Deny}
 use Rattle.ntp_reply.specs.Exchanged.{stamps_of}
 use Rattle.ntp_meeting.specs.Meeting.{Waits, FitsPacket}
 use Rattle.ntp_meeting.proofs.Stamps.{receive-known, receive-fits, transmit-fits}

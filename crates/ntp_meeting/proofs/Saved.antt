@@ -17,7 +17,7 @@ use Rattle.ntp_slots.proofs.Saved.{Contains-map}
 use Rattle.ntp_customer.specs.Customer.{Enrolment, enrolment_at}
 use Rattle.ntp_customer.specs.Past.{Past, with_query}
 use Rattle.ntp_customer.proofs.Pasts.{by_past}
-use Rattle.ntp_reply_packets.specs.declared.occasion.Occasion.{Occasion}
+use Rattle.ntp_reply.specs.declared.occasion.Occasion.{Occasion}
 use Rattle.ntp_reply.specs.Life.{recent_of}
 use Rattle.ntp_reply.specs.Exchanged.{matched, with_match_used, stamps_of, after_time}
 use Rattle.ntp_reply.proofs.KeptExchanges.{recent-time}

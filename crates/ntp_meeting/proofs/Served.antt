@@ -6,9 +6,9 @@ use Rattle.ntp_packet.specs.Header.{HeaderFields}
 use Rattle.ntp_mac.specs.Key.{SymmetricKey}
 use Rattle.ntp_customer.specs.Customer.{budget_of}
 use Rattle.ntp_customer.specs.Past.{Past, with_query}
-use Rattle.ntp_reply_packets.specs.declared.occasion.Occasion.{Occasion}
-use Rattle.ntp_reply_packets.specs.Replies.{time_fields, kiss_fields, sealed}
-use Rattle.ntp_reply_packets.specs.declared.kiss.Kiss.TheVariants.{Rate}
+use Rattle.ntp_reply.specs.declared.occasion.Occasion.{Occasion}
+use Rattle.ntp_reply.specs.Replies.{time_fields, kiss_fields, sealed}
+use Rattle.ntp_reply.specs.declared.kiss.Kiss.TheVariants.{Rate}
 use Rattle.ntp_reply.specs.Life.{recent_of}
 use Rattle.ntp_reply.specs.Exchanged.{matched, stamps_of, after_time}
 use Rattle.ntp_reply.specs.Kind.{Signed}

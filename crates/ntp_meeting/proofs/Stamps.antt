@@ -7,7 +7,7 @@ use Rattle.ntp_slots.specs.Exchanges.{receives, transmits, all_stamps}
 use Rattle.ntp_slots.proofs.Recents.{length-recent}
 use Rattle.ntp_customer.specs.Customer.{exchanges_of}
 use Rattle.ntp_customer.specs.Past.{Past}
-use Rattle.ntp_reply_packets.specs.declared.occasion.Occasion.{Occasion}
+use Rattle.ntp_reply.specs.declared.occasion.Occasion.{Occasion}
 use Rattle.ntp_reply.specs.Life.{recent_of}
 use Rattle.ntp_reply.specs.Exchanged.{stamps_of}
 

@@ -7,7 +7,7 @@ use Rattle.ntp_client.specs.State.{ClientState}
 use Rattle.ntp_client.specs.Query.{query_fields, query_octets}
 use Rattle.ntp_customer.specs.Customer.{Enrolment, held_in, enrolment_at}
 use Rattle.ntp_customer.specs.Past.{Past}
-use Rattle.ntp_reply_packets.specs.Reference.{ReferenceState, IsReference}
+use Rattle.ntp_reply.specs.Reference.{ReferenceState, IsReference}
 
 -- a request of a client waits for its reply; the fields of its header and the key number have the widths of the packet (RFC 5905, 7.3)
 pub record Waits (c : ClientState) (q : Outstanding) : Type 0 where

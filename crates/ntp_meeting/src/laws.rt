@@ -15,7 +15,7 @@ ghost use Rattle.ntp_client.specs.Query.{query_fields, next_query, after_query};
 ghost use Rattle.ntp_client.specs.Taking.{taken_for, after_taken};
 ghost use Rattle.ntp_customer.specs.Customer.{budget_of};
 ghost use Rattle.ntp_customer.specs.Past.{Past};
-ghost use Rattle.ntp_reply_packets.specs.declared.occasion.Occasion.{Occasion};
+ghost use Rattle.ntp_reply.specs.declared.occasion.Occasion.{Occasion};
 ghost use Rattle.ntp_reply.specs.Life.{Life, recent_of, recent_in};
 ghost use Rattle.ntp_reply.specs.Kind.{Signed, kind_of};
 ghost use Rattle.ntp_reply.specs.Exchanged.{matched, stamps_of, after_departure};

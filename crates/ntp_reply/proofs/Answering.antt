@@ -5,7 +5,7 @@ use Rattle.ntp_request.specs.Request.{RequestValue}
 use Rattle.ntp_mac.specs.Signed.{is_signed}
 use Rattle.ntp_customer.specs.declared.numbered_key.NumberedKey.{NumberedKey}
 use Rattle.ntp_customer.specs.Customer.{CustomerState, Enrolment, held_in}
-use Rattle.ntp_reply_packets.specs.declared.occasion.Occasion.{Occasion}
+use Rattle.ntp_reply.specs.declared.occasion.Occasion.{Occasion}
 use Rattle.ntp_reply.specs.Kind.{Kind, RefusedByNak, Signed, mac_number, octets_kind}
 use Rattle.ntp_reply.specs.Answered.{Answers}
 use Rattle.ntp_reply.specs.declared.answers.Answer.{Answer}

@@ -9,9 +9,9 @@ use Rattle.ntp_slots.specs.Exchanges.{AreSaved, recent, new_exchange, unused_at,
 use Rattle.ntp_slots.proofs.Changes.{find-member, receives-spent, all_stamps-spent}
 use Rattle.ntp_slots.proofs.Recents.{recent-departed}
 use Rattle.ntp_slots.proofs.Saved.{AreSaved-nil, AreSaved-push, AreSaved-spent, AreSaved-departed}
-use Rattle.ntp_reply_packets.specs.declared.occasion.Occasion.{Occasion}
-use Rattle.ntp_reply_packets.specs.Replies.{new_stamps}
-use Rattle.ntp_reply_packets.proofs.DistinctStamps.{receive-free, transmit-free}
+use Rattle.ntp_reply.specs.declared.occasion.Occasion.{Occasion}
+use Rattle.ntp_reply.specs.Replies.{new_stamps}
+use Rattle.ntp_reply.proofs.DistinctStamps.{receive-free, transmit-free}
 use Rattle.ntp_customer.specs.Customer.{budget_of}
 use Rattle.ntp_customer.specs.Past.{Past, with_query}
 use Rattle.ntp_customer.proofs.Pasts.{by_past}

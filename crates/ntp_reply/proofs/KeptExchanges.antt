@@ -11,9 +11,9 @@ use Rattle.ntp_customer.specs.Customer.{Enrolment, CustomerState, new_customer, 
 use Rattle.ntp_customer.specs.Past.{Past, with_query, short}
 use Rattle.ntp_customer.proofs.Customers.{by_customer, revoked-absent}
 use Rattle.ntp_customer.proofs.Pasts.{by_past}
-use Rattle.ntp_reply_packets.specs.declared.occasion.Occasion.{Occasion}
-use Rattle.ntp_reply_packets.specs.declared.occasion.NewStamps.{NewStamps}
-use Rattle.ntp_reply_packets.specs.Replies.{new_stamps}
+use Rattle.ntp_reply.specs.declared.occasion.Occasion.{Occasion}
+use Rattle.ntp_reply.specs.declared.occasion.NewStamps.{NewStamps}
+use Rattle.ntp_reply.specs.Replies.{new_stamps}
 use Rattle.ntp_reply.specs.Life.{recent_of}
 use Rattle.ntp_reply.specs.Exchanged.{matched, with_match_used, stamps_of, after_time, is_noted, after_departure}
 

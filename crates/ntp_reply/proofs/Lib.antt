@@ -1,3 +1,4 @@
+pub mod DistinctStamps
 mod Lengths
 mod Answering
 pub mod ReplyLengths

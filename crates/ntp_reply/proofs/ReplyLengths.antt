@@ -21,11 +21,11 @@ use Rattle.ntp_mac.specs.declared.key.Algorithm.TheVariants.{Md5, Sha1}
 use Rattle.ntp_mac.proofs.Signing.{is-signed}
 use Rattle.ntp_customer.specs.Customer.{Enrolment, held_in, enrolment_at, budget_of}
 use Rattle.ntp_customer.specs.Past.{Past}
-use Rattle.ntp_reply_packets.specs.declared.kiss.Kiss.{Kiss}
-use Rattle.ntp_reply_packets.specs.declared.kiss.Kiss.TheVariants as kiss
-use Rattle.ntp_reply_packets.specs.declared.occasion.Occasion.{Occasion}
-use Rattle.ntp_reply_packets.specs.declared.occasion.NewStamps.{NewStamps}
-use Rattle.ntp_reply_packets.specs.Replies.{basic_fields, time_fields, kiss_fields, sealed}
+use Rattle.ntp_reply.specs.declared.kiss.Kiss.{Kiss}
+use Rattle.ntp_reply.specs.declared.kiss.Kiss.TheVariants as kiss
+use Rattle.ntp_reply.specs.declared.occasion.Occasion.{Occasion}
+use Rattle.ntp_reply.specs.declared.occasion.NewStamps.{NewStamps}
+use Rattle.ntp_reply.specs.Replies.{basic_fields, time_fields, kiss_fields, sealed}
 use Rattle.ntp_reply.specs.Life.{Life, recent_of}
 use Rattle.ntp_reply.specs.Kind.{Kind, PassedOver, RefusedByDeny, RefusedByNak, Signed, mac_number, octets_kind, kind_of}
 use Rattle.ntp_reply.specs.Exchanged.{matched, stamps_of}

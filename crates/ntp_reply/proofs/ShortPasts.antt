@@ -12,9 +12,9 @@ use Rattle.ntp_customer.specs.Customer.{enrolment_at, budget_of, changing}
 use Rattle.ntp_customer.proofs.Customers.{with_queries}
 use Rattle.ntp_customer.specs.Past.{Past, queries_in, with_refusal, with_query, short}
 use Rattle.ntp_customer.proofs.Pasts.{enrolment_at-short, queries_kept, queries-short, short-with_query}
-use Rattle.ntp_reply_packets.specs.Replies.{new_stamps, basic_fields, kiss_fields, sealed}
-use Rattle.ntp_reply_packets.specs.declared.kiss.Kiss.TheVariants.{Rate, Deny}
-use Rattle.ntp_reply_packets.specs.declared.occasion.Occasion.{Occasion}
+use Rattle.ntp_reply.specs.Replies.{new_stamps, basic_fields, kiss_fields, sealed}
+use Rattle.ntp_reply.specs.declared.kiss.Kiss.TheVariants.{Rate, Deny}
+use Rattle.ntp_reply.specs.declared.occasion.Occasion.{Occasion}
 use Rattle.ntp_reply.specs.Life.{recent_of}
 use Rattle.ntp_reply.specs.Kind.{Kind, PassedOver, RefusedByDeny, RefusedByNak, Signed, octets_kind, kind_of}
 use Rattle.ntp_reply.specs.Exchanged.{after_time}

@@ -2,7 +2,7 @@
 use Rattle.std.specs.Prelude.{◌≡◌, ◌≤◌, ℕ}
 use Rattle.ntp_customer.specs.Customer.{CustomerState, numbers_of}
 use Rattle.ntp_customer.specs.Past.{Past, short}
-use Rattle.ntp_reply_packets.specs.declared.occasion.Occasion.{Occasion}
+use Rattle.ntp_reply.specs.declared.occasion.Occasion.{Occasion}
 use Rattle.ntp_reply.specs.Kind.{Kind}
 use Rattle.ntp_reply.specs.Verdict.{kind_answer, after_kind, reply_length}
 use Rattle.ntp_reply.specs.declared.answers.Answer.{Answer}

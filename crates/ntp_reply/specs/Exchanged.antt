@@ -5,9 +5,9 @@ use Rattle.ntp_time.specs.declared.moment.Moment.{Moment}
 use Rattle.ntp_packet.specs.Header.{HeaderFields}
 use Rattle.ntp_slots.specs.declared.slot.Slot.{Slot}
 use Rattle.ntp_slots.specs.Exchanges.{with_recent, new_exchange, unused_at, spent, with_departure}
-use Rattle.ntp_reply_packets.specs.declared.occasion.Occasion.{Occasion}
-use Rattle.ntp_reply_packets.specs.declared.occasion.NewStamps.{NewStamps}
-use Rattle.ntp_reply_packets.specs.Replies.{new_stamps}
+use Rattle.ntp_reply.specs.declared.occasion.Occasion.{Occasion}
+use Rattle.ntp_reply.specs.declared.occasion.NewStamps.{NewStamps}
+use Rattle.ntp_reply.specs.Replies.{new_stamps}
 use Rattle.ntp_customer.specs.Customer.{exchanges_of, with_saved}
 use Rattle.ntp_customer.specs.Past.{Past}
 use Rattle.ntp_reply.specs.Life.{recent_of}

@@ -1,5 +1,5 @@
-pub use Rattle.ntp_reply_packets.specs.Reference
-pub use Rattle.ntp_reply_packets.specs.Replies
+pub mod Reference
+pub mod Replies
 pub mod Life
 pub mod Kind
 pub mod Exchanged

@@ -3,16 +3,16 @@ ghost use Rattle.std.specs.Prelude.{◌≡◌, ◌≤◌, ◌||◌, ◌==◌, tr
 ghost use Rattle.ntp_customer.specs.Customer.{enrolment_at, numbers_of};
 ghost use Rattle.ntp_customer.specs.Past.{Past, short};
 ghost use Rattle.ntp_reply.specs.Kind.{mac_number, octets_kind, kind_of};
-ghost use Rattle.ntp_reply_packets.specs.Replies.{occasion_of};
+ghost use Rattle.ntp_reply.specs.Replies.{occasion_of};
 ghost use Rattle.ntp_reply.specs.Verdict.{kind_answer, after_kind, reply_length, request_length};
 ghost use Rattle.ntp_reply.specs.Answered.{Answers};
 
+use crate::occasion::Occasion;
 use crate::refusing::{deny, nak};
 use crate::signed_queries::serve_signed;
 use crate::{Answer, Reason, Reference};
 use ntp_customer::Customer;
 use ntp_mac::verifies;
-use ntp_reply_packets::Occasion;
 use ntp_request::{Request, Tail, read_request};
 use ntp_time::Moment;
 use std::alloc::Allocator;

@@ -2,11 +2,11 @@
 ghost use Rattle.std.specs.Prelude.{◌≡◌, [], ◌∷◌, ◌++◌, IsTrue};
 ghost use Rattle.ntp_time.specs.Fresh.{is_free};
 ghost use Rattle.ntp_slots.specs.Exchanges.{recent, new_exchange, receives, all_stamps};
-ghost use Rattle.ntp_reply_packets.specs.Replies.{new_stamps};
+ghost use Rattle.ntp_reply.specs.Replies.{new_stamps};
 ghost use Rattle.ntp_reply.specs.Exchanged.{matched, with_match_used};
 
+use crate::occasion::{NewStamps, Occasion};
 use ntp_packet::Header;
-use ntp_reply_packets::{NewStamps, Occasion};
 use ntp_slots::{Slot, Slots};
 use std::alloc::Allocator;
 

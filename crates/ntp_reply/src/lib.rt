@@ -1,17 +1,22 @@
-//! The decision on a request of a customer, and what it leaves of the customer. The headers of the replies, and the
-//! state of the clock that they tell, are those of `ntp_reply_packets`, which it passes on.
+//! The decision on a request of a customer, what it leaves of the customer, the headers of the replies, field by field, and the state
+//! of the server's clock that they tell.
 #![tactic(auto)]
 
 mod answers;
 mod deciding;
 mod departing;
 mod exchanging;
+mod kiss;
 mod laws;
+mod occasion;
+mod packets;
+mod reference;
 mod refusing;
 mod signed_queries;
 
 pub use answers::{Answer, Reason};
 pub use deciding::{answer, answer_octets};
 pub use departing::depart;
-pub use laws::a_reply_is_no_longer_than_its_datagram;
-pub use ntp_reply_packets::{BadReference, Kiss, Reference};
+pub use kiss::Kiss;
+pub use laws::{a_reply_has_distinct_stamps, a_reply_is_no_longer_than_its_datagram};
+pub use reference::{BadReference, Reference};

@@ -8,11 +8,12 @@ ghost use Rattle.ntp_reply.specs.Verdict.{refusals_sent};
 ghost use Rattle.ntp_reply.specs.Answered.{Answers};
 
 use crate::exchanging::new_stamps;
-use crate::{Answer, Reason};
+use crate::occasion::Occasion;
+use crate::packets::{basic_fields, kiss_fields};
+use crate::{Answer, Kiss, Reason};
 use ntp_customer::Customer;
 use ntp_mac::{Reply, add_nak};
 use ntp_packet::Header;
-use ntp_reply_packets::{Kiss, Occasion, basic_fields, kiss_fields};
 use std::alloc::Allocator;
 
 /// How many refusals of a window are sent (profile).

@@ -6,16 +6,17 @@ ghost use Rattle.ntp_customer.specs.Past.{Past, short};
 ghost use Rattle.ntp_reply.specs.Life.{recent_of};
 ghost use Rattle.ntp_reply.specs.Exchanged.{after_time};
 ghost use Rattle.ntp_reply.specs.Kind.{Signed};
-ghost use Rattle.ntp_reply_packets.specs.Replies.{kiss_fields, sealed};
+ghost use Rattle.ntp_reply.specs.Replies.{kiss_fields, sealed};
 ghost use Rattle.ntp_reply.specs.Verdict.{timed, reply_length};
 ghost use Rattle.ntp_reply.specs.Answered.{Answers};
 
 use crate::exchanging::exchange;
-use crate::{Answer, Reason};
+use crate::occasion::Occasion;
+use crate::packets::{kiss_fields, time_fields};
+use crate::{Answer, Kiss, Reason};
 use ntp_customer::{Customer, NumberedKey};
 use ntp_mac::{Reply, seal};
 use ntp_packet::Header;
-use ntp_reply_packets::{Kiss, Occasion, kiss_fields, time_fields};
 use std::alloc::Allocator;
 
 // The answer to a query that is signed under a key of an enrolled customer. All its keys share one budget.

@@ -8,7 +8,7 @@ use Rattle.std.specs.Prelude.{flat_map}
 use Rattle.std.proofs.lemmas.Grind.{flat_map-append}
 use Rattle.std.proofs.lemmas.List.Sums.{length-filter, count_by-le-length}
 use Rattle.ntp_time.specs.declared.moment.Moment.{Moment}
-use Rattle.ntp_reply_packets.specs.Reference.{ReferenceState}
+use Rattle.ntp_reply.specs.Reference.{ReferenceState}
 use Rattle.ntp_events.specs.declared.observation.Arrival.{Arrival}
 use Rattle.ntp_events.specs.declared.observation.Observation.TheVariants.{Turn}
 use Rattle.ntp_events.specs.declared.observation.TurnOutcome.{TurnOutcome}

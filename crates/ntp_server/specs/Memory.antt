@@ -1,6 +1,6 @@
 -- What the parts of a server that are in memory tell.
 use Rattle.std.specs.Prelude.{ℕ, ◌<◌, Option, None, Some, option_map, List, map, drop, vec_len, vec_capacity, if◌then◌else◌}
-use Rattle.ntp_reply_packets.specs.Reference.{ReferenceState}
+use Rattle.ntp_reply.specs.Reference.{ReferenceState}
 use Rattle.ntp_events.specs.declared.observation.Observation.{Observation}
 use Rattle.ntp_server.specs.declared.memory.MemoryCommands.{MemoryCommands}
 use Rattle.ntp_server.specs.declared.memory.MemoryStates.{MemoryStates}

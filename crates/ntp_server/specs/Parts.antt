@@ -2,7 +2,7 @@
 use Rattle.std.specs.Prelude.{ℕ, Option, List}
 use Rattle.ntp_time.specs.declared.moment.Moment.{Moment}
 use Rattle.ntp_events.specs.declared.observation.Observation.{Observation}
-use Rattle.ntp_reply_packets.specs.Reference.{ReferenceState}
+use Rattle.ntp_reply.specs.Reference.{ReferenceState}
 use Rattle.ntp_service_serve.specs.Port.{Told}
 use Rattle.ntp_service_serve.specs.Sources.{Coming}
 use Rattle.ntp_server.specs.Rounds.{Parts}

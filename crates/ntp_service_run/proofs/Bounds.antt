@@ -16,14 +16,14 @@ use Rattle.ntp_customer.specs.Customer.{Enrolment, AccountOf, enrolment_at, is_e
 use Rattle.ntp_customer.specs.Past.{Past, with_refusal}
 use Rattle.ntp_customer.proofs.Pasts.{by_past}
 use Rattle.ntp_reply.specs.Life.{Life, enrolment_in}
-use Rattle.ntp_reply_packets.specs.Replies.{basic_fields, kiss_fields}
-use Rattle.ntp_reply_packets.specs.declared.kiss.Kiss.TheVariants.{Deny}
+use Rattle.ntp_reply.specs.Replies.{basic_fields, kiss_fields}
+use Rattle.ntp_reply.specs.declared.kiss.Kiss.TheVariants.{Deny}
 use Rattle.ntp_reply.specs.Kind.{Kind, PassedOver, RefusedByDeny, RefusedByNak, Signed, octets_kind, kind_of}
 use Rattle.ntp_reply.specs.Exchanged.{stamps_of, after_departure}
 use Rattle.ntp_reply.specs.Verdict.{window_at, refused, refusals_sent, signed_answer, after_signed, kind_answer, after_kind, verdict, after_datagram}
 use Rattle.ntp_reply.specs.declared.answers.Answer.{Answer}
 use Rattle.ntp_reply.specs.declared.answers.Answer.TheVariants as answer
-use Rattle.ntp_reply_packets.specs.declared.occasion.Occasion.{Occasion}
+use Rattle.ntp_reply.specs.declared.occasion.Occasion.{Occasion}
 use Rattle.ntp_events.specs.declared.event.Event.{Event}
 use Rattle.ntp_events.specs.declared.event.Event.TheVariants as event
 use Rattle.ntp_events.specs.declared.outcome.Outcome.{Outcome}

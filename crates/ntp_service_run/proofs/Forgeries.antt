@@ -12,7 +12,7 @@ use Rattle.ntp_reply.specs.Reference.{ReferenceState}
 use Rattle.ntp_reply.specs.declared.answers.Answer.{Answer}
 use Rattle.ntp_reply.specs.Kind.{Kind, Signed, kind_of}
 use Rattle.ntp_reply.specs.Verdict.{after_signed, kind_answer, after_kind}
-use Rattle.ntp_reply_packets.specs.declared.occasion.Occasion.{Occasion}
+use Rattle.ntp_reply.specs.declared.occasion.Occasion.{Occasion}
 use Rattle.ntp_events.specs.declared.command.Command.{Command}
 use Rattle.ntp_events.specs.declared.command.Command.TheVariants.{Enrol}
 use Rattle.ntp_events.specs.declared.event.Event.{Event}

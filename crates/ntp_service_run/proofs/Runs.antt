@@ -26,6 +26,13 @@ module _ {A : Type 0} where
   own-kept a [] = refl
   own-kept a (x ∷ xs) = grind (arith, own-kept a xs)
 
+  -- the life that an address has behind what happened
+  pub life-behind : (a : Address) (history : List (Event A)) (xs : List (Event A × Outcome))
+      → life_of (own a (history ++ kept xs)) ≡ life_after (life_of (own a history)) (events_of (happened_to a xs))
+  life-behind a history xs =
+      ap life_of (own-append a history (kept xs) ∙ ap (λ l. own a history ++ l) (own-kept a xs))
+      ∙ life_after-append None (own a history) (events_of (happened_to a xs))
+
   FollowsModel-append : (life : Life) (xs ys : List (Event A × Outcome)) → FollowsModel life xs
       → FollowsModel (life_after life (events_of xs)) ys → FollowsModel life (xs ++ ys)
   FollowsModel-append life [] ys first others = others
@@ -43,7 +50,7 @@ module _ {A : Type 0} where
   zip-push (x ∷ events) (p ∷ outcomes) e o each = ap (λ l. (x, p) ∷ l) (zip-push events outcomes e o (omega arith))
 
   -- ---- each command that is struck out has its cause, after those events before it that are not
-  abbrev AreCaused : List (Event A) → List (Event A × Outcome) → Type 0
+  abbrev pub AreCaused : List (Event A) → List (Event A × Outcome) → Type 0
   AreCaused history happened = (before behind : List (Event A × Outcome)) (e : Event A) (o : Outcome)
       → happened ≡ before ++ (e, o) ∷ behind → HasCause (history ++ kept before) e o
 
@@ -53,7 +60,7 @@ module _ {A : Type 0} where
   nothing-there (q ∷ before) behind p is = cc
 
   -- the first event joins the history
-  regrouped : (history : List (Event A)) (p : Event A × Outcome) (rest : List (Event A × Outcome))
+  pub regrouped : (history : List (Event A)) (p : Event A × Outcome) (rest : List (Event A × Outcome))
       → history ++ kept (p ∷ rest) ≡ (history ++ kept (p ∷ [])) ++ kept rest
   regrouped history p rest = ap (λ l. history ++ l) (kept-append (p ∷ []) rest) ∙ sym (append_assoc history (kept (p ∷ [])) (kept rest))
 
@@ -121,10 +128,7 @@ module _ {A : Type 0} where
       record {
         told = λ a.
             let life = life_of (own a history) in
-            let events = events_of (happened_to a xs) in
-            let on : life_of (own a (history ++ kept xs)) ≡ life_after life events =
-            ap life_of (own-append a history (kept xs) ∙ ap (λ l. own a history ++ l) (own-kept a xs))
-            ∙ life_after-append None (own a history) events in
+            let on = life-behind a history xs in
             subst (FollowsModel life) (sym (filter-append (λ p. not (is_struck p.1) && names a p.0) xs ys))
             (FollowsModel-append life (happened_to a xs) (happened_to a ys) (t.told a)
             (subst (λ l. FollowsModel l (happened_to a ys)) on (u.told a)));

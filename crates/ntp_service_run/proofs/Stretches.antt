@@ -106,7 +106,7 @@ module _ {A : Type 0} where
 
   -- ---- a stretch among others
   -- what stands behind others follows the model from the life that they leave
-  follows-behind : (life : Life) (before rest : List (Event A × Outcome)) → FollowsModel life (before ++ rest)
+  pub follows-behind : (life : Life) (before rest : List (Event A × Outcome)) → FollowsModel life (before ++ rest)
       → FollowsModel (life_after life (events_of before)) rest
   follows-behind life [] rest follows = follows
   follows-behind life (p ∷ before) rest follows =

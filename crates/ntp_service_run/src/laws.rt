@@ -8,8 +8,8 @@ ghost use Rattle.ntp_customer.specs.Customer.{HasKeys};
 ghost use Rattle.ntp_customer.specs.Past.{short};
 ghost use Rattle.ntp_register.specs.Registry.{Registry};
 ghost use Rattle.ntp_register.specs.declared.address.Address.{Address};
-ghost use Rattle.ntp_reply_packets.specs.declared.occasion.Occasion.{Occasion};
-ghost use Rattle.ntp_reply_packets.specs.Replies.{HasDistinctStamps, new_stamps, basic_fields, time_fields};
+ghost use Rattle.ntp_reply.specs.declared.occasion.Occasion.{Occasion};
+ghost use Rattle.ntp_reply.specs.Replies.{HasDistinctStamps, new_stamps, basic_fields, time_fields};
 ghost use Rattle.ntp_reply.specs.Life.{Life, enrolment_in, budget_in, recent_in};
 ghost use Rattle.ntp_reply.specs.Exchanged.{matched};
 ghost use Rattle.ntp_events.specs.declared.event.Event.{Event};
@@ -54,7 +54,7 @@ pub fn a_customer_has_one_or_two_keys<A: Allocator>()
 
 /// Whatever events an address had: of the exchanges that are saved of it no stamp is 0, no two have one receive stamp, and no
 /// transmit stamp is a receive stamp; and no time reply and no crypto-NAK to it has equal receive and transmit stamps, or a
-/// transmit stamp 0. (Of a kiss that is a law of `ntp_reply_packets`.)
+/// transmit stamp 0. (Of a kiss that is `a_reply_has_distinct_stamps` of `ntp_reply`.)
 pub fn stamps_are_told_apart<A: Allocator>()
     ensures saved { (events : List (Event A)) → AreSaved (recent_in (life_of events)) }
     ensures time { (events : List (Event A)) (o : Occasion) (request : HeaderFields)

@@ -3,7 +3,7 @@ use Rattle.std.proofs.Common.{◌≡◌, ℕ, ◌+◌, ◌≤◌, Bool, true, fa
 use Rattle.std.proofs.lemmas.Grind.{flat_map-append}
 use Rattle.std.specs.Prelude.{Result, is_err, flat_map, if◌then◌else◌}
 use Rattle.ntp_register.specs.Registry.{Registry}
-use Rattle.ntp_reply_packets.specs.Reference.{ReferenceState}
+use Rattle.ntp_reply.specs.Reference.{ReferenceState}
 use Rattle.ntp_reply.specs.declared.answers.Answer.{Answer}
 use Rattle.ntp_reply.specs.declared.answers.Answer.TheVariants as answer
 use Rattle.ntp_events.specs.declared.observation.Arrival.{Arrival}

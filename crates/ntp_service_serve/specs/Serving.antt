@@ -2,7 +2,7 @@
 use Rattle.std.specs.Prelude.{◌≡◌, ℕ, ◌+◌, Option, IfSome, IsSomeAnd, option_map, Result, is_err, List, [], ◌∷◌, ◌++◌, length, take, drop, map, filter, flat_map, if◌then◌else◌}
 use Rattle.std.specs.Result.{result_ok}
 use Rattle.ntp_register.specs.Registry.{Registry}
-use Rattle.ntp_reply_packets.specs.Reference.{ReferenceState}
+use Rattle.ntp_reply.specs.Reference.{ReferenceState}
 use Rattle.ntp_events.specs.declared.observation.Arrival.{Arrival}
 use Rattle.ntp_events.specs.declared.observation.TurnOutcome.{TurnOutcome}
 use Rattle.ntp_events.specs.declared.event.Event.{Event}

@@ -1,6 +1,6 @@
 //! Where a server has its commands and the state of its clock from.
 ghost use Rattle.std.specs.Prelude.{◌≡◌, ℕ, Option, None, Some, List, [], ◌∷◌, option_map};
-ghost use Rattle.ntp_reply_packets.specs.Reference.{ReferenceState};
+ghost use Rattle.ntp_reply.specs.Reference.{ReferenceState};
 ghost use Rattle.ntp_service_serve.specs.Sources.{Coming, Gives, CountsOn};
 
 use ntp_reply::Reference;

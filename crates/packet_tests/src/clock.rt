@@ -8,7 +8,7 @@ use ntp_clock::{
 };
 use ntp_mac::{Algorithm, Key, Reply, seal};
 use ntp_packet::{Header, read_header};
-use ntp_reply_packets::{BadReference, Reference};
+use ntp_reply::{BadReference, Reference};
 use ntp_time::{Short, Stamp};
 use std::test::Fail;
 

@@ -1,6 +1,6 @@
 //! The state of the server's own clock, as its replies tell it.
 ghost use Rattle.std.specs.Prelude.{◌≡◌, ◌↔◌, ◌≤◌, IsOk, IfOk, is_ok};
-ghost use Rattle.ntp_reply_packets.specs.Reference.{IsReference, is_reference};
+ghost use Rattle.ntp_reply.specs.Reference.{IsReference, is_reference};
 
 use ntp_time::{Short, Stamp};
 use std::marker::Model;
@@ -23,7 +23,7 @@ pub struct Reference {
 }
 
 impl Model for Reference {
-    ghost use Rattle.ntp_reply_packets.specs.Reference.{ReferenceState, IsReference};
+    ghost use Rattle.ntp_reply.specs.Reference.{ReferenceState, IsReference};
 
     ghost Value = { ReferenceState };
 
@@ -59,7 +59,7 @@ impl Model for Reference {
 }
 
 impl Reference {
-    ghost use Rattle.ntp_reply_packets.specs.Reference.{reference_of};
+    ghost use Rattle.ntp_reply.specs.Reference.{reference_of};
 
     /// A reference state of these fields: leap 0 to 3, stratum 1 to 16, the precision as the binary
     /// logarithm of seconds, delay and dispersion in units of 2^-16 seconds, the identifier of the

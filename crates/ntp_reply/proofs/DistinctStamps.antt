@@ -9,8 +9,8 @@ use Rattle.ntp_packet.specs.Header.{HeaderFields}
 use Rattle.ntp_slots.specs.declared.slot.Slot.{Slot}
 use Rattle.ntp_slots.specs.Exchanges.{AreSaved, receives, transmits, all_stamps}
 use Rattle.ntp_slots.proofs.Saved.{Contains-map, stamps-apart}
-use Rattle.ntp_reply_packets.specs.declared.occasion.Occasion.{Occasion}
-use Rattle.ntp_reply_packets.specs.Replies.{HasDistinctStamps, new_stamps, basic_fields, time_fields}
+use Rattle.ntp_reply.specs.declared.occasion.Occasion.{Occasion}
+use Rattle.ntp_reply.specs.Replies.{HasDistinctStamps, new_stamps, basic_fields, time_fields}
 
 module _ (o : Occasion) (saved : List Slot) (are : AreSaved saved) where
   -- the new receive stamp is no saved stamp

@@ -1,8 +1,9 @@
 //! The headers of the replies, field by field.
 ghost use Rattle.std.specs.Prelude.{◌≡◌};
-ghost use Rattle.ntp_reply_packets.specs.Replies.{reply_fields, basic_fields, time_fields, kiss_fields, kiss_code, kiss_transmit, shown_stratum, shown_id};
+ghost use Rattle.ntp_reply.specs.Replies.{reply_fields, basic_fields, time_fields, kiss_fields, kiss_code, kiss_transmit, shown_stratum, shown_id};
 
-use crate::{Kiss, NewStamps, Occasion, Reference};
+use crate::occasion::{NewStamps, Occasion};
+use crate::{Kiss, Reference};
 use ntp_packet::{DENY_CODE, Header, RATE_CODE};
 use ntp_slots::Slot;
 use ntp_time::Stamp;

@@ -9,11 +9,11 @@ use Rattle.ntp_packet.specs.Header.{HeaderFields, blank_header, header_octets}
 use Rattle.ntp_packet.specs.Kiss.{rate_code, deny_code}
 use Rattle.ntp_mac.specs.Key.{SymmetricKey}
 use Rattle.ntp_mac.specs.Mac.{mac_of}
-use Rattle.ntp_reply_packets.specs.Reference.{ReferenceState}
-use Rattle.ntp_reply_packets.specs.declared.occasion.Occasion.{Occasion}
-use Rattle.ntp_reply_packets.specs.declared.occasion.NewStamps.{NewStamps}
-use Rattle.ntp_reply_packets.specs.declared.kiss.Kiss.{Kiss}
-use Rattle.ntp_reply_packets.specs.declared.kiss.Kiss.TheVariants.{Rate, Deny}
+use Rattle.ntp_reply.specs.Reference.{ReferenceState}
+use Rattle.ntp_reply.specs.declared.occasion.Occasion.{Occasion}
+use Rattle.ntp_reply.specs.declared.occasion.NewStamps.{NewStamps}
+use Rattle.ntp_reply.specs.declared.kiss.Kiss.{Kiss}
+use Rattle.ntp_reply.specs.declared.kiss.Kiss.TheVariants.{Rate, Deny}
 
 -- the occasion of these: when a datagram came, the transmit moment of the reply to it, and the state of the clock (profile)
 abbrev pub occasion_of : Moment → Moment → ReferenceState → Occasion

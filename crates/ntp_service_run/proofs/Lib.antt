@@ -10,3 +10,6 @@ mod Forgeries
 mod Bounds
 mod KeysOfLives
 mod Stretches
+mod Enrolments
+mod Parts
+mod Splits

@@ -3,3 +3,4 @@ pub mod Model
 pub mod Headline
 pub mod Forgery
 pub mod Bound
+pub mod Split

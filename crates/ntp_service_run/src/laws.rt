@@ -1,6 +1,6 @@
 //! What holds of the definitions, whatever code meets them. Each function is a law: a call of it does
 //! nothing.
-ghost use Rattle.std.specs.Prelude.{◌≡◌, ℕ, ◌<◌, None, option_map, IfSome, List, map};
+ghost use Rattle.std.specs.Prelude.{◌≡◌, ℕ, ◌<◌, Bool, None, option_map, IfSome, List, map, filter};
 ghost use Rattle.ntp_budget.specs.Tally.{most_counted};
 ghost use Rattle.ntp_packet.specs.Header.{HeaderFields};
 ghost use Rattle.ntp_slots.specs.Exchanges.{AreSaved};
@@ -19,6 +19,7 @@ ghost use Rattle.ntp_service_run.specs.Model.{life_of, answer_to, after, says_af
 ghost use Rattle.ntp_service_run.specs.Headline.{StandsFor, Tells, IsEnrolledWith, happened_to};
 ghost use Rattle.ntp_service_run.specs.Forgery.{at_genuine, genuine, without_refusals, TellsWithoutForgeries};
 ghost use Rattle.ntp_service_run.specs.Bound.{RepliesAreFew, TellsFew};
+ghost use Rattle.ntp_service_run.specs.Split.{names_any, comes_to, HadMemory, NoneStruck};
 
 use std::alloc::Allocator;
 
@@ -38,6 +39,30 @@ pub fn no_neighbour_is_felt<A: Allocator>()
         → own address history ≡ own address other_history
         → map (λ p. p.0) (happened_to address happened) ≡ map (λ p. p.0) (happened_to address other_happened)
         → map (λ p. p.1) (happened_to address happened) ≡ map (λ p. p.1) (happened_to address other_happened) }
+{}
+
+/// A split is not felt: where customers are split over services by address, and every command is told to each, a service
+/// gives its events the outcomes that one service of all customers gives them. Refused commands are among them. So it is
+/// where its history is split alike, and neither refuses a command for want of memory.
+pub fn a_split_is_not_felt<A: Allocator>()
+    ensures { (has : Address → Bool) (history : List (Event A)) (happened happened_there : List (Event A × Outcome))
+        (service service_there : Registry)
+        → Tells history happened service → Tells (filter (comes_to has) history) happened_there service_there
+        → HadMemory happened → HadMemory happened_there
+        → map (λ p. p.0) happened_there ≡ filter (comes_to has) (map (λ p. p.0) happened)
+        → happened_there ≡ filter (λ p. comes_to has p.0) happened }
+{}
+
+/// A split of commands is not felt: where customers are split over services by address, their commands with them, a
+/// service gives its events the outcomes that one service of all customers gives them. So it is where its history is
+/// split alike, the service of all strikes no command out, and none is refused for want of memory.
+pub fn a_split_of_commands_is_not_felt<A: Allocator>()
+    ensures { (has : Address → Bool) (history : List (Event A)) (happened happened_there : List (Event A × Outcome))
+        (service service_there : Registry)
+        → Tells history happened service → Tells (filter (names_any has) history) happened_there service_there
+        → NoneStruck happened → HadMemory happened_there
+        → map (λ p. p.0) happened_there ≡ filter (names_any has) (map (λ p. p.0) happened)
+        → happened_there ≡ filter (λ p. names_any has p.0) happened }
 {}
 
 /// No two addresses are enrolled with one key number.

@@ -26,8 +26,8 @@ pub enum ServeFault {
 /// Puts a daemon together out of its parts, says on `out` that it serves, and serves for so many turns, with all that it does beside
 /// it. Gives the daemon as it is then.
 ///
-/// It makes the rounds of `serve_reported`, from the service of the parts on, with no line of the commands file applied before. Of what
-/// the other parts tell this says nothing.
+/// It makes the rounds of `serve_reported`, from the service of the parts on, with no line of the commands file applied before, with a
+/// state of the clock from its source for each. Of what port, commands and observer tell this says nothing.
 pub fn serve<'a, P, R, S, L, W, N>(
     host: Host<'a, R>,
     parts: Parts<'a, P, R, S, L, W>,
@@ -43,7 +43,11 @@ where
     W: Write + Drop,
     N: Write,
     requires { parts.port.failures ≡ 0 }
-    ensures { IfOk result (λ daemon. ServesFromStart turns parts.entry.service daemon.service daemon.applied) }
+    ensures { IfOk result (λ daemon. ServesFromStart turns
+        (record { states = S.coming parts.entry.reference; tended = S.tended parts.entry.reference; failures = 0;
+            service = parts.entry.service; applied = 0 })
+        (record { states = S.coming daemon.reference; tended = S.tended daemon.reference; failures = daemon.port.failures;
+            service = daemon.service; applied = daemon.applied })) }
 {
     let Parts {
         port,
@@ -80,8 +84,11 @@ where
     L: Write + Drop,
     W: Write + Drop,
     requires failures { server.old.port.failures + turns < 2 ^ 64 }
-    requires none { server.old.applied ≡ 0 }
-    ensures serves { ServesFromStart turns server.old.service server.new.service server.new.applied }
+    ensures serves { ServesFromStart turns
+        (record { states = S.coming server.old.reference; tended = S.tended server.old.reference; failures = server.old.port.failures;
+            service = server.old.service; applied = server.old.applied })
+        (record { states = S.coming server.new.reference; tended = S.tended server.new.reference; failures = server.new.port.failures;
+            service = server.new.service; applied = server.new.applied }) }
     ensures receives { 0 < turns → result.failed ≡ count_at server.new.observer.counts Kind.NothingReceived }
     ensures stale { 0 < turns → result.housekeeping.stale ≡ server.new.port.stale }
 {

@@ -16,7 +16,7 @@ from rooms import TOP, Ticker, below, crates_of, in_lanes, is_program, lines_of,
 RENEWED, WRITTEN = 1, 10
 LANES = len(os.sched_getaffinity(0))
 # The word with which a program ends at once, where it is given no input: the toolchain ends a build with a run.
-ENDS_AT_ONCE = {"labntp": "replay", "labntpd": "--version", "labntp_query": "--version"}
+ENDS_AT_ONCE = {"labntp": "replay", "labntpd": "--version", "labntp_query": "--version", "labntpctl": "--version"}
 
 
 class Progress(Ticker):

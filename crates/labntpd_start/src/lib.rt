@@ -11,5 +11,5 @@ mod sockets;
 
 pub use lines::{log_form, start_lines};
 pub use opened::{answers_file, clock_source, watch_from_now};
-pub use prepared::{Beginning, Prepared, prepare};
+pub use prepared::{Beginning, Prepared, ReadRegister, configuration_at, prepare, register_at};
 pub use sockets::{open_socket, set_up};

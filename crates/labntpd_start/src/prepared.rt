@@ -44,6 +44,17 @@ pub struct Beginning {
     pub digests: [[u8; 32]; 2],
 }
 
+/// A register file that was read.
+#[derive(Drop)]
+pub struct ReadRegister {
+    /// The service that has its customers, and the state of the clock that it names.
+    pub loaded: Loaded,
+    /// Its enrolments, in file order.
+    pub commands: Vec<Command>,
+    /// The SHA-256 digest of its octets.
+    pub digest: [u8; 32],
+}
+
 /// Reads the configuration file at a path, and the register and the key file that it names. A fault is told in one line to `faults`,
 /// where a failed write is passed over, and gives the exit status. Files with keys that others may read are told too.
 pub fn prepare<R: Files, F: Write + Drop>(
@@ -53,48 +64,83 @@ pub fn prepare<R: Files, F: Write + Drop>(
     faults: &mut StartLines<F>,
 ) -> Result<Prepared, u8> {
     let text = small_text(files, alloc, path, faults)?;
-    let configuration = match read_configuration(alloc, &text) {
-        Ok(configuration) => configuration,
-        Err(ConfigurationFault::NoMemory) => return Err(memory_status(faults)),
-        Err(fault) => {
-            let _ = writeln!(faults, "{path}: {fault}");
-            return Err(TEXT_FAULTY);
-        }
-    };
+    let configuration = configuration_in(alloc, path, text.as_str(), faults)?;
     judge_places(files, alloc, path, &configuration, faults)?;
     let follower = match &configuration.clock {
         ClockSource::Fixed => None,
         ClockSource::Daemon(daemon) => Some(follower(files, alloc, daemon, faults)?),
     };
     let register_path = configuration.register.as_str();
-    let register = match read_regular_file(files, alloc, register_path, MOST_FILE_OCTETS as u32) {
-        Ok(octets) => octets,
-        Err(error) => return Err(failed_status(register_path, &error, faults)),
-    };
-    let loaded = match load_register(alloc, &register) {
-        Ok(loaded) => loaded,
-        Err(fault) => return Err(register_status(alloc, register_path, &register, fault, faults)),
-    };
+    let register = register_at(files, alloc, register_path, faults)?;
     tell_readers(files, register_path, faults);
     tell_readers(files, configuration.commands.as_str(), faults);
-    let digests = [Sha256::digest(text.as_bytes()), Sha256::digest(&register)];
-    let Some(commands) = commands_in(alloc, &register) else {
-        return Err(memory_status(faults));
-    };
-    let reports = reports_of(alloc, &configuration, &commands);
+    let reports = reports_of(alloc, &configuration, &register.commands);
     if reports.as_ref().is_some_and(|reports| reports.has_missed()) {
         return Err(memory_status(faults));
     }
     Ok(Prepared {
         configuration,
         beginning: Beginning {
-            customers: commands.len() as u64,
+            customers: register.commands.len() as u64,
             reports,
-            loaded,
+            loaded: register.loaded,
             follower,
-            digests,
+            digests: [Sha256::digest(text.as_bytes()), register.digest],
         },
     })
+}
+
+/// The configuration of the file at a path, and nothing that it names. A fault is told in one line to `faults`, and gives the exit status.
+pub fn configuration_at<R: Files, F: Write>(
+    files: &R,
+    alloc: Global,
+    path: &str,
+    faults: &mut F,
+) -> Result<Configuration, u8> {
+    let text = small_text(files, alloc, path, faults)?;
+    configuration_in(alloc, path, text.as_str(), faults)
+}
+
+/// The register file at a path. A fault is told in one line to `faults`, and gives the exit status.
+pub fn register_at<R: Files, F: Write>(
+    files: &R,
+    alloc: Global,
+    path: &str,
+    faults: &mut F,
+) -> Result<ReadRegister, u8> {
+    let register = match read_regular_file(files, alloc, path, MOST_FILE_OCTETS as u32) {
+        Ok(octets) => octets,
+        Err(error) => return Err(failed_status(path, &error, faults)),
+    };
+    let loaded = match load_register(alloc, &register) {
+        Ok(loaded) => loaded,
+        Err(fault) => return Err(register_status(alloc, path, &register, fault, faults)),
+    };
+    let Some(commands) = commands_in(alloc, &register) else {
+        return Err(memory_status(faults));
+    };
+    Ok(ReadRegister {
+        loaded,
+        commands,
+        digest: Sha256::digest(&register),
+    })
+}
+
+// The configuration of a text.
+fn configuration_in<F: Write>(
+    alloc: Global,
+    path: &str,
+    text: &str,
+    faults: &mut F,
+) -> Result<Configuration, u8> {
+    match read_configuration(alloc, text) {
+        Ok(configuration) => Ok(configuration),
+        Err(ConfigurationFault::NoMemory) => Err(memory_status(faults)),
+        Err(fault) => {
+            let _ = writeln!(faults, "{path}: {fault}");
+            Err(TEXT_FAULTY)
+        }
+    }
 }
 
 // The enrolments of a register file that was loaded; none where memory ran out.

@@ -1,0 +1,353 @@
+//! The words of the command line.
+
+use crate::places::FilesNamed;
+use clap::builder::ValueParser;
+use clap::error::ErrorKind;
+use clap::{Arg, ArgAction, ArgMatches, Command, Error};
+use labntpd_configuration::command_line::VERSION;
+use ntp_admin::words;
+use ntp_mac::Algorithm;
+use ntp_query::{Server, server_in};
+use ntp_register::Address;
+use std::alloc::{AllocError, Global};
+use std::num::{self, NonZero};
+
+/// How many milliseconds a second has.
+const SECOND_MILLIS: f64 = 1_000.0;
+
+/// The budget of a customer for whom none is named: a client that begins with a burst of eight queries needs it.
+const USUAL_BUDGET: u16 = 10;
+
+/// How many milliseconds an answer is waited for where the words do not say it.
+const USUAL_WAIT: u64 = 5_000;
+
+/// What stands at the end of the help.
+const AFTER_HELP: &str = "\
+Each change is one line that is appended to the commands file, which labntpd carries out shortly after. No key is shown: what a customer gets stands in a \
+file that its owner alone may read.
+
+Examples:
+  labntpctl customers --config /etc/labntp/labntpd.toml
+  labntpctl enrol 192.0.2.10 --config /etc/labntp/labntpd.toml --server 198.51.100.1
+  labntpctl rollover 192.0.2.10 --config /etc/labntp/labntpd.toml
+  labntpctl retire 192.0.2.10 --config /etc/labntp/labntpd.toml
+
+Exit status: 0 done; 1 refused, or a file has a fault; 2 other words; 3 no answer came in time, or a file failed; 4 want of memory.";
+
+/// What the words of a command line ask for.
+#[derive(Clone, Copy)]
+pub enum Asked<'a> {
+    /// Who is enrolled, in a table or as objects of JSON.
+    Customers { files: FilesNamed<'a>, json: bool },
+    /// A change.
+    Order(Ordered<'a>),
+}
+
+/// A change that is asked for.
+#[derive(Clone, Copy)]
+pub struct Ordered<'a> {
+    /// The path of the configuration file.
+    pub config: &'a str,
+    /// The customer's address.
+    pub address: Address,
+    /// The change.
+    pub change: Change,
+    /// Where what the customer gets is written.
+    pub output: Option<&'a str>,
+    /// Where the customer asks.
+    pub server: Option<Server>,
+    /// How many milliseconds the answer is waited for.
+    pub wait: u64,
+    /// Whether the line is only shown.
+    pub dry_run: bool,
+}
+
+/// What becomes of a customer.
+#[derive(Clone, Copy)]
+pub enum Change {
+    Enrol {
+        budget: NonZero<u16>,
+        algorithm: Algorithm,
+    },
+    Revoke,
+    Budget(NonZero<u16>),
+    Rollover(Algorithm),
+    /// The key of a number goes, or the older one.
+    Retire(Option<NonZero<u16>>),
+}
+
+/// What the words ask for; the first is the program's name. Else the error that tells the user why: its kind may be a request for
+/// the help or the version, or memory may have run out.
+pub fn parse<'a>(alloc: Global, words: &'a [String]) -> Result<Asked<'a>, Error> {
+    let matches = command(alloc)?.try_get_matches_from(words)?;
+    match asked_in(&matches) {
+        Ok(asked) => Ok(asked),
+        Err(message) => { Err(command(alloc)?.error(ErrorKind::ValueValidation, message)?) }
+    }
+}
+
+// What the matches ask for; else what is wrong with them.
+fn asked_in<'a>(matches: &ArgMatches<'a>) -> Result<Asked<'a>, &'static str> {
+    let Some((name, matches)) = matches.subcommand() else {
+        return Err("a command is wanted");
+    };
+    match name {
+        "customers" => Ok(Asked::Customers {
+            files: files_in(matches)?,
+            json: matches.get_flag("json"),
+        }),
+        _ => Ok(Asked::Order(ordered_in(name, matches)?)),
+    }
+}
+
+// The files that are named: by a configuration, or one by one.
+fn files_in<'a>(matches: &ArgMatches<'a>) -> Result<FilesNamed<'a>, &'static str> {
+    let commands = matches.get_str("commands");
+    match (matches.get_str("config"), matches.get_str("register")) {
+        (Some(config), None) => Ok(FilesNamed::Configured(config)),
+        (None, Some(register)) => Ok(FilesNamed::Each { register, commands }),
+        _ => Err("either --config FILE or REGISTER is wanted"),
+    }
+}
+
+// The change that is asked for by a name.
+fn ordered_in<'a>(name: &str, matches: &ArgMatches<'a>) -> Result<Ordered<'a>, &'static str> {
+    let address = matches.get_str("address").ok_or("ADDRESS is missing")?;
+    let change = change_in(name, matches)?;
+    let has_key = matches!(change, Change::Enrol { .. } | Change::Rollover(_));
+    Ok(Ordered {
+        config: matches.get_str("config").ok_or("--config FILE is missing")?,
+        address: words::address(address).ok_or(
+            "ADDRESS: an IPv4 address, as 192.0.2.1, is wanted",
+        )?,
+        change,
+        output: if has_key {
+            matches.get_str("output")
+        } else {
+            None
+        },
+        server: if has_key { server_of(matches)? } else { None },
+        wait: wait_in(matches)?,
+        dry_run: matches.get_flag("dry-run"),
+    })
+}
+
+// What becomes of the customer.
+fn change_in(name: &str, matches: &ArgMatches<'_>) -> Result<Change, &'static str> {
+    match name {
+        "enrol" => Ok(Change::Enrol {
+            budget: matches
+                .get_one::<u16>("budget")
+                .and_then(NonZero::<u16>::new)
+                .or(NonZero::<u16>::new(USUAL_BUDGET))
+                .ok_or("--budget N is missing")?,
+            algorithm: algorithm_in(matches)?,
+        }),
+        "rollover" => Ok(Change::Rollover(algorithm_in(matches)?)),
+        "budget" => Ok(Change::Budget(
+            matches
+                .get_one::<u16>("budget")
+                .and_then(NonZero::<u16>::new)
+                .ok_or("N is missing")?,
+        )),
+        "retire" => Ok(Change::Retire(
+            matches
+                .get_one::<u16>("number")
+                .and_then(NonZero::<u16>::new),
+        )),
+        _ => Ok(Change::Revoke),
+    }
+}
+
+// The algorithm of a new key.
+fn algorithm_in(matches: &ArgMatches<'_>) -> Result<Algorithm, &'static str> {
+    match matches.get_str("algorithm") {
+        None => Ok(Algorithm::Sha1),
+        Some(word) => words::algorithm(word).ok_or("--algorithm: md5 or sha1 is wanted"),
+    }
+}
+
+// Where the customer asks, if the words say it.
+fn server_of(matches: &ArgMatches<'_>) -> Result<Option<Server>, &'static str> {
+    match matches.get_str("server") {
+        None => Ok(None),
+        Some(word) => {
+            let wanted = "--server: an IPv4 address, with a port or without, is wanted";
+            Ok(Some(server_in(word).ok_or(wanted)?))
+        }
+    }
+}
+
+// How many milliseconds the answer is waited for.
+fn wait_in(matches: &ArgMatches<'_>) -> Result<u64, &'static str> {
+    let Some(seconds) = matches.get_one::<f64>("wait") else {
+        return Ok(USUAL_WAIT);
+    };
+    if seconds >= 0.0 && seconds <= 60.0 {
+        Ok(num::saturating_f64_to_u64((seconds * SECOND_MILLIS).round()))
+    } else {
+        Err("--wait S: 0 to 60 seconds are wanted")
+    }
+}
+
+// The command line, with its help.
+fn command<'a>(alloc: Global) -> Result<Command<'a>, AllocError> {
+    Command::new(alloc, "labntpctl")
+        .version(VERSION)
+        .about("Keeps the customers of labntpd")
+        .after_help(AFTER_HELP)
+        .subcommand_required(true)
+        .disable_help_subcommand(true)
+        .subcommand(customers_command(alloc)?)?
+        .subcommand(enrol_command(alloc)?)?
+        .subcommand(order(
+            alloc,
+            "revoke",
+            "Ends an enrolment: the address is refused from now on",
+        )?)?
+        .subcommand(budget_command(alloc)?)?
+        .subcommand(rollover_command(alloc)?)?
+        .subcommand(retire_command(alloc)?)
+}
+
+// Who is enrolled.
+fn customers_command<'a>(alloc: Global) -> Result<Command<'a>, AllocError> {
+    let command = Command::new(alloc, "customers").about(
+        "Lists the customers: with counts and last uses where labntpd writes its customers file, else from the register and the commands",
+    );
+    files_of(alloc, command)?.arg(
+        Arg::new(alloc, "json")
+            .long("json")
+            .action(ArgAction::SetTrue)
+            .help("Prints an object of JSON for each customer"),
+    )
+}
+
+// A command that reads the files of a configuration, or those that are named one by one.
+fn files_of<'a>(alloc: Global, command: Command<'a>) -> Result<Command<'a>, AllocError> {
+    command
+        .arg(value(alloc, "config", "FILE", "The configuration file of labntpd").conflicts_with(
+            "register",
+        )?)?
+        .arg(
+            Arg::new(alloc, "register")
+                .value_name("REGISTER")
+                .action(ArgAction::Set)
+                .help("The register file, where no configuration is named"),
+        )?
+        .arg(
+            Arg::new(alloc, "commands")
+                .value_name("COMMANDS")
+                .action(ArgAction::Set)
+                .help("The commands file"),
+        )
+}
+
+// A new customer.
+fn enrol_command<'a>(alloc: Global) -> Result<Command<'a>, AllocError> {
+    let about =
+        "Enrols an address under the lowest free number with a new key, and writes what the customer gets";
+    let command = order(alloc, "enrol", about)?.arg(number(
+        alloc,
+        "budget",
+        "Signed queries that get the time in 64 seconds [default: 10]",
+    ))?;
+    with_key(alloc, command)
+}
+
+// Another budget.
+fn budget_command<'a>(alloc: Global) -> Result<Command<'a>, AllocError> {
+    order(alloc, "budget", "Gives an address another budget")?.arg(
+        Arg::new(alloc, "budget")
+            .value_name("N")
+            .required(true)
+            .action(ArgAction::Set)
+            .value_parser(ValueParser::unsigned(1, 65_535))
+            .help("Signed queries that get the time in 64 seconds"),
+    )
+}
+
+// A second key.
+fn rollover_command<'a>(alloc: Global) -> Result<Command<'a>, AllocError> {
+    let about =
+        "Gives an address a new key beside the one that it has, and writes what the customer gets";
+    with_key(alloc, order(alloc, "rollover", about)?)
+}
+
+// A key that goes.
+fn retire_command<'a>(alloc: Global) -> Result<Command<'a>, AllocError> {
+    order(
+        alloc,
+        "retire",
+        "Takes a key from an address that has another",
+    )?
+    .arg(number(
+        alloc,
+        "number",
+        "The key's number [default: that of the older one]",
+    ))
+}
+
+// A command that changes a customer.
+fn order<'a>(alloc: Global, name: &'a str, about: &'a str) -> Result<Command<'a>, AllocError> {
+    Command::new(alloc, name)
+        .about(about)
+        .arg(
+            Arg::new(alloc, "address")
+                .value_name("ADDRESS")
+                .required(true)
+                .action(ArgAction::Set)
+                .help("The customer's IPv4 address"),
+        )?
+        .arg(value(alloc, "config", "FILE", "The configuration file of labntpd").required(true))?
+        .arg(value(
+            alloc,
+            "wait",
+            "S",
+            "How many seconds the answer is waited for [default: 5]",
+        )
+        .value_parser(ValueParser::Float))?
+        .arg(
+            Arg::new(alloc, "dry-run")
+                .long("dry-run")
+                .action(ArgAction::SetTrue)
+                .help("Only shows the line, with KEY in the place of a key"),
+        )
+}
+
+// A command that makes a key.
+fn with_key<'a>(alloc: Global, command: Command<'a>) -> Result<Command<'a>, AllocError> {
+    command
+        .arg(value(
+            alloc,
+            "algorithm",
+            "ALGORITHM",
+            "md5 or sha1 [default: sha1]",
+        ))?
+        .arg(value(
+            alloc,
+            "output",
+            "FILE",
+            "A new file for what the customer gets [default: ADDRESS-NUMBER.keys]",
+        ))?
+        .arg(value(
+            alloc,
+            "server",
+            "ADDRESS[:PORT]",
+            "Where the customer asks [default: where labntpd listens]",
+        ))
+}
+
+// A name with a value.
+fn value<'a>(alloc: Global, name: &'a str, shown: &'a str, help: &'a str) -> Arg<'a> {
+    Arg::new(alloc, name)
+        .long(name)
+        .value_name(shown)
+        .action(ArgAction::Set)
+        .help(help)
+}
+
+// A name with a number of a key, or a budget.
+fn number<'a>(alloc: Global, name: &'a str, help: &'a str) -> Arg<'a> {
+    value(alloc, name, "N", help).value_parser(ValueParser::unsigned(1, 65_535))
+}

@@ -1,0 +1,53 @@
+//! The program for clerks: `labntpctl` lists the customers of labntpd, and enrols, revokes and changes them.
+#![tactic(auto)]
+
+mod command_line;
+mod commands_file;
+mod customer_file;
+mod customers;
+mod deciding;
+mod ordering;
+mod places;
+mod standing;
+mod table;
+mod waiting;
+
+use clap::error::ErrorKind;
+use command_line::{Asked, parse};
+use customers::customers_status;
+use labntpd_host::has_standard_streams;
+use labntpd_start::start_lines;
+use ntp_customer_files::{memory_status, unread_status, write_status};
+use ordering::order_status;
+use std::process::ExitCode;
+use std::{env, io};
+
+fn main(rt: HostRuntime) -> ExitCode {
+    ExitCode::from(status(&rt))
+}
+
+// Does what the command line asks for, and gives the exit status.
+fn status(rt: &HostRuntime) -> u8 {
+    // Where one is closed, a file that is opened takes its place, and would get what is told.
+    if !has_standard_streams() {
+        return write_status(&mut start_lines(rt));
+    }
+    let words = match words(rt) {
+        Ok(words) => words,
+        Err(error) => return unread_status(&error, &mut start_lines(rt)),
+    };
+    match parse(rt.alloc(), &words) {
+        Ok(Asked::Customers { files, json }) => customers_status(rt, files, json),
+        Ok(Asked::Order(order)) => order_status(rt, &order),
+        Err(error) if error.kind() == ErrorKind::OutOfMemory => memory_status(&mut start_lines(rt)),
+        Err(error) => {
+            let _ = error.print(rt);
+            error.exit_code() as u8
+        }
+    }
+}
+
+// The words of the command line; the first is the program's name.
+fn words(rt: &HostRuntime) -> io::Result<Vec<String>> {
+    Ok(env::args(rt)?.collect(rt.alloc())?)
+}

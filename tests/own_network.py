@@ -1,0 +1,149 @@
+"""What tests/door and tests/scale share: network namespaces that a test has for itself, nftables in them, and floods.
+
+It stands on tests/program, which a test loads first.
+"""
+import contextlib
+import glob
+import os
+import re
+import shutil
+import subprocess
+import sys
+
+import program
+from program import Odd, PassedOver
+
+TOP = os.path.dirname(os.path.dirname(os.path.realpath(__file__)))
+
+# The word with which a test starts itself once more, in namespaces of its own.
+INSIDE = "--inside"
+
+# The processors that it may use.
+ALLOWED = sorted(os.sched_getaffinity(0))
+
+
+# ---- Start
+
+def enter(words, cases, namespaces, *programs):
+    """Starts this test once more, with the same words, in namespaces of its own; or says why it cannot, and gives its status."""
+    missing = [it for it in ("unshare", *programs) if not shutil.which(it)]
+    why = "it needs root" if os.geteuid() else f"there is no program {missing[0]}" if missing else ""
+    if not why and len(ALLOWED) < 2:
+        why = "it needs two processors"
+    if not why and subprocess.run(["unshare", *namespaces, "true"], capture_output=True).returncode:
+        why = "no namespaces can be made"
+    if why:
+        for name in cases:
+            print(f"passed over {name}: {why}")
+        print(f"0 passed, 0 failed, {len(cases)} skipped")
+        return 0
+    os.execvp("unshare", ["unshare", *namespaces, sys.executable, os.path.realpath(sys.argv[0]), INSIDE, *words])
+
+
+# ---- nftables
+
+# A table that any nft can load.
+TRIVIAL = "table inet labntpd_trial\ndelete table inet labntpd_trial\n"
+
+
+def find_nft():
+    """Has nft on the path, where it is there or tests/run has fetched it, and has seen it work."""
+    folder, own = f"{os.environ.get('PEERS', '')}/nftables", f"{program.ROOM}/bin"
+    found = shutil.which("nft", path=f"{os.environ.get('PATH', os.defpath)}:/usr/sbin:{folder}/usr/sbin")
+    if not found:
+        raise PassedOver("there is no program nft")
+    if not os.path.exists(own):
+        libraries = glob.glob(f"{folder}/usr/lib/*-linux-gnu") if found.startswith(folder) else []
+        os.mkdir(own)
+        with open(f"{own}/nft", "w", opener=lambda path, flags: os.open(path, flags, 0o755)) as it:
+            it.write("#!/bin/sh\n" + "".join(f"export LD_LIBRARY_PATH='{it}'\n" for it in libraries) + f"exec '{found}' \"$@\"\n")
+        os.environ["PATH"] = f"{own}:{os.environ.get('PATH', os.defpath)}"
+    nft("-f", "-", given=TRIVIAL, fault=PassedOver)
+
+
+def nft(*words, given=None, fault=Odd):
+    """What nft prints; where it fails, that is such a fault."""
+    ran = subprocess.run(["nft", *words], input=given, capture_output=True, text=True, timeout=program.WAIT)
+    if ran.returncode:
+        raise fault(f"nft {' '.join(words)}: {ran.stderr.strip()[:200]}")
+    return ran.stdout
+
+
+def load_door(address, port):
+    """Loads the rules of examples/labntpd.nft, for a server there."""
+    with open(f"{TOP}/examples/labntpd.nft") as it:
+        rules = re.sub(r"(?m)^define port = .*", f"define port = {port}", re.sub(r"(?m)^define server = .*", f"define server = {address}", it.read()))
+    nft("-f", "-", given=rules)
+
+
+# ---- Floods
+
+# `flood SOURCE TARGET PORT RATE HEX` sends one datagram at this rate until it is ended; `spin` keeps a processor busy.
+FLOOD = r"""
+#define _GNU_SOURCE
+#include <arpa/inet.h>
+#include <stdio.h>
+#include <stdlib.h>
+#include <string.h>
+#include <sys/socket.h>
+#include <time.h>
+
+#define BATCH 32
+
+static double now(void) {
+  struct timespec t;
+  clock_gettime(CLOCK_MONOTONIC, &t);
+  return t.tv_sec + t.tv_nsec * 1e-9;
+}
+
+int main(int count, char **words) {
+  if (count < 6)
+    for (volatile unsigned long n = 0;; n++);
+  struct sockaddr_in source = {.sin_family = AF_INET}, target = {.sin_family = AF_INET, .sin_port = htons(atoi(words[3]))};
+  inet_pton(AF_INET, words[1], &source.sin_addr);
+  inet_pton(AF_INET, words[2], &target.sin_addr);
+  double rate = atof(words[4]);
+  unsigned char octets[1024];
+  size_t length = strlen(words[5]) / 2;
+  for (size_t i = 0; i < length && i < sizeof octets; i++)
+    sscanf(words[5] + 2 * i, "%2hhx", &octets[i]);
+  int s = socket(AF_INET, SOCK_DGRAM, 0);
+  if (bind(s, (struct sockaddr *)&source, sizeof source) || connect(s, (struct sockaddr *)&target, sizeof target))
+    return 1;
+  struct iovec part = {octets, length};
+  struct mmsghdr batch[BATCH];
+  memset(batch, 0, sizeof batch);
+  for (int i = 0; i < BATCH; i++)
+    batch[i].msg_hdr.msg_iov = &part, batch[i].msg_hdr.msg_iovlen = 1;
+  double begun = now(), sent = 0;
+  for (;;) {
+    double due = (now() - begun) * rate;
+    if (sent + BATCH > due) {
+      struct timespec pause = {0, 20000};
+      nanosleep(&pause, 0);
+      continue;
+    }
+    sendmmsg(s, batch, BATCH, MSG_DONTWAIT);
+    sent += BATCH;
+    if (due - sent > rate / 10)
+      begun = now() - sent / rate;
+  }
+}
+"""
+
+
+def compiled(source, name):
+    """Makes a program of this name of a source in C."""
+    subprocess.run(["gcc", "-O2", "-x", "c", "-o", f"{program.ROOM}/{name}", "-"], input=source.encode(), check=True)
+
+
+@contextlib.contextmanager
+def busy(words, processor):
+    """A process that runs on this processor meanwhile."""
+    process = subprocess.Popen([f"{program.ROOM}/flood", *words], stdin=subprocess.DEVNULL)
+    try:
+        os.sched_setaffinity(process.pid, {processor})
+        yield process
+    finally:
+        process.kill()
+        process.wait()

@@ -27,7 +27,8 @@ INSIDE = "--inside"
 # Where the unit files are that are installed, and the folder that is handed to it.
 UNITS, GIVEN = "/etc/systemd/system", "/given"
 
-# Makes the root file system, below a folder that has `given`. The kernel's settings are the host's, so they can be read alone.
+# Makes the root file system, below a folder that has `given`. The kernel's settings are the host's, so they can be read alone. What is mounted
+# is shared in the end, as systemd expects of a container: else no service sees its credentials.
 ROOT = r"""
 mkdir "$1/disk" && mount -t tmpfs -o mode=755 tmpfs "$1/disk" && cd "$1/disk" && mkdir upper work root
 mount -t overlay -o "lowerdir=/,upperdir=$1/disk/upper,workdir=$1/disk/work" overlay root && cd root
@@ -45,7 +46,7 @@ for it in null:1:3 zero:1:5 full:1:7 random:1:8 urandom:1:9 tty:5:0; do
     mknod -m 666 dev/${it%%:*} c $(echo ${it#*:} | tr : ' ')
 done
 ln -s pts/ptmx dev/ptmx && mkdir etc/systemd/system && chmod 1777 tmp
-ip link set lo up && pivot_root . old && umount -l /old
+ip link set lo up && pivot_root . old && umount -l /old && mount --make-rshared /
 """
 
 

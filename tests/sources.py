@@ -324,13 +324,10 @@ class Clause:
 class Function:
     def __init__(self, file, name, owner, is_public):
         self.file, self.name, self.owner, self.is_public = file, name, owner, is_public
-        self.clauses, self.signature, self.comment_lines = [], "", []
+        self.clauses, self.signature = [], ""
 
     def call(self):
         return f"{self.owner.name}::{self.name}" if self.owner else self.name
-
-    def comment(self):
-        return words_of(self.file, self.comment_lines)
 
 
 class Block:
@@ -345,15 +342,6 @@ class Type:
     def __init__(self, file, name, numbers, text):
         self.file, self.name, self.numbers, self.text = file, name, numbers, text
         self.model = None
-
-    def comment(self):
-        return words_of(self.file, [it for it in self.numbers if self.file.text[it - 1].lstrip().startswith("///")])
-
-
-def words_of(file, numbers):
-    """The words of comment lines, up to the first empty one."""
-    words = [re.sub(r"^\s*///?\s?", "", file.text[it - 1]).strip() for it in numbers]
-    return " ".join(words[: words.index("")] if "" in words else words)
 
 
 FUNCTION = re.compile(r"( *)((?:pub(?:\([^)]*\))? )?)(?:const |unsafe |async |extern \"C\" )*fn ([a-z_0-9A-Z]+)")
@@ -516,7 +504,6 @@ class Source:
         indent, public, name = found.groups()
         is_public = public.strip() == "pub" or bool(block and (block.kind == "trait" or block.trait))
         it = Function(self, name, block, is_public)
-        it.comment_lines = self.comment_above(at)
         signature, here, mark = [], at, f"{indent}    "
         while True:
             line = self.text[here]

@@ -560,6 +560,7 @@ impl<'a, R: Files + Clock, L: Write + Drop> Housekeeping<'a, R, L> {
             commands_lines: server.applied,
             commands_octets: Some(server.commands.inner().length() as u64),
             commands_other_line: other_line(self.files),
+            register_digest: first_six(&self.begun.digests[1]),
             customers: commands.customers(),
             clock,
             log_lines_dropped: self.log_dropped.saturating_add(commands.dropped()),
@@ -689,6 +690,12 @@ fn leap_word(leap: u8) -> &'static str {
         1 => "a leap second is announced: the last minute of the day has 61 seconds",
         _ => "a leap second is announced: the last minute of the day has 59 seconds",
     }
+}
+
+// The first six octets of a digest as a number, the first one highest: 48 bits, which Prometheus keeps exactly.
+fn first_six(digest: &[u8; 32]) -> u64 {
+    let [a, b, c, d, e, f, ..] = *digest;
+    u64::from_be_bytes([0, 0, a, b, c, d, e, f])
 }
 
 // Writes a digest in hexadecimal digits.

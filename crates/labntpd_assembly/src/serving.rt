@@ -44,10 +44,20 @@ where
     N: Write,
     requires { parts.port.failures ≡ 0 }
     ensures { IfOk result (λ daemon. ServesFromStart turns
-        (record { states = S.coming parts.entry.reference; tended = S.tended parts.entry.reference; failures = 0;
-            service = parts.entry.service; applied = 0 })
-        (record { states = S.coming daemon.reference; tended = S.tended daemon.reference; failures = daemon.port.failures;
-            service = daemon.service; applied = daemon.applied })) }
+        (record {
+          states = S.coming parts.entry.reference;
+          tended = S.tended parts.entry.reference;
+          failures = 0;
+          service = parts.entry.service;
+          applied = 0;
+        })
+        (record {
+          states = S.coming daemon.reference;
+          tended = S.tended daemon.reference;
+          failures = daemon.port.failures;
+          service = daemon.service;
+          applied = daemon.applied;
+        })) }
 {
     let Parts {
         port,
@@ -85,10 +95,20 @@ where
     W: Write + Drop,
     requires failures { server.old.port.failures + turns < 2 ^ 64 }
     ensures serves { ServesFromStart turns
-        (record { states = S.coming server.old.reference; tended = S.tended server.old.reference; failures = server.old.port.failures;
-            service = server.old.service; applied = server.old.applied })
-        (record { states = S.coming server.new.reference; tended = S.tended server.new.reference; failures = server.new.port.failures;
-            service = server.new.service; applied = server.new.applied }) }
+        (record {
+          states = S.coming server.old.reference;
+          tended = S.tended server.old.reference;
+          failures = server.old.port.failures;
+          service = server.old.service;
+          applied = server.old.applied;
+        })
+        (record {
+          states = S.coming server.new.reference;
+          tended = S.tended server.new.reference;
+          failures = server.new.port.failures;
+          service = server.new.service;
+          applied = server.new.applied;
+        }) }
     ensures receives { 0 < turns → result.failed ≡ count_at server.new.observer.counts Kind.NothingReceived }
     ensures stale { 0 < turns → result.housekeeping.stale ≡ server.new.port.stale }
 {

@@ -100,6 +100,8 @@ pub struct Gauges<'a> {
     pub commands_octets: Option<u64>,
     /// The first line of the commands file in whose place another one stands than was applied. `None` where none does.
     pub commands_other_line: Option<u64>,
+    /// The first six octets of the SHA-256 digest of the register file, as a number whose highest octet is the first.
+    pub register_digest: u64,
     /// Customers that are enrolled.
     pub customers: u64,
     /// The state of the clock.
@@ -239,7 +241,7 @@ fn datagram_metrics(counts: &Counts, gauges: &Gauges<'_>) -> [Metric<'static>; 1
 }
 
 // What is told of commands and customers.
-fn command_metrics(gauges: &Gauges<'_>) -> [Metric<'static>; 5] {
+fn command_metrics(gauges: &Gauges<'_>) -> [Metric<'static>; 6] {
     [
         Metric {
             name: "labntp_commands_total",
@@ -264,6 +266,12 @@ fn command_metrics(gauges: &Gauges<'_>) -> [Metric<'static>; 5] {
             sort: Sort::Gauge,
             help: "The first line that is not the one that was applied; 0 for none.",
             samples: Samples::Number(Some(gauges.commands_other_line.unwrap_or(0))),
+        },
+        Metric {
+            name: "labntp_register_digest",
+            sort: Sort::Gauge,
+            help: "The first six octets of the register file's SHA-256 digest.",
+            samples: Samples::Number(Some(gauges.register_digest)),
         },
         Metric {
             name: "labntp_customers",

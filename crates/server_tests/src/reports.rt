@@ -82,6 +82,9 @@ labntp_commands_octets 59
 # HELP labntp_commands_other_line The first line that is not the one that was applied; 0 for none.
 # TYPE labntp_commands_other_line gauge
 labntp_commands_other_line 60
+# HELP labntp_register_digest The first six octets of the register file's SHA-256 digest.
+# TYPE labntp_register_digest gauge
+labntp_register_digest 205024940494593
 # HELP labntp_customers Customers that are enrolled.
 # TYPE labntp_customers gauge
 labntp_customers 52
@@ -251,6 +254,7 @@ fn gauges() -> Gauges<'static> {
         commands_lines: 58,
         commands_octets: Some(59),
         commands_other_line: Some(60),
+        register_digest: 0xba78_16bf_8f01,
         customers: 52,
         clock: ClockGauges {
             is_synchronised: true,

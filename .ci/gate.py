@@ -5,8 +5,9 @@
     .ci/run --whole      tries every wrong body
 
 1. What the pages say of the sources that is counted, drawn or named: `tests/belief --check`, `tests/crates --check` and `tests/pages --check`, a
-   case each.
-2. `rt ci`, the toolchain's gate: every proof and test from nothing, the wrong bodies of must-fail/, and each program by two compilers.
+   case each; and `tools/layout`, since `rt ci` says only at the end of an hour that a file is not laid out.
+2. `rt ci`, the toolchain's gate, where all is laid out: every proof and test from nothing, the wrong bodies of must-fail/, and each program
+   by two compilers.
 3. `tests/run`: the programs, as they were built, from outside.
 4. `tools/wrong_bodies`: those of wrong-bodies/, many in one check. All with `--whole`; else those of the crates that changed since the last
    whole run, and a tenth of the others, another one each day.
@@ -153,7 +154,7 @@ def gate(is_whole):
     with Ticker(SILENCE / 4, it.tell_how_far):
         for name in COMPARED:
             it.part(f"tests/{name} --check", [f"{TOP}/tests/{name}", "--check"])
-        is_proved = it.part("rt ci", ["rt", "ci"])
+        is_proved = it.part("tools/layout", [f"{TOP}/tools/layout"]) and it.part("rt ci", ["rt", "ci"])
         if is_proved:
             it.part("tests/run", [f"{TOP}/tests/run"])
             some = ["--write-digests"] if is_whole else ["--tenth", str(datetime.date.today().timetuple().tm_yday % 10)]

@@ -1,6 +1,6 @@
 -- Who sends no more than so many packets in each window has them all pass.
-use Rattle.std.proofs.Common.{◌≡◌, ℕ, ◌+◌, ◌-◌, ◌*◌, ◌/◌, ◌%◌, ◌<◌, ◌≤◌, min, suc, Bool, true, false, cond, List, [], ◌∷◌, refl, sym, subst, ap, mul_comm, two-mul, div-mul-le_self, lit<, ◌∙◌, arith, inl, inr, mul-add, mul-one, mul-le-mul_left, mod-lt, le_trans, eq-eqb}
-use Rattle.std.specs.Prelude.{All, count_by, nat_lt, nat_eq, ◌==◌}
+use Rattle.std.proofs.Common.{◌≡◌, ℕ, ◌+◌, ◌-◌, ◌*◌, ◌/◌, ◌%◌, ◌<◌, ◌≤◌, min, true, false, cond, List, [], ◌∷◌, refl, sym, subst, ap, two-mul, div-mul-le_self, lit<, ◌∙◌, arith, inl, inr, mul-add, mul-one, mul-le-mul_left, mod-lt, le_trans, eq-eqb}
+use Rattle.std.specs.Prelude.{All, count_by, nat_lt, ◌==◌}
 use Rattle.std.proofs.lemmas.Bool.{cases_lt, le-ltb}
 use Rattle.std.proofs.lemmas.List.Sums.{sum_by-cons}
 use Rattle.std.proofs.lemmas.List.Elements.{All-cons, All-nil}

@@ -1,5 +1,5 @@
 -- Moments in windows: how far one lies behind the beginning of its own.
-use Rattle.std.proofs.Common.{◌≡◌, ℕ, ◌+◌, ◌-◌, ◌*◌, ◌/◌, ◌%◌, ◌<◌, ◌≤◌, suc, arith, div-add-mod', div-mul-le_self, le-div_iff_mul-le, mul-le-mul_right, suc-mul, le_trans}
+use Rattle.std.proofs.Common.{◌≡◌, ℕ, ◌+◌, ◌-◌, ◌*◌, ◌/◌, ◌%◌, ◌<◌, ◌≤◌, suc, arith, div-add-mod', div-mul-le_self, mul-le-mul_right, suc-mul, le_trans}
 use Rattle.std.proofs.lemmas.Nat.{le-div}
 
 -- a later moment of the same window

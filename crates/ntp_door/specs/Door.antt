@@ -32,6 +32,10 @@ LetsPass limit most = (begun before : ℕ) (moments : List ℕ) → InOrder begu
 abbrev pub LetsEachPass : Limit → ℕ → Type 0
 LetsEachPass limit group = (budget : ℕ) → budget ≤ group → LetsPass limit (most_answered budget)
 
+-- the greatest budget whose limit customers get: no budget is greater (profile)
+abbrev pub greatest_group : ℕ
+greatest_group = 2 ^ 16
+
 -- the least power of two that is no less than a budget
 abbrev pub IsLeastPower : ℕ → ℕ → Type 0
 IsLeastPower budget group =

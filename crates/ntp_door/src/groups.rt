@@ -1,8 +1,6 @@
 //! Budgets that share a limit.
 ghost use Rattle.std.specs.Prelude.{◌≤◌};
-ghost use Rattle.ntp_door.specs.Door.{IsGroup, IsLeastPower};
-
-use crate::MOST_GROUP;
+ghost use Rattle.ntp_door.specs.Door.{greatest_group, IsGroup, IsLeastPower};
 
 /// Which customers share a limit.
 #[derive(Clone, Copy)]
@@ -16,7 +14,7 @@ pub enum Grouping {
 /// The budget whose limit customers of this budget get: it is no less.
 pub fn group_for(budget: u16, grouping: Grouping) -> u32
     ensures enough { budget ≤ result }
-    ensures most { result ≤ MOST_GROUP }
+    ensures most { result ≤ greatest_group }
     ensures group { IsGroup grouping budget result }
 {
     match grouping {

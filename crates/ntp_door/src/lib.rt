@@ -7,5 +7,5 @@ mod limit;
 mod statement;
 
 pub use groups::{Grouping, group_for};
-pub use limit::{Limit, MOST_GROUP, limit_for};
+pub use limit::{Limit, limit_for};
 pub use statement::limit_statement;

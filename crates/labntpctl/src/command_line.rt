@@ -1,5 +1,7 @@
 //! The words of the command line.
 
+use crate::customer_file::ANY;
+use crate::door::{Door, Output, Place};
 use crate::places::FilesNamed;
 use clap::builder::ValueParser;
 use clap::error::ErrorKind;
@@ -39,6 +41,8 @@ Exit status: 0 done; 1 refused, or a file has a fault; 2 other words; 3 no answe
 pub enum Asked<'a> {
     /// Who is enrolled, in a table or as objects of JSON.
     Customers { files: FilesNamed<'a>, json: bool },
+    /// The rules by which the kernel polices the door.
+    Door(Door<'a>),
     /// A change.
     Order(Ordered<'a>),
 }
@@ -96,6 +100,7 @@ fn asked_in<'a>(matches: &ArgMatches<'a>) -> Result<Asked<'a>, &'static str> {
             files: files_in(matches)?,
             json: matches.get_flag("json"),
         }),
+        "door" => Ok(Asked::Door(door_in(matches)?)),
         _ => Ok(Asked::Order(ordered_in(name, matches)?)),
     }
 }
@@ -107,6 +112,34 @@ fn files_in<'a>(matches: &ArgMatches<'a>) -> Result<FilesNamed<'a>, &'static str
         (Some(config), None) => Ok(FilesNamed::Configured(config)),
         (None, Some(register)) => Ok(FilesNamed::Each { register, commands }),
         _ => Err("either --config FILE or REGISTER is wanted"),
+    }
+}
+
+// What is asked of the door.
+fn door_in<'a>(matches: &ArgMatches<'a>) -> Result<Door<'a>, &'static str> {
+    Ok(Door {
+        config: matches.get_str("config").ok_or("--config FILE is missing")?,
+        place: place_of(matches)?,
+        output: match (matches.get_str("output"), matches.get_flag("watch")) {
+            (Some(path), true) => Output::Kept(path),
+            (Some(path), false) => Output::Written(path),
+            (None, true) => return Err("--watch wants --output FILE"),
+            (None, false) => Output::Printed,
+        },
+    })
+}
+
+// Where the rules apply, if the words say it.
+fn place_of(matches: &ArgMatches<'_>) -> Result<Option<Place>, &'static str> {
+    let Some(word) = matches.get_str("address") else {
+        return Ok(None);
+    };
+    match server_in(word) {
+        Some(Server { address, port }) if address != ANY => Ok(Some(Place {
+            address,
+            port: if word.contains(':') { Some(port) } else { None },
+        })),
+        _ => Err("--address: an IPv4 address of this host, with a port or without, is wanted"),
     }
 }
 
@@ -199,6 +232,7 @@ fn command<'a>(alloc: Global) -> Result<Command<'a>, AllocError> {
         .subcommand_required(true)
         .disable_help_subcommand(true)
         .subcommand(customers_command(alloc)?)?
+        .subcommand(door_command(alloc)?)?
         .subcommand(enrol_command(alloc)?)?
         .subcommand(order(
             alloc,
@@ -221,6 +255,31 @@ fn customers_command<'a>(alloc: Global) -> Result<Command<'a>, AllocError> {
             .action(ArgAction::SetTrue)
             .help("Prints an object of JSON for each customer"),
     )
+}
+
+// The rules of the door.
+fn door_command<'a>(alloc: Global) -> Result<Command<'a>, AllocError> {
+    Command::new(alloc, "door")
+        .about("Prints rules of nftables that let pass from each customer what its budget asks for")
+        .arg(value(alloc, "config", "FILE", "The configuration file of labntpd").required(true))?
+        .arg(value(
+            alloc,
+            "address",
+            "ADDRESS[:PORT]",
+            "Where labntpd is asked [default: where it listens]",
+        ))?
+        .arg(value(
+            alloc,
+            "output",
+            "FILE",
+            "Writes the rules into a file, if it has others",
+        ))?
+        .arg(
+            Arg::new(alloc, "watch")
+                .long("watch")
+                .action(ArgAction::SetTrue)
+                .help("Runs on, and writes the file again whenever the rules change"),
+        )
 }
 
 // A command that reads the files of a configuration, or those that are named one by one.

@@ -6,6 +6,8 @@ mod commands_file;
 mod customer_file;
 mod customers;
 mod deciding;
+mod door;
+mod door_rules;
 mod ordering;
 mod places;
 mod standing;
@@ -15,6 +17,7 @@ mod waiting;
 use clap::error::ErrorKind;
 use command_line::{Asked, parse};
 use customers::customers_status;
+use door::door_status;
 use labntpd_host::has_standard_streams;
 use labntpd_start::start_lines;
 use ntp_customer_files::{memory_status, unread_status, write_status};
@@ -38,6 +41,7 @@ fn status(rt: &HostRuntime) -> u8 {
     };
     match parse(rt.alloc(), &words) {
         Ok(Asked::Customers { files, json }) => customers_status(rt, files, json),
+        Ok(Asked::Door(door)) => door_status(rt, &door),
         Ok(Asked::Order(order)) => order_status(rt, &order),
         Err(error) if error.kind() == ErrorKind::OutOfMemory => memory_status(&mut start_lines(rt)),
         Err(error) => {

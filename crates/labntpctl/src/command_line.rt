@@ -33,6 +33,7 @@ Examples:
   labntpctl enrol 192.0.2.10 --config /etc/labntp/labntpd.toml --server 198.51.100.1
   labntpctl rollover 192.0.2.10 --config /etc/labntp/labntpd.toml
   labntpctl retire 192.0.2.10 --config /etc/labntp/labntpd.toml
+  labntpctl door --config /etc/labntp/labntpd.toml
 
 Exit status: 0 done; 1 refused, or a file has a fault; 2 other words; 3 no answer came in time, or a file failed; 4 want of memory.";
 

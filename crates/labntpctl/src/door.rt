@@ -1,6 +1,6 @@
 //! The rules by which the kernel polices the door: printed, or kept in a file while customers change.
 
-use crate::customer_file::listening;
+use crate::customer_file::{NTP_PORT, listening};
 use crate::door_rules::{Source, rules_text};
 use crate::standing::{Standing, standing_at};
 use labntpd_configuration::{Configuration, Listen};
@@ -80,8 +80,7 @@ fn server_for(
     asked: &Door<'_>,
     configuration: &Configuration,
 ) -> Result<Server, u8> {
-    let listening = listening(configuration);
-    match (asked.place, listening) {
+    match (asked.place, listening(configuration)) {
         (Some(place), _) => Ok(Server {
             address: place.address,
             port: place.port.unwrap_or(port_of(configuration)),
@@ -98,11 +97,11 @@ fn server_for(
     }
 }
 
-// The port at which the daemon listens; that of NTP where its socket is handed down (RFC 5905).
+// The port at which the daemon listens; that of NTP where its socket is handed down.
 fn port_of(configuration: &Configuration) -> u16 {
     match configuration.listen {
         Listen::Bound(endpoint) => endpoint.port.get(),
-        Listen::Inherited => 123,
+        Listen::Inherited => NTP_PORT,
     }
 }
 
@@ -168,27 +167,42 @@ fn keep(
     server: Server,
     path: &str,
 ) -> Result<(), u8> {
-    let most = MOST_FILE_OCTETS as u32;
-    let mut register = CommandsFile::new(rt, configuration.register.as_str(), most);
-    let mut commands = CommandsFile::new(rt, configuration.commands.as_str(), most);
+    let mut watched = Watched::new(rt, configuration);
     // They are looked at before they are read, so that what comes in between is seen at the next look.
-    let _ = (
-        register.look(rt.alloc(), None),
-        commands.look(rt.alloc(), None),
-    );
-    let first = rules(rt, configuration, server)?;
-    replace(rt, path, &first)?;
+    let _ = watched.have_changed(rt.alloc());
+    replace(rt, path, &rules(rt, configuration, server)?)?;
     for _ in 0..u64::MAX {
         pause(LOOKED_EACH);
-        let changes = (
-            register.look(rt.alloc(), None),
-            commands.look(rt.alloc(), None),
-        );
-        if changes.0.is_some() || changes.1.is_some() {
+        if watched.have_changed(rt.alloc()) {
             if let Ok(rules) = rules(rt, configuration, server) {
                 replace(rt, path, &rules)?;
             }
         }
     }
     Ok(())
+}
+
+// The files that say who the customers are.
+#[derive(Drop)]
+struct Watched<'a> {
+    register: CommandsFile<'a, HostRuntime>,
+    commands: CommandsFile<'a, HostRuntime>,
+}
+
+impl<'a> Watched<'a> {
+    // Those that a configuration names.
+    fn new(rt: &'a HostRuntime, configuration: &'a Configuration) -> Watched<'a> {
+        let most = MOST_FILE_OCTETS as u32;
+        Watched {
+            register: CommandsFile::new(rt, configuration.register.as_str(), most),
+            commands: CommandsFile::new(rt, configuration.commands.as_str(), most),
+        }
+    }
+
+    // Whether one of them has changed since it was last looked at.
+    fn have_changed(&mut self, alloc: Global) -> bool {
+        let register = self.register.look(alloc, None);
+        let commands = self.commands.look(alloc, None);
+        register.is_some() || commands.is_some()
+    }
 }

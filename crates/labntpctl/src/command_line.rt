@@ -31,6 +31,7 @@ Examples:
   labntpctl enrol 192.0.2.10 --config /etc/labntp/labntpd.toml --server 198.51.100.1
   labntpctl rollover 192.0.2.10 --config /etc/labntp/labntpd.toml
   labntpctl retire 192.0.2.10 --config /etc/labntp/labntpd.toml
+  labntpctl check --config /etc/labntp/labntpd.toml
 
 Exit status: 0 done; 1 refused, or a file has a fault; 2 other words; 3 no answer came in time, or a file failed; 4 want of memory.";
 
@@ -39,6 +40,8 @@ Exit status: 0 done; 1 refused, or a file has a fault; 2 other words; 3 no answe
 pub enum Asked<'a> {
     /// Who is enrolled, in a table or as objects of JSON.
     Customers { files: FilesNamed<'a>, json: bool },
+    /// Every fault of the files.
+    Check(FilesNamed<'a>),
     /// A change.
     Order(Ordered<'a>),
 }
@@ -96,6 +99,7 @@ fn asked_in<'a>(matches: &ArgMatches<'a>) -> Result<Asked<'a>, &'static str> {
             files: files_in(matches)?,
             json: matches.get_flag("json"),
         }),
+        "check" => Ok(Asked::Check(files_in(matches)?)),
         _ => Ok(Asked::Order(ordered_in(name, matches)?)),
     }
 }
@@ -199,6 +203,7 @@ fn command<'a>(alloc: Global) -> Result<Command<'a>, AllocError> {
         .subcommand_required(true)
         .disable_help_subcommand(true)
         .subcommand(customers_command(alloc)?)?
+        .subcommand(check_command(alloc)?)?
         .subcommand(enrol_command(alloc)?)?
         .subcommand(order(
             alloc,
@@ -221,6 +226,14 @@ fn customers_command<'a>(alloc: Global) -> Result<Command<'a>, AllocError> {
             .action(ArgAction::SetTrue)
             .help("Prints an object of JSON for each customer"),
     )
+}
+
+// Every fault of the files.
+fn check_command<'a>(alloc: Global) -> Result<Command<'a>, AllocError> {
+    let command = Command::new(alloc, "check").about(
+        "Tells every fault of the configuration and of the files that it names, or of a register and of commands: a line each, with its line in the file. Lines that begin with `warning: ` tell what is hardly meant",
+    );
+    files_of(alloc, command)
 }
 
 // A command that reads the files of a configuration, or those that are named one by one.

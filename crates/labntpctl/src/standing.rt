@@ -113,8 +113,17 @@ fn come_to(mut service: Service, mut counts: CustomerCounts, octets: &[u8]) -> O
     })
 }
 
-// Whether a line feed ends these octets, or there are none.
-fn is_ended(octets: &[u8]) -> bool {
+/// Tells that no line feed ends the last line of the commands file at a path, behind so many lines that one ends.
+pub fn write_unended<F: Write>(faults: &mut F, path: &str, lines: u64) {
+    let line = lines.saturating_add(1);
+    let _ = writeln!(
+        faults,
+        "{path}: line {line}: a line feed at its end is wanted"
+    );
+}
+
+/// Whether a line feed ends these octets, or there are none.
+pub fn is_ended(octets: &[u8]) -> bool {
     match octets.last() {
         None => true,
         Some(last) => *last == b'\n',

@@ -1,5 +1,6 @@
 //! The words of the command line.
 
+use crate::explaining::Explained;
 use crate::places::FilesNamed;
 use clap::builder::ValueParser;
 use clap::error::ErrorKind;
@@ -32,6 +33,7 @@ Examples:
   labntpctl rollover 192.0.2.10 --config /etc/labntp/labntpd.toml
   labntpctl retire 192.0.2.10 --config /etc/labntp/labntpd.toml
   labntpctl check --config /etc/labntp/labntpd.toml
+  labntpctl explain --pcap queries.pcap --config /etc/labntp/labntpd.toml
 
 Exit status: 0 done; 1 refused, or a file has a fault; 2 other words; 3 no answer came in time, or a file failed; 4 want of memory.";
 
@@ -42,6 +44,11 @@ pub enum Asked<'a> {
     Customers { files: FilesNamed<'a>, json: bool },
     /// Every fault of the files.
     Check(FilesNamed<'a>),
+    /// What datagrams would get, by the configuration file at a path.
+    Explain {
+        config: &'a str,
+        explained: Explained<'a>,
+    },
     /// A change.
     Order(Ordered<'a>),
 }
@@ -100,6 +107,10 @@ fn asked_in<'a>(matches: &ArgMatches<'a>) -> Result<Asked<'a>, &'static str> {
             json: matches.get_flag("json"),
         }),
         "check" => Ok(Asked::Check(files_in(matches)?)),
+        "explain" => Ok(Asked::Explain {
+            config: matches.get_str("config").ok_or("--config FILE is missing")?,
+            explained: explained_in(matches)?,
+        }),
         _ => Ok(Asked::Order(ordered_in(name, matches)?)),
     }
 }
@@ -111,6 +122,22 @@ fn files_in<'a>(matches: &ArgMatches<'a>) -> Result<FilesNamed<'a>, &'static str
         (Some(config), None) => Ok(FilesNamed::Configured(config)),
         (None, Some(register)) => Ok(FilesNamed::Each { register, commands }),
         _ => Err("either --config FILE or REGISTER is wanted"),
+    }
+}
+
+// The datagrams that are explained.
+fn explained_in<'a>(matches: &ArgMatches<'a>) -> Result<Explained<'a>, &'static str> {
+    match (
+        matches.get_str("datagram"),
+        matches.get_str("from"),
+        matches.get_str("pcap"),
+    ) {
+        (Some(octets), Some(from), None) => Ok(Explained::Datagram {
+            octets,
+            from: words::address(from).ok_or("--from: an IPv4 address, as 192.0.2.1, is wanted")?,
+        }),
+        (None, None, Some(path)) => Ok(Explained::Capture(path)),
+        _ => Err("either DATAGRAM and --from ADDRESS, or --pcap FILE is wanted"),
     }
 }
 
@@ -204,6 +231,7 @@ fn command<'a>(alloc: Global) -> Result<Command<'a>, AllocError> {
         .disable_help_subcommand(true)
         .subcommand(customers_command(alloc)?)?
         .subcommand(check_command(alloc)?)?
+        .subcommand(explain_command(alloc)?)?
         .subcommand(enrol_command(alloc)?)?
         .subcommand(order(
             alloc,
@@ -234,6 +262,21 @@ fn check_command<'a>(alloc: Global) -> Result<Command<'a>, AllocError> {
         "Tells every fault of the configuration and of the files that it names, or of a register and of commands: a line each, with its line in the file. Lines that begin with `warning: ` tell what is hardly meant",
     );
     files_of(alloc, command)
+}
+
+// What datagrams would get.
+fn explain_command<'a>(alloc: Global) -> Result<Command<'a>, AllocError> {
+    Command::new(alloc, "explain")
+        .about("Tells what a datagram would get by the register and the commands, and why, and spends nothing of a budget")
+        .arg(
+            Arg::new(alloc, "datagram")
+                .value_name("DATAGRAM")
+                .action(ArgAction::Set)
+                .help("The octets of the UDP payload, in hexadecimal digits"),
+        )?
+        .arg(value(alloc, "from", "ADDRESS", "The IPv4 address from which it came"))?
+        .arg(value(alloc, "pcap", "FILE", "A capture file in pcap form: each UDP datagram to the port is explained"))?
+        .arg(value(alloc, "config", "FILE", "The configuration file of labntpd").required(true))
 }
 
 // A command that reads the files of a configuration, or those that are named one by one.

@@ -10,6 +10,7 @@ mod commands_file;
 mod customer_file;
 mod customers;
 mod deciding;
+mod explaining;
 mod ordering;
 mod places;
 mod report;
@@ -21,6 +22,7 @@ use checking::check_status;
 use clap::error::ErrorKind;
 use command_line::{Asked, parse};
 use customers::customers_status;
+use explaining::explain_status;
 use labntpd_host::has_standard_streams;
 use labntpd_start::start_lines;
 use ntp_customer_files::{memory_status, unread_status, write_status};
@@ -45,6 +47,7 @@ fn status(rt: &HostRuntime) -> u8 {
     match parse(rt.alloc(), &words) {
         Ok(Asked::Customers { files, json }) => customers_status(rt, files, json),
         Ok(Asked::Check(files)) => check_status(rt, files),
+        Ok(Asked::Explain { config, explained }) => explain_status(rt, config, explained),
         Ok(Asked::Order(order)) => order_status(rt, &order),
         Err(error) if error.kind() == ErrorKind::OutOfMemory => memory_status(&mut start_lines(rt)),
         Err(error) => {

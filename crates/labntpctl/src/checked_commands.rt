@@ -47,12 +47,7 @@ pub fn check_commands(
 }
 
 // Tells every fault of the text of a commands file.
-fn check_text(
-    path: &str,
-    text: &str,
-    checked: &mut Checked,
-    report: &mut Told,
-) -> Result<(), u8> {
+fn check_text(path: &str, text: &str, checked: &mut Checked, report: &mut Told) -> Result<(), u8> {
     if is_nearly_full(text.len()) {
         let _ = write!(report, "warning: {path}: ");
         write_nearly_full(report, text.len());
@@ -119,19 +114,30 @@ impl<'a> LineTeller<'a> {
                 let count = line.split(' ').count();
                 self.report.fault(
                     self.path,
-                    format_args!("line {number}: faulty {word}: {meaning}; {count} words stand there"),
+                    format_args!(
+                        "line {number}: faulty {word}: {meaning}; {count} words stand there"
+                    ),
                 );
             }
-            Some(PlacedWord { column, word: there }) => match key_wrong(there) {
+            Some(
+                PlacedWord {
+                    column,
+                    word: there,
+                },
+            ) => match key_wrong(there) {
                 Some(wrong) if fault == LineFault::KeyText => self.report.fault(
                     self.path,
-                    format_args!("line {number}: column {column}: faulty {word}: {meaning}; {wrong}"),
+                    format_args!(
+                        "line {number}: column {column}: faulty {word}: {meaning}; {wrong}"
+                    ),
                 ),
                 _ => {
                     let shown = shown_word(there);
                     self.report.fault(
                         self.path,
-                        format_args!("line {number}: column {column}: faulty {word}: {meaning}; {shown}"),
+                        format_args!(
+                            "line {number}: column {column}: faulty {word}: {meaning}; {shown}"
+                        ),
                     );
                 }
             },

@@ -173,9 +173,7 @@ fn found_in(alloc: Global, text: &str, document: &Table) -> Result<Vec<Found>, A
     }
     for key in document.keys() {
         if !is_among(&KEYS, key.as_str()) {
-            let fault = ConfigurationFault::Unknown {
-                key: key.clone()?,
-            };
+            let fault = ConfigurationFault::Unknown { key: key.clone()? };
             let text = format!(in alloc; "{fault}")?;
             push(&mut found, lines.top.line_of(key.as_str()), text)?;
         }
@@ -203,14 +201,19 @@ fn add_of_clock(
             continue;
         }
         if let Some(fault) = setting_fault(clock, *setting) {
-            add(alloc, found, clock, *setting, line_of(setting.key()), &fault)?;
+            add(
+                alloc,
+                found,
+                clock,
+                *setting,
+                line_of(setting.key()),
+                &fault,
+            )?;
         }
     }
     for key in clock.keys() {
         if !is_among(&CLOCK_KEYS, key.as_str()) {
-            let fault = ConfigurationFault::UnknownOfClock {
-                key: key.clone()?,
-            };
+            let fault = ConfigurationFault::UnknownOfClock { key: key.clone()? };
             let text = format!(in alloc; "{fault}")?;
             push(found, line_of(key.as_str()), text)?;
         }

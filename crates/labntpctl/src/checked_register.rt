@@ -121,7 +121,9 @@ fn search(alloc: Global, text: &str, document: &Table) -> Result<Searched, Alloc
         finder.customer(place as u64, customer)?;
     }
     let Finder {
-        mut found, checked, ..
+        mut found,
+        checked,
+        ..
     } = finder;
     found.sort_by_key(|found| found.line)?;
     Ok(Searched { found, checked })
@@ -287,7 +289,12 @@ impl<'a> Finder<'a> {
     }
 
     // Adds what was found in a line.
-    fn add<D: Display + Drop>(&mut self, line: u64, is_fault: bool, what: D) -> Result<(), AllocError> {
+    fn add<D: Display + Drop>(
+        &mut self,
+        line: u64,
+        is_fault: bool,
+        what: D,
+    ) -> Result<(), AllocError> {
         let text = format!(in self.alloc; "{what}")?;
         let found = Found {
             line,

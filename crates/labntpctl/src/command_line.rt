@@ -41,7 +41,10 @@ Exit status: 0 done; 1 refused, or a file has a fault; 2 other words; 3 no answe
 #[derive(Clone, Copy)]
 pub enum Asked<'a> {
     /// Who is enrolled, in a table or as objects of JSON.
-    Customers { files: FilesNamed<'a>, json: bool },
+    Customers {
+        files: FilesNamed<'a>,
+        json: bool,
+    },
     /// Every fault of the files.
     Check(FilesNamed<'a>),
     /// What datagrams would get, by the configuration file at a path.
@@ -267,15 +270,27 @@ fn check_command<'a>(alloc: Global) -> Result<Command<'a>, AllocError> {
 // What datagrams would get.
 fn explain_command<'a>(alloc: Global) -> Result<Command<'a>, AllocError> {
     Command::new(alloc, "explain")
-        .about("Tells what a datagram would get by the register and the commands, and why, and spends nothing of a budget")
+        .about(
+            "Tells what a datagram would get by the register and the commands, and why, and spends nothing of a budget",
+        )
         .arg(
             Arg::new(alloc, "datagram")
                 .value_name("DATAGRAM")
                 .action(ArgAction::Set)
                 .help("The octets of the UDP payload, in hexadecimal digits"),
         )?
-        .arg(value(alloc, "from", "ADDRESS", "The IPv4 address from which it came"))?
-        .arg(value(alloc, "pcap", "FILE", "A capture file in pcap form: each UDP datagram to the port is explained"))?
+        .arg(value(
+            alloc,
+            "from",
+            "ADDRESS",
+            "The IPv4 address from which it came",
+        ))?
+        .arg(value(
+            alloc,
+            "pcap",
+            "FILE",
+            "A capture file in pcap form: each UDP datagram to the port is explained",
+        ))?
         .arg(value(alloc, "config", "FILE", "The configuration file of labntpd").required(true))
 }
 

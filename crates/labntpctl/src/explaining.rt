@@ -245,7 +245,9 @@ impl Explainer {
             stamp: Stamp(units.wrapping_add(self.explained.wrapping_mul(WINDOW))),
         };
         let Standing {
-            service, reference, ..
+            service,
+            reference,
+            ..
         } = &mut self.standing;
         service.datagram(address, moment, moment, reference, octets)
     }
@@ -269,11 +271,17 @@ impl Explainer {
                 } else {
                     "its address is revoked"
                 };
-                write!(self.out, "{why}; four refusals are sent in a window, then silence (muted)")
+                write!(
+                    self.out,
+                    "{why}; four refusals are sent in a window, then silence (muted)"
+                )
             }
             Answer::Nak(_) => {
                 self.write_nak(address, octets)?;
-                write!(self.out, "; four refusals are sent in a window, then silence (muted)")
+                write!(
+                    self.out,
+                    "; four refusals are sent in a window, then silence (muted)"
+                )
             }
             Answer::Silent(reason) => write!(self.out, "{}", Why(*reason)),
         }
@@ -360,7 +368,12 @@ fn signature_in(octets: &[u8]) -> Option<Signature> {
 // Writes what a datagram says: version, mode, key number and the length of its MAC.
 fn write_fields<W: Write>(out: &mut W, octets: &[u8]) -> io::Result<()> {
     if let Some(header) = read_header(octets) {
-        write!(out, ", version {}, mode {}", header.version(), header.mode())?;
+        write!(
+            out,
+            ", version {}, mode {}",
+            header.version(),
+            header.mode()
+        )?;
     }
     let Ok(request) = read_request(octets) else {
         return Ok(());
@@ -397,7 +410,10 @@ fn write_form<W: fmt::Write>(out: &mut fmt::Formatter<W>, fault: Malformed) -> f
         Malformed::Short => out.write_str("it has fewer than 48 octets"),
         Malformed::Long => out.write_str("it has more than 1024 octets"),
         Malformed::FieldShort { at } => {
-            write!(out, "the length of the extension field at octet {at} is below 16")
+            write!(
+                out,
+                "the length of the extension field at octet {at} is below 16"
+            )
         }
         Malformed::FieldUnaligned { at } => write!(
             out,

@@ -44,8 +44,7 @@ impl<W: Write + Drop> Report<W> {
             line,
             is_fault,
             text,
-        } in found.iter()
-        {
+        } in found.iter() {
             if *is_fault {
                 self.fault(path, format_args!("line {line}: {text}"));
             } else {

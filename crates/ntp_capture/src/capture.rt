@@ -65,7 +65,9 @@ pub enum CaptureFault {
 impl fmt::Display for CaptureFault {
     fn fmt<W: fmt::Write>(&self, f: &mut fmt::Formatter<W>) -> fmt::Result {
         match self {
-            CaptureFault::NextGeneration => f.write_str("this is pcapng: pcap is wanted, as `tcpdump -w` writes it"),
+            CaptureFault::NextGeneration => f.write_str(
+                "this is pcapng: pcap is wanted, as `tcpdump -w` writes it",
+            ),
             CaptureFault::Head => f.write_str("this is no capture file in pcap form"),
             CaptureFault::Link(number) => write!(
                 f,

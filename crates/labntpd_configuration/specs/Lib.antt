@@ -3,3 +3,4 @@ pub mod Values
 pub mod Settings
 pub mod Document
 pub mod KeyFile
+pub mod Faults

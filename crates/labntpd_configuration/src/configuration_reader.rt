@@ -12,7 +12,7 @@ use std::alloc::{AllocError, Global};
 use toml::Table;
 
 /// The keys of the top level, and those of the table `[clock]` (profile).
-const KEYS: [Setting; 10] = [
+pub const KEYS: [Setting; 10] = [
     Setting::Listen,
     Setting::Register,
     Setting::Commands,
@@ -25,7 +25,7 @@ const KEYS: [Setting; 10] = [
     Setting::Clock,
 ];
 
-const CLOCK_KEYS: [Setting; 8] = [
+pub const CLOCK_KEYS: [Setting; 8] = [
     Setting::Source,
     Setting::Number,
     Setting::Algorithm,
@@ -113,8 +113,8 @@ fn unknown_in<'a>(known: &[Setting], table: &'a Table) -> Option<&'a str>
     None
 }
 
-// Whether a key is that of one of the settings.
-fn is_among(known: &[Setting], key: &str) -> bool
+/// Whether a key is that of one of the settings.
+pub fn is_among(known: &[Setting], key: &str) -> bool
     ensures { result ≡ is_among known.now key.now }
 {
     known.iter().any(|setting| key == setting.key())

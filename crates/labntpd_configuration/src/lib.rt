@@ -12,7 +12,9 @@ mod settings;
 mod values;
 
 pub use configuration::{ClockDaemon, ClockSource, Configuration, Endpoint, Listen};
-pub use configuration_reader::read_configuration;
+pub use configuration_reader::{CLOCK_KEYS, KEYS, is_among, read_configuration};
 pub use fault::ConfigurationFault;
 pub use key_file::key_in_file;
 pub use setting::Setting;
+pub use settings::{is_fixed, path_at, setting_fault, value_at};
+pub use values::{algorithm_of, number_of};

@@ -5,6 +5,7 @@ ghost use Rattle.toml.specs.View.{view, table_view};
 ghost use Rattle.labntpd_configuration.specs.Keys.{key_of};
 ghost use Rattle.labntpd_configuration.specs.Settings.{required, optional, with_default, is_fixed, key_count, clock_in, daemon_in, settings_in, HasDaemonRanges, HasRanges};
 ghost use Rattle.labntpd_configuration.specs.Values.{listen_of, endpoint_of, number_of, algorithm_of, path_of, whole_of, seconds_of};
+ghost use Rattle.labntpd_configuration.specs.Faults.{source_fault, setting_fault, path_at};
 
 use crate::values::{
     algorithm_of, endpoint_of, listen_of, number_of, path_of, seconds_of, whole_of,
@@ -160,6 +161,60 @@ pub(crate) fn settings_in(document: &Table) -> Result<Settings<'_>, Configuratio
     })
 }
 
+/// What is wrong with a setting in its table: the top level, or that of the clock, whose further settings count only where its source is
+/// not fixed. The daemon tells the first of these.
+pub fn setting_fault(table: &Table, setting: Setting) -> Option<ConfigurationFault>
+    ensures { result ≡ setting_fault setting (table_view table.now) }
+{
+    match setting {
+        Setting::Listen => listen(table).err(),
+        Setting::Register => path(table, Setting::Register).err(),
+        Setting::Commands => path(table, Setting::Commands).err(),
+        Setting::Answers => optional_path(table, Setting::Answers).err(),
+        Setting::Statistics => optional_path(table, Setting::Statistics).err(),
+        Setting::Customers => optional_path(table, Setting::Customers).err(),
+        Setting::ReceiveBuffer => buffer(table, Setting::ReceiveBuffer, RECEIVE_BUFFER).err(),
+        Setting::SendBuffer => buffer(table, Setting::SendBuffer, SEND_BUFFER).err(),
+        Setting::LongestWait => seconds(table, Setting::LongestWait, &LONGEST_WAIT).err(),
+        Setting::Clock => clock_table(table).err(),
+        Setting::Source => source_fault(table),
+        Setting::Number => number(table).err(),
+        Setting::Algorithm => algorithm(table).err(),
+        Setting::KeyFile => path(table, Setting::KeyFile).err(),
+        Setting::ValidFor => seconds(table, Setting::ValidFor, &VALID_FOR).err(),
+        Setting::MostRootDistance => {
+            seconds(table, Setting::MostRootDistance, &MOST_ROOT_DISTANCE).err()
+        }
+        Setting::MostReferenceAge => {
+            seconds(table, Setting::MostReferenceAge, &MOST_REFERENCE_AGE).err()
+        }
+        Setting::MostStep => seconds(table, Setting::MostStep, &MOST_STEP).err(),
+    }
+}
+
+// What is wrong with the source of a clock.
+fn source_fault(clock: &Table) -> Option<ConfigurationFault>
+    ensures { result ≡ source_fault (table_view clock.now) }
+{
+    if !is_fixed(clock) {
+        return source(clock).err();
+    }
+    if key_count(clock) == 1 {
+        None
+    } else {
+        Some(ConfigurationFault::Wanted {
+            setting: Setting::Source,
+        })
+    }
+}
+
+/// The path at a setting, where one stands there.
+pub fn path_at(table: &Table, setting: Setting) -> Option<&str>
+    ensures { option_map (λ path. path.now) result ≡ path_at setting (table_view table.now) }
+{
+    path_of(value_at(table, setting)?)
+}
+
 // The clock: none where its source is fixed, and then it has no further key.
 fn clock_in(clock: &Table) -> Result<Option<ClockSettings<'_>>, ConfigurationFault>
     ensures clock { result ≡ clock_in (table_view clock.now) }
@@ -177,8 +232,8 @@ fn clock_in(clock: &Table) -> Result<Option<ClockSettings<'_>>, ConfigurationFau
     Ok(Some(daemon_in(clock)?))
 }
 
-// Whether the source of a clock is fixed.
-fn is_fixed(clock: &Table) -> bool
+/// Whether the source of a clock is fixed.
+pub fn is_fixed(clock: &Table) -> bool
     ensures { result ≡ is_fixed (get_member (codes "source") (table_view clock.now)) }
 {
     match value_at(clock, Setting::Source) {
@@ -309,7 +364,7 @@ fn required(table: &Table, setting: Setting) -> Result<&Value, ConfigurationFaul
 }
 
 /// The value of a setting.
-pub(crate) fn value_at(table: &Table, setting: Setting) -> Option<&Value>
+pub fn value_at(table: &Table, setting: Setting) -> Option<&Value>
     ensures { option_map (λ value. view value.now) result ≡ get_member (key_of setting) (table_view table.now) }
 {
     table.get(setting.key())

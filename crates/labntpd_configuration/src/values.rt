@@ -60,7 +60,7 @@ pub(crate) fn whole_of(value: &Value, least: u32, most: u32) -> Option<u32>
 }
 
 /// A key number, from 1 to 65,535.
-pub(crate) fn number_of(value: &Value) -> Option<NonZero<u16>>
+pub fn number_of(value: &Value) -> Option<NonZero<u16>>
     ensures { result ≡ number_of (view value.now) }
 {
     let whole = whole_of(value, 1, 65_535)?;
@@ -68,7 +68,7 @@ pub(crate) fn number_of(value: &Value) -> Option<NonZero<u16>>
 }
 
 /// A digest algorithm: `md5` or `sha1`.
-pub(crate) fn algorithm_of(value: &Value) -> Option<Algorithm>
+pub fn algorithm_of(value: &Value) -> Option<Algorithm>
     ensures { result ≡ algorithm_of (view value.now) }
 {
     words::algorithm(value.as_str()?)

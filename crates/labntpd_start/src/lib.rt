@@ -11,5 +11,10 @@ mod sockets;
 
 pub use lines::{log_form, start_lines};
 pub use opened::{answers_file, clock_source, watch_from_now};
-pub use prepared::{Beginning, Prepared, ReadRegister, configuration_at, prepare, register_at};
+pub use places::{NamedFiles, Readers, readers_of, tell_places};
+pub use prepared::{
+    Beginning, KEY_LINE_WANTED, Prepared, ReadRegister, configuration_at, prepare, register_at,
+    small_text,
+};
+pub use register_faults::tell_octets;
 pub use sockets::{open_socket, set_up};

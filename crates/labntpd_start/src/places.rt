@@ -5,6 +5,7 @@ use labntpd_host::StartLines;
 use ntp_customer_files::{TEXT_FAULTY, memory_status};
 use ntp_host::not_regular;
 use std::alloc::Global;
+use std::fmt;
 use std::fs::{self, Files};
 use std::io::{self, ErrorKind, Write};
 use std::os::unix::fs::MetadataExt;
@@ -39,6 +40,34 @@ struct Place<'a> {
     name: Option<&'a str>,
 }
 
+/// The files that a configuration names, of which some may be left out.
+#[derive(Clone, Copy)]
+pub struct NamedFiles<'a> {
+    pub register: Option<&'a str>,
+    pub commands: Option<&'a str>,
+    pub key_file: Option<&'a str>,
+    pub answers: Option<&'a str>,
+    pub statistics: Option<&'a str>,
+    pub customers: Option<&'a str>,
+}
+
+impl<'a> NamedFiles<'a> {
+    /// The files of a configuration.
+    pub fn of(configuration: &'a Configuration) -> NamedFiles<'a> {
+        NamedFiles {
+            register: Some(configuration.register.as_str()),
+            commands: Some(configuration.commands.as_str()),
+            key_file: match &configuration.clock {
+                ClockSource::Fixed => None,
+                ClockSource::Daemon(daemon) => Some(daemon.key_file.as_str()),
+            },
+            answers: path_of(&configuration.answers),
+            statistics: path_of(&configuration.statistics),
+            customers: path_of(&configuration.customers),
+        }
+    }
+}
+
 /// Judges where the files of a configuration stand, whose own path is `path`. A fault is told in one line to `faults`, and gives the
 /// exit status.
 pub fn judge_places<R: Files, F: Write>(
@@ -48,98 +77,128 @@ pub fn judge_places<R: Files, F: Write>(
     configuration: &Configuration,
     faults: &mut F,
 ) -> Result<(), u8> {
-    let statistics = path_beside(alloc, &configuration.statistics);
-    let customers = path_beside(alloc, &configuration.customers);
+    match tell_places(files, alloc, path, NamedFiles::of(configuration), 1, faults)? {
+        0 => Ok(()),
+        _ => Err(TEXT_FAULTY),
+    }
+}
+
+/// Tells in a line each what is wrong with where these files stand, which the configuration at a path names: so many faults at most.
+/// Gives how many there were. The error is the exit status for want of memory.
+pub fn tell_places<R: Files, F: Write>(
+    files: &R,
+    alloc: Global,
+    path: &str,
+    named: NamedFiles<'_>,
+    most: usize,
+    faults: &mut F,
+) -> Result<usize, u8> {
+    let statistics = path_beside(alloc, named.statistics);
+    let customers = path_beside(alloc, named.customers);
     match (statistics, customers) {
         (Ok(statistics), Ok(customers)) => {
-            let (statistics, customers) = (statistics.as_str(), customers.as_str());
-            judge_named(files, path, configuration, statistics, customers, faults)
+            let named = all_named(path, named, statistics.as_str(), customers.as_str());
+            Ok(tell_named(files, path, &named, most, faults))
         }
         _ => Err(memory_status(faults)),
     }
 }
 
-// Judges where these files stand, and those beside the statistics and the customers.
-fn judge_named<'a, R: Files, F: Write>(
+// Tells what is wrong with where these files stand, so many faults at most, and gives how many there were.
+fn tell_named<R: Files, F: Write>(
     files: &R,
-    path: &'a str,
-    configuration: &'a Configuration,
-    beside_statistics: &'a str,
-    beside_customers: &'a str,
+    path: &str,
+    named: &[Option<Named<'_>>],
+    most: usize,
     faults: &mut F,
-) -> Result<(), u8> {
-    let named = named_in(path, configuration, beside_statistics, beside_customers);
+) -> usize {
+    let mut told = 0;
     for (place, file) in named.iter().enumerate() {
         let Some(file) = file else {
             continue;
         };
-        if let Err(error) = writable(files, file) {
-            let _ = writeln!(faults, "{path}: {}: {}: {error}", file.key, file.path);
-            return Err(TEXT_FAULTY);
+        if told < most {
+            if let Err(error) = writable(files, file) {
+                let _ = writeln!(faults, "{path}: {}: {}: {error}", file.key, file.path);
+                told += 1;
+            }
         }
-        if let Some(key) = same_file_among(files, &named[..place], file) {
-            let key_here = file.key;
-            let _ = writeln!(
-                faults,
-                "{path}: {key_here}: another file than that of {key} is wanted"
-            );
-            return Err(TEXT_FAULTY);
+        if told < most {
+            if let Some(key) = same_file_among(files, &named[..place], file) {
+                let key_here = file.key;
+                let _ = writeln!(
+                    faults,
+                    "{path}: {key_here}: another file than that of {key} is wanted"
+                );
+                told += 1;
+            }
         }
     }
-    Ok(())
+    told
 }
 
 /// Warns in a line that others may read a file which has keys, where that is so.
 pub fn tell_readers<R: Files, F: Write + Drop>(files: &R, path: &str, faults: &mut StartLines<F>) {
-    let Ok(metadata) = fs::metadata(files, path) else {
-        return;
-    };
+    if let Some(readers) = readers_of(files, path) {
+        let _ = writeln!(faults.warning(), "{path}: {readers}");
+    }
+}
+
+/// That others may read a file which has keys, by the bits of its mode.
+#[derive(Clone, Copy)]
+pub struct Readers(u32);
+
+impl fmt::Display for Readers {
+    fn fmt<W: fmt::Write>(&self, f: &mut fmt::Formatter<W>) -> fmt::Result {
+        write!(
+            f,
+            "it has keys, and others than its owner and group may use it (mode {:o})",
+            self.0 & 0o777
+        )
+    }
+}
+
+/// Whether others than the owner and the group of the file at a path may use it.
+pub fn readers_of<R: Files>(files: &R, path: &str) -> Option<Readers> {
+    let metadata = fs::metadata(files, path).ok()?;
     if metadata.is_file() && metadata.mode() & OTHERS != 0 {
-        let _ = writeln!(
-            faults.warning(),
-            "{path}: it has keys, and others than its owner and group may use it (mode {:o})",
-            metadata.mode() & 0o777
-        );
+        Some(Readers(metadata.mode()))
+    } else {
+        None
     }
 }
 
 // The path at which a file is written before it gets its name; the empty text where there is none.
-fn path_beside(alloc: Global, path: &Option<String>) -> io::Result<String> {
+fn path_beside(alloc: Global, path: Option<&str>) -> io::Result<String> {
     match path {
         None => Ok(String::new(alloc)),
         Some(path) => Ok(format!(in alloc; "{path}.new")?),
     }
 }
 
-// The files that a configuration names, and its own.
-fn named_in<'a>(
+// The files that a configuration names, those beside its statistics and its customers, and its own.
+fn all_named<'a>(
     path: &'a str,
-    configuration: &'a Configuration,
+    named: NamedFiles<'a>,
     beside_statistics: &'a str,
     beside_customers: &'a str,
 ) -> [Option<Named<'a>>; 9] {
-    let key_file = match &configuration.clock {
-        ClockSource::Fixed => None,
-        ClockSource::Daemon(daemon) => Some(daemon.key_file.as_str()),
-    };
-    let statistics = path_of(&configuration.statistics);
-    let customers = path_of(&configuration.customers);
     [
         file_at("the configuration", Some(path), Use::Read),
-        file_at("register", Some(configuration.register.as_str()), Use::Read),
-        file_at("commands", Some(configuration.commands.as_str()), Use::Read),
-        file_at("clock.key_file", key_file, Use::Read),
-        file_at("answers", path_of(&configuration.answers), Use::Written),
-        file_at("statistics", statistics, Use::Written),
+        file_at("register", named.register, Use::Read),
+        file_at("commands", named.commands, Use::Read),
+        file_at("clock.key_file", named.key_file, Use::Read),
+        file_at("answers", named.answers, Use::Written),
+        file_at("statistics", named.statistics, Use::Written),
         file_at(
             "statistics (FILE.new)",
-            statistics.map(|_| beside_statistics),
+            named.statistics.map(|_| beside_statistics),
             Use::MadeAnew,
         ),
-        file_at("customers", customers, Use::Written),
+        file_at("customers", named.customers, Use::Written),
         file_at(
             "customers (FILE.new)",
-            customers.map(|_| beside_customers),
+            named.customers.map(|_| beside_customers),
             Use::MadeAnew,
         ),
     ]

@@ -23,6 +23,9 @@ use std::io::Write;
 /// How many octets a configuration file and a key file have at most (profile).
 const MOST_SMALL_FILE_OCTETS: u32 = 65_536;
 
+/// What is wanted in the file of the clock's key.
+pub const KEY_LINE_WANTED: &str = "one line of 2 to 64 hexadecimal digits is wanted";
+
 /// A configuration, and what a server begins with by it.
 #[derive(Drop)]
 pub struct Prepared {
@@ -175,10 +178,7 @@ fn follower<R: Files, F: Write + Drop>(
     let path = daemon.key_file.as_str();
     let text = small_text(files, alloc, path, faults)?;
     let Some(key) = key_in_file(&text, daemon.algorithm) else {
-        let _ = writeln!(
-            faults,
-            "{path}: one line of 2 to 64 hexadecimal digits is wanted"
-        );
+        let _ = writeln!(faults, "{path}: {KEY_LINE_WANTED}");
         return Err(TEXT_FAULTY);
     };
     let limits = ClockLimits {
@@ -191,8 +191,8 @@ fn follower<R: Files, F: Write + Drop>(
     Ok(Follower::new(key, daemon.number.get(), limits))
 }
 
-// The text of a small file.
-fn small_text<R: Files, F: Write>(
+/// The text of a file that has at most 65,536 octets. A fault is told in one line to `faults`, and gives the exit status.
+pub fn small_text<R: Files, F: Write>(
     files: &R,
     alloc: Global,
     path: &str,

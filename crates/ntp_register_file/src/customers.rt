@@ -30,8 +30,8 @@ pub(crate) fn customers_in(
     Ok(commands)
 }
 
-// The enrolment of the customer at a place, counted from 0.
-fn customer_in(place: u64, customer: &Value) -> Result<Command, RegisterFault>
+/// The enrolment of the customer at a place, counted from 0, or the first fault in it: its form, then its values.
+pub fn customer_in(place: u64, customer: &Value) -> Result<Command, RegisterFault>
     ensures { result ≡ customer_in place (view customer.now) }
 {
     let entry = entry_of(customer).ok_or(RegisterFault::Shape)?;

@@ -6,5 +6,6 @@ mod fault;
 mod form;
 mod register_reader;
 
+pub use customers::customer_in;
 pub use fault::RegisterFault;
 pub use register_reader::{read_reference, read_register};

@@ -1,0 +1,4 @@
+pub mod Wide
+pub mod Capture
+pub mod Link
+pub mod Datagram

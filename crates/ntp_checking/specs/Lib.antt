@@ -1,0 +1,5 @@
+pub mod Members
+pub mod KeyText
+pub mod Shown
+pub mod HardlyMeant
+pub mod CommandWords

@@ -27,7 +27,8 @@ pub enum ServeFault {
 /// it. Gives the daemon as it is then.
 ///
 /// It makes the rounds of `serve_reported`, from the service of the parts on, with no line of the commands file applied before, with a
-/// state of the clock from its source for each. Of what port, commands and observer tell this says nothing.
+/// state of the clock from its source for each. Where the port below `FreshPort` tells its turns, the rounds have these, but those whose
+/// datagrams were dropped and counted as stale, and what it sent is the replies. Of what commands and observer tell this says nothing.
 pub fn serve<'a, P, R, S, L, W, N>(
     host: Host<'a, R>,
     parts: Parts<'a, P, R, S, L, W>,
@@ -44,10 +45,24 @@ where
     N: Write,
     requires { parts.port.failures ≡ 0 }
     ensures { IfOk result (λ daemon. ServesFromStart turns
-        (record { states = S.coming parts.entry.reference; tended = S.tended parts.entry.reference; failures = 0;
-            service = parts.entry.service; applied = 0 })
-        (record { states = S.coming daemon.reference; tended = S.tended daemon.reference; failures = daemon.port.failures;
-            service = daemon.service; applied = daemon.applied })) }
+        (record {
+          port = P.told parts.entry.port.port;
+          stale = parts.entry.port.stale;
+          states = S.coming parts.entry.reference;
+          tended = S.tended parts.entry.reference;
+          failures = 0;
+          service = parts.entry.service;
+          applied = 0;
+        })
+        (record {
+          port = P.told daemon.port.port;
+          stale = daemon.port.stale;
+          states = S.coming daemon.reference;
+          tended = S.tended daemon.reference;
+          failures = daemon.port.failures;
+          service = daemon.service;
+          applied = daemon.applied;
+        })) }
 {
     let Parts {
         port,
@@ -85,10 +100,24 @@ where
     W: Write + Drop,
     requires failures { server.old.port.failures + turns < 2 ^ 64 }
     ensures serves { ServesFromStart turns
-        (record { states = S.coming server.old.reference; tended = S.tended server.old.reference; failures = server.old.port.failures;
-            service = server.old.service; applied = server.old.applied })
-        (record { states = S.coming server.new.reference; tended = S.tended server.new.reference; failures = server.new.port.failures;
-            service = server.new.service; applied = server.new.applied }) }
+        (record {
+          port = P.told server.old.port.port;
+          stale = server.old.port.stale;
+          states = S.coming server.old.reference;
+          tended = S.tended server.old.reference;
+          failures = server.old.port.failures;
+          service = server.old.service;
+          applied = server.old.applied;
+        })
+        (record {
+          port = P.told server.new.port.port;
+          stale = server.new.port.stale;
+          states = S.coming server.new.reference;
+          tended = S.tended server.new.reference;
+          failures = server.new.port.failures;
+          service = server.new.service;
+          applied = server.new.applied;
+        }) }
     ensures receives { 0 < turns → result.failed ≡ count_at server.new.observer.counts Kind.NothingReceived }
     ensures stale { 0 < turns → result.housekeeping.stale ≡ server.new.port.stale }
 {

@@ -27,7 +27,8 @@ pub enum ServeFault {
 /// it. Gives the daemon as it is then.
 ///
 /// It makes the rounds of `serve_reported`, from the service of the parts on, with no line of the commands file applied before, with a
-/// state of the clock from its source for each. Of what port, commands and observer tell this says nothing.
+/// state of the clock from its source for each. Where the port below `FreshPort` tells its turns, the rounds have these, but those whose
+/// datagrams were dropped and counted as stale, and what it sent is the replies. Of what commands and observer tell this says nothing.
 pub fn serve<'a, P, R, S, L, W, N>(
     host: Host<'a, R>,
     parts: Parts<'a, P, R, S, L, W>,
@@ -45,6 +46,8 @@ where
     requires { parts.port.failures ≡ 0 }
     ensures { IfOk result (λ daemon. ServesFromStart turns
         (record {
+          port = P.told parts.entry.port.port;
+          stale = parts.entry.port.stale;
           states = S.coming parts.entry.reference;
           tended = S.tended parts.entry.reference;
           failures = 0;
@@ -52,6 +55,8 @@ where
           applied = 0;
         })
         (record {
+          port = P.told daemon.port.port;
+          stale = daemon.port.stale;
           states = S.coming daemon.reference;
           tended = S.tended daemon.reference;
           failures = daemon.port.failures;
@@ -96,6 +101,8 @@ where
     requires failures { server.old.port.failures + turns < 2 ^ 64 }
     ensures serves { ServesFromStart turns
         (record {
+          port = P.told server.old.port.port;
+          stale = server.old.port.stale;
           states = S.coming server.old.reference;
           tended = S.tended server.old.reference;
           failures = server.old.port.failures;
@@ -103,6 +110,8 @@ where
           applied = server.old.applied;
         })
         (record {
+          port = P.told server.new.port.port;
+          stale = server.new.port.stale;
           states = S.coming server.new.reference;
           tended = S.tended server.new.reference;
           failures = server.new.port.failures;

@@ -1,9 +1,8 @@
 //! A port over a UDP socket whose queue can be asked.
 
-ghost use Rattle.std.specs.Prelude.{◌≡◌, ◌+◌, ◌-◌, ◌≤◌, ◌<◌, ◌^◌, Option, None, IfOk, IfErr, IfSome, IfNone, false, is_err, if◌then◌else◌};
+ghost use Rattle.std.specs.Prelude.{◌≡◌, ◌+◌, ◌-◌, ◌≤◌, ◌<◌, ◌^◌, None, IfOk, IfErr, IfSome, IfNone, false, is_err, if◌then◌else◌};
 ghost use Rattle.std.specs.Option.{option_map_or};
-ghost use Rattle.ntp_service_serve.specs.Port.{Told, most_received_octets, ReceiveTells};
-ghost use Rattle.ntp_freshness.specs.Passing.{HandsOn};
+ghost use Rattle.ntp_service_serve.specs.Port.{most_received_octets, Receives, DropsAny};
 ghost use Rattle.labntpd_host.specs.Reading.{IsBetween, Reads};
 
 use crate::kernel_queue::{most_datagrams, queue_state};
@@ -163,7 +162,9 @@ impl<'a, P: TimedPort, C: Clock + Copy + Drop, R: Files> Port for QueuedUdp<'a, 
         ensures length { IfOk result (λ arrival. arrival.length ≤ most_received_octets) }
         ensures fault { IfErr result (λ fault. fault ≡ PortFault.Receive) }
         ensures failures { self.new.failures ≡ self.old.failures + (if is_err result then 1 else 0) }
-        ensures below { ReceiveTells (P.told self.old.port) (P.told self.new.port) result datagram.new }
+        ensures turns { Receives false 0 0 None None result datagram.new }
+        ensures below { Receives P.may_drop (P.drop_count self.old.port) (P.drop_count self.new.port)
+            (P.told self.old.port) (P.told self.new.port) result datagram.new }
     {
         self.has_sent = false;
         let received = self.port.receive(datagram);
@@ -214,9 +215,12 @@ impl<'a, P: TimedPort, C: Clock + Copy + Drop, R: Files> TimedPort for QueuedUdp
         ensures fault { IfSome result (λ received. IfErr received (λ fault. fault ≡ PortFault.Receive)) }
         ensures failures { self.new.failures
             ≡ self.old.failures + option_map_or (λ received. if is_err received then 1 else 0) result 0 }
-        ensures turns { IfSome result (λ received. ReceiveTells None None received datagram.new) }
-        ensures nothing { IfNone result ((false ≡ false) × (◌≡◌ {A = Option Told} None None)) }
-        ensures below { HandsOn (P.told self.old.port) (P.told self.new.port) result datagram.new }
+        ensures turns { IfSome result (λ received. Receives false 0 0 None None received datagram.new) }
+        ensures nothing { IfNone result ((false ≡ false) × DropsAny false 0 0 None None) }
+        ensures below { IfSome result (λ received. Receives P.may_drop (P.drop_count self.old.port) (P.drop_count self.new.port)
+            (P.told self.old.port) (P.told self.new.port) received datagram.new) }
+        ensures dropped { IfNone result (DropsAny P.may_drop (P.drop_count self.old.port) (P.drop_count self.new.port)
+            (P.told self.old.port) (P.told self.new.port)) }
     {
         // After a reply that tells no time nobody asks for its departure.
         self.has_sent = false;

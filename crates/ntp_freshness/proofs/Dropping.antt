@@ -16,7 +16,7 @@ use Rattle.ntp_freshness.specs.Fresh.{InHand, Swept, AreStale, counted_on, WasAs
 use Rattle.ntp_freshness.specs.Next.{ComesTo, drops_in, TakesNext, Drops}
 use Rattle.ntp_freshness.proofs.Seeing.{IsSeenFrom-same, IsSeenFrom-more, seen-in_drop}
 use Rattle.ntp_freshness.proofs.Keeping.{AreStale-append, counted-append, counts-one, StandsFor-Taken}
-use Rattle.ntp_freshness.proofs.Passing.{TellsOn-same, DropsTurns-one, DropsTurns-append}
+use Rattle.ntp_service_serve.proofs.Dropping.{TellsOn-same, DropsTurns-one, DropsTurns-append}
 
 pub Drops-none : (k : Kept) → k.stale ≤ 2 ^ 64 - 1 → Drops k k
 Drops-none k fits = record {

@@ -9,7 +9,7 @@ use Rattle.ntp_freshness.specs.Watch.{longest_of}
 use Rattle.ntp_freshness.specs.Fresh.{Take, history_before, history_after, Dropped, InHand, Swept, history_dropped, IsStale, AreStale, WasAsked, PassesOn, Kept, ReceivesFresh, PassesOnFresh}
 use Rattle.ntp_freshness.proofs.Seeing.{IsSeenFrom-more}
 use Rattle.ntp_freshness.proofs.Keeping.{AreStale-append, counted-append}
-use Rattle.ntp_freshness.proofs.Passing.{DropsTurns-on, DropsTurns-append}
+use Rattle.ntp_service_serve.proofs.Dropping.{DropsTurns-on, DropsTurns-append}
 
 takes-append : (xs ys : List QueueEvent) → takes (xs ++ ys) ≡ takes xs + takes ys
 takes-append [] ys = omega arith

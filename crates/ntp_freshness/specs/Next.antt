@@ -1,12 +1,11 @@
 -- Not to be believed: for proofs. What one take comes to.
 use Rattle.std.specs.Prelude.{◌≡◌, ℕ, true, Option, None, Some, Ok, Err, List, length, ◌++◌}
-use Rattle.ntp_service_serve.specs.Port.{Told, ReceiveTells, TellsOn, DropTells}
+use Rattle.ntp_service_serve.specs.Port.{Told, ReceiveTells, TellsOn, DropTells, DropsTurns}
 use Rattle.ntp_freshness.specs.declared.queue_event.QueueEvent.{QueueEvent}
 use Rattle.ntp_freshness.specs.declared.fresh_port.Next.{Next}
 use Rattle.ntp_freshness.specs.declared.fresh_port.Next.TheVariants.{Nothing, Fault, Fresh, Stale}
 use Rattle.ntp_freshness.specs.Freshness.{takes, MayBeAnswered, WasLookedAt}
 use Rattle.ntp_freshness.specs.Watch.{longest_of}
-use Rattle.ntp_freshness.specs.Passing.{DropsTurns}
 use Rattle.ntp_freshness.specs.Fresh.{Stands, Take, Dropped, InHand, IsStale, history_before, history_after, AreStale, NothingTaken, FoundEmpty, counted_on, IsSeenFrom, Kept}
 
 -- what was taken

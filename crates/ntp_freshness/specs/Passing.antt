@@ -1,13 +1,8 @@
 -- What becomes of the turns that a port below tells: some are dropped, and then what it gives is handed on.
-use Rattle.std.specs.Prelude.{ℕ, zero, suc, true, Option, None, Some, Result, List}
+use Rattle.std.specs.Prelude.{ℕ, Option, None, Some, Result, List}
 use Rattle.ntp_events.specs.declared.observation.Arrival.{Arrival}
 use Rattle.ntp_service_serve.specs.declared.port.PortFault.{PortFault}
-use Rattle.ntp_service_serve.specs.Port.{Told, ReceiveTells, TellsOn, DropTells}
-
--- so many turns began, one after another, whose datagrams were dropped (profile)
-abbrev pub DropsTurns : ℕ → Option Told → Option Told → Type 0
-DropsTurns zero old new = TellsOn old new
-DropsTurns (suc n) old new = (next : Option Told) × DropTells old next true × DropsTurns n next new
+use Rattle.ntp_service_serve.specs.Port.{Told, ReceiveTells, TellsOn, DropsTurns}
 
 -- what is handed on is what a receive gave, by the turn that it began; where nothing is handed on, no turn began (profile)
 abbrev pub HandsOn : Option Told → Option Told → Option (Result Arrival PortFault) → List ℕ → Type 0

@@ -1,7 +1,7 @@
 //! A port that passes on only datagrams that have not waited for long.
-ghost use Rattle.std.specs.Prelude.{◌≡◌, ◌+◌, ◌-◌, ◌/◌, ◌≤◌, ◌<◌, ◌^◌, List, All, Option, None, Some, Result, Err, IfOk, IfErr, IfSome, option_map, is_err, if◌then◌else◌};
+ghost use Rattle.std.specs.Prelude.{◌≡◌, ◌+◌, ◌-◌, ◌/◌, ◌≤◌, ◌<◌, ◌^◌, List, All, Option, None, Some, Result, Err, IfOk, IfErr, IfSome, IfNone, false, true, option_map, is_err, if◌then◌else◌};
 ghost use Rattle.std.specs.Option.{option_map_or};
-ghost use Rattle.ntp_service_serve.specs.Port.{most_received_octets, NowTells, SendTells};
+ghost use Rattle.ntp_service_serve.specs.Port.{most_received_octets, Receives, DropsAny, NowTells, SendTells};
 ghost use Rattle.ntp_freshness.specs.declared.queue_event.QueueEvent.{QueueEvent};
 ghost use Rattle.ntp_freshness.specs.Freshness.{moment_of, IsInOrder, oldest_look};
 ghost use Rattle.ntp_freshness.specs.Queue.{ReadsClock};
@@ -278,6 +278,13 @@ impl<P: QueuedPort> FreshPort<P> {
 }
 
 impl<P: QueuedPort> Port for FreshPort<P> {
+    // It tells what the other port does, and drops some of that port's turns.
+    ghost told = { λ f. P.told f.port };
+
+    ghost may_drop = { true };
+
+    ghost drop_count = { λ f. f.stale };
+
     ghost failure_count = { λ f. f.failures };
 
     /// Waits until a datagram comes that may be answered. It fails where the other port does, and after 2^64 - 1 waits that gave none.
@@ -286,6 +293,7 @@ impl<P: QueuedPort> Port for FreshPort<P> {
         ensures length { IfOk result (λ arrival. arrival.length ≤ most_received_octets) }
         ensures fault { IfErr result (λ fault. fault ≡ PortFault.Receive) }
         ensures failures { self.new.failures ≡ self.old.failures + (if is_err result then 1 else 0) }
+        ensures turns { Receives true self.old.stale self.new.stale (P.told self.old.port) (P.told self.new.port) result datagram.new }
         ensures fresh { (given : Option (Result Arrival PortFault)) × PassesOnFresh (kept self.old.watch self.old.reading self.old.next_look self.old.stale (P.told self.old.port) (P.history self.old.port))
             (kept self.new.watch self.new.reading self.new.next_look self.new.stale (P.told self.new.port) (P.history self.new.port)) given datagram.new
             × (result ≡ option_map_or (λ received. received) given (Err PortFault.Receive)) }
@@ -344,6 +352,10 @@ impl<P: QueuedPort> TimedPort for FreshPort<P> {
         ensures fault { IfSome result (λ received. IfErr received (λ fault. fault ≡ PortFault.Receive)) }
         ensures failures { self.new.failures
             ≡ self.old.failures + option_map_or (λ received. if is_err received then 1 else 0) result 0 }
+        ensures turns { IfSome result (λ received.
+            Receives true self.old.stale self.new.stale (P.told self.old.port) (P.told self.new.port) received datagram.new) }
+        ensures nothing { IfNone result ((false ≡ false)
+            × DropsAny true self.old.stale self.new.stale (P.told self.old.port) (P.told self.new.port)) }
         ensures fresh { PassesOnFresh (kept self.old.watch self.old.reading self.old.next_look self.old.stale (P.told self.old.port) (P.history self.old.port))
             (kept self.new.watch self.new.reading self.new.next_look self.new.stale (P.told self.new.port) (P.history self.new.port)) result datagram.new }
     {

@@ -134,12 +134,12 @@ module _ (A : Type 0) where
       idle false = tt
 
   -- it goes on only at a port that is not prompt; what the port, the source of the states and the reporter tell does not matter to a look
-  pub Waits-more : (prompt : Bool) (p q r : Parts) (port : Option Told) (failures : ℕ) (states later : Option (Coming ReferenceState))
+  pub Waits-more : (prompt : Bool) (p q r : Parts) (port : Option Told) (failures dropped : ℕ) (states later : Option (Coming ReferenceState))
       (tended : Option ℕ) (blank shown : Option (List (Option Moment))) → prompt ≡ false → Waits A prompt p q
-      → LooksOnce A None (record q { port = port; failures = failures; states = states; shown = blank }) r
+      → LooksOnce A None (record q { port = port; failures = failures; dropped = dropped; states = states; shown = blank }) r
       → r.tended ≡ q.tended → CountsOn r.tended tended 1 → Sees q.shown shown (None ∷ [])
       → Waits A prompt p (record r { states = later; tended = tended; shown = shown })
-  Waits-more prompt p q r port failures states later tended blank shown waits w l same tends shows = record {
+  Waits-more prompt p q r port failures dropped states later tended blank shown waits w l same tends shows = record {
     looks = w.looks ++ l.look ∷ [];
     idle = subst (λ b. IsIdle b (w.looks ++ l.look ∷ [])) (sym waits) tt;
     asked = All-push (λ x. x.asked ≡ None) w.looks l.look w.asked l.asks;

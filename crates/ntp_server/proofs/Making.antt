@@ -20,9 +20,10 @@ use Rattle.ntp_service_run.proofs.Runs.{Tells-nil, Tells-append}
 use Rattle.ntp_service_serve.specs.declared.port.PortFault.{PortFault}
 use Rattle.ntp_service_serve.specs.Port.{IncomingValue}
 use Rattle.ntp_service_serve.specs.Made.{Made, Missed, Received, turn_of, arrival_of, happened_in_turn, sent_in, has_arrived, has_departed, is_failing, turn_outcome}
-use Rattle.ntp_service_serve.specs.Serving.{Follows, TurnMakes}
+use Rattle.ntp_service_serve.specs.Serving.{Makes}
+use Rattle.ntp_service_serve.proofs.Taking.{TakesTurn}
 use Rattle.ntp_service_serve.specs.Sending.{was_sent}
-use Rattle.ntp_service_serve.proofs.ManyTurns.{sent_of, count_of, Follows-nil, Follows-append}
+use Rattle.ntp_service_serve.proofs.ManyTurns.{sent_of, count_of, Makes-nil, Makes-append}
 use Rattle.ntp_service_serve.proofs.Counting.{if_so, at-most-one, sent-one, noted-one, count-more}
 use Rattle.ntp_server.specs.declared.server.Totals.{Totals}
 use Rattle.ntp_service_serve.specs.Sources.{Gives, CountsOn}
@@ -45,16 +46,17 @@ came made r arrived = sym (ap (option_map (λ a. a.receipt)) arrived) ∙ any (t
     any None = refl
     any (Some d) = refl
 
-pub Makes-turn : (A : Type 0) (prompt : Bool) (asked : Option Moment) (p q r s : Parts) (blank : Option (List (Option Moment)))
+pub Makes-turn : (A : Type 0) (prompt may : Bool) (asked : Option Moment) (p q r s : Parts) (blank : Option (List (Option Moment)))
     (reference : ReferenceState) (received : Result Arrival PortFault) (buffer : List ℕ) (outcome : TurnOutcome) → s.applied ≡ r.applied
     → s.commands ≡ r.commands → Waits A prompt p q → LooksOnce A asked (record q { shown = blank }) r
     → asked ≡ option_map (λ a. a.receipt) (result_ok received) → r.states ≡ p.states
     → Gives r.states s.states (asked ∷ []) (reference ∷ []) → s.tended ≡ q.tended
     → r.failures ≡ p.failures + (if is_err received then 1 else 0)
-    → TurnMakes A reference received buffer p.port s.port r.failures s.failures r.service s.service outcome
-    → Sees r.seen s.seen (Turn outcome ∷ []) → Sees q.shown s.shown (asked ∷ []) → MakesRound A prompt p s outcome
-Makes-turn A prompt asked p q r s blank reference received buffer outcome applied commands waits looked receipt same states tended failed turn
-    seen shows =
+    → TakesTurn A reference may received buffer p.port s.port p.dropped s.dropped r.failures s.failures r.service s.service outcome
+    → Sees r.seen s.seen (Turn outcome ∷ []) → Sees q.shown s.shown (asked ∷ []) → MakesRound A prompt may p s outcome
+Makes-turn A prompt may asked p q r s blank reference received buffer outcome applied commands waits looked receipt same states tended failed
+    taken seen shows =
+    let turn = taken.turn in
     let looks = waits.looks ++ looked.look ∷ [] in
     let all = Looks-append A waits.looks (looked.look ∷ []) p q r waits.done
     (record { due = looked.done.due; commands = looked.done.commands; observed = looked.done.observed; tells = looked.done.tells }) in
@@ -73,7 +75,7 @@ Makes-turn A prompt asked p q r s blank reference received buffer outcome applie
       reported = subst (λ xs. Sees p.shown s.shown xs) (sym (map-append (λ l. l.asked) waits.looks (looked.look ∷ [])))
           (Sees-append p.shown q.shown s.shown (asked_of waits.looks) (looked.look.asked ∷ []) waits.reported
           (subst (λ a. Sees q.shown s.shown (a ∷ [])) (sym looked.asks) shows));
-      port = turn.port;
+      port = taken.port;
       observed = Sees-append p.seen r.seen s.seen (looks_observations looks) (Turn (turn_outcome turn.made) ∷ []) all.observed
           (subst (λ l. Sees r.seen s.seen (Turn l ∷ [])) turn.comes_to seen);
       comes_to = turn.comes_to;
@@ -119,9 +121,9 @@ few_such : (is : Made → Bool) (ms : List Made) → count_of is ms ≤ length m
 few_such is ms = omega (arith, length-filter is ms, count_by-le-length is ms)
 
 -- ---- one round more
-pub Serves-none : (A : Type 0) (prompt : Bool) (p : Parts)
-    → ServesRounds A prompt 0 p p (record { arrivals = 0; sent = 0; departed = 0 })
-Serves-none A prompt p = record {
+pub Serves-none : (A : Type 0) (prompt may : Bool) (p : Parts)
+    → ServesRounds A prompt may 0 p p (record { arrivals = 0; sent = 0; departed = 0 })
+Serves-none A prompt may p = record {
   rounds = [];
   each = refl;
   looked = λ k d below. absurd (omega (arith, below));
@@ -133,7 +135,7 @@ Serves-none A prompt p = record {
   waits = refl;
   tended = CountsOn-nil p.tended;
   reported = Sees-nil p.shown;
-  port = Follows-nil p.port;
+  port = Makes-nil may p.dropped p.port;
   observed = Sees-nil p.seen;
   arrivals = refl;
   sent = refl;
@@ -142,10 +144,10 @@ Serves-none A prompt p = record {
   tells = λ history stands. Tells-nil history p.service stands;
 }
 
-pub Serves-round : (A : Type 0) (prompt : Bool) (n : ℕ) (p q r : Parts) (a b : Totals) (outcome : TurnOutcome)
-    → ServesRounds A prompt n p q a → MakesRound A prompt q r outcome → b.arrivals ≡ a.arrivals + arrivals_in outcome
-    → b.sent ≡ a.sent + replies_in outcome → b.departed ≡ a.departed + departures_in outcome → ServesRounds A prompt (n + 1) p r b
-Serves-round A prompt n p q r a b outcome s m arrivals sent departed =
+pub Serves-round : (A : Type 0) (prompt may : Bool) (n : ℕ) (p q r : Parts) (a b : Totals) (outcome : TurnOutcome)
+    → ServesRounds A prompt may n p q a → MakesRound A prompt may q r outcome → b.arrivals ≡ a.arrivals + arrivals_in outcome
+    → b.sent ≡ a.sent + replies_in outcome → b.departed ≡ a.departed + departures_in outcome → ServesRounds A prompt may (n + 1) p r b
+Serves-round A prompt may n p q r a b outcome s m arrivals sent departed =
     let rounds = s.rounds in
     let round = m.round in
     let made = round.made in
@@ -177,7 +179,8 @@ Serves-round A prompt n p q r a b outcome s m arrivals sent departed =
       reported = subst (λ l. Sees p.shown r.shown (asked_of l)) (sym looks)
           (subst (λ xs. Sees p.shown r.shown xs) (sym (map-append (λ l. l.asked) (looks_of rounds) round.looks))
           (Sees-append p.shown q.shown r.shown (asked_of (looks_of rounds)) (asked_of round.looks) s.reported m.reported));
-      port = subst (λ l. Follows l p.port r.port) (sym turns) (Follows-append (made_in rounds) (made ∷ []) p.port q.port r.port s.port m.port);
+      port = subst (λ l. Makes may l p.dropped r.dropped p.port r.port) (sym turns)
+          (Makes-append may (made_in rounds) (made ∷ []) p.dropped q.dropped r.dropped p.port q.port r.port s.port m.port);
       observed = subst (λ l. Sees p.seen r.seen l) (sym (flat_map-push round_observations rounds round))
           (Sees-append p.seen q.seen r.seen (flat_map round_observations rounds) (round_observations round) s.observed m.observed);
       arrivals = omega (
@@ -215,9 +218,9 @@ Serves-round A prompt n p q r a b outcome s m arrivals sent departed =
     }
 
 -- how many there can be
-pub Serves-few : (A : Type 0) (prompt : Bool) (n : ℕ) (p q : Parts) (a : Totals) → ServesRounds A prompt n p q a
+pub Serves-few : (A : Type 0) (prompt may : Bool) (n : ℕ) (p q : Parts) (a : Totals) → ServesRounds A prompt may n p q a
     → (a.arrivals ≤ n) × (a.sent ≤ n) × (a.departed ≤ n) × (q.failures ≤ p.failures + n)
-Serves-few A prompt n p q a s =
+Serves-few A prompt may n p q a s =
     let made = made_in s.rounds in
     let all : length made ≡ n = length-map s.rounds (λ x. x.made) ∙ s.each in (
       omega (arith, all, s.arrivals, few_such has_arrived made),

@@ -11,7 +11,7 @@ use Rattle.ntp_events.specs.Sees.{Sees}
 use Rattle.ntp_service_run.specs.Headline.{StandsFor, Tells}
 use Rattle.ntp_service_serve.specs.Port.{Told}
 use Rattle.ntp_service_serve.specs.Made.{Made, turn_of, happened_in_turn, sent_in, has_arrived, has_departed, is_failing, turn_outcome}
-use Rattle.ntp_service_serve.specs.Serving.{Follows}
+use Rattle.ntp_service_serve.specs.Serving.{Makes}
 use Rattle.ntp_customer_files.specs.CommandsFile.{TakenLine, AreDue, lines_taken, happened_at_lines, line_observations}
 use Rattle.ntp_server.specs.declared.server.Totals.{Totals}
 use Rattle.ntp_service_serve.specs.Sources.{Coming, Gives, CountsOn}
@@ -73,11 +73,12 @@ pub record AsksRight (r : Round) : Type 0 where
   pub waiting : All (λ l. l.asked ≡ None) idle
   pub come : last.asked ≡ receipt_in r.made
 
--- what the parts of a server and its reporter tell, with how many calls of its port failed, how many lines were applied, and its service
--- (profile)
+-- what the parts of a server and its reporter tell, with how many calls of its port failed, how many datagrams that has dropped, how many
+-- lines were applied, and its service (profile)
 pub record Parts : Type 0 where
   pub port : Option Told
   pub failures : ℕ
+  pub dropped : ℕ
   pub commands : Option (Coming (Option (List ℕ)))
   pub applied : ℕ
   pub states : Option (Coming ReferenceState)
@@ -86,8 +87,8 @@ pub record Parts : Type 0 where
   pub shown : Option (List (Option Moment))
   pub service : Registry
 
--- rounds were made at a port that is prompt or not, by a server of which this was told before and this after (profile)
-pub record ServesRounds (A : Type 0) (prompt : Bool) (turns : ℕ) (before after : Parts) (totals : Totals) : Type 0 where
+-- rounds were made at a port that is prompt or not, and may drop or not, by a server of which this was told before and this after (profile)
+pub record ServesRounds (A : Type 0) (prompt may_drop : Bool) (turns : ℕ) (before after : Parts) (totals : Totals) : Type 0 where
   pub rounds : List Round
   pub each : length rounds ≡ turns
   pub looked : All (HasLooks prompt) rounds
@@ -101,7 +102,7 @@ pub record ServesRounds (A : Type 0) (prompt : Bool) (turns : ℕ) (before after
   pub tended : CountsOn before.tended after.tended tends
   -- the reporter was shown the server after each look, with what that had been asked with
   pub reported : Sees before.shown after.shown (map (λ l. l.asked) (looks_of rounds))
-  pub port : Follows (made_in rounds) before.port after.port
+  pub port : Makes may_drop (made_in rounds) before.dropped after.dropped before.port after.port
   pub observed : Sees before.seen after.seen (flat_map round_observations rounds)
   pub arrivals : totals.arrivals ≡ length (filter has_arrived (made_in rounds))
   pub sent : totals.sent ≡ length (flat_map sent_in (made_in rounds))

@@ -10,7 +10,7 @@ use Rattle.ntp_events.specs.declared.observation.TurnOutcome.TheVariants.{Nothin
 use Rattle.ntp_events.specs.Sees.{Sees}
 use Rattle.ntp_service_run.specs.Headline.{StandsFor, Tells}
 use Rattle.ntp_service_serve.specs.Made.{is_failing, turn_outcome}
-use Rattle.ntp_service_serve.specs.Serving.{Follows}
+use Rattle.ntp_service_serve.specs.Serving.{Makes}
 use Rattle.ntp_service_serve.specs.Sending.{was_sent, was_noted}
 use Rattle.ntp_customer_files.specs.CommandsFile.{happened_at_lines, line_observations}
 use Rattle.ntp_service_serve.specs.Sources.{Gives, CountsOn}
@@ -65,7 +65,7 @@ pub record Waits (A : Type 0) (prompt : Bool) (before after : Parts) : Type 0 wh
   pub reported : Sees before.shown after.shown (asked_of looks)
 
 -- a round was made, and its turn came to this
-pub record MakesRound (A : Type 0) (prompt : Bool) (before after : Parts) (outcome : TurnOutcome) : Type 0 where
+pub record MakesRound (A : Type 0) (prompt may_drop : Bool) (before after : Parts) (outcome : TurnOutcome) : Type 0 where
   pub round : Round
   pub looked : HasLooks prompt round
   pub asked : AsksRight round
@@ -76,7 +76,7 @@ pub record MakesRound (A : Type 0) (prompt : Bool) (before after : Parts) (outco
   pub waits : tends + 1 ≡ length round.looks
   pub tended : CountsOn before.tended after.tended tends
   pub reported : Sees before.shown after.shown (asked_of round.looks)
-  pub port : Follows (round.made ∷ []) before.port after.port
+  pub port : Makes may_drop (round.made ∷ []) before.dropped after.dropped before.port after.port
   pub observed : Sees before.seen after.seen (round_observations round)
   pub comes_to : outcome ≡ turn_outcome round.made
   pub failures : after.failures ≡ before.failures + (if is_failing round.made then 1 else 0)

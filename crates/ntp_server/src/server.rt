@@ -1,7 +1,7 @@
 //! A server, turn by turn.
 ghost use Rattle.std.specs.Prelude.{◌≡◌, ◌+◌, ◌-◌, ◌≤◌, ◌<◌, ◌^◌, None, option_map, IfOk, is_err, if◌then◌else◌};
 ghost use Rattle.std.specs.Result.{result_ok};
-ghost use Rattle.ntp_service_serve.specs.Port.{most_received_octets, ReceiveTells};
+ghost use Rattle.ntp_service_serve.specs.Port.{most_received_octets, Receives};
 ghost use Rattle.ntp_server.specs.Steps.{arrivals_in, replies_in, departures_in};
 
 use crate::reporter::{NoReports, Reporter};
@@ -61,9 +61,9 @@ impl<
     /// file that changed.
     pub fn serve(&mut self, turns: u64) -> Totals
         requires { P.failure_count self.old.port + turns < 2 ^ 64 }
-        ensures { ServesRounds A P.is_prompt turns
-            (parts_of P.told P.failure_count C.coming R.coming R.tended O.seen None self.old)
-            (parts_of P.told P.failure_count C.coming R.coming R.tended O.seen None self.new) result }
+        ensures { ServesRounds A P.is_prompt P.may_drop turns
+            (parts_of P.told P.failure_count P.drop_count C.coming R.coming R.tended O.seen None self.old)
+            (parts_of P.told P.failure_count P.drop_count C.coming R.coming R.tended O.seen None self.new) result }
     {
         self.serve_reported(turns, &mut NoReports)
     }
@@ -79,9 +79,9 @@ impl<
         reporter: &mut Q,
     ) -> Totals
         requires { P.failure_count self.old.port + turns < 2 ^ 64 }
-        ensures rounds { ServesRounds A P.is_prompt turns
-            (parts_of P.told P.failure_count C.coming R.coming R.tended O.seen (Q.shown reporter.old) self.old)
-            (parts_of P.told P.failure_count C.coming R.coming R.tended O.seen (Q.shown reporter.new) self.new) result }
+        ensures rounds { ServesRounds A P.is_prompt P.may_drop turns
+            (parts_of P.told P.failure_count P.drop_count C.coming R.coming R.tended O.seen (Q.shown reporter.old) self.old)
+            (parts_of P.told P.failure_count P.drop_count C.coming R.coming R.tended O.seen (Q.shown reporter.new) self.new) result }
         ensures known { 0 < turns → Q.knows reporter.new self.new }
     {
         let mut datagram = [0; MOST_RECEIVED_OCTETS];
@@ -104,9 +104,9 @@ impl<
         reporter: &mut Q,
     ) -> TurnOutcome
         requires { P.failure_count self.old.port < 2 ^ 64 - 1 }
-        ensures made { MakesRound A P.is_prompt
-            (parts_of P.told P.failure_count C.coming R.coming R.tended O.seen (Q.shown reporter.old) self.old)
-            (parts_of P.told P.failure_count C.coming R.coming R.tended O.seen (Q.shown reporter.new) self.new) result }
+        ensures made { MakesRound A P.is_prompt P.may_drop
+            (parts_of P.told P.failure_count P.drop_count C.coming R.coming R.tended O.seen (Q.shown reporter.old) self.old)
+            (parts_of P.told P.failure_count P.drop_count C.coming R.coming R.tended O.seen (Q.shown reporter.new) self.new) result }
         ensures known { Q.knows reporter.new self.new }
     {
         let received = self.wait(datagram, reporter);
@@ -134,11 +134,12 @@ impl<
         requires { P.failure_count self.old.port < 2 ^ 64 - 1 }
         ensures length { IfOk result (λ arrival. arrival.length ≤ most_received_octets) }
         ensures failures { P.failure_count self.new.port ≡ P.failure_count self.old.port + (if is_err result then 1 else 0) }
-        ensures turns { ReceiveTells (P.told self.old.port) (P.told self.new.port) result datagram.new }
+        ensures turns { Receives P.may_drop (P.drop_count self.old.port) (P.drop_count self.new.port)
+            (P.told self.old.port) (P.told self.new.port) result datagram.new }
         ensures reference { R.coming self.new.reference ≡ R.coming self.old.reference }
         ensures looks { Waits A P.is_prompt
-            (parts_of P.told P.failure_count C.coming R.coming R.tended O.seen (Q.shown reporter.old) self.old)
-            (parts_of P.told P.failure_count C.coming R.coming R.tended O.seen (Q.shown reporter.new) self.new) }
+            (parts_of P.told P.failure_count P.drop_count C.coming R.coming R.tended O.seen (Q.shown reporter.old) self.old)
+            (parts_of P.told P.failure_count P.drop_count C.coming R.coming R.tended O.seen (Q.shown reporter.new) self.new) }
     {
         for _ in 0..u64::MAX {
             if let Some(received) = self.port.receive_in_time(datagram) {
@@ -156,8 +157,8 @@ impl<
         ensures port { self.new.port ≡ self.old.port }
         ensures reference { self.new.reference ≡ self.old.reference }
         ensures looks { LooksOnce A receipt
-            (parts_of P.told P.failure_count C.coming R.coming R.tended O.seen None self.old)
-            (parts_of P.told P.failure_count C.coming R.coming R.tended O.seen None self.new) }
+            (parts_of P.told P.failure_count P.drop_count C.coming R.coming R.tended O.seen None self.old)
+            (parts_of P.told P.failure_count P.drop_count C.coming R.coming R.tended O.seen None self.new) }
     {
         let alloc = self.service.allocator();
         if let Some(octets) = self.commands.look(alloc, receipt) {

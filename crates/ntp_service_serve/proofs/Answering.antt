@@ -17,13 +17,13 @@ use Rattle.ntp_service_serve.specs.declared.memory_port.Sent.{Sent}
 use Rattle.ntp_service_serve.specs.declared.port.PortFault.{PortFault}
 use Rattle.ntp_service_serve.specs.Port.{IncomingValue, Readings, TurnValue, no_turn, Told, Arrives, Begins, ReceiveTells, NowTells, later, received}
 use Rattle.ntp_service_serve.specs.Made.{Missed, Received, turn_of, arrival_of, sending_of}
-use Rattle.ntp_service_serve.specs.Serving.{Follows, TurnMakes}
+use Rattle.ntp_service_serve.specs.Serving.{TurnMakes}
 use Rattle.ntp_service_serve.specs.Sending.{turn_with, IsInTurn, SendingMakes}
-use Rattle.ntp_service_serve.proofs.OneTurn.{follows-one}
+use Rattle.ntp_service_serve.proofs.OneTurn.{FollowsOne, follows-one}
 
 -- ---- a turn in which nothing came
 made-empty : (A : Type 0) (reference : ReferenceState) (turn : TurnValue) (t u : Option Told) (f g : ℕ) (fault : PortFault)
-    (buffer : List ℕ) (s : Registry) → Follows (Missed turn.clock turn.sends ∷ []) t u → g ≡ f
+    (buffer : List ℕ) (s : Registry) → FollowsOne (Missed turn.clock turn.sends) t u → g ≡ f
     → TurnMakes A reference (Err fault) buffer t u f g s s NothingReceived
 made-empty A reference turn t u f g fault buffer s follows count = record {
   made = Missed turn.clock turn.sends;
@@ -42,7 +42,7 @@ nothing-came A reference t u f g fault buffer s count told = by_told t u told
     by_turns : (coming : List TurnValue) (old new : Told) → old.coming ≡ coming → Begins (get_or coming 0 no_turn) old new (Err fault) buffer
         → TurnMakes A reference (Err fault) buffer (Some old) (Some new) f g s s NothingReceived
     by_turns [] old new here p = made-empty A reference no_turn (Some old) (Some new) f g fault buffer s (record {
-      begun = rw here refl;
+      next = rw here refl;
       coming = ap (λ (z : Told). z.coming) p.1;
       sent = ap (λ (z : Told). z.sent) p.1 ∙ sym (append-nil old.sent);
     }) count

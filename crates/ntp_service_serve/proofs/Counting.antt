@@ -15,9 +15,10 @@ use Rattle.ntp_service_serve.specs.declared.port.PortFault.{PortFault}
 use Rattle.ntp_service_serve.specs.declared.serving.Served.{Served}
 use Rattle.ntp_service_serve.specs.Port.{IncomingValue, Readings, Told}
 use Rattle.ntp_service_serve.specs.Made.{Made, Missed, Received, happened_in_turn, sent_in, has_arrived, has_departed, is_failing, sending_of, turn_outcome}
-use Rattle.ntp_service_serve.specs.Serving.{ServeMakes, TurnMakes}
+use Rattle.ntp_service_serve.specs.Serving.{ServeMakes}
 use Rattle.ntp_service_serve.specs.Sending.{counted, was_sent, was_noted}
-use Rattle.ntp_service_serve.proofs.ManyTurns.{sent_of, count_of, count-append, Follows-nil, Follows-append}
+use Rattle.ntp_service_serve.proofs.Taking.{TakesTurn}
+use Rattle.ntp_service_serve.proofs.ManyTurns.{sent_of, count_of, count-append, Makes-nil, Makes-append}
 
 abbrev pub if_so : Bool → ℕ
 if_so b = if b then 1 else 0
@@ -97,12 +98,12 @@ sent-more made m = ap length (flat_map-append sent_in made (m ∷ [])) ∙ lengt
     ∙ ap (λ l. length (sent_of made) + length l) (append-nil (sent_in m))
 
 -- ---- the turns of a server
-pub ServeMakes-nil : (A : Type 0) (reference : ReferenceState) (t : Option Told) (f : ℕ) (s : Registry)
-    → ServeMakes A reference 0 t t f f s s (record { arrivals = 0; sent = 0; departed = 0 })
-ServeMakes-nil A reference t f s = record {
+pub ServeMakes-nil : (A : Type 0) (reference : ReferenceState) (may : Bool) (t : Option Told) (f c : ℕ) (s : Registry)
+    → ServeMakes A reference may 0 t t f f c c s s (record { arrivals = 0; sent = 0; departed = 0 })
+ServeMakes-nil A reference may t f c s = record {
   made = [];
   each = refl;
-  port = Follows-nil t;
+  port = Makes-nil may c t;
   arrivals = refl;
   sent = refl;
   departed = refl;
@@ -110,17 +111,18 @@ ServeMakes-nil A reference t f s = record {
   tells = λ history stands. Tells-nil history s stands;
 }
 
-pub ServeMakes-turn : (A : Type 0) (reference : ReferenceState) (n : ℕ) (t u v : Option Told) (f g i h : ℕ) (s r q : Registry) (c : Served)
-    (x : Result Arrival PortFault) (buffer : List ℕ) (o : TurnOutcome) → ServeMakes A reference n t u f g s r c
-    → i ≡ g + (if is_err x then 1 else 0)
-    → TurnMakes A reference x buffer u v i h r q o → ServeMakes A reference (n + 1) t v f h s q (counted o c)
-ServeMakes-turn A reference n t u v f g i h s r q c x buffer o p came k =
+pub ServeMakes-turn : (A : Type 0) (reference : ReferenceState) (may : Bool) (n : ℕ) (t u v : Option Told) (f g i h b c d : ℕ)
+    (s r q : Registry) (served : Served) (x : Result Arrival PortFault) (buffer : List ℕ) (o : TurnOutcome)
+    → ServeMakes A reference may n t u f g b c s r served → i ≡ g + (if is_err x then 1 else 0)
+    → TakesTurn A reference may x buffer u v c d i h r q o → ServeMakes A reference may (n + 1) t v f h b d s q (counted o served)
+ServeMakes-turn A reference may n t u v f g i h b c d s r q served x buffer o p came taken =
+    let k = taken.turn in
     let m = k.made in
-    let one : Counted m c (counted o c) = subst (λ z. Counted m c (counted z c)) (sym k.comes_to) (counted-made m c) in
+    let one : Counted m served (counted o served) = subst (λ z. Counted m served (counted z served)) (sym k.comes_to) (counted-made m served) in
     record {
       made = p.made ++ m ∷ [];
       each = omega (arith, p.each, length-append p.made (m ∷ []));
-      port = Follows-append p.made (m ∷ []) t u v p.port k.port;
+      port = Makes-append may p.made (m ∷ []) b c d t u v p.port taken.port;
       arrivals = omega (arith, p.arrivals, one.arrivals, count-more has_arrived p.made m);
       sent = omega (arith, p.sent, one.sent, sent-more p.made m);
       departed = omega (arith, p.departed, one.departed, count-more has_departed p.made m);

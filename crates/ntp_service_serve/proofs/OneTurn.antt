@@ -23,11 +23,15 @@ use Rattle.ntp_service_serve.specs.Made.{Made, Received, turn_of, reply_in, depa
 use Rattle.ntp_service_serve.specs.Serving.{FollowsList, Follows}
 use Rattle.ntp_service_serve.specs.Sending.{saved_in, turn_with, HasBegun, IsInTurn, SendingMakes}
 
--- one turn of a port that tells its turns
+-- one turn, at any port
+abbrev pub FollowsOne : Made → Option Told → Option Told → Type 0
+FollowsOne m t u = Follows (turn_of m ∷ []) (m ∷ []) t u
+
+-- at a port that tells its turns
 pub follows-one : (m : Made) (rest : List TurnValue) (old new : Told) → old.coming ≡ turn_of m ∷ rest → new.coming ≡ rest
-    → new.sent ≡ old.sent ++ sent_in m → FollowsList (m ∷ []) old new
+    → new.sent ≡ old.sent ++ sent_in m → FollowsList (turn_of m ∷ []) (m ∷ []) old new
 follows-one m rest old new here coming sent = record {
-  begun = sym (ap (firsts no_turn 1) here);
+  next = sym (ap (firsts no_turn 1) here);
   coming = coming ∙ sym (ap (drop 1) here);
   sent = sent ∙ ap (λ l. old.sent ++ l) (sym (append-nil (sent_in m)));
 }
@@ -157,7 +161,7 @@ module _ (from : IncomingValue) (transmit : Moment) where
     nothing-sent clock false none = refl
 
     follows-silent : (t u : Option Told) → reply_in a ≡ None → IsInTurn t u from transmit
-        → (clock : Readings) × (sends : Bool) × (clock false 0 ≡ transmit) × Follows (made_of clock sends false ∷ []) t u
+        → (clock : Readings) × (sends : Bool) × (clock false 0 ≡ transmit) × FollowsOne (made_of clock sends false) t u
     follows-silent None u none i = (λ tried n. transmit, false, refl, tt)
     follows-silent (Some old) None none i = absurd i
     follows-silent (Some old) (Some new) none i = (
@@ -197,7 +201,7 @@ module _ (from : IncomingValue) (transmit : Moment) where
       tried-sent old false noted clock = sym (append-nil old)
 
       follows-tried : (good noted : Bool) (t w : Option Told) → HasTried good reply t w
-          → (clock : Readings) × (clock false 0 ≡ transmit) × Follows (made_of clock good noted ∷ []) t w
+          → (clock : Readings) × (clock false 0 ≡ transmit) × FollowsOne (made_of clock good noted) t w
       follows-tried good noted None w p = (λ tried n. transmit, refl, tt)
       follows-tried good noted (Some old) None p = absurd p
       follows-tried good noted (Some old) (Some new) p = (
@@ -208,7 +212,7 @@ module _ (from : IncomingValue) (transmit : Moment) where
       )
 
       follows-departed : (noted : Bool) (t w z : Option Told) (moment : Moment) → HasTried true reply t w → NowTells w z moment
-          → (clock : Readings) × (clock false 0 ≡ transmit) × (clock true 1 ≡ moment) × Follows (made_of clock true noted ∷ []) t z
+          → (clock : Readings) × (clock false 0 ≡ transmit) × (clock true 1 ≡ moment) × FollowsOne (made_of clock true noted) t z
       follows-departed noted None w z moment p k = (λ tried n. if tried then moment else transmit, refl, refl, tt)
       follows-departed noted (Some old) None z moment p k = absurd p
       follows-departed noted (Some old) (Some mid) None moment p k = absurd k

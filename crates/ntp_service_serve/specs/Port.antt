@@ -1,5 +1,5 @@
 -- What a port that tells its turns answers.
-use Rattle.std.specs.Prelude.{◌≡◌, ℕ, suc, Bool, false, true, not, ◌&&◌, Option, None, Some, IfSome, IsSomeAnd, Result, Ok, Err, List, [], ◌∷◌, ◌++◌, length, get_or, take, drop, nat_le, if◌then◌else◌}
+use Rattle.std.specs.Prelude.{◌≡◌, ℕ, zero, suc, ◌+◌, ◌^◌, ◌<◌, ◌⊎◌, Bool, false, true, not, ◌&&◌, Option, None, Some, IfSome, IsSomeAnd, Result, Ok, Err, List, [], ◌∷◌, ◌++◌, length, get_or, take, drop, nat_le, if◌then◌else◌}
 use Rattle.ntp_time.specs.declared.moment.Moment.{Moment}
 use Rattle.ntp_mac.specs.Mac.{most_reply_octets}
 use Rattle.ntp_register.specs.declared.address.Address.{Address}
@@ -95,3 +95,28 @@ BeginsDropped old new false = new ≡ Some old
 -- what a call tells that drops the next datagram, or could not (profile)
 abbrev pub DropTells : Option Told → Option Told → Bool → Type 0
 DropTells old new dropped = IfSome old (λ told. BeginsDropped told new dropped)
+
+-- so many turns began, one after another, whose datagrams were dropped (profile)
+abbrev pub DropsTurns : ℕ → Option Told → Option Told → Type 0
+DropsTurns zero old new = TellsOn old new
+DropsTurns (suc n) old new = (next : Option Told) × DropTells old next true × DropsTurns n next new
+
+-- a count went on by these, as far as a number of 64 bits can count (profile)
+abbrev pub CountsMore : ℕ → ℕ → ℕ → Type 0
+CountsMore count after more = count + more < 2 ^ 64 → after ≡ count + more
+
+-- datagrams were dropped and counted, by a port that may drop; by any other none (profile)
+abbrev pub DropsAny : Bool → ℕ → ℕ → Option Told → Option Told → Type 0
+DropsAny false count after old new = (after ≡ count) × (new ≡ old)
+DropsAny true count after old new = (dropped : ℕ) × CountsMore count after dropped × DropsTurns dropped old new
+
+-- no turn began, and nothing could be received (profile)
+abbrev pub GivesUp : Option Told → Option Told → Result Arrival PortFault → Type 0
+GivesUp old new r = (r ≡ Err Receive) × TellsOn old new
+
+-- what is received is that of the next turn; and of a port that may drop, that of the next one behind those that it drops and counts, or it
+-- gives up (profile)
+abbrev pub Receives : Bool → ℕ → ℕ → Option Told → Option Told → Result Arrival PortFault → List ℕ → Type 0
+Receives false count after old new r buffer = (after ≡ count) × ReceiveTells old new r buffer
+Receives true count after old new r buffer = (between : Option Told) × DropsAny true count after old between
+    × (ReceiveTells between new r buffer ⊎ GivesUp between new r)

@@ -53,7 +53,7 @@ pub record SendingMakes (A : Type 0) (answer : Answer) (from : IncomingValue) (t
   pub sends : Bool
   pub noted : Bool
   pub comes_to : sending ≡ sending_of answer sends noted
-  pub port : Follows (Received from clock sends answer noted ∷ []) t u
+  pub port : Follows (turn_with from clock sends ∷ []) (Received from clock sends answer noted ∷ []) t u
   pub failures : g ≡ f + (if is_failing (Received from clock sends answer noted) then 1 else 0)
   pub tells : (history : List (Event A)) → StandsFor service history
       → Tells history (map (λ saved. (event.Departed from.address saved (clock true 1), departure_outcome noted)) (departing sends answer)) after

@@ -1,5 +1,5 @@
 -- What a server does at a port.
-use Rattle.std.specs.Prelude.{◌≡◌, ℕ, ◌+◌, Option, IfSome, IsSomeAnd, option_map, Result, is_err, List, [], ◌∷◌, ◌++◌, length, take, drop, map, filter, flat_map, if◌then◌else◌}
+use Rattle.std.specs.Prelude.{◌≡◌, ℕ, ◌+◌, Bool, false, true, Option, Some, IfSome, IsSomeAnd, option_map, Result, is_err, List, [], ◌∷◌, ◌++◌, length, take, drop, map, filter, flat_map, if◌then◌else◌}
 use Rattle.std.specs.Result.{result_ok}
 use Rattle.ntp_register.specs.Registry.{Registry}
 use Rattle.ntp_reply.specs.Reference.{ReferenceState}
@@ -10,27 +10,65 @@ use Rattle.ntp_service_run.specs.Headline.{StandsFor, Tells}
 use Rattle.ntp_service_serve.specs.declared.port.PortFault.{PortFault}
 use Rattle.ntp_service_serve.specs.declared.serving.Served.{Served}
 use Rattle.ntp_service_serve.specs.Sequence.{firsts}
-use Rattle.ntp_service_serve.specs.Port.{no_turn, Told, received}
-use Rattle.ntp_service_serve.specs.Made.{Made, turn_of, happened_in_turn, sent_in, has_arrived, has_departed, is_failing, arrival_of, turn_outcome}
+use Rattle.ntp_service_serve.specs.Port.{IncomingValue, Readings, TurnValue, no_turn, Told, received, CountsMore}
+use Rattle.ntp_service_serve.specs.Made.{Made, Missed, turn_of, happened_in_turn, sent_in, has_arrived, has_departed, is_failing, arrival_of, turn_outcome}
 
--- what a port that tells its turns told before these turns and tells afterwards: they were those of its list, while it lasted, and what
--- they sent was sent (profile)
-pub record FollowsList (made : List Made) (old new : Told) : Type 0 where
-  pub begun : map turn_of made ≡ firsts no_turn (length made) old.coming
-  pub coming : new.coming ≡ drop (length made) old.coming
+-- what a port that tells its turns told before it began these and tells afterwards: they were those of its list, while it lasted, and
+-- what the turns sent that a server made was sent (profile)
+pub record FollowsList (begun : List TurnValue) (made : List Made) (old new : Told) : Type 0 where
+  pub next : begun ≡ firsts no_turn (length begun) old.coming
+  pub coming : new.coming ≡ drop (length begun) old.coming
   pub sent : new.sent ≡ old.sent ++ flat_map sent_in made
 
--- the same of any port: one that tells nothing can have made any turns (profile)
-abbrev pub Follows : List Made → Option Told → Option Told → Type 0
-Follows made t u = IfSome t (λ old. IsSomeAnd u (λ new. FollowsList made old new))
+-- the same of any port: one that tells nothing can have begun any turns (profile)
+abbrev pub Follows : List TurnValue → List Made → Option Told → Option Told → Type 0
+Follows begun made t u = IfSome t (λ old. IsSomeAnd u (λ new. FollowsList begun made old new))
 
--- a server made so many turns, at any port, whose failures were `f` before and are `g`: whatever history the service stood for, it tells
--- what happened in the turns, and goes on to stand for that history and this (profile)
-pub record ServeMakes (A : Type 0) (reference : ReferenceState) (turns : ℕ) (t u : Option Told) (f g : ℕ) (service after : Registry)
-    (served : Served) : Type 0 where
+-- what a server has of a port that may drop: a turn that it makes, one whose datagram was dropped, or one that it makes in which the port
+-- gave up, and began none (profile)
+pub data Taken : Type 0 where
+  InTurn : Made → Taken
+  Dropped : IncomingValue → Readings → Bool → Taken
+  GivenUp : Readings → Bool → Taken
+
+-- the turn that the port began (profile)
+abbrev pub begun_in : Taken → List TurnValue
+begun_in (InTurn m) = turn_of m ∷ []
+begun_in (Dropped d clock sends) = record { arrival = Some d; clock = clock; sends = sends } ∷ []
+begun_in (GivenUp clock sends) = []
+
+-- the one that the server made (profile)
+abbrev pub made_of : Taken → List Made
+made_of (InTurn m) = m ∷ []
+made_of (Dropped d clock sends) = []
+made_of (GivenUp clock sends) = Missed clock sends ∷ []
+
+-- the datagram that was dropped (profile)
+abbrev pub dropped_in : Taken → List IncomingValue
+dropped_in (InTurn m) = []
+dropped_in (Dropped d clock sends) = d ∷ []
+dropped_in (GivenUp clock sends) = []
+
+-- these turns were made at a port that may drop, which counts what it drops (profile)
+pub record PassesOver (made : List Made) (count after : ℕ) (t u : Option Told) : Type 0 where
+  pub taken : List Taken
+  pub all : flat_map made_of taken ≡ made
+  pub counted : CountsMore count after (length (flat_map dropped_in taken))
+  pub port : Follows (flat_map begun_in taken) made t u
+
+-- or at one that may drop or not: else they are just the turns that the port began (profile)
+abbrev pub Makes : Bool → List Made → ℕ → ℕ → Option Told → Option Told → Type 0
+Makes false made count after t u = (after ≡ count) × Follows (map turn_of made) made t u
+Makes true made count after t u = PassesOver made count after t u
+
+-- a server made so many turns, at a port that may drop or not, whose failures were `f` before and are `g`, which had dropped `c` datagrams
+-- and has now `d`: whatever history the service stood for, it tells what happened in the turns, and goes on to stand for that history and
+-- this (profile)
+pub record ServeMakes (A : Type 0) (reference : ReferenceState) (may_drop : Bool) (turns : ℕ) (t u : Option Told) (f g c d : ℕ)
+    (service after : Registry) (served : Served) : Type 0 where
   pub made : List Made
   pub each : length made ≡ turns
-  pub port : Follows made t u
+  pub port : Makes may_drop made c d t u
   pub arrivals : served.arrivals ≡ length (filter has_arrived made)
   pub sent : served.sent ≡ length (flat_map sent_in made)
   pub departed : served.departed ≡ length (filter has_departed made)
@@ -46,7 +84,7 @@ pub record TurnMakes (A : Type 0) (reference : ReferenceState) (r : Result Arriv
   pub comes_to : outcome ≡ turn_outcome made
   pub arrived : option_map arrival_of (turn_of made).arrival ≡ result_ok r
   pub octets : option_map received (turn_of made).arrival ≡ option_map (λ a. take a.length buffer) (result_ok r)
-  pub port : Follows (made ∷ []) t u
+  pub port : Follows (turn_of made ∷ []) (made ∷ []) t u
   -- a failure of `receive` itself is among `f`
   pub failures : g + (if is_err r then 1 else 0) ≡ f + (if is_failing made then 1 else 0)
   pub tells : (history : List (Event A)) → StandsFor service history → Tells history (happened_in_turn reference made) after

@@ -1,7 +1,7 @@
 //! What a server asks of the network and of the clock.
 ghost use Rattle.std.specs.Prelude.{◌≡◌, ℕ, ◌+◌, ◌-◌, ◌≤◌, ◌<◌, ◌^◌, Option, None, IfOk, IfErr, IfSome, IfNone, Bool, false, is_err, if◌then◌else◌};
 ghost use Rattle.std.specs.Option.{option_map_or};
-ghost use Rattle.ntp_service_serve.specs.Port.{Told, most_received_octets, ReceiveTells, NowTells, SendTells};
+ghost use Rattle.ntp_service_serve.specs.Port.{Told, most_received_octets, Receives, DropsAny, NowTells, SendTells};
 
 use ntp_events::Arrival;
 use ntp_register::Address;
@@ -25,10 +25,17 @@ pub enum PortFault {
 
 /// Where datagrams come from and replies go to, with the clock (profile).
 ///
-/// A port may tell its turns: what its calls will answer, as a list of turns. Each `receive` begins one.
+/// A port may tell its turns: what its calls will answer, as a list of turns. Each `receive` begins one. Before it, a port that may drop
+/// can have begun others, each with a datagram that is dropped; and a `receive` of it that fails may have begun none.
 pub trait Port {
     // What its calls will answer from here on, where the port tells it.
     ghost told: { Self → Option Told } = { λ _. None };
+
+    // Whether it may drop datagrams that it takes.
+    ghost may_drop: { Bool } = { false };
+
+    // How many it dropped, as far as that is counted.
+    ghost drop_count: { Self → ℕ } = { λ _. 0 };
 
     // How many calls failed.
     ghost failure_count: { Self → ℕ };
@@ -39,11 +46,12 @@ pub trait Port {
         ensures length { IfOk result (λ arrival. arrival.length ≤ most_received_octets) }
         ensures fault { IfErr result (λ fault. fault ≡ PortFault.Receive) }
         ensures failures { failure_count self.new ≡ failure_count self.old + (if is_err result then 1 else 0) }
-        ensures turns { ReceiveTells (told self.old) (told self.new) result datagram.new };
+        ensures turns { Receives may_drop (drop_count self.old) (drop_count self.new) (told self.old) (told self.new) result datagram.new };
 
     /// The moment that the clock shows. A call never fails.
     fn now(&mut self) -> Moment
         ensures failures { failure_count self.new ≡ failure_count self.old }
+        ensures dropped { drop_count self.new ≡ drop_count self.old }
         ensures turns { NowTells (told self.old) (told self.new) result };
 
     /// Sends a reply to an address and a UDP port. The one fault is `Send`.
@@ -51,6 +59,7 @@ pub trait Port {
         requires { failure_count self.old < 2 ^ 64 - 1 }
         ensures fault { IfErr result (λ fault. fault ≡ PortFault.Send) }
         ensures failures { failure_count self.new ≡ failure_count self.old + (if is_err result then 1 else 0) }
+        ensures dropped { drop_count self.new ≡ drop_count self.old }
         ensures turns { SendTells (told self.old) (told self.new) address port reply.now result };
 
     /// How many calls of `receive` and `send` failed.
@@ -64,13 +73,15 @@ pub trait TimedPort: Port {
     ghost is_prompt: { Bool } = { false };
 
     /// Receives a datagram as `receive` does, where one comes in time. Nothing where none did, which is no failure and
-    /// begins no turn.
+    /// begins no turn but those that are dropped.
     fn receive_in_time(&mut self, datagram: &mut DatagramRoom) -> Option<Result<Arrival, PortFault>>
         requires { Self.failure_count self.old < 2 ^ 64 - 1 }
         ensures length { IfSome result (λ received. IfOk received (λ arrival. arrival.length ≤ most_received_octets)) }
         ensures fault { IfSome result (λ received. IfErr received (λ fault. fault ≡ PortFault.Receive)) }
         ensures failures { Self.failure_count self.new
             ≡ Self.failure_count self.old + option_map_or (λ received. if is_err received then 1 else 0) result 0 }
-        ensures turns { IfSome result (λ received. ReceiveTells (Self.told self.old) (Self.told self.new) received datagram.new) }
-        ensures nothing { IfNone result ((is_prompt ≡ false) × (Self.told self.new ≡ Self.told self.old)) };
+        ensures turns { IfSome result (λ received. Receives Self.may_drop (Self.drop_count self.old) (Self.drop_count self.new)
+            (Self.told self.old) (Self.told self.new) received datagram.new) }
+        ensures nothing { IfNone result ((is_prompt ≡ false) × DropsAny Self.may_drop (Self.drop_count self.old) (Self.drop_count self.new)
+            (Self.told self.old) (Self.told self.new)) };
 }

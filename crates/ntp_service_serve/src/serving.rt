@@ -1,5 +1,5 @@
 //! A server: datagrams in, replies out.
-ghost use Rattle.std.specs.Prelude.{◌≡◌, ℕ, ◌+◌, ◌-◌, ◌≤◌, ◌<◌, ◌^◌, Option, option_map, OnOk, IfOk};
+ghost use Rattle.std.specs.Prelude.{◌≡◌, ℕ, ◌+◌, ◌-◌, ◌≤◌, ◌<◌, ◌^◌, Option, option_map, OnOk, IfOk, IfErr};
 ghost use Rattle.ntp_time.specs.declared.moment.Moment.{Moment};
 ghost use Rattle.ntp_service_serve.specs.Port.{Told, IncomingValue, ReceiveTells, most_received_octets};
 ghost use Rattle.ntp_service_serve.specs.Made.{reply_in};
@@ -32,8 +32,8 @@ pub struct Served {
 ///
 /// At any port the service is told of at most one datagram a turn, and of the departure of its reply where that was time
 /// and was sent, and of nothing else; the outcomes are what the service tells, and the counts are theirs. Which datagrams
-/// they are, only a port that tells its turns says: they are those of its turns, and what was sent is the replies of the
-/// turns that send, each to where its datagram came from, in order.
+/// they are, only a port that tells its turns says: they are those of its turns, but those that it dropped, if it may drop,
+/// and what was sent is the replies of the turns that send, each to where its datagram came from, in order.
 pub fn serve<P: Port, A: Allocator + Copy>(
     port: &mut P,
     service: &mut Service<A>,
@@ -43,8 +43,8 @@ pub fn serve<P: Port, A: Allocator + Copy>(
     requires { P.failure_count port.old + turns < 2 ^ 64 }
     ensures failures { P.failure_count port.new ≤ P.failure_count port.old + turns }
     ensures counts { (result.arrivals ≤ turns) × (result.sent ≤ turns) × (result.departed ≤ turns) }
-    ensures turns { ServeMakes A reference.now turns (P.told port.old) (P.told port.new)
-        (P.failure_count port.old) (P.failure_count port.new) service.old service.new result }
+    ensures turns { ServeMakes A reference.now P.may_drop turns (P.told port.old) (P.told port.new)
+        (P.failure_count port.old) (P.failure_count port.new) (P.drop_count port.old) (P.drop_count port.new) service.old service.new result }
 {
     let mut datagram = [0; MOST_RECEIVED_OCTETS];
     let mut served = Served {
@@ -71,7 +71,9 @@ pub fn answer_received<P: Port, A: Allocator + Copy>(
 ) -> TurnOutcome
     requires length { IfOk received (λ arrival. arrival.length ≤ most_received_octets) }
     requires failures { OnOk received (P.failure_count port.old < 2 ^ 64 - 1) }
-    ensures { (t : Option Told) → ReceiveTells t (P.told port.old) received datagram.now
+    ensures idle { IfErr received (λ _. P.told port.new ≡ P.told port.old) }
+    ensures dropped { P.drop_count port.new ≡ P.drop_count port.old }
+    ensures makes { (t : Option Told) → ReceiveTells t (P.told port.old) received datagram.now
         → TurnMakes A reference.now received datagram.now t (P.told port.new) (P.failure_count port.old) (P.failure_count port.new)
         service.old service.new result }
 {
@@ -103,7 +105,8 @@ fn send_reply<P: Port, A: Allocator + Copy>(
     answer: &Answer,
 ) -> Sending
     requires failures { P.failure_count port.old < 2 ^ 64 - 1 }
-    ensures { (t : Option Told) (from : IncomingValue) (transmit : Moment) → IsInTurn t (P.told port.old) from transmit
+    ensures dropped { P.drop_count port.new ≡ P.drop_count port.old }
+    ensures makes { (t : Option Told) (from : IncomingValue) (transmit : Moment) → IsInTurn t (P.told port.old) from transmit
         → from.address ≡ arrival.address → from.port ≡ arrival.port
         → SendingMakes A answer.now from transmit t (P.told port.new) (P.failure_count port.old) (P.failure_count port.new)
         service.old service.new result }

@@ -8,6 +8,6 @@ invariant-loop-turn g l = record {
   arrivals : l.served.arrivals ≤ l._turn;
   sent : l.served.sent ≤ l._turn;
   departed : l.served.departed ≤ l._turn;
-  makes : ServeMakes g.row.A.Denot l.reference l._turn (g.P.Port.told l.fn.port) (g.P.Port.told l.port)
-      (g.P.Port.failure_count l.fn.port) (g.P.Port.failure_count l.port) l.fn.service l.service l.served;
+  makes : ServeMakes g.row.A.Denot l.reference g.P.Port.may_drop l._turn (g.P.Port.told l.fn.port) (g.P.Port.told l.port)
+      (g.P.Port.failure_count l.fn.port) (g.P.Port.failure_count l.port) (g.P.Port.drop_count l.fn.port) (g.P.Port.drop_count l.port) l.fn.service l.service l.served;
 }

@@ -2,7 +2,8 @@ use Rattle.std.proofs.Common.{inl, ◌≡◌, ◌≤◌, [], ◌∷◌, ◌++◌
 use Rattle.ntp_freshness.specs.declared.queue_event.QueueEvent.TheVariants.{Held, Taken, Read}
 use Rattle.ntp_freshness.specs.Watch.{longest_of}
 use Rattle.ntp_freshness.specs.Freshness.{MayBeAnswered, WasLookedAt, oldest_look}
-use Rattle.ntp_freshness.proofs.Passing.{TellsOn-is, DropTells-received, ReceiveTells-along}
+use Rattle.ntp_service_serve.proofs.Dropping.{TellsOn-is, DropTells-received}
+use Rattle.ntp_freshness.proofs.Passing.{ReceiveTells-along}
 use Rattle.ntp_freshness.proofs.Seeing.{seen-in_take}
 use Rattle.ntp_freshness.proofs.Keeping.{StandsFor-Held, StandsFor-Taken, StandsFor-Read, StandsFor-next}
 use Rattle.ntp_freshness.proofs.fresh_port.FreshPort.take_next.Goals as goal

@@ -1,5 +1,6 @@
 use Rattle.std.proofs.Common.{rules, inl, inr, None, Some, refl, arith}
 use Rattle.ntp_freshness.proofs.Waiting.{Passes-after, Passes-nothing}
+use Rattle.ntp_freshness.proofs.Passing.{passes-received, passes-given_up}
 use Rattle.ntp_freshness.proofs.fresh_port.FreshPortPort.receive.Goals as goal
 
 pub loop-wait-init : goal.loop-wait-init
@@ -17,3 +18,12 @@ returns-in-Some-clause-fresh g c =
 
 pub returns-clause-fresh : goal.returns-clause-fresh
 returns-clause-fresh g c = (None, Passes-nothing _ _ _ _ (omega arith) c.loop-wait.invariant.waits, refl)
+
+pub returns-in-Some-clause-turns : goal.returns-in-Some-clause-turns
+returns-in-Some-clause-turns g c =
+    let passes = Passes-after _ _ _ _ (Some c.in-Some.received) _ _ c.loop-wait.invariant.waits c.in-Some.ensures.fresh in
+    passes-received _ _ _ _ passes
+
+pub returns-clause-turns : goal.returns-clause-turns
+returns-clause-turns g c =
+    let passes = Passes-nothing _ _ _ _ (omega arith) c.loop-wait.invariant.waits in passes-given_up _ _ _ passes

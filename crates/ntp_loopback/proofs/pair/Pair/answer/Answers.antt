@@ -4,5 +4,5 @@ use Rattle.ntp_loopback.proofs.pair.Pair.answer.Goals as goal
 
 pub returns : goal.returns
 returns g c =
-    let turn = c.answer_received-outcome.ensures None tt in
+    let turn = c.answer_received-outcome.ensures.makes None tt in
     one-fails (is_err c.in-Some.received) _ _ _ _ c.in-Some.ensures.failures turn.failures

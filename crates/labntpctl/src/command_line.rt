@@ -1,5 +1,6 @@
 //! The words of the command line.
 
+use crate::folding::FoldAsked;
 use crate::places::FilesNamed;
 use clap::builder::ValueParser;
 use clap::error::ErrorKind;
@@ -31,6 +32,7 @@ Examples:
   labntpctl enrol 192.0.2.10 --config /etc/labntp/labntpd.toml --server 198.51.100.1
   labntpctl rollover 192.0.2.10 --config /etc/labntp/labntpd.toml
   labntpctl retire 192.0.2.10 --config /etc/labntp/labntpd.toml
+  labntpctl fold --config /etc/labntp/labntpd.toml
 
 Exit status: 0 done; 1 refused, or a file has a fault; 2 other words; 3 no answer came in time, or a file failed; 4 want of memory.";
 
@@ -41,6 +43,8 @@ pub enum Asked<'a> {
     Customers { files: FilesNamed<'a>, json: bool },
     /// A change.
     Order(Ordered<'a>),
+    /// A fold of the commands into the register.
+    Fold(FoldAsked<'a>),
 }
 
 /// A change that is asked for.
@@ -96,6 +100,7 @@ fn asked_in<'a>(matches: &ArgMatches<'a>) -> Result<Asked<'a>, &'static str> {
             files: files_in(matches)?,
             json: matches.get_flag("json"),
         }),
+        "fold" => Ok(Asked::Fold(fold_in(matches)?)),
         _ => Ok(Asked::Order(ordered_in(name, matches)?)),
     }
 }
@@ -108,6 +113,15 @@ fn files_in<'a>(matches: &ArgMatches<'a>) -> Result<FilesNamed<'a>, &'static str
         (None, Some(register)) => Ok(FilesNamed::Each { register, commands }),
         _ => Err("either --config FILE or REGISTER is wanted"),
     }
+}
+
+// What is asked of a fold.
+fn fold_in<'a>(matches: &ArgMatches<'a>) -> Result<FoldAsked<'a>, &'static str> {
+    Ok(FoldAsked {
+        config: matches.get_str("config").ok_or("--config FILE is missing")?,
+        output: matches.get_str("output"),
+        dry_run: matches.get_flag("dry-run"),
+    })
 }
 
 // The change that is asked for by a name.
@@ -207,7 +221,8 @@ fn command<'a>(alloc: Global) -> Result<Command<'a>, AllocError> {
         )?)?
         .subcommand(budget_command(alloc)?)?
         .subcommand(rollover_command(alloc)?)?
-        .subcommand(retire_command(alloc)?)
+        .subcommand(retire_command(alloc)?)?
+        .subcommand(fold_command(alloc)?)
 }
 
 // Who is enrolled.
@@ -286,6 +301,27 @@ fn retire_command<'a>(alloc: Global) -> Result<Command<'a>, AllocError> {
         "number",
         "The key's number [default: that of the older one]",
     ))
+}
+
+// A shorter commands file.
+fn fold_command<'a>(alloc: Global) -> Result<Command<'a>, AllocError> {
+    Command::new(alloc, "fold")
+        .about(
+            "Folds the commands into the register: both files are written anew, and make the same customers",
+        )
+        .arg(value(alloc, "config", "FILE", "The configuration file of labntpd").required(true))?
+        .arg(value(
+            alloc,
+            "output",
+            "DIRECTORY",
+            "Where the new files are written, if not in the place of the old ones",
+        ))?
+        .arg(
+            Arg::new(alloc, "dry-run")
+                .long("dry-run")
+                .action(ArgAction::SetTrue)
+                .help("Only tells how long the new files would be"),
+        )
 }
 
 // A command that changes a customer.

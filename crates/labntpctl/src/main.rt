@@ -6,8 +6,13 @@ mod commands_file;
 mod customer_file;
 mod customers;
 mod deciding;
+mod folded_pair;
+mod folding;
+mod history;
+mod key_octets;
 mod ordering;
 mod places;
+mod placing;
 mod standing;
 mod table;
 mod waiting;
@@ -15,6 +20,7 @@ mod waiting;
 use clap::error::ErrorKind;
 use command_line::{Asked, parse};
 use customers::customers_status;
+use folding::fold_status;
 use labntpd_host::has_standard_streams;
 use labntpd_start::start_lines;
 use ntp_customer_files::{memory_status, unread_status, write_status};
@@ -39,6 +45,7 @@ fn status(rt: &HostRuntime) -> u8 {
     match parse(rt.alloc(), &words) {
         Ok(Asked::Customers { files, json }) => customers_status(rt, files, json),
         Ok(Asked::Order(order)) => order_status(rt, &order),
+        Ok(Asked::Fold(fold)) => fold_status(rt, &fold),
         Err(error) if error.kind() == ErrorKind::OutOfMemory => memory_status(&mut start_lines(rt)),
         Err(error) => {
             let _ = error.print(rt);

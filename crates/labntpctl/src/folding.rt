@@ -13,7 +13,8 @@ use ntp_customer_files::{DONE, MOST_FILE_OCTETS, TEXT_FAULTY, failed_status, mem
 use ntp_host::read_regular_file;
 use ntp_keeping::{FoldFault, GivenKey, Kept, Terms, fold};
 use ntp_mac::{Algorithm, Key};
-use ntp_register::Customer;
+use ntp_register::{Address, Customer};
+use ntp_service_run::Service;
 use std::alloc::{AllocError, Global};
 use std::io::Write;
 use std::num::NonZero;
@@ -178,16 +179,18 @@ fn customers_of(alloc: Global, old: &Standing) -> Result<Vec<Kept>, AllocError> 
             break;
         };
         let [older, newer] = report.numbers();
-        let terms = match old.service.customer(*address) {
-            Some(customer) => terms_of(customer, older, newer),
-            None => None,
-        };
-        customers.push(Kept {
-            address: *address,
-            terms,
-        })?;
+        customers.push(kept_at(&old.service, *address, older, newer))?;
     }
     Ok(customers)
+}
+
+// The customer at an address, with its keys of these numbers.
+fn kept_at(service: &Service, address: Address, older: Option<u16>, newer: Option<u16>) -> Kept {
+    let terms = match service.customer(address) {
+        Some(customer) => terms_of(customer, older, newer),
+        None => None,
+    };
+    Kept { address, terms }
 }
 
 // What a customer is enrolled with, under these numbers; nothing where it is revoked.

@@ -20,7 +20,7 @@ use Rattle.ntp_keeping.specs.declared.order.NewKey.{NewKey}
 use Rattle.ntp_keeping.specs.Orders.{key_of, number_text, IsNumber, IsNewKey}
 use Rattle.ntp_keeping.specs.Grants.{chrony_algorithm, chrony_key}
 use Rattle.ntp_keeping.proofs.Joined.{lacks, AllLack, parts-all, lacks-all, parts-first-line}
-use Rattle.ntp_keeping.proofs.Spelled.{reads-number, reads-key, lacks-decimal, lacks-digits}
+use Rattle.ntp_keeping.proofs.Spelled.{reads-number, reads-key, new-key, lacks-decimal, lacks-digits}
 
 -- the words of the line of a key
 abbrev three : NonZeroU16 → NewKey → List (List ℕ)
@@ -82,8 +82,8 @@ has-key number key fits is = ap key_of_words (line-words number key fits is) ∙
   where
     by-algorithm : (a : Algorithm) → key_of_words (number_text number ∷ chrony_algorithm a ∷ (codes "HEX:" ++ encode_lower key.octets) ∷ [])
         ≡ Ok (record { algorithm = a; octets = key.octets })
-    by-algorithm Md5 = rw (reads-key key.octets is.0 is.1) refl
-    by-algorithm Sha1 = rw (reads-key key.octets is.0 is.1) refl
+    by-algorithm Md5 = rw (reads-key key.octets (new-key key is)) refl
+    by-algorithm Sha1 = rw (reads-key key.octets (new-key key is)) refl
 
 -- the key of the first line, or of the others
 picked : ℕ → List ℕ → List (List ℕ) → Bool → Result SymmetricKey KeyFileFault

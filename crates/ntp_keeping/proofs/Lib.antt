@@ -4,3 +4,6 @@ pub mod Joined
 pub mod Spelled
 pub mod OrderLines
 pub mod KeyText
+pub mod SameKeys
+pub mod SameTerms
+pub mod Standings

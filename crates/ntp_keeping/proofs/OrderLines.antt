@@ -1,4 +1,4 @@
--- The line of an order says its command.
+-- The line of a command says it.
 use Rattle.std.proofs.Common.{◌≡◌, ℕ, ◌<◌, ◌==◌, true, false, List, [], ◌∷◌, ◌++◌, length, Some, Ok, refl, ap, ◌∙◌, arith, lit<}
 use Rattle.std.specs.Prelude.{codes, not}
 use Rattle.std.specs.Char.{is_ascii_digit, is_ascii_lowercase}
@@ -7,13 +7,13 @@ use Rattle.ntp_mac.specs.declared.key.Algorithm.{Algorithm}
 use Rattle.ntp_mac.specs.declared.key.Algorithm.TheVariants.{Md5, Sha1}
 use Rattle.ntp_admin.specs.Words.{parts, algorithm_in}
 use Rattle.ntp_admin.specs.Spells.{command_in}
-use Rattle.ntp_keeping.specs.declared.order.Order.{Order}
-use Rattle.ntp_keeping.specs.declared.order.Order.TheVariants as order
-use Rattle.ntp_keeping.specs.Orders.{algorithm_text, order_words, order_text, octets_in, command_of, IsOrder, WritesCommand}
+use Rattle.ntp_events.specs.declared.command.Command.{Command}
+use Rattle.ntp_events.specs.declared.command.Command.TheVariants as command
+use Rattle.ntp_keeping.specs.Orders.{algorithm_text, command_words, command_text, HasOctets, IsCommand, WritesCommand}
 use Rattle.ntp_keeping.proofs.Joined.{lacks, AllLack, parts-all, lacks-all, parts-line, lacks-by}
 use Rattle.ntp_keeping.proofs.Spelled.{reads-address, reads-number, reads-key, lacks-address, lacks-decimal, lacks-digits}
 
--- an octet that no word of an order has
+-- an octet that no word of a command has
 record Outside (c : ℕ) : Type 0 where
   digit : is_ascii_digit c ≡ false
   hex : is_hex_digit c ≡ false
@@ -36,9 +36,9 @@ reads-algorithm : (algorithm : Algorithm) → algorithm_in (algorithm_text algor
 reads-algorithm Md5 = refl
 reads-algorithm Sha1 = refl
 
--- the words of an order lack it
-words-lack : (c : ℕ) → Outside c → (o : Order) → IsOrder o → AllLack c (order_words (encode_lower (octets_in o)) o)
-words-lack c out (order.Enrol address number key budget) is = (
+-- the words of a command lack it
+words-lack : (c : ℕ) → Outside c → (o : Command) (octets : List ℕ) → IsCommand o → HasOctets o octets → AllLack c (command_words (encode_lower octets) o)
+words-lack c out (command.Enrol address number key budget) octets is has = (
   lacks-by is_ascii_lowercase c out.lower (codes "enrol") refl,
   (
     lacks-address c out.digit out.dot address is.0,
@@ -47,9 +47,9 @@ words-lack c out (order.Enrol address number key budget) is = (
       (
         lacks-algorithm c out key.algorithm,
         (
-          lacks-digits c key.octets out.hex is.2.1,
+          lacks-digits c octets out.hex has.1.2,
           (
-            lacks-decimal c budget.value out.digit (omega (arith, is.3)),
+            lacks-decimal c budget.value out.digit (omega (arith, is.2)),
             tt,
           ),
         ),
@@ -57,14 +57,14 @@ words-lack c out (order.Enrol address number key budget) is = (
     ),
   ),
 )
-words-lack c out (order.Revoke address) is = (
+words-lack c out (command.Revoke address) octets is has = (
   lacks-by is_ascii_lowercase c out.lower (codes "revoke") refl,
   (
     lacks-address c out.digit out.dot address is,
     tt,
   ),
 )
-words-lack c out (order.Budget address budget) is = (
+words-lack c out (command.Budget address budget) octets is has = (
   lacks-by is_ascii_lowercase c out.lower (codes "budget") refl,
   (
     lacks-address c out.digit out.dot address is.0,
@@ -74,7 +74,7 @@ words-lack c out (order.Budget address budget) is = (
     ),
   ),
 )
-words-lack c out (order.Rollover address number key) is = (
+words-lack c out (command.Rollover address number key) octets is has = (
   lacks-by is_ascii_lowercase c out.lower (codes "rollover") refl,
   (
     lacks-address c out.digit out.dot address is.0,
@@ -83,14 +83,14 @@ words-lack c out (order.Rollover address number key) is = (
       (
         lacks-algorithm c out key.algorithm,
         (
-          lacks-digits c key.octets out.hex is.2.1,
+          lacks-digits c octets out.hex has.1.2,
           tt,
         ),
       ),
     ),
   ),
 )
-words-lack c out (order.Retire address number) is = (
+words-lack c out (command.Retire address number) octets is has = (
   lacks-by is_ascii_lowercase c out.lower (codes "retire") refl,
   (
     lacks-address c out.digit out.dot address is.0,
@@ -101,34 +101,35 @@ words-lack c out (order.Retire address number) is = (
   ),
 )
 
--- its words are the command's
-pub words-say : (o : Order) → IsOrder o → command_in (order_words (encode_lower (octets_in o)) o) ≡ Ok (command_of o)
+-- they are the command's
+pub words-say : (o : Command) (octets : List ℕ) → IsCommand o → HasOctets o octets → command_in (command_words (encode_lower octets) o) ≡ Ok o
 unfolding command_in
-words-say (order.Enrol address number key budget) is =
-    rw (reads-address address is.0, reads-number number is.1, reads-algorithm key.algorithm, reads-key key.octets is.2.0 is.2.1, reads-number budget is.3) refl
-words-say (order.Revoke address) is = rw (reads-address address is) refl
-words-say (order.Budget address budget) is = rw (reads-address address is.0, reads-number budget is.1) refl
-words-say (order.Rollover address number key) is =
-    rw (reads-address address is.0, reads-number number is.1, reads-algorithm key.algorithm, reads-key key.octets is.2.0 is.2.1) refl
-words-say (order.Retire address number) is = rw (reads-address address is.0, reads-number number is.1) refl
+words-say (command.Enrol address number key budget) octets is has =
+    rw (reads-address address is.0, reads-number number is.1, reads-algorithm key.algorithm, reads-key octets has.1, reads-number budget is.2, ← has.0) refl
+words-say (command.Revoke address) octets is has = rw (reads-address address is) refl
+words-say (command.Budget address budget) octets is has = rw (reads-address address is.0, reads-number budget is.1) refl
+words-say (command.Rollover address number key) octets is has =
+    rw (reads-address address is.0, reads-number number is.1, reads-algorithm key.algorithm, reads-key octets has.1, ← has.0) refl
+words-say (command.Retire address number) octets is has = rw (reads-address address is.0, reads-number number is.1) refl
 
--- an order has a word
-some-words : (key_word : List ℕ) (o : Order) → 0 < length (order_words key_word o)
-some-words key_word (order.Enrol address number key budget) = lit< tt
-some-words key_word (order.Revoke address) = lit< tt
-some-words key_word (order.Budget address budget) = lit< tt
-some-words key_word (order.Rollover address number key) = lit< tt
-some-words key_word (order.Retire address number) = lit< tt
+-- a command has a word
+some-words : (key_word : List ℕ) (o : Command) → 0 < length (command_words key_word o)
+some-words key_word (command.Enrol address number key budget) = lit< tt
+some-words key_word (command.Revoke address) = lit< tt
+some-words key_word (command.Budget address budget) = lit< tt
+some-words key_word (command.Rollover address number key) = lit< tt
+some-words key_word (command.Retire address number) = lit< tt
 
--- the line of an order, with its line feed
-pub line-says : (o : Order) (text : List ℕ) → IsOrder o → text ≡ order_text (encode_lower (octets_in o)) o ++ (10 ∷ []) → WritesCommand text (command_of o)
-unfolding order_text
-line-says o text is whole =
-    let key_word = encode_lower (octets_in o) in
-    let all = order_words key_word o in
-    let line = order_text key_word o in
+-- the line of a command, with its line feed
+pub line-says : (o : Command) (octets text : List ℕ) → IsCommand o → HasOctets o octets → text ≡ command_text (encode_lower octets) o ++ (10 ∷ [])
+    → WritesCommand text o
+unfolding command_text
+line-says o octets text is has whole =
+    let key_word = encode_lower octets in
+    let all = command_words key_word o in
+    let line = command_text key_word o in
     let some = some-words key_word o in (
       line,
-      ap (parts 10) whole ∙ parts-line line (lacks-all 10 32 refl all some (words-lack 10 line_feed o is)),
-      ap command_in (parts-all 32 all some (words-lack 32 space o is)) ∙ words-say o is,
+      ap (parts 10) whole ∙ parts-line line (lacks-all 10 32 refl all some (words-lack 10 line_feed o octets is has)),
+      ap command_in (parts-all 32 all some (words-lack 32 space o octets is has)) ∙ words-say o octets is has,
     )

@@ -1,5 +1,5 @@
 -- What is written of a number, an address and a key is read as it.
-use Rattle.std.proofs.Common.{◌≡◌, ℕ, zero, suc, ◌^◌, ◌<◌, ◌≤◌, ◌==◌, ◌&&◌, ◌||◌, true, false, List, [], ◌∷◌, length, Some, None, refl, ap, subst, sym, ◌∙◌, arith, rules, lit<}
+use Rattle.std.proofs.Common.{◌≡◌, ℕ, zero, suc, ◌*◌, ◌^◌, ◌<◌, ◌≤◌, ◌==◌, ◌&&◌, ◌||◌, true, false, List, [], ◌∷◌, length, Some, None, refl, ap, subst, sym, ◌∙◌, arith, rules, lit<}
 use Rattle.std.specs.Prelude.{map, not, slice_index, nat_le, if◌then◌else◌}
 use Rattle.std.specs.Result.{result_ok}
 use Rattle.std.specs.List.{join_with_byte, list_all}
@@ -16,7 +16,8 @@ use Rattle.hex.proofs.HexLemmas.{decode_of-encode_lower, decode_of-ok, length-en
 use Rattle.ntp_register.specs.declared.address.Address.{Address}
 use Rattle.ntp_admin.specs.Words.{is_decimal, decimal_in, number_in, key_in, hex_in, address_in, address_from, non_zero, ◌>>=◌}
 use Rattle.ntp_admin.proofs.Numbers.{new-non_zero}
-use Rattle.ntp_keeping.specs.Orders.{address_text, number_text, IsAddress, IsNumber}
+use Rattle.ntp_keeping.specs.declared.order.NewKey.{NewKey}
+use Rattle.ntp_keeping.specs.Orders.{address_text, number_text, AreKeyOctets, IsAddress, IsNewKey, IsNumber}
 use Rattle.ntp_keeping.proofs.Joined.{lacks, lacks-by, lacks-joined, parts-joined}
 
 own : IsNumeralModel (λ ds. list_all is_ascii_digit ds ≡ true) (digits_value 10)
@@ -115,8 +116,13 @@ lacks-digits c octets other bytes =
     let read = decode_of-ok (encode_lower octets) octets (decode_of-encode_lower octets bytes) in
     lacks-by is_hex_digit c other (encode_lower octets) (list_all-from_AllPass is_hex_digit (encode_lower octets) read.1)
 
-pub reads-key : (octets : List ℕ) → length octets ≡ 20 → IsBytes octets → key_in (encode_lower octets) ≡ Some octets
-reads-key octets twenty bytes =
-    let whole = decode_of-encode_lower octets bytes in
-    let forty : length (encode_lower octets) ≡ 40 = omega (arith, length-encode_with lower_digits octets) in
-    ap (λ n. if nat_le 2 n && nat_le n 64 then hex_in (encode_lower octets) else None) forty ∙ ap result_ok whole
+pub reads-key : (octets : List ℕ) → AreKeyOctets octets → key_in (encode_lower octets) ≡ Some octets
+reads-key octets is =
+    let whole = decode_of-encode_lower octets is.2 in
+    let twice : length (encode_lower octets) ≡ 2 * length octets = omega (arith, length-encode_with lower_digits octets) in
+    let fits : (nat_le 2 (length (encode_lower octets)) && nat_le (length (encode_lower octets)) 64) ≡ true = grind (arith, nat_tests, is.0, is.1) in
+    ap (λ b. if b then hex_in (encode_lower octets) else None) fits ∙ ap result_ok whole
+
+-- a new key is a key
+pub new-key : (key : NewKey) → IsNewKey key → AreKeyOctets key.octets
+new-key key is = (omega (arith, is.0), omega (arith, is.0), is.1)

@@ -2,3 +2,4 @@ pub mod Numbers
 pub mod Orders
 pub mod Grants
 pub mod AnswersFile
+pub mod Alike

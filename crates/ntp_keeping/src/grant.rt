@@ -88,7 +88,7 @@ fn chrony_key(alloc: Global, number: NonZero<u16>, key: NewKey) -> Result<String
 fn ntpsec_key(alloc: Global, number: NonZero<u16>, key: NewKey) -> Result<String, AllocError>
     ensures { IfOk result (λ text. string_bytes text ≡ ntpsec_key number key) }
 {
-    let algorithm = algorithm_word(key);
+    let algorithm = algorithm_word(key.algorithm);
     let digits = hex::encode(alloc, key.octets)?;
     format!(in alloc; "{number} {algorithm} {digits}")
 }

@@ -1,15 +1,19 @@
 //! What is decided where customers are kept: which key number is the lowest that is free, how a command is written, what a customer is told
-//! of its key, and what an answers file answers. It reads no file, and writes none.
+//! of its key, what an answers file answers, and into which fewer commands others are folded. It reads no file, and writes none.
 #![tactic(auto)]
 
+mod alike;
 mod answers;
+mod folding;
 mod grant;
 mod numbers;
 mod order;
 mod order_text;
 
+pub use alike::leave_the_same;
 pub use answers::answer_behind;
+pub use folding::{FoldFault, Folded, GivenKey, Kept, Terms, fold};
 pub use grant::{Grant, customer_text};
 pub use numbers::lowest_free;
 pub use order::{NEW_KEY_OCTETS, NewKey, Order};
-pub use order_text::{order_line, order_shown};
+pub use order_text::{command_line, order_line, order_shown};

@@ -1,0 +1,44 @@
+-- Lists of commands that leave the same customers.
+use Rattle.std.specs.Prelude.{◌≡◌, ◌≢◌, ◌⊎◌, ℕ, ◌<◌, IsSome, Option, Some, option_map, List, [], map, length}
+use Rattle.std.specs.declared.alloc.Global.{Global}
+use Rattle.ntp_customer.specs.Customer.{Enrolment, enrolment_at, older_in, held_in}
+use Rattle.ntp_register.specs.declared.address.Address.{Address}
+use Rattle.ntp_register.specs.Registry.{Registry, customer_at, holder_of}
+use Rattle.ntp_events.specs.declared.command.Command.{Command}
+use Rattle.ntp_events.specs.declared.event.Event.{Event}
+use Rattle.ntp_events.specs.declared.event.Event.TheVariants as event
+use Rattle.ntp_events.specs.declared.outcome.Outcome.{Outcome}
+use Rattle.ntp_service_run.specs.Events.{address_of}
+use Rattle.ntp_service_run.specs.Headline.{Tells}
+
+-- what an address has: nothing where it was never enrolled, else its enrolment, and none where it is revoked (profile)
+abbrev pub standing_at : Registry → Address → Option (Option Enrolment)
+standing_at r address = option_map enrolment_at (customer_at r address)
+
+-- two services have the same customers, with the same keys and budgets; the same addresses are revoked, and each number has the same
+-- holder. What was counted is left aside (profile)
+pub record HaveTheSame (one other : Registry) : Type 0 where
+  pub standings : (address : Address) → standing_at one address ≡ standing_at other address
+  pub holders : (number : ℕ) → holder_of one number ≡ holder_of other number
+
+-- a service with no customers was given commands, which it carried out or refused, and came to this (profile)
+abbrev pub ComesOf : List Command → Registry → Type 0
+ComesOf commands service =
+    (happened : List (Event Global × Outcome)) × (map (λ p. p.0) happened ≡ map event.Command commands) × Tells [] happened service
+
+-- the address that a command names (profile)
+abbrev pub address_named : Command → Address
+address_named command = address_of {A = Global} (event.Command command)
+
+-- two lists of commands leave the same customers (profile)
+abbrev pub LeaveTheSame : List Command → List Command → Type 0
+LeaveTheSame one other = (a : Registry) × (b : Registry) × ComesOf one a × ComesOf other b × HaveTheSame a b
+
+-- not to be believed: for proofs. Two enrolments have one key with a number
+abbrev pub HoldOne : Enrolment → Enrolment → ℕ → Type 0
+HoldOne e f number = IsSome (held_in e number) × (held_in e number ≡ held_in f number)
+
+-- not to be believed: for proofs. Two enrolments have one newer key, or have none
+abbrev pub HaveOneNewer : Enrolment → Enrolment → Type 0
+HaveOneNewer e f = ((length e.keys < 2) × (length f.keys < 2))
+    ⊎ ((number : ℕ) × (length e.keys ≡ 2) × (length f.keys ≡ 2) × (option_map (λ k. k.number) (older_in e) ≢ Some number) × HoldOne e f number)

@@ -144,6 +144,11 @@ impl<'a> Finder<'a> {
     fn top(&mut self) -> Result<(), AllocError> {
         let document = self.document;
         self.reference(document)?;
+        self.keys_of_top(document)
+    }
+
+    // Searches the keys of the top level.
+    fn keys_of_top(&mut self, document: &Table) -> Result<(), AllocError> {
         if let Some(fault) = customers_fault(document) {
             self.add(self.lines.top.line_of("customer"), true, fault)?;
         }

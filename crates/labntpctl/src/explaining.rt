@@ -196,8 +196,8 @@ impl Explainer {
             };
             records.whole = records.whole.saturating_add(1);
             if let Some(packet) = packet_in(capture.link, frame) {
-                if let Some(Datagram { source, payload }) = datagram_in(packet, port) {
-                    self.datagram(alloc, Address(source), payload)?;
+                if let Some(datagram) = datagram_in(packet, port) {
+                    self.datagram(alloc, address_of(&datagram), datagram.payload)?;
                 }
             }
             rest = behind;
@@ -321,6 +321,12 @@ impl Explainer {
             ),
         }
     }
+}
+
+// The address from which a datagram came.
+fn address_of(datagram: &Datagram<'_>) -> Address {
+    let [a, b, c, d] = datagram.source;
+    Address([a, b, c, d])
 }
 
 // The name of an algorithm.

@@ -150,11 +150,13 @@ impl<'a> Finder<'a> {
     // Searches the keys of the top level.
     fn keys_of_top(&mut self, document: &Table) -> Result<(), AllocError> {
         if let Some(fault) = customers_fault(document) {
-            self.add(self.lines.top.line_of("customer"), true, fault)?;
+            let line = self.lines.top.line_of("customer");
+            self.add(line, true, fault)?;
         }
         for key in document.keys() {
             if let Some(fault) = top_key_fault(key.as_str()) {
-                self.add(self.lines.top.line_of(key.as_str()), true, fault)?;
+                let line = self.lines.top.line_of(key.as_str());
+                self.add(line, true, fault)?;
             }
         }
         Ok(())

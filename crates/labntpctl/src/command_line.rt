@@ -3,7 +3,6 @@
 use crate::customer_file::ANY;
 use crate::door::{Door, Output, Place};
 use crate::explaining::Explained;
-use crate::folding::FoldAsked;
 use crate::places::FilesNamed;
 use clap::builder::ValueParser;
 use clap::error::ErrorKind;
@@ -38,7 +37,6 @@ Examples:
   labntpctl door --config /etc/labntp/labntpd.toml
   labntpctl check --config /etc/labntp/labntpd.toml
   labntpctl explain --pcap queries.pcap --config /etc/labntp/labntpd.toml
-  labntpctl fold --config /etc/labntp/labntpd.toml
 
 Exit status: 0 done; 1 refused, or a file has a fault; 2 other words; 3 no answer came in time, or a file failed; 4 want of memory.";
 
@@ -61,8 +59,6 @@ pub enum Asked<'a> {
     Door(Door<'a>),
     /// A change.
     Order(Ordered<'a>),
-    /// A fold of the commands into the register.
-    Fold(FoldAsked<'a>),
 }
 
 /// A change that is asked for.
@@ -124,7 +120,6 @@ fn asked_in<'a>(matches: &ArgMatches<'a>) -> Result<Asked<'a>, &'static str> {
             config: matches.get_str("config").ok_or("--config FILE is missing")?,
             explained: explained_in(matches)?,
         }),
-        "fold" => Ok(Asked::Fold(fold_in(matches)?)),
         _ => Ok(Asked::Order(ordered_in(name, matches)?)),
     }
 }
@@ -181,15 +176,6 @@ fn explained_in<'a>(matches: &ArgMatches<'a>) -> Result<Explained<'a>, &'static 
         (None, None, Some(path)) => Ok(Explained::Capture(path)),
         _ => Err("either DATAGRAM and --from ADDRESS, or --pcap FILE is wanted"),
     }
-}
-
-// What is asked of a fold.
-fn fold_in<'a>(matches: &ArgMatches<'a>) -> Result<FoldAsked<'a>, &'static str> {
-    Ok(FoldAsked {
-        config: matches.get_str("config").ok_or("--config FILE is missing")?,
-        output: matches.get_str("output"),
-        dry_run: matches.get_flag("dry-run"),
-    })
 }
 
 // The change that is asked for by a name.
@@ -292,8 +278,7 @@ fn command<'a>(alloc: Global) -> Result<Command<'a>, AllocError> {
         )?)?
         .subcommand(budget_command(alloc)?)?
         .subcommand(rollover_command(alloc)?)?
-        .subcommand(retire_command(alloc)?)?
-        .subcommand(fold_command(alloc)?)
+        .subcommand(retire_command(alloc)?)
 }
 
 // Who is enrolled.
@@ -432,27 +417,6 @@ fn retire_command<'a>(alloc: Global) -> Result<Command<'a>, AllocError> {
         "number",
         "The key's number [default: that of the older one]",
     ))
-}
-
-// A shorter commands file.
-fn fold_command<'a>(alloc: Global) -> Result<Command<'a>, AllocError> {
-    Command::new(alloc, "fold")
-        .about(
-            "Folds the commands into the register: both files are written anew, and make the same customers",
-        )
-        .arg(value(alloc, "config", "FILE", "The configuration file of labntpd").required(true))?
-        .arg(value(
-            alloc,
-            "output",
-            "DIRECTORY",
-            "Where the new files are written, if not in the place of the old ones",
-        ))?
-        .arg(
-            Arg::new(alloc, "dry-run")
-                .long("dry-run")
-                .action(ArgAction::SetTrue)
-                .help("Only tells how long the new files would be"),
-        )
 }
 
 // A command that changes a customer.

@@ -1,7 +1,7 @@
 //! What is to be appended for a change, by what the files have come to.
 
 use crate::command_line::{Change, Ordered};
-use crate::standing::{Standing, standing_at};
+use crate::standing::{Standing, standing_at, write_unended};
 use labntpd_configuration::Configuration;
 use labntpd_start::start_lines;
 use ntp_admin::{Command, parse_command, refusal_word};
@@ -40,7 +40,10 @@ pub fn decide(
     let path = configuration.commands.as_str();
     let register = configuration.register.as_str();
     let mut standing = standing_at(rt, rt.alloc(), register, Some(path), &mut faults)?;
-    standing.judge_end(path, &mut faults)?;
+    if !standing.is_ended {
+        write_unended(&mut faults, path, standing.lines);
+        return Err(TEXT_FAULTY);
+    }
     let order = order_for(rt, asked, &standing)?;
     let Ok(line) = order_line(rt.alloc(), order) else {
         return Err(memory_status(&mut faults));
@@ -120,8 +123,8 @@ fn order_for(rt: &HostRuntime, asked: &Ordered<'_>, standing: &Standing) -> Resu
     }
 }
 
-/// The lowest number that nobody holds; else tells that there is none, and gives the exit status.
-pub fn free_number(rt: &HostRuntime, standing: &Standing) -> Result<NonZero<u16>, u8> {
+// The lowest number that nobody holds.
+fn free_number(rt: &HostRuntime, standing: &Standing) -> Result<NonZero<u16>, u8> {
     let mut faults = start_lines(rt);
     let Ok(held) = standing.held_numbers(rt.alloc()) else {
         return Err(memory_status(&mut faults));
@@ -135,8 +138,8 @@ pub fn free_number(rt: &HostRuntime, standing: &Standing) -> Result<NonZero<u16>
     }
 }
 
-/// A key of the system's random octets; of zeros where it is only to be shown as a word. A fault gives the exit status.
-pub fn new_key(rt: &HostRuntime, algorithm: Algorithm, is_shown: bool) -> Result<NewKey, u8> {
+// A key of the system's random octets; of zeros where it is only to be shown as a word.
+fn new_key(rt: &HostRuntime, algorithm: Algorithm, is_shown: bool) -> Result<NewKey, u8> {
     let mut octets = [0; NEW_KEY_OCTETS];
     if !is_shown {
         if let Err(error) = rt.fill_bytes(&mut octets) {

@@ -13,13 +13,8 @@ mod deciding;
 mod door;
 mod door_rules;
 mod explaining;
-mod folded_pair;
-mod folding;
-mod history;
-mod key_octets;
 mod ordering;
 mod places;
-mod placing;
 mod report;
 mod standing;
 mod table;
@@ -31,7 +26,6 @@ use command_line::{Asked, parse};
 use customers::customers_status;
 use door::door_status;
 use explaining::explain_status;
-use folding::fold_status;
 use labntpd_host::has_standard_streams;
 use labntpd_start::start_lines;
 use ntp_customer_files::{memory_status, unread_status, write_status};
@@ -59,7 +53,6 @@ fn status(rt: &HostRuntime) -> u8 {
         Ok(Asked::Check(files)) => check_status(rt, files),
         Ok(Asked::Explain { config, explained }) => explain_status(rt, config, explained),
         Ok(Asked::Order(order)) => order_status(rt, &order),
-        Ok(Asked::Fold(fold)) => fold_status(rt, &fold),
         Err(error) if error.kind() == ErrorKind::OutOfMemory => memory_status(&mut start_lines(rt)),
         Err(error) => {
             let _ = error.print(rt);

@@ -62,8 +62,8 @@ fn show(rt: &HostRuntime, decided: &Decided) -> Result<(), u8> {
     tell(rt, format_args!("line {number}: {shown}"))
 }
 
-/// Writes to standard output; where that fails, the exit status.
-pub fn tell<D: Display + Drop>(rt: &HostRuntime, said: D) -> Result<(), u8> {
+// Writes to standard output.
+fn tell<D: Display + Drop>(rt: &HostRuntime, said: D) -> Result<(), u8> {
     match write!(rt.stdout(), "{said}") {
         Ok(()) => Ok(()),
         Err(_) => Err(write_status(&mut start_lines(rt))),

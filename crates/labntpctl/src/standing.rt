@@ -1,16 +1,13 @@
 //! What the register and the commands have come to.
 
-use crate::history::History;
 use labntpd_assembly::begin_commands;
 use labntpd_start::{ReadRegister, register_at};
 use ntp_admin::Command;
-use ntp_customer_files::{
-    Loaded, MOST_FILE_OCTETS, TEXT_FAULTY, apply_commands, failed_status, memory_status,
-};
+use ntp_customer_files::{Loaded, MOST_FILE_OCTETS, apply_commands, failed_status, memory_status};
 use ntp_host::read_regular_file;
 use ntp_register::Address;
 use ntp_reply::Reference;
-use ntp_reports::{Both, CustomerCounts};
+use ntp_reports::CustomerCounts;
 use ntp_service_run::Service;
 use std::alloc::{AllocError, Global};
 use std::fs::Files;
@@ -25,8 +22,6 @@ pub struct Standing {
     pub reference: Reference,
     /// Their numbers, and the lines that enrolled them.
     pub counts: CustomerCounts,
-    /// The commands of both files: the register's enrolments, then each command of the lines.
-    pub history: Vec<Command>,
     /// How many lines the commands file has.
     pub lines: u64,
     /// How many octets it has.
@@ -36,15 +31,6 @@ pub struct Standing {
 }
 
 impl Standing {
-    /// Tells in one line to `faults` that no line feed ends the commands file at this path, if none does, and gives the exit status.
-    pub fn judge_end<F: Write>(&self, path: &str, faults: &mut F) -> Result<(), u8> {
-        if self.is_ended {
-            return Ok(());
-        }
-        write_unended(faults, path, self.lines);
-        Err(TEXT_FAULTY)
-    }
-
     /// The numbers that are held. The memory for them is taken from `alloc`.
     pub fn held_numbers(&self, alloc: Global) -> Result<Vec<u16>, AllocError> {
         let mut held = Vec::new(alloc);
@@ -86,7 +72,7 @@ pub fn standing_at<R: Files, F: Write>(
     };
     let counts = counts_of(alloc, &enrolments);
     let Loaded { service, reference } = loaded;
-    match come_to(service, reference, counts, enrolments, &octets) {
+    match come_to(service, reference, counts, &octets) {
         Some(standing) => Ok(standing),
         None => Err(memory_status(faults)),
     }
@@ -119,31 +105,17 @@ fn counts_of(alloc: Global, enrolments: &[Command]) -> CustomerCounts {
 fn come_to(
     mut service: Service,
     reference: Reference,
-    counts: CustomerCounts,
-    enrolments: Vec<Command>,
+    mut counts: CustomerCounts,
     octets: &[u8],
 ) -> Option<Standing> {
-    let history = History {
-        commands: enrolments,
-        has_missed: false,
-    };
-    let mut heard = Both {
-        first: counts,
-        second: history,
-    };
-    let lines = apply_commands(&mut service, octets, 0, &mut heard);
-    let Both {
-        first: counts,
-        second: history,
-    } = heard;
-    if counts.has_missed() || history.has_missed {
+    let lines = apply_commands(&mut service, octets, 0, &mut counts);
+    if counts.has_missed() {
         return None;
     }
     Some(Standing {
         service,
         reference,
         counts,
-        history: history.commands,
         lines,
         octets: octets.len(),
         is_ended: is_ended(octets),

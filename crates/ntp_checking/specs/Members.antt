@@ -41,8 +41,8 @@ is_right m.Budget value = is_some (number_of value)
 
 -- what is wrong where a value stands, or none
 abbrev pub wrong_value : Member → Option Data → Option Wrong
-wrong_value member None = Some wrong.Missing
-wrong_value member (Some value) = if is_right member value then None else Some wrong.Wanted
+wrong_value here None = Some wrong.Missing
+wrong_value here (Some value) = if is_right here value then None else Some wrong.Wanted
 
 -- what is wrong in a customer's table at a key
 abbrev pub wrong_at : Member → Members → Option Wrong

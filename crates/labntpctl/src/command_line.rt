@@ -1,8 +1,5 @@
 //! The words of the command line.
 
-use crate::customer_file::ANY;
-use crate::door::{Door, Output, Place};
-use crate::explaining::Explained;
 use crate::places::FilesNamed;
 use clap::builder::ValueParser;
 use clap::error::ErrorKind;
@@ -34,9 +31,6 @@ Examples:
   labntpctl enrol 192.0.2.10 --config /etc/labntp/labntpd.toml --server 198.51.100.1
   labntpctl rollover 192.0.2.10 --config /etc/labntp/labntpd.toml
   labntpctl retire 192.0.2.10 --config /etc/labntp/labntpd.toml
-  labntpctl door --config /etc/labntp/labntpd.toml
-  labntpctl check --config /etc/labntp/labntpd.toml
-  labntpctl explain --pcap queries.pcap --config /etc/labntp/labntpd.toml
 
 Exit status: 0 done; 1 refused, or a file has a fault; 2 other words; 3 no answer came in time, or a file failed; 4 want of memory.";
 
@@ -44,19 +38,7 @@ Exit status: 0 done; 1 refused, or a file has a fault; 2 other words; 3 no answe
 #[derive(Clone, Copy)]
 pub enum Asked<'a> {
     /// Who is enrolled, in a table or as objects of JSON.
-    Customers {
-        files: FilesNamed<'a>,
-        json: bool,
-    },
-    /// Every fault of the files.
-    Check(FilesNamed<'a>),
-    /// What datagrams would get, by the configuration file at a path.
-    Explain {
-        config: &'a str,
-        explained: Explained<'a>,
-    },
-    /// The rules by which the kernel polices the door.
-    Door(Door<'a>),
+    Customers { files: FilesNamed<'a>, json: bool },
     /// A change.
     Order(Ordered<'a>),
 }
@@ -114,12 +96,6 @@ fn asked_in<'a>(matches: &ArgMatches<'a>) -> Result<Asked<'a>, &'static str> {
             files: files_in(matches)?,
             json: matches.get_flag("json"),
         }),
-        "door" => Ok(Asked::Door(door_in(matches)?)),
-        "check" => Ok(Asked::Check(files_in(matches)?)),
-        "explain" => Ok(Asked::Explain {
-            config: matches.get_str("config").ok_or("--config FILE is missing")?,
-            explained: explained_in(matches)?,
-        }),
         _ => Ok(Asked::Order(ordered_in(name, matches)?)),
     }
 }
@@ -131,50 +107,6 @@ fn files_in<'a>(matches: &ArgMatches<'a>) -> Result<FilesNamed<'a>, &'static str
         (Some(config), None) => Ok(FilesNamed::Configured(config)),
         (None, Some(register)) => Ok(FilesNamed::Each { register, commands }),
         _ => Err("either --config FILE or REGISTER is wanted"),
-    }
-}
-
-// What is asked of the door.
-fn door_in<'a>(matches: &ArgMatches<'a>) -> Result<Door<'a>, &'static str> {
-    Ok(Door {
-        config: matches.get_str("config").ok_or("--config FILE is missing")?,
-        place: place_of(matches)?,
-        output: match (matches.get_str("output"), matches.get_flag("watch")) {
-            (Some(path), true) => Output::Kept(path),
-            (Some(path), false) => Output::Written(path),
-            (None, true) => return Err("--watch wants --output FILE"),
-            (None, false) => Output::Printed,
-        },
-    })
-}
-
-// Where the rules apply, if the words say it.
-fn place_of(matches: &ArgMatches<'_>) -> Result<Option<Place>, &'static str> {
-    let Some(word) = matches.get_str("address") else {
-        return Ok(None);
-    };
-    match server_in(word) {
-        Some(Server { address, port }) if address != ANY => Ok(Some(Place {
-            address,
-            port: if word.contains(':') { Some(port) } else { None },
-        })),
-        _ => Err("--address: an IPv4 address of this host, with a port or without, is wanted"),
-    }
-}
-
-// The datagrams that are explained.
-fn explained_in<'a>(matches: &ArgMatches<'a>) -> Result<Explained<'a>, &'static str> {
-    match (
-        matches.get_str("datagram"),
-        matches.get_str("from"),
-        matches.get_str("pcap"),
-    ) {
-        (Some(octets), Some(from), None) => Ok(Explained::Datagram {
-            octets,
-            from: words::address(from).ok_or("--from: an IPv4 address, as 192.0.2.1, is wanted")?,
-        }),
-        (None, None, Some(path)) => Ok(Explained::Capture(path)),
-        _ => Err("either DATAGRAM and --from ADDRESS, or --pcap FILE is wanted"),
     }
 }
 
@@ -267,9 +199,6 @@ fn command<'a>(alloc: Global) -> Result<Command<'a>, AllocError> {
         .subcommand_required(true)
         .disable_help_subcommand(true)
         .subcommand(customers_command(alloc)?)?
-        .subcommand(door_command(alloc)?)?
-        .subcommand(check_command(alloc)?)?
-        .subcommand(explain_command(alloc)?)?
         .subcommand(enrol_command(alloc)?)?
         .subcommand(order(
             alloc,
@@ -292,66 +221,6 @@ fn customers_command<'a>(alloc: Global) -> Result<Command<'a>, AllocError> {
             .action(ArgAction::SetTrue)
             .help("Prints an object of JSON for each customer"),
     )
-}
-
-// The rules of the door.
-fn door_command<'a>(alloc: Global) -> Result<Command<'a>, AllocError> {
-    Command::new(alloc, "door")
-        .about("Prints rules of nftables that let pass from each customer what its budget asks for")
-        .arg(value(alloc, "config", "FILE", "The configuration file of labntpd").required(true))?
-        .arg(value(
-            alloc,
-            "address",
-            "ADDRESS[:PORT]",
-            "Where labntpd is asked [default: where it listens]",
-        ))?
-        .arg(value(
-            alloc,
-            "output",
-            "FILE",
-            "Writes the rules into a file, if it has others",
-        ))?
-        .arg(
-            Arg::new(alloc, "watch")
-                .long("watch")
-                .action(ArgAction::SetTrue)
-                .help("Runs on, and writes the file again whenever the rules change"),
-        )
-}
-
-// Every fault of the files.
-fn check_command<'a>(alloc: Global) -> Result<Command<'a>, AllocError> {
-    let command = Command::new(alloc, "check").about(
-        "Tells every fault of the configuration and of the files that it names, or of a register and of commands: a line each, with its line in the file. Lines that begin with `warning: ` tell what is hardly meant",
-    );
-    files_of(alloc, command)
-}
-
-// What datagrams would get.
-fn explain_command<'a>(alloc: Global) -> Result<Command<'a>, AllocError> {
-    Command::new(alloc, "explain")
-        .about(
-            "Tells what a datagram would get by the register and the commands, and why, and spends nothing of a budget",
-        )
-        .arg(
-            Arg::new(alloc, "datagram")
-                .value_name("DATAGRAM")
-                .action(ArgAction::Set)
-                .help("The octets of the UDP payload, in hexadecimal digits"),
-        )?
-        .arg(value(
-            alloc,
-            "from",
-            "ADDRESS",
-            "The IPv4 address from which it came",
-        ))?
-        .arg(value(
-            alloc,
-            "pcap",
-            "FILE",
-            "A capture file in pcap form: each UDP datagram to the port is explained",
-        ))?
-        .arg(value(alloc, "config", "FILE", "The configuration file of labntpd").required(true))
 }
 
 // A command that reads the files of a configuration, or those that are named one by one.

@@ -1,7 +1,7 @@
 //! What is to be appended for a change, by what the files have come to.
 
 use crate::command_line::{Change, Ordered};
-use crate::standing::{Standing, standing_at, write_unended};
+use crate::standing::{Standing, standing_at};
 use labntpd_configuration::Configuration;
 use labntpd_start::start_lines;
 use ntp_admin::{Command, parse_command, refusal_word};
@@ -41,7 +41,11 @@ pub fn decide(
     let register = configuration.register.as_str();
     let mut standing = standing_at(rt, rt.alloc(), register, Some(path), &mut faults)?;
     if !standing.is_ended {
-        write_unended(&mut faults, path, standing.lines);
+        let line = standing.lines.saturating_add(1);
+        let _ = writeln!(
+            faults,
+            "{path}: line {line}: a line feed at its end is wanted"
+        );
         return Err(TEXT_FAULTY);
     }
     let order = order_for(rt, asked, &standing)?;

@@ -1,31 +1,20 @@
 //! The program for clerks: `labntpctl` lists the customers of labntpd, and enrols, revokes and changes them.
 #![tactic(auto)]
 
-mod checked_commands;
-mod checked_configuration;
-mod checked_register;
-mod checking;
 mod command_line;
 mod commands_file;
 mod customer_file;
 mod customers;
 mod deciding;
-mod door;
-mod door_rules;
-mod explaining;
 mod ordering;
 mod places;
-mod report;
 mod standing;
 mod table;
 mod waiting;
 
-use checking::check_status;
 use clap::error::ErrorKind;
 use command_line::{Asked, parse};
 use customers::customers_status;
-use door::door_status;
-use explaining::explain_status;
 use labntpd_host::has_standard_streams;
 use labntpd_start::start_lines;
 use ntp_customer_files::{memory_status, unread_status, write_status};
@@ -49,9 +38,6 @@ fn status(rt: &HostRuntime) -> u8 {
     };
     match parse(rt.alloc(), &words) {
         Ok(Asked::Customers { files, json }) => customers_status(rt, files, json),
-        Ok(Asked::Door(door)) => door_status(rt, &door),
-        Ok(Asked::Check(files)) => check_status(rt, files),
-        Ok(Asked::Explain { config, explained }) => explain_status(rt, config, explained),
         Ok(Asked::Order(order)) => order_status(rt, &order),
         Err(error) if error.kind() == ErrorKind::OutOfMemory => memory_status(&mut start_lines(rt)),
         Err(error) => {

@@ -6,7 +6,6 @@ use ntp_admin::Command;
 use ntp_customer_files::{Loaded, MOST_FILE_OCTETS, apply_commands, failed_status, memory_status};
 use ntp_host::read_regular_file;
 use ntp_register::Address;
-use ntp_reply::Reference;
 use ntp_reports::CustomerCounts;
 use ntp_service_run::Service;
 use std::alloc::{AllocError, Global};
@@ -18,8 +17,6 @@ use std::io::Write;
 pub struct Standing {
     /// The customers, as the daemon has them.
     pub service: Service,
-    /// The state of the clock that the register names.
-    pub reference: Reference,
     /// Their numbers, and the lines that enrolled them.
     pub counts: CustomerCounts,
     /// How many lines the commands file has.
@@ -71,8 +68,8 @@ pub fn standing_at<R: Files, F: Write>(
         Some(path) => commands_at(files, alloc, path, faults)?,
     };
     let counts = counts_of(alloc, &enrolments);
-    let Loaded { service, reference } = loaded;
-    match come_to(service, reference, counts, &octets) {
+    let Loaded { service, .. } = loaded;
+    match come_to(service, counts, &octets) {
         Some(standing) => Ok(standing),
         None => Err(memory_status(faults)),
     }
@@ -102,19 +99,13 @@ fn counts_of(alloc: Global, enrolments: &[Command]) -> CustomerCounts {
 }
 
 // What the customers of a register have come to by the octets of a commands file; nothing where memory ran out.
-fn come_to(
-    mut service: Service,
-    reference: Reference,
-    mut counts: CustomerCounts,
-    octets: &[u8],
-) -> Option<Standing> {
+fn come_to(mut service: Service, mut counts: CustomerCounts, octets: &[u8]) -> Option<Standing> {
     let lines = apply_commands(&mut service, octets, 0, &mut counts);
     if counts.has_missed() {
         return None;
     }
     Some(Standing {
         service,
-        reference,
         counts,
         lines,
         octets: octets.len(),
@@ -122,17 +113,8 @@ fn come_to(
     })
 }
 
-/// Tells that no line feed ends the last line of the commands file at a path, behind so many lines that one ends.
-pub fn write_unended<F: Write>(faults: &mut F, path: &str, lines: u64) {
-    let line = lines.saturating_add(1);
-    let _ = writeln!(
-        faults,
-        "{path}: line {line}: a line feed at its end is wanted"
-    );
-}
-
-/// Whether a line feed ends these octets, or there are none.
-pub fn is_ended(octets: &[u8]) -> bool {
+// Whether a line feed ends these octets, or there are none.
+fn is_ended(octets: &[u8]) -> bool {
     match octets.last() {
         None => true,
         Some(last) => *last == b'\n',

@@ -1,44 +1,47 @@
 -- Services that have the same customers.
-use Rattle.std.proofs.Common.{◌≡◌, ◌≢◌, ◌⊎◌, ℕ, suc, ◌<◌, ◌==◌, Bool, true, false, Option, Some, None, inl, inr, eqb-true, List, [], ◌∷◌, ◌++◌, map, filter, length, get_or, refl, sym, ap, ◌∙◌, subst, arith, lit<, ⊎_elim}
-use Rattle.std.specs.Prelude.{option_map, if◌then◌else◌, Contains, slice_get, IfSome, IsSome}
-use Rattle.std.specs.List.{All, find}
+use Rattle.std.proofs.Common.{◌≡◌, ◌≢◌, ◌⊎◌, ℕ, suc, ◌<◌, Bool, true, false, Option, Some, None, inl, inr, List, [], ◌∷◌, ◌++◌, map, length, get_or, refl, sym, ap, ◌∙◌, subst, arith, ⊎_elim}
+use Rattle.std.specs.Prelude.{option_map, if◌then◌else◌, Contains}
+use Rattle.std.specs.List.{All}
 use Rattle.std.specs.Option.{option_map_or}
 use Rattle.std.specs.declared.alloc.Global.{Global}
 use Rattle.std.proofs.lemmas.List.{map-append}
-use Rattle.ntp_customer.specs.Customer.{Enrolment, CustomerState, enrolment_at, older_in, numbers_in, numbers_of}
+use Rattle.std.proofs.lemmas.List.Elements.{All-nil, All-push}
+use Rattle.ntp_customer.specs.Customer.{Enrolment, CustomerState, enrolment_at, numbers_in, numbers_of}
 use Rattle.ntp_customer.specs.Past.{short}
 use Rattle.ntp_register.specs.declared.address.Address.{Address}
-use Rattle.ntp_register.specs.Address.{address_eq}
 use Rattle.ntp_register.specs.Registry.{Registry, Agrees, customer_at, holder_of, numbers_at}
-use Rattle.ntp_register.proofs.AddressLaws.{address_eq_equiv, same_or_other_address}
+use Rattle.ntp_register.proofs.AddressLaws.{same_or_other_address}
 use Rattle.ntp_events.specs.declared.command.Command.{Command}
 use Rattle.ntp_events.specs.declared.event.Event.{Event}
 use Rattle.ntp_events.specs.declared.event.Event.TheVariants as event
+use Rattle.ntp_register.specs.declared.refusal.Refusal.TheVariants.{NoMemory}
 use Rattle.ntp_events.specs.declared.outcome.Outcome.{Outcome}
-use Rattle.ntp_service_run.specs.Events.{address_of, names, own}
+use Rattle.ntp_events.specs.declared.outcome.Outcome.TheVariants as outcome
+use Rattle.ntp_service_run.specs.Events.{names, own}
 use Rattle.ntp_service_run.specs.Model.{life_of}
-use Rattle.ntp_service_run.specs.Headline.{StandsFor, TellsOne, Tells, is_struck, kept}
+use Rattle.ntp_service_run.specs.Headline.{StandsFor, TellsOne, is_struck, kept}
 use Rattle.ntp_service_run.proofs.Histories.{other-address}
 use Rattle.ntp_service_run.proofs.Runs.{Tells-nil, Tells-push}
-use Rattle.ntp_keeping.specs.Alike.{address_named, standing_at, ComesOf, HaveTheSame, LeaveTheSame}
+use Rattle.ntp_keeping.specs.Alike.{address_named, standing_at, ComesOf, LeaveTheSame}
 
 -- ---- what commands come to
 
 pub comes-none : (service : Registry) → StandsFor {A = Global} service [] → ComesOf [] service
-comes-none service stands = ([], refl, Tells-nil [] service stands)
+comes-none service stands = ([], refl, All-nil (λ p. p.1 ≢ outcome.Refused NoMemory), Tells-nil [] service stands)
 
-pub comes-more : (commands : List Command) (c : Command) (old new : Registry) (o : Outcome) → ComesOf commands old
+pub comes-more : (commands : List Command) (c : Command) (old new : Registry) (o : Outcome) → ComesOf commands old → o ≢ outcome.Refused NoMemory
     → ((history : List (Event Global)) → StandsFor old history → TellsOne history (event.Command c) o new)
     → ComesOf (commands ++ c ∷ []) new
-comes-more commands c old new o comes tells = (
+comes-more commands c old new o comes had tells = (
   comes.0 ++ (event.Command c, o) ∷ [],
   map-append (λ p. p.0) comes.0 ((event.Command c, o) ∷ []) ∙ ap (λ es. es ++ event.Command c ∷ []) comes.1
       ∙ sym (map-append event.Command commands (c ∷ [])),
-  Tells-push [] comes.0 old new (event.Command c) o comes.2 (λ stands. tells _ stands),
+  All-push (λ p. p.1 ≢ outcome.Refused NoMemory) comes.0 (event.Command c, o) comes.2 had,
+  Tells-push [] comes.0 old new (event.Command c) o comes.3 (λ stands. tells _ stands),
 )
 
 pub comes-agrees : (commands : List Command) (service : Registry) → ComesOf commands service → Agrees service
-comes-agrees commands service comes = comes.2.stands.agrees
+comes-agrees commands service comes = comes.3.stands.agrees
 
 -- ---- an address that no command names
 
@@ -64,7 +67,7 @@ none-kept address (p ∷ ps) none =
 none-there : (commands : List Command) (service : Registry) (address : Address) → ComesOf commands service
     → own {A = Global} address (map event.Command commands) ≡ [] → customer_at service address ≡ None
 none-there commands service address comes none =
-    comes.2.stands.entries address
+    comes.3.stands.entries address
     ∙ ap (λ events. option_map short (life_of events)) (none-kept address comes.0 (ap (own address) comes.1 ∙ none))
 
 -- an address is named by a command, or nothing is its own

@@ -10,6 +10,7 @@ use Rattle.ntp_events.specs.declared.event.Event.TheVariants as event
 use Rattle.ntp_events.specs.declared.outcome.Outcome.{Outcome}
 use Rattle.ntp_service_run.specs.Events.{address_of}
 use Rattle.ntp_service_run.specs.Headline.{Tells}
+use Rattle.ntp_service_run.specs.Split.{HadMemory}
 
 -- what an address has: nothing where it was never enrolled, else its enrolment, and none where it is revoked (profile)
 abbrev pub standing_at : Registry → Address → Option (Option Enrolment)
@@ -21,10 +22,10 @@ pub record HaveTheSame (one other : Registry) : Type 0 where
   pub standings : (address : Address) → standing_at one address ≡ standing_at other address
   pub holders : (number : ℕ) → holder_of one number ≡ holder_of other number
 
--- a service with no customers was given commands, which it carried out or refused, and came to this (profile)
+-- a service with no customers was given commands, had memory for each, and came to this (profile)
 abbrev pub ComesOf : List Command → Registry → Type 0
 ComesOf commands service =
-    (happened : List (Event Global × Outcome)) × (map (λ p. p.0) happened ≡ map event.Command commands) × Tells [] happened service
+    (happened : List (Event Global × Outcome)) × (map (λ p. p.0) happened ≡ map event.Command commands) × HadMemory happened × Tells [] happened service
 
 -- the address that a command names (profile)
 abbrev pub address_named : Command → Address

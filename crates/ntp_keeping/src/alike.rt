@@ -1,8 +1,10 @@
 //! Whether two lists of commands leave the same customers.
-ghost use Rattle.std.specs.Prelude.{◌≡◌, IfOk, IfSome, IsSome};
+ghost use Rattle.std.specs.Prelude.{◌≡◌, ◌≢◌, IfOk, IfSome, IsSome};
 ghost use Rattle.std.specs.Bool.{OnTrue};
 ghost use Rattle.std.specs.List.{All};
 ghost use Rattle.ntp_customer.specs.Customer.{enrolment_at, older_in, IsCustomer};
+ghost use Rattle.ntp_events.specs.declared.outcome.Outcome.TheVariants as outcome;
+ghost use Rattle.ntp_service_run.specs.Headline.{command_outcome};
 ghost use Rattle.ntp_keeping.specs.Alike.{address_named, standing_at, ComesOf, LeaveTheSame, HaveOneNewer, HoldOne};
 
 use indexmap::IndexMap;
@@ -44,9 +46,20 @@ fn after(alloc: Global, commands: &[Command]) -> Result<Given, AllocError>
     let mut newer = IndexMap::new(alloc);
     for order in commands {
         let answer = service.command(order);
+        had_memory(answer)?;
         note(&mut newer, order, answer)?;
     }
     Ok(Given { service, newer })
+}
+
+// Whether there was memory for a command, by its answer.
+fn had_memory(answer: Result<(), Refusal>) -> Result<(), AllocError>
+    ensures { IfOk result (λ done. command_outcome answer ≢ outcome.Refused Refusal.NoMemory) }
+{
+    match answer {
+        Err(Refusal::NoMemory) => Err(AllocError),
+        _ => Ok(()),
+    }
 }
 
 // Notes the number of a rollover, where that is what was done.
@@ -56,7 +69,6 @@ fn note(
     answer: Result<(), Refusal>,
 ) -> Result<(), AllocError> {
     match (command, answer) {
-        (_, Err(Refusal::NoMemory)) => return Err(AllocError),
         (
             Command::Rollover {
                 address,

@@ -13,7 +13,7 @@ loop-order-preserved c =
     let order = c.order-item.result in
     let more : take (c.loop-order.order-index + 1) c.args.commands.now ≡ done ++ order ∷ [] =
     take_more c.args.commands.now c.loop-order.order-index order c.loop-order-test.true ∙ ap (λ x. done ++ x ∷ []) (sym c.order-item.is) in
-    rw more (comes-more done order _ _ (command_outcome c.command-answer.result) c.loop-order.invariant c.command-answer.ensures.tells)
+    rw more (comes-more done order _ _ (command_outcome c.command-answer.result) c.loop-order.invariant c.in_ok-had_memory.ensures c.command-answer.ensures.tells)
 
 pub returns : goal.returns
 returns c =

@@ -1,4 +1,4 @@
-use Rattle.std.proofs.Common.{◌≡◌, ◌∙◌, sym, arith}
+use Rattle.std.proofs.Common.{◌∙◌, sym}
 use Rattle.std.proofs.lemmas.Bool.{OnTrue_from, OnTrue_at}
 use Rattle.ntp_customer.specs.Customer.{enrolment_at}
 use Rattle.ntp_keeping.proofs.SameTerms.{same-enrolments}

@@ -1,4 +1,3 @@
-use Rattle.std.proofs.Common.{◌≡◌, ◌∙◌, sym, arith}
 use Rattle.std.proofs.lemmas.Bool.{OnTrue_from, OnTrue_at}
 use Rattle.ntp_keeping.proofs.SameTerms.{short, full}
 use Rattle.ntp_keeping.proofs.alike.have_one_newer.Goals as goal

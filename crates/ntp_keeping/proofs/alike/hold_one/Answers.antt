@@ -1,4 +1,4 @@
-use Rattle.std.proofs.Common.{◌≡◌, ◌∙◌, sym, arith}
+use Rattle.std.proofs.Common.{◌∙◌, sym}
 use Rattle.std.proofs.lemmas.Bool.{OnTrue_from}
 use Rattle.ntp_keeping.proofs.SameKeys.{same-key}
 use Rattle.ntp_keeping.proofs.SameTerms.{same-hold}

@@ -1,4 +1,4 @@
-use Rattle.std.proofs.Common.{◌≡◌, ◌++◌, ap₂, subst}
+use Rattle.std.proofs.Common.{◌++◌, ap₂, subst}
 use Rattle.std.proofs.lemmas.Bool.{OnTrue_at}
 use Rattle.ntp_keeping.specs.Alike.{LeaveTheSame}
 use Rattle.ntp_keeping.proofs.folding.fold.Goals as goal

@@ -1,4 +1,4 @@
-use Rattle.std.proofs.Common.{◌≡◌, ◌++◌, ◌∙◌, subst}
+use Rattle.std.proofs.Common.{◌∙◌, subst}
 use Rattle.std.specs.Bool.{OnTrue}
 use Rattle.ntp_keeping.specs.Alike.{LeaveTheSame}
 use Rattle.ntp_keeping.proofs.folding.make_the_same.Goals as goal

@@ -1,4 +1,4 @@
-use Rattle.std.proofs.Common.{◌≡◌, ◌∙◌, sym, ap}
+use Rattle.std.proofs.Common.{◌∙◌, sym, ap}
 use Rattle.std.proofs.lemmas.Bool.{OnTrue_from}
 use Rattle.ntp_keeping.proofs.SameKeys.{same-key}
 use Rattle.ntp_keeping.proofs.order_text.is_of.Goals as goal

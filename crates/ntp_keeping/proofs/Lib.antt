@@ -7,3 +7,4 @@ pub mod KeyText
 pub mod SameKeys
 pub mod SameTerms
 pub mod Standings
+pub mod Amended

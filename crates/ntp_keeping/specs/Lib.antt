@@ -3,3 +3,4 @@ pub mod Orders
 pub mod Grants
 pub mod AnswersFile
 pub mod Alike
+pub mod Recovery

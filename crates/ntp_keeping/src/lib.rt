@@ -1,5 +1,6 @@
 //! What is decided where customers are kept: which key number is the lowest that is free, how a command is written, what a customer is told
-//! of its key, what an answers file answers, and into which fewer commands others are folded. It reads no file, and writes none.
+//! of its key, what an answers file answers, into which fewer commands others are folded, and what is had back of lost commands. It reads no
+//! file, and writes none.
 #![tactic(auto)]
 
 mod alike;
@@ -9,6 +10,7 @@ mod grant;
 mod numbers;
 mod order;
 mod order_text;
+mod recovery;
 
 pub use alike::leave_the_same;
 pub use answers::answer_behind;
@@ -17,3 +19,4 @@ pub use grant::{Grant, customer_text};
 pub use numbers::lowest_free;
 pub use order::{NEW_KEY_OCTETS, NewKey, Order};
 pub use order_text::{command_line, order_line, order_shown};
+pub use recovery::{Amendment, Seen, SeenKey, SeenTerms, amendment_for, are_same, lost_keys};

@@ -1,6 +1,11 @@
 //! The words of the command line.
 
+use crate::customer_file::ANY;
+use crate::door::{Door, Output, Place};
+use crate::explaining::Explained;
+use crate::folding::FoldAsked;
 use crate::places::FilesNamed;
+use crate::recovering::RecoverAsked;
 use clap::builder::ValueParser;
 use clap::error::ErrorKind;
 use clap::{Arg, ArgAction, ArgMatches, Command, Error};
@@ -11,6 +16,9 @@ use ntp_query::{Server, server_in};
 use ntp_register::Address;
 use std::alloc::{AllocError, Global};
 use std::num::{self, NonZero};
+
+/// The configuration file where none is named: that of the Debian package.
+const USUAL_CONFIG: &str = "/etc/labntp/labntpd.toml";
 
 /// How many milliseconds a second has.
 const SECOND_MILLIS: f64 = 1_000.0;
@@ -27,20 +35,41 @@ Each change is one line that is appended to the commands file, which labntpd car
 file that its owner alone may read.
 
 Examples:
-  labntpctl customers --config /etc/labntp/labntpd.toml
-  labntpctl enrol 192.0.2.10 --config /etc/labntp/labntpd.toml --server 198.51.100.1
-  labntpctl rollover 192.0.2.10 --config /etc/labntp/labntpd.toml
-  labntpctl retire 192.0.2.10 --config /etc/labntp/labntpd.toml
+  labntpctl customers
+  labntpctl enrol 192.0.2.10 --server 198.51.100.1
+  labntpctl rollover 192.0.2.10
+  labntpctl retire 192.0.2.10
+  labntpctl check --config labntpd.toml
+  labntpctl explain --pcap queries.pcap
+  labntpctl door | nft -f -
+  labntpctl fold
+  labntpctl recover --backup commands.monday --output commands.new
 
-Exit status: 0 done; 1 refused, or a file has a fault; 2 other words; 3 no answer came in time, or a file failed; 4 want of memory.";
+Exit status: 0 done; 1 refused, or a file has a fault, or a key is lost; 2 other words; 3 no answer came in time, or a file failed; 4 want of memory.";
 
 /// What the words of a command line ask for.
 #[derive(Clone, Copy)]
 pub enum Asked<'a> {
     /// Who is enrolled, in a table or as objects of JSON.
-    Customers { files: FilesNamed<'a>, json: bool },
+    Customers {
+        files: FilesNamed<'a>,
+        json: bool,
+    },
+    /// Every fault of the files.
+    Check(FilesNamed<'a>),
+    /// What datagrams would get, by the configuration file at a path.
+    Explain {
+        config: &'a str,
+        explained: Explained<'a>,
+    },
+    /// The rules by which the kernel polices the door.
+    Door(Door<'a>),
     /// A change.
     Order(Ordered<'a>),
+    /// A fold of the commands into the register.
+    Fold(FoldAsked<'a>),
+    /// A lost commands file, as far as it can be had back.
+    Recover(RecoverAsked<'a>),
 }
 
 /// A change that is asked for.
@@ -56,6 +85,8 @@ pub struct Ordered<'a> {
     pub output: Option<&'a str>,
     /// Where the customer asks.
     pub server: Option<Server>,
+    /// The paths of the answers files that are waited for, with commas between them; else that of the configuration.
+    pub answers: Option<&'a str>,
     /// How many milliseconds the answer is waited for.
     pub wait: u64,
     /// Whether the line is only shown.
@@ -73,7 +104,11 @@ pub enum Change {
     Budget(NonZero<u16>),
     Rollover(Algorithm),
     /// The key of a number goes, or the older one.
-    Retire(Option<NonZero<u16>>),
+    Retire {
+        number: Option<NonZero<u16>>,
+        /// Whether the clerk is asked first.
+        asks: bool,
+    },
 }
 
 /// What the words ask for; the first is the program's name. Else the error that tells the user why: its kind may be a request for
@@ -96,6 +131,14 @@ fn asked_in<'a>(matches: &ArgMatches<'a>) -> Result<Asked<'a>, &'static str> {
             files: files_in(matches)?,
             json: matches.get_flag("json"),
         }),
+        "door" => Ok(Asked::Door(door_in(matches)?)),
+        "check" => Ok(Asked::Check(files_in(matches)?)),
+        "explain" => Ok(Asked::Explain {
+            config: config_in(matches),
+            explained: explained_in(matches)?,
+        }),
+        "fold" => Ok(Asked::Fold(fold_in(matches)?)),
+        "recover" => Ok(Asked::Recover(recover_in(matches)?)),
         _ => Ok(Asked::Order(ordered_in(name, matches)?)),
     }
 }
@@ -104,10 +147,77 @@ fn asked_in<'a>(matches: &ArgMatches<'a>) -> Result<Asked<'a>, &'static str> {
 fn files_in<'a>(matches: &ArgMatches<'a>) -> Result<FilesNamed<'a>, &'static str> {
     let commands = matches.get_str("commands");
     match (matches.get_str("config"), matches.get_str("register")) {
-        (Some(config), None) => Ok(FilesNamed::Configured(config)),
+        (_, None) => Ok(FilesNamed::Configured(config_in(matches))),
         (None, Some(register)) => Ok(FilesNamed::Each { register, commands }),
         _ => Err("either --config FILE or REGISTER is wanted"),
     }
+}
+
+// What is asked of the door.
+fn door_in<'a>(matches: &ArgMatches<'a>) -> Result<Door<'a>, &'static str> {
+    Ok(Door {
+        config: config_in(matches),
+        place: place_of(matches)?,
+        output: match (matches.get_str("output"), matches.get_flag("watch")) {
+            (Some(path), true) => Output::Kept(path),
+            (Some(path), false) => Output::Written(path),
+            (None, true) => return Err("--watch wants --output FILE"),
+            (None, false) => Output::Printed,
+        },
+    })
+}
+
+// Where the rules apply, if the words say it.
+fn place_of(matches: &ArgMatches<'_>) -> Result<Option<Place>, &'static str> {
+    let Some(word) = matches.get_str("address") else {
+        return Ok(None);
+    };
+    match server_in(word) {
+        Some(Server { address, port }) if address != ANY => Ok(Some(Place {
+            address,
+            port: if word.contains(':') { Some(port) } else { None },
+        })),
+        _ => Err("--address: an IPv4 address of this host, with a port or without, is wanted"),
+    }
+}
+
+// The datagrams that are explained.
+fn explained_in<'a>(matches: &ArgMatches<'a>) -> Result<Explained<'a>, &'static str> {
+    match (
+        matches.get_str("datagram"),
+        matches.get_str("from"),
+        matches.get_str("pcap"),
+    ) {
+        (Some(octets), Some(from), None) => Ok(Explained::Datagram {
+            octets,
+            from: words::address(from).ok_or("--from: an IPv4 address, as 192.0.2.1, is wanted")?,
+        }),
+        (None, None, Some(path)) => Ok(Explained::Capture(path)),
+        _ => Err("either DATAGRAM and --from ADDRESS, or --pcap FILE is wanted"),
+    }
+}
+
+// What is asked of a fold.
+fn fold_in<'a>(matches: &ArgMatches<'a>) -> Result<FoldAsked<'a>, &'static str> {
+    Ok(FoldAsked {
+        config: config_in(matches),
+        output: matches.get_str("output"),
+        dry_run: matches.get_flag("dry-run"),
+    })
+}
+
+// The path of the configuration file.
+fn config_in<'a>(matches: &ArgMatches<'a>) -> &'a str {
+    matches.get_str("config").unwrap_or(USUAL_CONFIG)
+}
+
+// What is asked of a recovery.
+fn recover_in<'a>(matches: &ArgMatches<'a>) -> Result<RecoverAsked<'a>, &'static str> {
+    Ok(RecoverAsked {
+        config: config_in(matches),
+        backup: matches.get_str("backup"),
+        output: matches.get_str("output").ok_or("--output FILE is missing")?,
+    })
 }
 
 // The change that is asked for by a name.
@@ -116,7 +226,7 @@ fn ordered_in<'a>(name: &str, matches: &ArgMatches<'a>) -> Result<Ordered<'a>, &
     let change = change_in(name, matches)?;
     let has_key = matches!(change, Change::Enrol { .. } | Change::Rollover(_));
     Ok(Ordered {
-        config: matches.get_str("config").ok_or("--config FILE is missing")?,
+        config: config_in(matches),
         address: words::address(address).ok_or(
             "ADDRESS: an IPv4 address, as 192.0.2.1, is wanted",
         )?,
@@ -127,6 +237,7 @@ fn ordered_in<'a>(name: &str, matches: &ArgMatches<'a>) -> Result<Ordered<'a>, &
             None
         },
         server: if has_key { server_of(matches)? } else { None },
+        answers: matches.get_str("answers"),
         wait: wait_in(matches)?,
         dry_run: matches.get_flag("dry-run"),
     })
@@ -150,11 +261,12 @@ fn change_in(name: &str, matches: &ArgMatches<'_>) -> Result<Change, &'static st
                 .and_then(NonZero::<u16>::new)
                 .ok_or("N is missing")?,
         )),
-        "retire" => Ok(Change::Retire(
-            matches
+        "retire" => Ok(Change::Retire {
+            number: matches
                 .get_one::<u16>("number")
                 .and_then(NonZero::<u16>::new),
-        )),
+            asks: !matches.get_flag("yes"),
+        }),
         _ => Ok(Change::Revoke),
     }
 }
@@ -199,6 +311,9 @@ fn command<'a>(alloc: Global) -> Result<Command<'a>, AllocError> {
         .subcommand_required(true)
         .disable_help_subcommand(true)
         .subcommand(customers_command(alloc)?)?
+        .subcommand(door_command(alloc)?)?
+        .subcommand(check_command(alloc)?)?
+        .subcommand(explain_command(alloc)?)?
         .subcommand(enrol_command(alloc)?)?
         .subcommand(order(
             alloc,
@@ -207,7 +322,9 @@ fn command<'a>(alloc: Global) -> Result<Command<'a>, AllocError> {
         )?)?
         .subcommand(budget_command(alloc)?)?
         .subcommand(rollover_command(alloc)?)?
-        .subcommand(retire_command(alloc)?)
+        .subcommand(retire_command(alloc)?)?
+        .subcommand(fold_command(alloc)?)?
+        .subcommand(recover_command(alloc)?)
 }
 
 // Who is enrolled.
@@ -223,12 +340,70 @@ fn customers_command<'a>(alloc: Global) -> Result<Command<'a>, AllocError> {
     )
 }
 
+// The rules of the door.
+fn door_command<'a>(alloc: Global) -> Result<Command<'a>, AllocError> {
+    Command::new(alloc, "door")
+        .about("Prints rules of nftables that let pass from each customer what its budget asks for")
+        .arg(config(alloc))?
+        .arg(value(
+            alloc,
+            "address",
+            "ADDRESS[:PORT]",
+            "Where labntpd is asked [default: where it listens]",
+        ))?
+        .arg(value(
+            alloc,
+            "output",
+            "FILE",
+            "Writes the rules into a file, if it has others",
+        ))?
+        .arg(
+            Arg::new(alloc, "watch")
+                .long("watch")
+                .action(ArgAction::SetTrue)
+                .help("Runs on, and writes the file again whenever the rules change"),
+        )
+}
+
+// Every fault of the files.
+fn check_command<'a>(alloc: Global) -> Result<Command<'a>, AllocError> {
+    let command = Command::new(alloc, "check").about(
+        "Tells every fault of the configuration and of the files that it names, or of a register and of commands: a line each, with its line in the file. Lines that begin with `warning: ` tell what is hardly meant",
+    );
+    files_of(alloc, command)
+}
+
+// What datagrams would get.
+fn explain_command<'a>(alloc: Global) -> Result<Command<'a>, AllocError> {
+    Command::new(alloc, "explain")
+        .about(
+            "Tells what a datagram would get by the register and the commands, and why, and spends nothing of a budget",
+        )
+        .arg(
+            Arg::new(alloc, "datagram")
+                .value_name("DATAGRAM")
+                .action(ArgAction::Set)
+                .help("The octets of the UDP payload, in hexadecimal digits"),
+        )?
+        .arg(value(
+            alloc,
+            "from",
+            "ADDRESS",
+            "The IPv4 address from which it came",
+        ))?
+        .arg(value(
+            alloc,
+            "pcap",
+            "FILE",
+            "A capture file in pcap form: each UDP datagram to the port is explained",
+        ))?
+        .arg(config(alloc))
+}
+
 // A command that reads the files of a configuration, or those that are named one by one.
 fn files_of<'a>(alloc: Global, command: Command<'a>) -> Result<Command<'a>, AllocError> {
     command
-        .arg(value(alloc, "config", "FILE", "The configuration file of labntpd").conflicts_with(
-            "register",
-        )?)?
+        .arg(config(alloc).conflicts_with("register")?)?
         .arg(
             Arg::new(alloc, "register")
                 .value_name("REGISTER")
@@ -279,13 +454,62 @@ fn retire_command<'a>(alloc: Global) -> Result<Command<'a>, AllocError> {
     order(
         alloc,
         "retire",
-        "Takes a key from an address that has another",
+        "Tells when a key was last used, asks, and takes it from an address that has another",
     )?
     .arg(number(
         alloc,
         "number",
         "The key's number [default: that of the older one]",
-    ))
+    ))?
+    .arg(
+        Arg::new(alloc, "yes")
+            .long("yes")
+            .action(ArgAction::SetTrue)
+            .help("Does not ask first"),
+    )
+}
+
+// A shorter commands file.
+fn fold_command<'a>(alloc: Global) -> Result<Command<'a>, AllocError> {
+    Command::new(alloc, "fold")
+        .about(
+            "Folds the commands into the register: both files are written anew, and make the same customers",
+        )
+        .arg(config(alloc))?
+        .arg(value(
+            alloc,
+            "output",
+            "DIRECTORY",
+            "Where the new files are written, if not in the place of the old ones",
+        ))?
+        .arg(
+            Arg::new(alloc, "dry-run")
+                .long("dry-run")
+                .action(ArgAction::SetTrue)
+                .help("Only tells how long the new files would be"),
+        )
+}
+
+// A lost commands file.
+fn recover_command<'a>(alloc: Global) -> Result<Command<'a>, AllocError> {
+    Command::new(alloc, "recover")
+        .about(
+            "Writes a new commands file where that of labntpd is lost or damaged: the lines of a backup, and what labntpd's customers file tells beside them",
+        )
+        .arg(config(alloc))?
+        .arg(value(
+            alloc,
+            "backup",
+            "FILE",
+            "A backup of the commands file [default: what is left of that file]",
+        ))?
+        .arg(value(
+            alloc,
+            "output",
+            "FILE",
+            "Where the new commands file is written",
+        )
+        .required(true))
 }
 
 // A command that changes a customer.
@@ -299,7 +523,7 @@ fn order<'a>(alloc: Global, name: &'a str, about: &'a str) -> Result<Command<'a>
                 .action(ArgAction::Set)
                 .help("The customer's IPv4 address"),
         )?
-        .arg(value(alloc, "config", "FILE", "The configuration file of labntpd").required(true))?
+        .arg(config(alloc))?
         .arg(value(
             alloc,
             "wait",
@@ -307,6 +531,12 @@ fn order<'a>(alloc: Global, name: &'a str, about: &'a str) -> Result<Command<'a>
             "How many seconds the answer is waited for [default: 5]",
         )
         .value_parser(ValueParser::Float))?
+        .arg(value(
+            alloc,
+            "answers",
+            "FILE[,FILE..]",
+            "The answers files of all processes that serve [default: that of the configuration]",
+        ))?
         .arg(
             Arg::new(alloc, "dry-run")
                 .long("dry-run")
@@ -336,6 +566,12 @@ fn with_key<'a>(alloc: Global, command: Command<'a>) -> Result<Command<'a>, Allo
             "ADDRESS[:PORT]",
             "Where the customer asks [default: where labntpd listens]",
         ))
+}
+
+// The configuration file.
+fn config<'a>(alloc: Global) -> Arg<'a> {
+    let help = "The configuration file of labntpd [default: /etc/labntp/labntpd.toml]";
+    value(alloc, "config", "FILE", help)
 }
 
 // A name with a value.

@@ -14,10 +14,10 @@ use std::os::unix::fs::OpenOptionsExt;
 const OWNERS: u32 = 0o600;
 
 /// The address that stands for all of a host.
-const ANY: Address = Address([0, 0, 0, 0]);
+pub const ANY: Address = Address([0, 0, 0, 0]);
 
 /// The port of NTP (RFC 5905).
-const NTP_PORT: u16 = 123;
+pub const NTP_PORT: u16 = 123;
 
 /// The address as text. The memory for it is taken from `alloc`.
 pub fn address_text(alloc: Global, address: Address) -> Result<String, AllocError> {

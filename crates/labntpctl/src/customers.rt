@@ -1,83 +1,100 @@
 //! Who is enrolled.
 
+use crate::differing::differences;
 use crate::places::FilesNamed;
+use crate::reported::{reported_in, reported_text};
 use crate::standing::{Standing, standing_at};
 use crate::table::write_table;
+use labntpd_configuration::Configuration;
 use labntpd_start::{configuration_at, start_lines};
-use ntp_customer_files::{DONE, TEXT_FAULTY, failed_status, memory_status, write_status};
-use ntp_host::read_regular_file;
+use ntp_customer_files::{DONE, memory_status, write_status};
 use ntp_reports::customer_line;
 use std::alloc::{AllocError, Global};
-use std::io::{ErrorKind, Write};
-
-/// How many octets a customers file has at most that is read.
-const MOST_OCTETS: u32 = 268_435_456;
+use std::io::Write;
 
 /// Tells who is enrolled, and gives the exit status. A fault is told in one line.
 pub fn customers_status(rt: &HostRuntime, files: FilesNamed<'_>, json: bool) -> u8 {
-    let text = match lines(rt, files) {
-        Ok(text) => text,
-        Err(status) => return status,
-    };
+    match listed(rt, files, json) {
+        Ok(()) => DONE,
+        Err(status) => status,
+    }
+}
+
+// Tells who is enrolled, and in which the daemon's file and the others differ.
+fn listed(rt: &HostRuntime, files: FilesNamed<'_>, json: bool) -> Result<(), u8> {
+    match files {
+        FilesNamed::Each { register, commands } => {
+            let text = lines_by(rt, register, commands)?;
+            write_lines(rt, text.as_str(), json)
+        }
+        FilesNamed::Configured(path) => {
+            let configuration = configuration_at(rt, rt.alloc(), path, &mut start_lines(rt))?;
+            let register = configuration.register.as_str();
+            let commands = configuration.commands.as_str();
+            match reported_by(rt, &configuration)? {
+                Some(text) => {
+                    write_lines(rt, text.as_str(), json)?;
+                    compare(rt, text.as_str(), register, commands);
+                    Ok(())
+                }
+                None => {
+                    let text = lines_by(rt, register, Some(commands))?;
+                    write_lines(rt, text.as_str(), json)
+                }
+            }
+        }
+    }
+}
+
+// The text of the daemon's customers file, if one is named and there.
+fn reported_by(rt: &HostRuntime, configuration: &Configuration) -> Result<Option<String>, u8> {
+    match &configuration.customers {
+        Some(path) => reported_text(rt, path.as_str()),
+        None => Ok(None),
+    }
+}
+
+// Writes the lines of customers, as they are or as a table.
+fn write_lines(rt: &HostRuntime, text: &str, json: bool) -> Result<(), u8> {
     let written = if json {
         rt.stdout().write_all(text.as_bytes())
     } else {
-        match write_table(rt, text.as_str()) {
-            Ok(written) => written,
-            Err(status) => return status,
-        }
+        write_table(rt, text)?
     };
     match written {
-        Ok(()) => DONE,
-        Err(_) => write_status(&mut start_lines(rt)),
+        Ok(()) => Ok(()),
+        Err(_) => Err(write_status(&mut start_lines(rt))),
     }
 }
 
-// The lines of the customers: those of the daemon's file where there is one, else without what only the daemon knows.
-fn lines(rt: &HostRuntime, files: FilesNamed<'_>) -> Result<String, u8> {
+// Tells each difference between the daemon's customers and those of the files. Where the files have a fault, that is told.
+fn compare(rt: &HostRuntime, text: &str, register: &str, commands: &str) {
     let mut faults = start_lines(rt);
-    match files {
-        FilesNamed::Each { register, commands } => {
-            let standing = standing_at(rt, rt.alloc(), register, commands, &mut faults)?;
-            lines_of(rt, &standing)
-        }
-        FilesNamed::Configured(path) => {
-            let configuration = configuration_at(rt, rt.alloc(), path, &mut faults)?;
-            if let Some(path) = &configuration.customers {
-                if let Some(text) = reported(rt, path.as_str())? {
-                    return Ok(text);
-                }
-            }
-            let register = configuration.register.as_str();
-            let commands = configuration.commands.as_str();
-            let standing = standing_at(rt, rt.alloc(), register, Some(commands), &mut faults)?;
-            lines_of(rt, &standing)
-        }
-    }
-}
-
-// The text of the daemon's customers file, if it is there.
-fn reported(rt: &HostRuntime, path: &str) -> Result<Option<String>, u8> {
-    let mut faults = start_lines(rt);
-    let octets = match read_regular_file(rt, rt.alloc(), path, MOST_OCTETS) {
-        Ok(octets) => octets,
-        Err(error) if error.kind() == ErrorKind::NotFound => return Ok(None),
-        Err(error) => return Err(failed_status(path, &error, &mut faults)),
+    let Ok(daemon) = reported_in(rt, text) else {
+        return;
     };
-    match String::from_utf8(octets) {
-        Ok(text) => Ok(Some(text)),
+    let Ok(files) = standing_at(rt, rt.alloc(), register, Some(commands), &mut faults) else {
+        return;
+    };
+    match differences(rt.alloc(), &daemon, &files) {
+        Ok(lines) => {
+            for line in lines.as_str().lines() {
+                let _ = writeln!(faults, "{line}");
+            }
+        }
         Err(_) => {
-            let _ = writeln!(faults, "{path}: this is no UTF-8");
-            Err(TEXT_FAULTY)
+            memory_status(&mut faults);
         }
     }
 }
 
 // The lines of the customers by their files alone.
-fn lines_of(rt: &HostRuntime, standing: &Standing) -> Result<String, u8> {
-    match customer_lines(rt.alloc(), standing) {
+fn lines_by(rt: &HostRuntime, register: &str, commands: Option<&str>) -> Result<String, u8> {
+    let mut faults = start_lines(rt);
+    let standing = standing_at(rt, rt.alloc(), register, commands, &mut faults)?;
+    match customer_lines(rt.alloc(), &standing) {
         Ok(text) => Ok(text),
-        Err(_) => Err(memory_status(&mut start_lines(rt))),
+        Err(_) => Err(memory_status(&mut faults)),
     }
 }
 

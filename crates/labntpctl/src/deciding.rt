@@ -28,6 +28,8 @@ pub struct Decided {
     pub octets: usize,
     /// The key that it gives, with its number.
     pub key: Option<(NonZero<u16>, NewKey)>,
+    /// The number of the key that it takes.
+    pub retired: Option<NonZero<u16>>,
 }
 
 /// Decides on the line of a change, which the daemon will not refuse. A fault is told in one line, and gives the exit status.
@@ -40,14 +42,7 @@ pub fn decide(
     let path = configuration.commands.as_str();
     let register = configuration.register.as_str();
     let mut standing = standing_at(rt, rt.alloc(), register, Some(path), &mut faults)?;
-    if !standing.is_ended {
-        let line = standing.lines.saturating_add(1);
-        let _ = writeln!(
-            faults,
-            "{path}: line {line}: a line feed at its end is wanted"
-        );
-        return Err(TEXT_FAULTY);
-    }
+    standing.judge_end(path, &mut faults)?;
     let order = order_for(rt, asked, &standing)?;
     let Ok(line) = order_line(rt.alloc(), order) else {
         return Err(memory_status(&mut faults));
@@ -71,6 +66,7 @@ pub fn decide(
         number: standing.lines.saturating_add(1),
         octets: standing.octets,
         key: key_in(&order),
+        retired: retired_in(&order),
     })
 }
 
@@ -117,7 +113,7 @@ fn order_for(rt: &HostRuntime, asked: &Ordered<'_>, standing: &Standing) -> Resu
         }),
         Change::Revoke => Ok(Order::Revoke { address }),
         Change::Budget(budget) => Ok(Order::Budget { address, budget }),
-        Change::Retire(number) => {
+        Change::Retire { number, .. } => {
             let older = standing.older_number(address);
             match number.or(older.and_then(NonZero::<u16>::new)) {
                 Some(number) => Ok(Order::Retire { address, number }),
@@ -127,8 +123,8 @@ fn order_for(rt: &HostRuntime, asked: &Ordered<'_>, standing: &Standing) -> Resu
     }
 }
 
-// The lowest number that nobody holds.
-fn free_number(rt: &HostRuntime, standing: &Standing) -> Result<NonZero<u16>, u8> {
+/// The lowest number that nobody holds; else tells that there is none, and gives the exit status.
+pub fn free_number(rt: &HostRuntime, standing: &Standing) -> Result<NonZero<u16>, u8> {
     let mut faults = start_lines(rt);
     let Ok(held) = standing.held_numbers(rt.alloc()) else {
         return Err(memory_status(&mut faults));
@@ -142,8 +138,8 @@ fn free_number(rt: &HostRuntime, standing: &Standing) -> Result<NonZero<u16>, u8
     }
 }
 
-// A key of the system's random octets; of zeros where it is only to be shown as a word.
-fn new_key(rt: &HostRuntime, algorithm: Algorithm, is_shown: bool) -> Result<NewKey, u8> {
+/// A key of the system's random octets; of zeros where it is only to be shown as a word. A fault gives the exit status.
+pub fn new_key(rt: &HostRuntime, algorithm: Algorithm, is_shown: bool) -> Result<NewKey, u8> {
     let mut octets = [0; NEW_KEY_OCTETS];
     if !is_shown {
         if let Err(error) = rt.fill_bytes(&mut octets) {
@@ -160,5 +156,13 @@ fn key_in(order: &Order) -> Option<(NonZero<u16>, NewKey)> {
             Some((*number, *key))
         }
         Order::Revoke { .. } | Order::Budget { .. } | Order::Retire { .. } => None,
+    }
+}
+
+// The number of the key that an order takes.
+fn retired_in(order: &Order) -> Option<NonZero<u16>> {
+    match order {
+        Order::Retire { number, .. } => Some(*number),
+        _ => None,
     }
 }

@@ -1,24 +1,47 @@
 //! The program for clerks: `labntpctl` lists the customers of labntpd, and enrols, revokes and changes them.
 #![tactic(auto)]
 
+mod checked_commands;
+mod checked_configuration;
+mod checked_register;
+mod checking;
 mod command_line;
 mod commands_file;
 mod customer_file;
 mod customers;
 mod deciding;
+mod differing;
+mod door;
+mod door_rules;
+mod explaining;
+mod folded_pair;
+mod folding;
+mod history;
+mod key_octets;
 mod ordering;
 mod places;
+mod placing;
+mod recovered_lines;
+mod recovering;
+mod report;
+mod reported;
+mod retiring;
 mod standing;
 mod table;
 mod waiting;
 
+use checking::check_status;
 use clap::error::ErrorKind;
 use command_line::{Asked, parse};
 use customers::customers_status;
+use door::door_status;
+use explaining::explain_status;
+use folding::fold_status;
 use labntpd_host::has_standard_streams;
 use labntpd_start::start_lines;
 use ntp_customer_files::{memory_status, unread_status, write_status};
 use ordering::order_status;
+use recovering::recover_status;
 use std::process::ExitCode;
 use std::{env, io};
 
@@ -38,7 +61,12 @@ fn status(rt: &HostRuntime) -> u8 {
     };
     match parse(rt.alloc(), &words) {
         Ok(Asked::Customers { files, json }) => customers_status(rt, files, json),
+        Ok(Asked::Door(door)) => door_status(rt, &door),
+        Ok(Asked::Check(files)) => check_status(rt, files),
+        Ok(Asked::Explain { config, explained }) => explain_status(rt, config, explained),
         Ok(Asked::Order(order)) => order_status(rt, &order),
+        Ok(Asked::Fold(fold)) => fold_status(rt, &fold),
+        Ok(Asked::Recover(recover)) => recover_status(rt, &recover),
         Err(error) if error.kind() == ErrorKind::OutOfMemory => memory_status(&mut start_lines(rt)),
         Err(error) => {
             let _ = error.print(rt);

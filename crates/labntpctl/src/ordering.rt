@@ -1,15 +1,17 @@
 //! A change of a customer: one line of commands, appended while no other clerk appends, and the daemon's answer to it.
 
-use crate::command_line::Ordered;
+use crate::command_line::{Change, Ordered};
 use crate::commands_file::HeldFile;
 use crate::customer_file::{listening, text_for, usual_path, write_new};
 use crate::deciding::{Decided, decide};
-use crate::waiting::{answer_in_time, answer_now};
+use crate::retiring::is_wanted;
+use crate::waiting::{GOOD, answer_in_time, is_answered};
 use labntpd_configuration::Configuration;
 use labntpd_start::{configuration_at, start_lines};
 use ntp_customer_files::{
     DONE, IO_FAILED, TEXT_FAULTY, failed_status, memory_status, write_status,
 };
+use std::alloc::{AllocError, Global};
 use std::fmt::Display;
 use std::fs;
 use std::io::Write;
@@ -29,14 +31,22 @@ fn ordered(rt: &HostRuntime, asked: &Ordered<'_>) -> Result<u8, u8> {
         show(rt, &decided)?;
         return Ok(DONE);
     }
+    let Some(asked) = confirmed(rt, asked, &configuration)? else {
+        return Ok(TEXT_FAULTY);
+    };
     let path = configuration.commands.as_str();
     let mut held = match HeldFile::hold(rt, path) {
         Ok(held) => held,
         Err(error) => return Err(failed_status(path, &error, &mut start_lines(rt))),
     };
-    let decided = decide(rt, asked, &configuration)?;
-    let is_answered = answer(rt, &configuration, decided.number, None)?.is_some();
-    let given = give(rt, asked, &configuration, &decided)?;
+    let decided = decide(rt, &asked, &configuration)?;
+    let Ok(files) = answers_files(rt.alloc(), &asked, &configuration) else {
+        return Err(memory_status(&mut start_lines(rt)));
+    };
+    let Ok(is_answered) = is_answered(rt, rt.alloc(), &files, decided.number) else {
+        return Err(memory_status(&mut start_lines(rt)));
+    };
+    let given = give(rt, &asked, &configuration, &decided)?;
     if let Err(error) = held.append(decided.octets, decided.line.as_str()) {
         take_back(rt, &given);
         return Err(failed_status(path, &error, &mut start_lines(rt)));
@@ -50,10 +60,33 @@ fn ordered(rt: &HostRuntime, asked: &Ordered<'_>) -> Result<u8, u8> {
     if is_answered {
         return Ok(not_answered(rt, decided.number));
     }
-    match answer(rt, &configuration, decided.number, Some(asked.wait))? {
-        Some(answer) => told_answer(rt, &decided, &given, answer.as_str()),
-        None => Ok(not_answered(rt, decided.number)),
+    match answer_in_time(rt, rt.alloc(), &files, decided.number, asked.wait) {
+        Ok(Some(answer)) => told_answer(rt, &decided, &given, answer.as_str()),
+        Ok(None) => Ok(not_answered(rt, decided.number)),
+        Err(_) => Err(memory_status(&mut start_lines(rt))),
     }
+}
+
+// A change, once it is confirmed: a clerk is asked before a key is retired, while others may append.
+fn confirmed<'a>(
+    rt: &HostRuntime,
+    asked: &Ordered<'a>,
+    configuration: &Configuration,
+) -> Result<Option<Ordered<'a>>, u8> {
+    if !matches!(asked.change, Change::Retire { asks: true, .. }) {
+        return Ok(Some(*asked));
+    }
+    let Some(number) = decide(rt, asked, configuration)?.retired else {
+        return Ok(Some(*asked));
+    };
+    if !is_wanted(rt, configuration, asked.address, number)? {
+        return Ok(None);
+    }
+    let change = Change::Retire {
+        number: Some(number),
+        asks: false,
+    };
+    Ok(Some(Ordered { change, ..*asked }))
 }
 
 // Shows the line, without its key.
@@ -62,32 +95,31 @@ fn show(rt: &HostRuntime, decided: &Decided) -> Result<(), u8> {
     tell(rt, format_args!("line {number}: {shown}"))
 }
 
-// Writes to standard output.
-fn tell<D: Display + Drop>(rt: &HostRuntime, said: D) -> Result<(), u8> {
+/// Writes to standard output; where that fails, the exit status.
+pub fn tell<D: Display + Drop>(rt: &HostRuntime, said: D) -> Result<(), u8> {
     match write!(rt.stdout(), "{said}") {
         Ok(()) => Ok(()),
         Err(_) => Err(write_status(&mut start_lines(rt))),
     }
 }
 
-// The answer to the line with a number: as it stands there now, or after a wait of at most this number of milliseconds.
-fn answer(
-    rt: &HostRuntime,
-    configuration: &Configuration,
-    number: u64,
-    wait: Option<u64>,
-) -> Result<Option<String>, u8> {
-    let Some(path) = &configuration.answers else {
-        return Ok(None);
-    };
-    let answer = match wait {
-        None => answer_now(rt, rt.alloc(), path.as_str(), number),
-        Some(wait) => answer_in_time(rt, rt.alloc(), path.as_str(), number, wait),
-    };
-    match answer {
-        Ok(answer) => Ok(answer),
-        Err(_) => Err(memory_status(&mut start_lines(rt))),
+// The paths of the answers files in which an answer is waited for.
+fn answers_files<'a>(
+    alloc: Global,
+    asked: &Ordered<'a>,
+    configuration: &'a Configuration,
+) -> Result<Vec<&'a str>, AllocError> {
+    let mut paths = Vec::new(alloc);
+    match (asked.answers, &configuration.answers) {
+        (Some(word), _) => {
+            for path in word.split(',') {
+                paths.push(path)?;
+            }
+        }
+        (None, Some(path)) => paths.push(path.as_str())?,
+        (None, None) => {}
     }
+    Ok(paths)
 }
 
 // Writes what the customer gets, if it gets a key, and gives the path.
@@ -140,7 +172,7 @@ fn told_answer(
 ) -> Result<u8, u8> {
     let number = decided.number;
     tell(rt, format_args!("line {number}: {answer}\n"))?;
-    if answer == "done" {
+    if answer == GOOD {
         return Ok(DONE);
     }
     take_back(rt, given);

@@ -10,10 +10,12 @@ use std::io::{self, Write};
 /// The answers that have a column.
 const ANSWERS: [&str; 5] = ["basic", "interleaved", "rate", "nak", "over-budget"];
 
-// Why a line is no row.
+/// Why a line is no row.
 #[derive(Drop)]
-enum NoRow {
+pub enum NoRow {
+    /// Memory ran out.
     Memory,
+    /// It is no object of a customer.
     Form,
 }
 
@@ -33,18 +35,34 @@ pub fn write_table(rt: &HostRuntime, text: &str) -> Result<io::Result<()>, u8> {
     for (place, line) in text.lines().enumerate() {
         match add_rows(rt.alloc(), &mut table, line) {
             Ok(()) => {}
-            Err(NoRow::Memory) => return Err(memory_status(&mut start_lines(rt))),
-            Err(NoRow::Form) => {
-                let _ = writeln!(
-                    start_lines(rt),
-                    "customers: line {}: an object of a customer is wanted",
-                    (place as u64).saturating_add(1)
-                );
-                return Err(TEXT_FAULTY);
-            }
+            Err(fault) => return Err(no_row_status(rt, place, fault)),
         }
     }
     Ok(rt.stdout().write_all(&table))
+}
+
+/// Tells why the line at a place is no row, and gives the exit status.
+pub fn no_row_status(rt: &HostRuntime, place: usize, fault: NoRow) -> u8 {
+    match fault {
+        NoRow::Memory => memory_status(&mut start_lines(rt)),
+        NoRow::Form => {
+            let _ = writeln!(
+                start_lines(rt),
+                "customers: line {}: an object of a customer is wanted",
+                (place as u64).saturating_add(1)
+            );
+            TEXT_FAULTY
+        }
+    }
+}
+
+/// The object of a line.
+pub fn object_in(alloc: Global, line: &str) -> Result<Value, NoRow> {
+    match Value::from_str(alloc, line) {
+        Ok(object) => Ok(object),
+        Err(error) if error.is_memory() => Err(NoRow::Memory),
+        Err(_) => Err(NoRow::Form),
+    }
 }
 
 // The heads of the columns.
@@ -64,11 +82,7 @@ fn add_head(table: &mut Vec<u8>) -> Result<(), NoRow> {
 
 // The rows of a customer.
 fn add_rows(alloc: Global, table: &mut Vec<u8>, line: &str) -> Result<(), NoRow> {
-    let customer = match Value::from_str(alloc, line) {
-        Ok(customer) => customer,
-        Err(error) if error.is_memory() => return Err(NoRow::Memory),
-        Err(_) => return Err(NoRow::Form),
-    };
+    let customer = object_in(alloc, line)?;
     let keys = customer
         .get("keys")
         .and_then(Value::as_array)
@@ -127,21 +141,21 @@ fn add_answers(alloc: Global, table: &mut Vec<u8>, customer: &Value) -> Result<(
     Ok(())
 }
 
-// The date of a time in seconds since 1970.
-fn date(alloc: Global, seconds: &str) -> Result<String, NoRow> {
+/// The date of a time in seconds since 1970.
+pub fn date(alloc: Global, seconds: &str) -> Result<String, NoRow> {
     let whole = seconds.split_once('.').map_or(seconds, |(whole, _)| whole);
     let whole = whole.parse::<u64>().map_err(|_| NoRow::Form)?;
     let date = HttpDate::from_unix_secs(whole).map_err(|_| NoRow::Form)?;
     Ok(fmt_http_date(alloc, date)?)
 }
 
-// The text of a member.
-fn text_at<'a>(object: &'a Value, name: &str) -> Result<&'a str, NoRow> {
+/// The text of a member.
+pub fn text_at<'a>(object: &'a Value, name: &str) -> Result<&'a str, NoRow> {
     object.get(name).and_then(Value::as_str).ok_or(NoRow::Form)
 }
 
-// The number of a member.
-fn number_at(object: &Value, name: &str) -> Result<u64, NoRow> {
+/// The number of a member.
+pub fn number_at(object: &Value, name: &str) -> Result<u64, NoRow> {
     object.get(name).and_then(Value::as_u64).ok_or(NoRow::Form)
 }
 

@@ -1,0 +1,243 @@
+//! The commands file, folded into the register.
+
+use crate::commands_file::HeldFile;
+use crate::deciding::{free_number, new_key};
+use crate::folded_pair::{FoldedPair, folded_pair};
+use crate::key_octets::{KeyOctets, add_from_lines, add_from_register};
+use crate::ordering::tell;
+use crate::placing::{put_in_place, write_beside};
+use crate::standing::{Standing, standing_at};
+use indexmap::IndexMap;
+use labntpd_start::{configuration_at, start_lines};
+use ntp_customer_files::{DONE, MOST_FILE_OCTETS, TEXT_FAULTY, failed_status, memory_status};
+use ntp_host::read_regular_file;
+use ntp_keeping::{FoldFault, GivenKey, Kept, Terms, fold};
+use ntp_mac::{Algorithm, Key};
+use ntp_register::{Address, Customer};
+use ntp_service_run::Service;
+use std::alloc::{AllocError, Global};
+use std::io::Write;
+use std::num::NonZero;
+use toml::Value;
+
+/// What is asked of a fold.
+#[derive(Clone, Copy)]
+pub struct FoldAsked<'a> {
+    /// The path of the configuration file.
+    pub config: &'a str,
+    /// The directory into which the new files are written, where they are not put into the place of the old ones.
+    pub output: Option<&'a str>,
+    /// Whether it is only told what would be written.
+    pub dry_run: bool,
+}
+
+/// The paths of the two files that are folded.
+#[derive(Clone, Copy)]
+pub struct PairPaths<'a> {
+    pub register: &'a str,
+    pub commands: &'a str,
+}
+
+/// Folds the commands file into the register, tells what was written, and gives the exit status. A fault is told in one line.
+pub fn fold_status(rt: &HostRuntime, asked: &FoldAsked<'_>) -> u8 {
+    match folded(rt, asked) {
+        Ok(()) => DONE,
+        Err(status) => status,
+    }
+}
+
+// Folds, or tells what would be written.
+fn folded(rt: &HostRuntime, asked: &FoldAsked<'_>) -> Result<(), u8> {
+    let mut faults = start_lines(rt);
+    let configuration = configuration_at(rt, rt.alloc(), asked.config, &mut faults)?;
+    let paths = PairPaths {
+        register: configuration.register.as_str(),
+        commands: configuration.commands.as_str(),
+    };
+    let held = match HeldFile::hold(rt, paths.commands) {
+        Ok(held) => held,
+        Err(error) => return Err(failed_status(paths.commands, &error, &mut faults)),
+    };
+    let old = standing_at(
+        rt,
+        rt.alloc(),
+        paths.register,
+        Some(paths.commands),
+        &mut faults,
+    )?;
+    old.judge_end(paths.commands, &mut faults)?;
+    let pair = pair_for(rt, paths, &old)?;
+    tell_sizes(rt, &old, &pair)?;
+    if asked.dry_run {
+        return Ok(());
+    }
+    match asked.output {
+        Some(directory) => write_beside(rt, directory, paths, &pair, &old)?,
+        None => put_in_place(rt, paths, &pair, &old)?,
+    }
+    drop(held);
+    Ok(())
+}
+
+// The texts of the new files.
+fn pair_for(rt: &HostRuntime, paths: PairPaths<'_>, old: &Standing) -> Result<FoldedPair, u8> {
+    let mut faults = start_lines(rt);
+    let Ok(customers) = customers_of(rt.alloc(), old) else {
+        return Err(memory_status(&mut faults));
+    };
+    let document = document_at(rt, paths.register)?;
+    let lines = text_at(rt, paths.commands)?;
+    // With nobody revoked it is not used.
+    let spare = if customers.iter().any(|customer| customer.terms.is_none()) {
+        free_number(rt, old)?
+    } else {
+        NonZero::<u16>::MIN
+    };
+    let made = new_key(rt, Algorithm::Sha1, false)?;
+    let Ok(key) = Key::new(made.algorithm, &made.octets) else {
+        return Err(memory_status(&mut faults));
+    };
+    let octets = octets_of(
+        rt.alloc(),
+        old,
+        &document,
+        lines.as_str(),
+        spare,
+        &made.octets,
+    );
+    let spare = GivenKey { number: spare, key };
+    let folded = match fold(rt.alloc(), &old.history, &customers, &spare) {
+        Ok(folded) => folded,
+        Err(FoldFault::NoMemory) => return Err(memory_status(&mut faults)),
+        Err(FoldFault::Other) => return Err(others(rt)),
+    };
+    let reference = document.get("reference").and_then(Value::as_str);
+    let (Ok(octets), Some(reference)) = (octets, reference) else {
+        return Err(memory_status(&mut faults));
+    };
+    match folded_pair(rt.alloc(), reference, &customers, &folded, &octets) {
+        Ok(Some(pair)) => Ok(pair),
+        Ok(None) => Err(others(rt)),
+        Err(_) => Err(memory_status(&mut faults)),
+    }
+}
+
+/// Tells that the customers would be others, and gives the exit status.
+pub fn others(rt: &HostRuntime) -> u8 {
+    let _ = writeln!(
+        start_lines(rt),
+        "the customers would be others: nothing was changed"
+    );
+    TEXT_FAULTY
+}
+
+// The document of the register file.
+fn document_at(rt: &HostRuntime, path: &str) -> Result<Value, u8> {
+    let text = text_at(rt, path)?;
+    match toml::table_from_str(rt.alloc(), text.as_str()) {
+        Ok(document) => Ok(Value::Table(document)),
+        Err(_) => Err(memory_status(&mut start_lines(rt))),
+    }
+}
+
+// The text of a file that was read before.
+fn text_at(rt: &HostRuntime, path: &str) -> Result<String, u8> {
+    match read_regular_file(rt, rt.alloc(), path, MOST_FILE_OCTETS as u32) {
+        Ok(octets) => match String::from_utf8(octets) {
+            Ok(text) => Ok(text),
+            Err(_) => Err(others(rt)),
+        },
+        Err(error) => Err(failed_status(path, &error, &mut start_lines(rt))),
+    }
+}
+
+// The octets of the keys that the customers have, and those of the spare key.
+fn octets_of(
+    alloc: Global,
+    old: &Standing,
+    register: &Value,
+    lines: &str,
+    spare: NonZero<u16>,
+    spare_octets: &[u8],
+) -> Result<KeyOctets, AllocError> {
+    let mut octets = IndexMap::new(alloc);
+    let mut copy = Vec::new(alloc);
+    copy.extend_from_slice(spare_octets)?;
+    octets.insert(spare.get(), copy)?;
+    if let Some(customers) = register.get("customer").and_then(Value::as_array) {
+        add_from_register(alloc, &mut octets, &old.service, customers, &old.history)?;
+    }
+    add_from_lines(alloc, &mut octets, &old.service, lines)?;
+    Ok(octets)
+}
+
+// The customers, in the order of their first enrolments.
+fn customers_of(alloc: Global, old: &Standing) -> Result<Vec<Kept>, AllocError> {
+    let mut customers = Vec::new(alloc);
+    for place in 0..old.counts.len() {
+        let Some((address, report)) = old.counts.nth(place) else {
+            break;
+        };
+        let [older, newer] = report.numbers();
+        add_kept(
+            &mut customers,
+            kept_at(&old.service, *address, older, newer),
+        )?;
+    }
+    Ok(customers)
+}
+
+// Adds a customer.
+fn add_kept(customers: &mut Vec<Kept>, kept: Kept) -> Result<(), AllocError> {
+    // The prover has to see which types stand within a `Kept`.
+    let _types: (Option<Terms>, Option<GivenKey>) = (None, None);
+    match customers.push(kept) {
+        Ok(()) => Ok(()),
+        Err(_) => Err(AllocError),
+    }
+}
+
+// The customer at an address, with its keys of these numbers.
+fn kept_at(service: &Service, address: Address, older: Option<u16>, newer: Option<u16>) -> Kept {
+    let terms = match service.customer(address) {
+        Some(customer) => terms_of(customer, older, newer),
+        None => None,
+    };
+    Kept { address, terms }
+}
+
+// What a customer is enrolled with, under these numbers; nothing where it is revoked.
+fn terms_of(customer: &Customer, older: Option<u16>, newer: Option<u16>) -> Option<Terms> {
+    if !customer.is_enrolled() {
+        return None;
+    }
+    Some(Terms {
+        older: key_with(customer, older?)?,
+        newer: newer.and_then(|number| key_with(customer, number)),
+        budget: NonZero::<u16>::new(customer.budget())?,
+    })
+}
+
+// The key of a customer with a number.
+fn key_with(customer: &Customer, number: u16) -> Option<GivenKey> {
+    if !customer.is_enrolled() {
+        return None;
+    }
+    let key = customer.key_for(number)?;
+    Some(GivenKey {
+        number: NonZero::<u16>::new(number)?,
+        key: *key,
+    })
+}
+
+// Tells how long the new files are.
+fn tell_sizes(rt: &HostRuntime, old: &Standing, pair: &FoldedPair) -> Result<(), u8> {
+    let (register, commands, before) = (pair.register.len(), pair.commands.len(), old.octets);
+    let customers = old.counts.len();
+    tell(
+        rt,
+        format_args!(
+            "customers: {customers}\nregister: {register} octets\ncommands: {commands} octets, before {before}\n"
+        ),
+    )
+}

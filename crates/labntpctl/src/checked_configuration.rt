@@ -15,7 +15,9 @@ use toml::Table;
 /// The files of customers that a configuration names, as far as it does.
 #[derive(Drop)]
 pub struct Configured {
+    /// The path of the register file.
     pub register: Option<String>,
+    /// The path of the commands file.
     pub commands: Option<String>,
 }
 

@@ -22,7 +22,9 @@ use toml::{Table, Value};
 /// The customers that were found so far.
 #[derive(Drop)]
 pub struct Checked {
+    /// The customers, as the daemon would have them.
     pub service: Service,
+    /// Their numbers, and the lines that enrolled them.
     pub counts: CustomerCounts,
 }
 

@@ -2,7 +2,7 @@
 
 use ntp_events::{Command, LineOutcome, Observer, TurnOutcome};
 
-/// Who keeps each command of which it hears.
+/// An observer that keeps each command that it hears.
 #[derive(Drop)]
 pub struct History {
     /// The commands so far.

@@ -59,9 +59,11 @@ impl Report {
 /// What was found in a line of a file.
 #[derive(Drop)]
 pub struct Found {
+    /// The line, counted from 1.
     pub line: u64,
     /// Whether it is a fault, and no warning.
     pub is_fault: bool,
+    /// What is told behind the line's number.
     pub text: String,
 }
 

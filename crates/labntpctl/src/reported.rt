@@ -44,7 +44,7 @@ pub fn reported_text(rt: &HostRuntime, path: &str) -> Result<Option<String>, u8>
 
 /// The customers that these lines tell. A line that tells none is told, and gives the exit status.
 pub fn reported_in(rt: &HostRuntime, text: &str) -> Result<Vec<Reported>, u8> {
-    // Names the types of which the customers are made.
+    // The prover has to see which types stand within a `Reported`.
     let _types: (Option<SeenTerms>, Option<SeenKey>) = (None, None);
     let mut customers = Vec::new(rt.alloc());
     for (place, line) in text.lines().enumerate() {

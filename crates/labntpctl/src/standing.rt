@@ -173,7 +173,7 @@ fn come_to(
     })
 }
 
-/// Tells that no line feed ends the last line of the commands file at a path, behind so many lines that one ends.
+/// Tells that no line feed ends the last line of the commands file at a path, which stands behind this number of others.
 pub fn write_unended<F: Write>(faults: &mut F, path: &str, lines: u64) {
     let line = lines.saturating_add(1);
     let _ = writeln!(

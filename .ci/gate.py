@@ -158,7 +158,7 @@ def gate(is_whole):
         if is_proved:
             it.part("tests/run", [f"{TOP}/tests/run"])
             some = ["--write-digests"] if is_whole else ["--tenth", str(datetime.date.today().timetuple().tm_yday % 10)]
-            it.part("tools/wrong_bodies", [f"{TOP}/tools/wrong_bodies", *some])
+            it.part("tools/wrong_bodies", [f"{TOP}/tools/wrong_bodies", "--behind-ci", *some])
         else:
             it.say("the programs and the wrong bodies of wrong-bodies/ were not tried, since not all is proved")
     it.show()

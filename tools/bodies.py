@@ -200,10 +200,10 @@ class Stopped(Exception):
 
 
 class Scratch:
-    """A copy of a crate, in a repository of its own, in which edits are tried by the command `rt check`."""
+    """A copy of a crate, in a repository of its own, in which edits are tried by a command that checks it, `rt check` where no other is given."""
 
-    def __init__(self, folder, jobs, is_stopped):
-        self.folder, self.jobs, self.is_stopped, self.texts = folder, jobs, is_stopped, {}
+    def __init__(self, folder, jobs, is_stopped, command=("rt", "check")):
+        self.folder, self.jobs, self.is_stopped, self.command, self.texts = folder, jobs, is_stopped, command, {}
         # How many checks there were, and how many seconds of a processor they took.
         self.checks, self.processor = 0, 0
 
@@ -239,7 +239,7 @@ class Scratch:
                     lines[number] = new
                 self.write(file, "\n".join(lines))
             # 0 and 1 are verdicts, and 3 says that the prover could not tell.
-            said = Said(self.run(["check", *(word for it in names for word in ("--only", it))], (0, 1, 3)))
+            said = Said(self.run([word for it in names for word in ("--only", it)], (0, 1, 3)))
         finally:
             for file, text in texts.items():
                 self.write(file, text)
@@ -250,12 +250,12 @@ class Scratch:
             it.write(text)
 
     def run(self, words, statuses):
-        """What a command of rt prints here, where it ends with one of these statuses."""
+        """What a check with these words prints here, where it ends with one of these statuses."""
         if self.is_stopped():
             raise Stopped("interrupted")
         self.checks += 1
         how = {"cwd": self.folder, "stdin": subprocess.DEVNULL, "stdout": subprocess.PIPE, "stderr": subprocess.STDOUT, "errors": "replace"}
-        with subprocess.Popen(["rt", *words, "--jobs", str(self.jobs)], start_new_session=True, **how) as started:
+        with subprocess.Popen([*self.command, *words, "--jobs", str(self.jobs)], start_new_session=True, **how) as started:
             said = started.stdout.read()
             try:
                 _, ended, used = os.wait4(started.pid, 0)
@@ -267,7 +267,7 @@ class Scratch:
             raise Stopped("interrupted")
         if status not in statuses:
             last = [it for it in said.split("\n") if it.strip()][-1:]
-            raise Stopped(f"rt {words[0]} ended with status {status}: {''.join(last)[:300]}")
+            raise Stopped(f"the check ended with status {status}: {''.join(last)[:300]}")
         return said
 
     def alone(self, edit):

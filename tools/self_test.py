@@ -130,6 +130,8 @@ def cases(top):
         os.remove(edit_file(top, name))
     lines, status = ran(top, "--digests", digests, "--write-digests")
     yield "all_refused", "" if (lines[-1], status) == (f"{len(REFUSED)} passed, 0 failed", 0) else "\n".join(lines)
+    lines, status = ran(top, "--behind-ci")
+    yield "behind_ci", "" if (lines[-1], status) == (f"{len(REFUSED)} passed, 0 failed", 0) else "\n".join(lines)
     lines, status = ran(top, "--digests", digests, "--tenth", "9")
     yield "as_noted", "" if (lines[-1], status) == ("0 passed, 0 failed", 0) else "\n".join(lines)
     with open(digests, encoding="utf-8") as file:

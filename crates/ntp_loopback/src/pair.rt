@@ -13,7 +13,7 @@ use ntp_service_serve::{MOST_RECEIVED_OCTETS, TimedPort, answer_received};
 use ntp_time::Short;
 use std::alloc::Allocator;
 use std::io;
-use std::net::{Net, UdpSocket};
+use std::net::{Net, SocketAddr, UdpSocket};
 use std::num::NonZero;
 use std::time::{Clock, Duration};
 
@@ -47,9 +47,29 @@ pub(crate) struct Pair<'a, R: Clock, A: Allocator> {
     pub(crate) port: UdpPort<&'a R>,
     service: Service<A>,
     reference: Reference,
+    asker: Asker<'a, R>,
+}
+
+// A client with its socket.
+#[derive(Drop)]
+struct Asker<'a, R: Clock> {
     socket: UdpSocket,
     client: Client,
     clock: &'a R,
+}
+
+impl<'a, R: Net + Clock> Asker<'a, R> {
+    // A client whose socket is joined to that of a server.
+    fn new(rt: &'a R, server: SocketAddr) -> io::Result<Asker<'a, R>> {
+        let socket = UdpSocket::bind(rt, "127.0.0.1:0")?;
+        socket.set_read_timeout(Some(Duration::from_secs(LONGEST_WAIT)))?;
+        socket.connect(server)?;
+        Ok(Asker {
+            socket,
+            client: Client::new(key(), NUMBER),
+            clock: rt,
+        })
+    }
 }
 
 impl<'a, R: Net + Clock, A: Allocator + Copy> Pair<'a, R, A> {
@@ -59,18 +79,14 @@ impl<'a, R: Net + Clock, A: Allocator + Copy> Pair<'a, R, A> {
     {
         let served = UdpSocket::bind(rt, "127.0.0.1:0")?;
         served.set_read_timeout(Some(Duration::from_secs(LONGEST_WAIT)))?;
-        let socket = UdpSocket::bind(rt, "127.0.0.1:0")?;
-        socket.set_read_timeout(Some(Duration::from_secs(LONGEST_WAIT)))?;
-        socket.connect(served.local_addr()?)?;
+        let asker = Asker::new(rt, served.local_addr()?)?;
         let now = moment_now(&rt);
         let reference = Reference::new(0, 1, -20, Short(0), Short(0), *b"LOOP", now.stamp).unwrap();
         Ok(Pair {
             port: UdpPort::new(served, rt),
             service,
             reference,
-            socket,
-            client: Client::new(key(), NUMBER),
-            clock: rt,
+            asker,
         })
     }
 
@@ -79,15 +95,16 @@ impl<'a, R: Net + Clock, A: Allocator + Copy> Pair<'a, R, A> {
         requires { udp_failures self.old.port < 2 ^ 64 - 1 }
         ensures { udp_failures self.new.port ≤ udp_failures self.old.port + 1 }
     {
-        let query = self.client.request(moment_now(&self.clock));
-        self.socket.send(query.octets()).ok()?;
+        let departure = moment_now(&self.asker.clock);
+        let query = self.asker.client.request(departure);
+        self.asker.socket.send(query.octets()).ok()?;
         if !self.answer() {
             return None;
         }
         let mut reply = [0; MOST_RECEIVED_OCTETS];
-        let length = self.socket.recv(&mut reply).ok()?;
-        let arrival = moment_now(&self.clock);
-        Some(self.client.take(&reply[..length], arrival))
+        let length = self.asker.socket.recv(&mut reply).ok()?;
+        let arrival = moment_now(&self.asker.clock);
+        Some(self.asker.client.take(&reply[..length], arrival))
     }
 
     // Takes a datagram and answers it. Whether a reply was sent.

@@ -52,10 +52,10 @@ pub fn model_of(alloc: Global, script: &Script) -> Result<Expected, Fail> {
         turns: 0,
         not_sent: 0,
         replies: Vec::new(alloc),
-        outcomes: run(&mut service, &script.events)?,
+        outcomes: run(&mut service, &script.made.events)?,
         seen: 0,
     };
-    for happening in &script.happenings {
+    for happening in &script.made.happenings {
         expected.take(*happening)?;
     }
     Ok(expected)

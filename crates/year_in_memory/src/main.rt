@@ -26,7 +26,7 @@ fn main(rt: HostRuntime) -> Result<ExitCode, Fail> {
     let alloc = rt.alloc();
     let disk = Disk::new(alloc);
     let script = year(alloc)?;
-    let lines = script.lines.len() as u64;
+    let lines = script.given.lines.len() as u64;
     let expected = model_of(alloc, &script)?;
     let found = run(alloc, &disk, script, &expected)?;
     let answers = disk.text(ANSWERS)?;

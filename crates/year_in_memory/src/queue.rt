@@ -17,6 +17,12 @@ use std::io;
 #[derive(Drop)]
 pub struct YearQueue<'a, 'd> {
     queue: MemoryQueue,
+    time: Passing<'a, 'd>,
+}
+
+// What time that passes changes.
+#[derive(Drop)]
+struct Passing<'a, 'd> {
     host: &'a MemoryHost<'d>,
     clocks: &'a HostClocks,
     lines: Appending<'a>,
@@ -56,13 +62,13 @@ impl<'a, 'd> YearQueue<'a, 'd> {
         lines: &'a [DueLine],
         readings: usize,
     ) -> YearQueue<'a, 'd> {
-        YearQueue {
-            queue,
+        let time = Passing {
             host,
             clocks,
             lines: Appending { lines, appended: 0 },
             readings,
-        }
+        };
+        YearQueue { queue, time }
     }
 
     /// What was sent, in order.
@@ -96,7 +102,7 @@ impl<'a, 'd> TimedPort for YearQueue<'a, 'd> {
         &mut self,
         datagram: &mut DatagramRoom,
     ) -> Option<Result<Arrival, PortFault>> {
-        if self.readings == 0 {
+        if self.time.readings == 0 {
             return Some(self.queue.receive(datagram));
         }
         self.queue.take_in_time(datagram)
@@ -106,12 +112,12 @@ impl<'a, 'd> TimedPort for YearQueue<'a, 'd> {
 impl<'a, 'd> QueuedPort for YearQueue<'a, 'd> {
     fn ticks(&mut self) -> u64 {
         let now = self.queue.ticks();
-        self.readings = self.readings.saturating_sub(1);
-        self.host.nanos.set(now);
-        if let Ok(commands) = self.host.disk.place(COMMANDS) {
-            let _ = self.lines.append_to(commands, now);
+        self.time.readings = self.time.readings.saturating_sub(1);
+        self.time.host.nanos.set(now);
+        if let Ok(commands) = self.time.host.disk.place(COMMANDS) {
+            let _ = self.time.lines.append_to(commands, now);
         }
-        self.clocks.read(self.host);
+        self.time.clocks.read(self.time.host);
         now
     }
 

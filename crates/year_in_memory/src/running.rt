@@ -4,7 +4,7 @@ use crate::files::{ANSWERS, COMMANDS, Disk, LOG, MemoryFile};
 use crate::host::MemoryHost;
 use crate::judging::Expected;
 use crate::queue::YearQueue;
-use crate::script::{DueLine, Script};
+use crate::script::{DueLine, Given, Script};
 use labntpd_assembly::{
     Begun, DaemonObserver, HeldCommands, Host, Parts, begin_commands, observer, serve,
 };
@@ -67,12 +67,15 @@ pub fn run(alloc: Global, disk: &Disk, script: Script, expected: &Expected) -> R
     };
     let Script {
         reference,
+        given,
+        ..
+    } = script;
+    let Given {
         turns,
         due,
         readings,
         lines,
-        ..
-    } = script;
+    } = given;
     let count = readings.len();
     let memory = MemoryPort::new(alloc, turns)?;
     let queue = MemoryQueue::new(alloc, memory, due, readings, 0)?;

@@ -52,6 +52,18 @@ pub enum Happening {
 pub struct Script {
     /// The state of its clock.
     pub reference: Reference,
+    /// What its host gives it.
+    pub given: Given,
+    /// What it makes of that.
+    pub made: Made,
+    alloc: Global,
+    // The service by which queries that rest on replies are made.
+    plan: Service,
+}
+
+/// What the host of a daemon gives it.
+#[derive(Drop)]
+pub struct Given {
     /// The turns of its port.
     pub turns: Vec<Turn>,
     /// When their datagrams come.
@@ -60,13 +72,37 @@ pub struct Script {
     pub readings: Vec<u64>,
     /// The lines of its commands file.
     pub lines: Vec<DueLine>,
+}
+
+impl Given {
+    // Nothing is given yet.
+    fn new(alloc: Global) -> Given {
+        Given {
+            turns: Vec::new(alloc),
+            due: Vec::new(alloc),
+            readings: Vec::new(alloc),
+            lines: Vec::new(alloc),
+        }
+    }
+}
+
+/// What a daemon makes of what it is given.
+#[derive(Drop)]
+pub struct Made {
     /// What it does.
     pub happenings: Vec<Happening>,
     /// The events of that.
     pub events: Vec<Event>,
-    alloc: Global,
-    // The service by which queries that rest on replies are made.
-    plan: Service,
+}
+
+impl Made {
+    // Nothing is made yet.
+    fn new(alloc: Global) -> Made {
+        Made {
+            happenings: Vec::new(alloc),
+            events: Vec::new(alloc),
+        }
+    }
 }
 
 impl Script {
@@ -74,12 +110,8 @@ impl Script {
     pub fn new(alloc: Global, reference: Reference) -> Script {
         Script {
             reference,
-            turns: Vec::new(alloc),
-            due: Vec::new(alloc),
-            readings: Vec::new(alloc),
-            lines: Vec::new(alloc),
-            happenings: Vec::new(alloc),
-            events: Vec::new(alloc),
+            given: Given::new(alloc),
+            made: Made::new(alloc),
             alloc,
             plan: Service::new(alloc),
         }
@@ -87,25 +119,28 @@ impl Script {
 
     /// A line is appended to the commands file.
     pub fn line(&mut self, at: u64, text: &'static str) -> Result<(), Fail> {
-        self.lines.push(DueLine { at, text })?;
+        self.given.lines.push(DueLine { at, text })?;
         if is_passed_over(text.as_bytes()) {
             return Ok(());
         }
-        let number = self.lines.len() as u64;
+        let number = self.given.lines.len() as u64;
         match parse_command(text) {
             Ok(command) => {
                 let _ = self.plan.command(&command);
-                self.happenings.push(Happening::Command { number })?;
-                self.events.push(Event::Command(command))?;
+                self.made.happenings.push(Happening::Command { number })?;
+                self.made.events.push(Event::Command(command))?;
             }
-            Err(fault) => self.happenings.push(Happening::Faulty { number, fault })?,
+            Err(fault) => self
+                .made
+                .happenings
+                .push(Happening::Faulty { number, fault })?,
         }
         Ok(())
     }
 
     /// A wait ends with nothing.
     pub fn wait(&mut self, at: u64) -> Result<(), Fail> {
-        Ok(self.readings.push(at)?)
+        Ok(self.given.readings.push(at)?)
     }
 
     /// A wait ends with nothing just before a datagram comes.
@@ -115,20 +150,20 @@ impl Script {
 
     /// When a datagram has come, none can be received, and then it is.
     pub fn fails_to_receive(&mut self, at: u64) -> Result<(), Fail> {
-        self.turns.push(Turn {
+        self.given.turns.push(Turn {
             arrival: None,
             transmit: NO_MOMENT,
             departure: NO_MOMENT,
             sends: false,
         })?;
-        self.readings.push(at.saturating_add(READ))?;
-        Ok(self.happenings.push(Happening::NothingReceived)?)
+        self.given.readings.push(at.saturating_add(READ))?;
+        Ok(self.made.happenings.push(Happening::NothingReceived)?)
     }
 
     /// A wait ends with nothing, and then nothing can be received.
     pub fn ends(&mut self, at: u64) -> Result<(), Fail> {
         self.wait(at)?;
-        Ok(self.happenings.push(Happening::NothingReceived)?)
+        Ok(self.made.happenings.push(Happening::NothingReceived)?)
     }
 
     /// A datagram comes while the process stands still, which goes on a while later: it is dropped.
@@ -146,10 +181,10 @@ impl Script {
         sends: bool,
     ) -> Result<Arrival, Fail> {
         // The ports of senders, one after another.
-        let port = (self.turns.len() % 50_000) as u16;
+        let port = (self.given.turns.len() % 50_000) as u16;
         let receipt = moment_at(at.saturating_add(RECEIVED))?;
-        self.due.push(at)?;
-        self.turns.push(Turn {
+        self.given.due.push(at)?;
+        self.given.turns.push(Turn {
             arrival: Some(Incoming {
                 address,
                 port,
@@ -177,8 +212,9 @@ impl Script {
         sends: bool,
     ) -> Result<Option<Reply>, Fail> {
         let arrival = self.turn(at, address, octets, sends)?;
-        self.readings.push(at.saturating_add(READ))?;
-        self.happenings
+        self.given.readings.push(at.saturating_add(READ))?;
+        self.made
+            .happenings
             .push(Happening::Datagram { arrival, sends })?;
         let transmit = moment_at(at.saturating_add(TRANSMITTED))?;
         let reference = self.reference;
@@ -186,7 +222,7 @@ impl Script {
         let answer = self
             .plan
             .datagram(address, arrival.receipt, transmit, &reference, octets);
-        self.events.push(Event::Datagram {
+        self.made.events.push(Event::Datagram {
             address,
             receipt: arrival.receipt,
             transmit,
@@ -212,7 +248,7 @@ impl Script {
             Answer::Time { reply, saved } => {
                 let moment = moment_at(at.saturating_add(DEPARTED))?;
                 self.plan.departed(address, saved, moment);
-                self.events.push(Event::Departed {
+                self.made.events.push(Event::Departed {
                     address,
                     receive: saved,
                     moment,

@@ -3,7 +3,6 @@
 use crate::checked_register::{Checked, address_warning, budget_warning_of, key_warning_of};
 use crate::report::{Found, Report, add_found};
 use crate::standing::{is_ended, write_unended};
-use labntpd_assembly::{is_nearly_full, write_nearly_full};
 use labntpd_start::{readers_of, tell_octets};
 use ntp_admin::{Command, LineFault, refusal_word};
 use ntp_checking::{
@@ -16,6 +15,7 @@ use ntp_events::{LineOutcome, Observer, TurnOutcome};
 use ntp_host::read_regular_file;
 use ntp_register::Refusal;
 use ntp_reports::Both;
+use ntp_server::{is_nearly_full, write_nearly_full};
 use std::alloc::Global;
 use std::fmt::Display;
 use std::io::Write;

@@ -1,7 +1,6 @@
 //! What the register and the commands have come to.
 
 use crate::history::History;
-use labntpd_assembly::begin_commands;
 use labntpd_start::{ReadRegister, register_at};
 use ntp_admin::Command;
 use ntp_customer_files::{
@@ -11,6 +10,7 @@ use ntp_host::read_regular_file;
 use ntp_register::Address;
 use ntp_reply::Reference;
 use ntp_reports::{Both, CustomerCounts};
+use ntp_server::begin_commands;
 use ntp_service_run::Service;
 use std::alloc::{AllocError, Global};
 use std::fs::Files;

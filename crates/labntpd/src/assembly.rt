@@ -1,9 +1,7 @@
 //! Customers are served, day and night.
 ghost use Rattle.std.specs.Prelude.{◌≡◌, IfOk};
 
-use labntpd_assembly::{
-    Begun, DaemonObserver, HeldCommands, Host, Parts, ServeFault, begin_commands, observer, serve,
-};
+use labntpd_assembly::{Begun, DaemonObserver, Host, Parts, ServeFault, observer, serve};
 use labntpd_configuration::Configuration;
 use labntpd_host::{
     BoundAt, ClockSource, HostClocks, Log, QueuedUdp, SOCKETS_ROOM, has_standard_streams,
@@ -15,6 +13,7 @@ use labntpd_start::{
 use ntp_customer_files::{DONE, memory_status, write_status};
 use ntp_freshness::FreshPort;
 use ntp_host::UdpPort;
+use ntp_server::{HeldCommands, begin_commands};
 use std::alloc::Global;
 use std::fs::File;
 use std::io::{LineWriter, Stderr};

@@ -1,20 +1,10 @@
-//! What the daemon reads and writes while it serves, and why that fails: the commands file is held to what was applied of it.
+//! What the daemon reads and writes while it serves, and why that fails.
 
-use ntp_customer_files::{
-    AdmitFault, MOST_FILE_OCTETS, TEXT_FAULTY, failed_status, line_without_text, memory_status,
-};
-use ntp_host::{CommandsFile, EachMillisecond};
-use ntp_server::AdmittedCommands;
-use std::alloc::Global;
-use std::fmt;
+use ntp_customer_files::AdmitFault;
+use ntp_host::EachMillisecond;
+use ntp_server::HeldCommands;
 use std::fs::Files;
-use std::io::{self, Write};
-
-/// From how many octets on a commands file is told to be nearly full: 80 in 100 of the most (profile).
-const NEARLY_FULL_OCTETS: usize = 838_860;
-
-/// A commands file that is held to what was applied of it.
-pub type HeldCommands<'a, R> = AdmittedCommands<CommandsFile<'a, R>, Global>;
+use std::{fmt, io};
 
 /// The commands of the daemon.
 pub type DaemonCommands<'a, R> = EachMillisecond<HeldCommands<'a, R>>;
@@ -79,48 +69,5 @@ fn write_not_admitted<W: fmt::Write>(out: &mut W, fault: &AdmitFault) -> fmt::Re
             write!(out, "line {number} is not the one that was applied")
         }
         AdmitFault::NoMemory => out.write_str("there is no memory for it"),
-    }
-}
-
-/// Whether a commands file of so many octets is nearly full.
-pub fn is_nearly_full(octets: usize) -> bool {
-    octets >= NEARLY_FULL_OCTETS
-}
-
-/// Tells that a commands file is nearly full.
-pub fn write_nearly_full<W: Write>(out: &mut W, octets: usize) {
-    let _ = write!(
-        out,
-        "has {octets} of at most {MOST_FILE_OCTETS} octets; with more no line is carried out"
-    );
-}
-
-/// The commands file at a path, read for the first time. A fault is told in one line to `faults`, and gives the exit status.
-pub fn begin_commands<'a, R: Files, F: Write>(
-    files: &'a R,
-    alloc: Global,
-    path: &'a str,
-    faults: &mut F,
-) -> Result<HeldCommands<'a, R>, u8> {
-    let mut file = CommandsFile::new(files, path, MOST_FILE_OCTETS as u32);
-    let octets: Vec<u8> = match file.begin(alloc) {
-        Ok(octets) => octets,
-        Err(error) => return Err(failed_status(path, &error, faults)),
-    };
-    let line = line_without_text(&octets);
-    match AdmittedCommands::begun(file, alloc, octets) {
-        Ok(commands) => Ok(commands),
-        Err(AdmitFault::NoMemory) => Err(memory_status(faults)),
-        Err(AdmitFault::TooLong) => {
-            let _ = writeln!(
-                faults,
-                "{path}: at most {MOST_FILE_OCTETS} octets are wanted"
-            );
-            Err(TEXT_FAULTY)
-        }
-        Err(_) => {
-            let _ = writeln!(faults, "{path}: line {line}: this is no UTF-8");
-            Err(TEXT_FAULTY)
-        }
     }
 }

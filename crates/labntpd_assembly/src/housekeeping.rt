@@ -3,7 +3,7 @@ ghost use Rattle.std.specs.Prelude.{◌≡◌};
 
 use crate::clock_told::{DaemonClock, is_synchronised};
 use crate::customers_file::CustomersFile;
-use crate::files::{FileFault, is_nearly_full, write_nearly_full};
+use crate::files::FileFault;
 use crate::parts::{Daemon, DaemonPort, Host};
 use labntpd_configuration::Configuration;
 use labntpd_configuration::command_line::VERSION;
@@ -17,7 +17,7 @@ use ntp_reply::Reference;
 use ntp_reports::{
     Ask, ClockGauges, Counts, FileGauges, Gauges, Kind, LineAllowance, write_statistics,
 };
-use ntp_server::Reporter;
+use ntp_server::{Reporter, is_nearly_full, write_nearly_full};
 use ntp_time::Moment;
 use std::alloc::AllocError;
 use std::fs::Files;

@@ -14,7 +14,7 @@ mod serving;
 
 pub use clock_told::DaemonClock;
 pub use command_log::CommandLog;
-pub use files::{DaemonCommands, HeldCommands, begin_commands, is_nearly_full, write_nearly_full};
+pub use files::DaemonCommands;
 pub use housekeeping::Begun;
 pub use parts::{Daemon, DaemonObserver, DaemonPort, Host, Parts, observer};
 pub use serving::{ServeFault, serve};

@@ -3,12 +3,12 @@ ghost use Rattle.std.specs.Prelude.{◌≡◌};
 ghost use Rattle.ntp_reports.specs.Counted.{nothing_counted};
 
 use crate::command_log::CommandLog;
-use crate::files::{DaemonCommands, HeldCommands};
+use crate::files::DaemonCommands;
 use labntpd_configuration::Configuration;
 use labntpd_host::{HostClocks, Log, QueuedUdp};
 use ntp_freshness::{FreshPort, QueuedPort};
 use ntp_reports::{AnswerLines, Both, Counting, Counts, CustomerCounts};
-use ntp_server::Server;
+use ntp_server::{HeldCommands, Server};
 use ntp_service_run::Service;
 use ntp_service_serve::TimedPort;
 use std::alloc::Global;

@@ -5,14 +5,13 @@ use crate::host::MemoryHost;
 use crate::judging::Expected;
 use crate::queue::YearQueue;
 use crate::script::{DueLine, Given, Script};
-use labntpd_assembly::{
-    Begun, DaemonObserver, HeldCommands, Host, Parts, begin_commands, observer, serve,
-};
+use labntpd_assembly::{Begun, DaemonObserver, Host, Parts, observer, serve};
 use labntpd_configuration::{Configuration, read_configuration};
 use labntpd_host::{BoundAt, ClockSource, HostClocks, Log, LogForm, emptied_file};
 use ntp_freshness::{FreshPort, MemoryQueue, QueueWatch};
 use ntp_reply::Reference;
 use ntp_reports::{AnswerLines, Counts, CustomerCounts};
+use ntp_server::{HeldCommands, begin_commands};
 use ntp_service_run::Service;
 use ntp_service_serve::{MemoryPort, Port};
 use std::alloc::Global;

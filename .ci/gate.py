@@ -4,7 +4,7 @@
     .ci/run              from the top or elsewhere
     .ci/run --whole      tries every wrong body
 
-1. What the pages say of the sources that is counted, drawn or named: `tests/belief --check`, `tests/crates --check` and `tests/pages --check`, a
+1. What the pages say of the sources that is counted, drawn or named: `tools/belief --check`, `tools/crates --check` and `tests/pages --check`, a
    case each; and `tools/layout`, since `rt ci` says only at the end of an hour that a file is not laid out.
 2. `rt ci`, the toolchain's gate, where all is laid out: every proof and test from nothing, the wrong bodies of must-fail/, and each program
    by two compilers.
@@ -38,7 +38,7 @@ from processes import Table, end_all, take_orphans
 from rooms import Ticker, crates_of
 
 # What compares pages with the sources.
-COMPARED = ("belief", "crates", "pages")
+COMPARED = ("tools/belief", "tools/crates", "tests/pages")
 # After how many seconds without a line one tells how far it is.
 SILENCE = 10
 COUNTS = re.compile(r"(\d+) passed, (\d+) failed(?:, (\d+) skipped)?")
@@ -153,7 +153,7 @@ def gate(is_whole):
     it = Gate()
     with Ticker(SILENCE / 4, it.tell_how_far):
         for name in COMPARED:
-            it.part(f"tests/{name} --check", [f"{TOP}/tests/{name}", "--check"])
+            it.part(f"{name} --check", [f"{TOP}/{name}", "--check"])
         is_proved = it.part("tools/layout", [f"{TOP}/tools/layout"]) and it.part("rt ci", ["rt", "ci"])
         if is_proved:
             it.part("tests/run", [f"{TOP}/tests/run"])

@@ -1,4 +1,4 @@
-"""What tests/belief and tests/crates read: the crates of the repository, their clauses and their definitions."""
+"""What tools/belief and tools/crates read: the crates of the repository, their clauses and their definitions."""
 import functools
 import os
 import re

@@ -1,4 +1,4 @@
-"""Draws pictures of boxes, ways and words, in colours for a light and for a dark page. `tests/crates --write` draws all of docs/.
+"""Draws pictures of boxes, ways and words, in colours for a light and for a dark page. `tools/crates --write` draws all of docs/.
 
 A picture is a text in tools/pictures/. A line that begins with a word says what is drawn, and the indented lines below it are its words:
 

@@ -84,7 +84,7 @@ def build(what, names, program=None, top=TOP):
         tasks = {name: crates[name] for name in crates if name in wanted}
         well = len(in_lanes(tasks, {name: 1 + lines_of(name, top) for name in tasks}, prove, LANES)) == len(tasks)
         if well and program:
-            command = ["rt", "run", "--jobs", str(LANES), "--", ENDS_AT_ONCE[program]]
+            command = ["rt", "run", "--jobs", str(min(2, LANES)), "--", ENDS_AT_ONCE[program]]
             well = run(command, f"{top}/crates/{program}", program, progress, said)
     print(f"{what}: proved and built in {progress.minutes()}" if well else "".join(said) + f"{what}: not built", file=sys.stderr, flush=True)
     return well

@@ -70,8 +70,8 @@ def longest_chain(tasks, weights):
 
 def in_lanes(tasks, weights, work, lanes):
     """Calls work(task, jobs) for each task once those that it waits for have ended well, so many at a time, first those with the longest
-    chain behind them; a processor that no other task wants is a job more, and the longest chain of all has two. Returns the tasks that
-    ended well."""
+    chain behind them. A task has two jobs where no other wants the processor, and that of the longest chain always: a third would read once
+    more what the crate stands on, and save hardly any time. Returns the tasks that ended well."""
     chain = longest_chain(tasks, weights)
     left, running, well, ended = sorted(tasks, key=lambda it: -chain[it]), {}, set(), set()
     with ThreadPoolExecutor(lanes) as pool:
@@ -85,7 +85,7 @@ def in_lanes(tasks, weights, work, lanes):
                 if idle > 0:
                     left.remove(task)
                     is_longest = chain[task] >= max([chain[it] for it in left] + [chain[it] for it, _ in running.values()], default=0)
-                    jobs = max(min(2, lanes) if is_longest else 1, idle // (len(ready) - at))
+                    jobs = min(2, lanes if is_longest else max(1, idle // (len(ready) - at)))
                     running[pool.submit(work, task, jobs)] = task, jobs
             if not running:
                 continue

@@ -1,7 +1,4 @@
-"""What tests/door and tests/scale share: network namespaces that a test has for itself, nftables in them, and floods.
-
-It stands on tests/program, which a test loads first.
-"""
+"""What tests/door and tests/scale share: network namespaces that a test has for itself, nftables in them, and floods."""
 import contextlib
 import glob
 import os
@@ -10,8 +7,8 @@ import shutil
 import subprocess
 import sys
 
-import program
-from program import Odd, PassedOver
+import judging
+from judging import Odd, PassedOver
 
 TOP = os.path.dirname(os.path.dirname(os.path.realpath(__file__)))
 
@@ -48,7 +45,7 @@ TRIVIAL = "table inet labntpd_trial\ndelete table inet labntpd_trial\n"
 
 def find_nft():
     """Has nft on the path, where it is there or tests/run has fetched it, and has seen it work."""
-    folder, own = f"{os.environ.get('PEERS', '')}/nftables", f"{program.ROOM}/bin"
+    folder, own = f"{os.environ.get('PEERS', '')}/nftables", f"{judging.ROOM}/bin"
     found = shutil.which("nft", path=f"{os.environ.get('PATH', os.defpath)}:/usr/sbin:{folder}/usr/sbin")
     if not found:
         raise PassedOver("there is no program nft")
@@ -63,7 +60,7 @@ def find_nft():
 
 def nft(*words, given=None, fault=Odd):
     """What nft prints; where it fails, that is such a fault."""
-    ran = subprocess.run(["nft", *words], input=given, capture_output=True, text=True, timeout=program.WAIT)
+    ran = subprocess.run(["nft", *words], input=given, capture_output=True, text=True, timeout=judging.WAIT)
     if ran.returncode:
         raise fault(f"nft {' '.join(words)}: {ran.stderr.strip()[:200]}")
     return ran.stdout
@@ -134,13 +131,13 @@ int main(int count, char **words) {
 
 def compiled(source, name):
     """Makes a program of this name of a source in C."""
-    subprocess.run(["gcc", "-O2", "-x", "c", "-o", f"{program.ROOM}/{name}", "-"], input=source.encode(), check=True)
+    subprocess.run(["gcc", "-O2", "-x", "c", "-o", f"{judging.ROOM}/{name}", "-"], input=source.encode(), check=True)
 
 
 @contextlib.contextmanager
 def busy(words, processor):
     """A process that runs on this processor meanwhile."""
-    process = subprocess.Popen([f"{program.ROOM}/flood", *words], stdin=subprocess.DEVNULL)
+    process = subprocess.Popen([f"{judging.ROOM}/flood", *words], stdin=subprocess.DEVNULL)
     try:
         os.sched_setaffinity(process.pid, {processor})
         yield process

@@ -105,6 +105,13 @@ def stamps(packet):
     return struct.unpack(">QQQ", packet[24:48])
 
 
+def nanos(stamp):
+    """The time of a stamp in nanoseconds since 1970, in the era that is nearest to now."""
+    seconds = (stamp >> 32) - SINCE_1900
+    seconds += ((time.time_ns() // 1_000_000_000 - seconds + 2**31) >> 32) << 32
+    return seconds * 1_000_000_000 + ((stamp & 0xFFFF_FFFF) * 1_000_000_000 >> 32)
+
+
 def kind(customer, request, reply, clock=None):
     """What a reply is.  `clock` has the stamps before the query was sent and after the reply came."""
     def odd(what):

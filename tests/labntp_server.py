@@ -1,0 +1,59 @@
+"""The serving `labntp`, as tests start it and see it."""
+import os
+import subprocess
+
+import judging
+import probe
+from judging import WAIT, Odd, end, file_of, register_of, same, start, until
+
+CUSTOMERS = [("127.0.0.1", 1, "md5", "6b6579", 65535), ("127.0.0.2", 2, "sha1", "6f74686572", 65535), ("127.0.0.3", 3, "md5", "6b6579", 2)]
+
+
+def serving(port, turns=1):
+    return ["serve", "--register", f"{judging.ROOM}/register.toml", "--commands", f"{judging.ROOM}/commands", "--port", str(port), "--turns", str(turns)]
+
+
+class Server:
+    """The serving program, from its first line on."""
+
+    def __init__(self, turns=1000, commands="", register=None, port=None):
+        self.commands = file_of("commands", commands)
+        file_of("register.toml", register or register_of(CUSTOMERS))
+        self.port = port or probe.free_port()
+        with open(f"{judging.ROOM}/out", "wb") as out, open(f"{judging.ROOM}/err", "wb") as err:
+            self.process = start(serving(self.port, turns), stdout=out, stderr=err)
+
+    def __enter__(self):
+        until("it serves", lambda: self.out().endswith("\n") or self.process.poll() is not None)
+        same("standard output at the start", f"serving 127.0.0.1:{self.port}\n", self.out())
+        return self
+
+    def __exit__(self, *_):
+        end(self.process)
+
+    def out(self):
+        with open(f"{judging.ROOM}/out", errors="replace") as it:
+            return it.read()
+
+    def err(self):
+        with open(f"{judging.ROOM}/err", errors="replace") as it:
+            return it.read()
+
+    def ask(self, wanted, customer, form="plain"):
+        same(f"{form} query of {customer}", wanted, probe.ask(self.port, form, customer))
+
+    def append(self, *lines):
+        with open(self.commands, "a") as it:
+            it.write("".join(f"{line}\n" for line in lines))
+
+    def replace(self, text):
+        """Another file takes the place of the commands file."""
+        os.rename(file_of("new", text), self.commands)
+
+    def ends(self, status, last):
+        """It ends so, with this last line."""
+        try:
+            same("status", status, self.process.wait(WAIT))
+        except subprocess.TimeoutExpired:
+            raise Odd(f"it had not ended {WAIT} seconds after its last turn")
+        same("standard output", f"serving 127.0.0.1:{self.port}\n{last}", self.out())

@@ -1,14 +1,11 @@
 //! The words of the command line.
 
-use crate::customer_file::ANY;
-use crate::door::{Door, Output, Place};
-use crate::explaining::Explained;
-use crate::folding::FoldAsked;
-use crate::places::FilesNamed;
-use crate::recovering::RecoverAsked;
 use clap::builder::ValueParser;
 use clap::error::ErrorKind;
 use clap::{Arg, ArgAction, ArgMatches, Command, Error};
+use labntpctl_changes::{Change, FoldAsked, Ordered, RecoverAsked};
+use labntpctl_looks::{Door, Explained, Output, Place};
+use labntpctl_standing::{ANY, FilesNamed};
 use labntpd_configuration::command_line::VERSION;
 use ntp_admin::words;
 use ntp_mac::Algorithm;
@@ -70,45 +67,6 @@ pub enum Asked<'a> {
     Fold(FoldAsked<'a>),
     /// A lost commands file, as far as it can be had back.
     Recover(RecoverAsked<'a>),
-}
-
-/// A change that is asked for.
-#[derive(Clone, Copy)]
-pub struct Ordered<'a> {
-    /// The path of the configuration file.
-    pub config: &'a str,
-    /// The customer's address.
-    pub address: Address,
-    /// The change.
-    pub change: Change,
-    /// Where what the customer gets is written.
-    pub output: Option<&'a str>,
-    /// Where the customer asks.
-    pub server: Option<Server>,
-    /// The paths of the answers files that are waited for, with commas between them; else that of the configuration.
-    pub answers: Option<&'a str>,
-    /// How many milliseconds the answer is waited for.
-    pub wait: u64,
-    /// Whether the line is only shown.
-    pub dry_run: bool,
-}
-
-/// What becomes of a customer.
-#[derive(Clone, Copy)]
-pub enum Change {
-    Enrol {
-        budget: NonZero<u16>,
-        algorithm: Algorithm,
-    },
-    Revoke,
-    Budget(NonZero<u16>),
-    Rollover(Algorithm),
-    /// The key of a number goes, or the older one.
-    Retire {
-        number: Option<NonZero<u16>>,
-        /// Whether the clerk is asked first.
-        asks: bool,
-    },
 }
 
 /// What the words ask for; the first is the program's name. Else the error that tells the user why: its kind may be a request for

@@ -1,11 +1,10 @@
 //! New files beside the old ones, or in their place.
 
-use crate::commands_file::HeldFile;
 use crate::folded_pair::FoldedPair;
 use crate::folding::{PairPaths, others};
 use crate::ordering::tell;
-use crate::standing::{Standing, standing_at};
 use jiff::Timestamp;
+use labntpctl_standing::{HeldFile, Standing, standing_at};
 use labntpd_start::start_lines;
 use ntp_customer_files::{IO_FAILED, failed_status, memory_status};
 use ntp_keeping::leave_the_same;

@@ -3,8 +3,8 @@
 use crate::checked_commands::check_commands;
 use crate::checked_configuration::{Configured, check_configuration};
 use crate::checked_register::{Checked, check_register};
-use crate::places::FilesNamed;
 use crate::report::Report;
+use labntpctl_standing::FilesNamed;
 use labntpd_start::start_lines;
 use ntp_customer_files::{DONE, memory_status, write_status};
 use std::io::{BufWriter, Write};

@@ -1,8 +1,7 @@
 //! The rules by which the kernel polices the door: printed, or kept in a file while customers change.
 
-use crate::customer_file::{NTP_PORT, listening};
 use crate::door_rules::{Source, rules_text};
-use crate::standing::{Standing, standing_at};
+use labntpctl_standing::{NTP_PORT, Standing, listening, standing_at};
 use labntpd_configuration::{Configuration, Listen};
 use labntpd_host::{pause, replace_file};
 use labntpd_start::{configuration_at, start_lines};

@@ -2,7 +2,7 @@
 
 use crate::checked_register::{Checked, address_warning, budget_warning_of, key_warning_of};
 use crate::report::{Found, Report, add_found};
-use crate::standing::{is_ended, write_unended};
+use labntpctl_standing::{is_ended, write_unended};
 use labntpd_start::{readers_of, tell_octets};
 use ntp_admin::{Command, LineFault, refusal_word};
 use ntp_checking::{

@@ -1,11 +1,10 @@
 //! A change of a customer: one line of commands, appended while no other clerk appends, and the daemon's answer to it.
 
-use crate::command_line::{Change, Ordered};
-use crate::commands_file::HeldFile;
-use crate::customer_file::{listening, text_for, usual_path, write_new};
 use crate::deciding::{Decided, decide};
+use crate::ordered::{Change, Ordered};
 use crate::retiring::is_wanted;
 use crate::waiting::{GOOD, answer_in_time, is_answered};
+use labntpctl_standing::{HeldFile, listening, text_for, usual_path, write_new};
 use labntpd_configuration::Configuration;
 use labntpd_start::{configuration_at, start_lines};
 use ntp_customer_files::{

@@ -1,13 +1,12 @@
 //! The commands file, folded into the register.
 
-use crate::commands_file::HeldFile;
 use crate::deciding::{free_number, new_key};
 use crate::folded_pair::{FoldedPair, folded_pair};
 use crate::key_octets::{KeyOctets, add_from_lines, add_from_register};
 use crate::ordering::tell;
 use crate::placing::{put_in_place, write_beside};
-use crate::standing::{Standing, standing_at};
 use indexmap::IndexMap;
+use labntpctl_standing::{HeldFile, Standing, standing_at};
 use labntpd_start::{configuration_at, start_lines};
 use ntp_customer_files::{DONE, MOST_FILE_OCTETS, TEXT_FAULTY, failed_status, memory_status};
 use ntp_host::read_regular_file;

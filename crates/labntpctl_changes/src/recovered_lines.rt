@@ -1,9 +1,6 @@
 //! The lines of a commands file that is had back.
 
-use crate::customer_file::address_text;
-use crate::differing::{key_text, left_at};
-use crate::reported::Reported;
-use crate::standing::Standing;
+use labntpctl_standing::{Reported, Standing, address_text, key_text, left_at};
 use ntp_admin::Command;
 use ntp_keeping::{Amendment, Seen, SeenKey, SeenTerms, amendment_for, command_line, lost_keys};
 use ntp_register::Address;

@@ -1,7 +1,7 @@
 //! The texts of a register file and of a commands file that make the customers of longer ones.
 
-use crate::customer_file::address_text;
 use crate::key_octets::KeyOctets;
+use labntpctl_standing::address_text;
 use ntp_admin::Command;
 use ntp_customer_files::MOST_FILE_OCTETS;
 use ntp_keeping::{Folded, Kept, command_line};

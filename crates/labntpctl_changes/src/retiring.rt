@@ -1,9 +1,9 @@
 //! What a clerk is asked before a key is retired.
 
-use crate::customer_file::address_text;
 use crate::ordering::tell;
-use crate::reported::reported_text;
-use crate::table::{NoRow, date, no_row_status, number_at, object_in, text_at};
+use labntpctl_standing::{
+    NoRow, address_text, date, no_row_status, number_at, object_in, reported_text, text_at,
+};
 use labntpd_configuration::Configuration;
 use labntpd_start::start_lines;
 use ntp_customer_files::failed_status;

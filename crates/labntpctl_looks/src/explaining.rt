@@ -1,6 +1,6 @@
 //! What datagrams would get, and why.
 
-use crate::standing::{Standing, standing_at};
+use labntpctl_standing::{Standing, standing_at};
 use labntpd_configuration::{Configuration, Listen};
 use labntpd_start::{configuration_at, start_lines};
 use ntp_admin::{Outcome, print_answer};

@@ -1,6 +1,6 @@
 //! The rules of nftables for the customers.
 
-use crate::customer_file::address_text;
+use labntpctl_standing::address_text;
 use ntp_door::{Grouping, Limit, group_for, limit_for, limit_statement};
 use ntp_query::Server;
 use ntp_register::Address;

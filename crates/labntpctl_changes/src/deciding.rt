@@ -1,7 +1,7 @@
 //! What is to be appended for a change, by what the files have come to.
 
-use crate::command_line::{Change, Ordered};
-use crate::standing::{Standing, standing_at};
+use crate::ordered::{Change, Ordered};
+use labntpctl_standing::{Standing, standing_at};
 use labntpd_configuration::Configuration;
 use labntpd_start::start_lines;
 use ntp_admin::{Command, parse_command, refusal_word};

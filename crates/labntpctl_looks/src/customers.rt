@@ -1,10 +1,8 @@
 //! Who is enrolled.
 
-use crate::differing::differences;
-use crate::places::FilesNamed;
-use crate::reported::{reported_in, reported_text};
-use crate::standing::{Standing, standing_at};
-use crate::table::write_table;
+use labntpctl_standing::{
+    FilesNamed, Standing, differences, reported_in, reported_text, standing_at, write_table,
+};
 use labntpd_configuration::Configuration;
 use labntpd_start::{configuration_at, start_lines};
 use ntp_customer_files::{DONE, memory_status, write_status};

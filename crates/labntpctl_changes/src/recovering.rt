@@ -1,11 +1,11 @@
 //! A lost commands file, as far as it can be had back: from a backup, and from what labntpd tells of its customers.
 
-use crate::customer_file::write_new;
-use crate::differing::{add_difference, add_unknown, left_at};
 use crate::ordering::tell;
 use crate::recovered_lines::{HadBack, answered_lines, had_back, is_amended, whole_text};
-use crate::reported::{Reported, reported_in, reported_text};
-use crate::standing::{Standing, standing_by};
+use labntpctl_standing::{
+    Reported, Standing, add_difference, add_unknown, left_at, reported_in, reported_text,
+    standing_by, write_new,
+};
 use labntpd_configuration::Configuration;
 use labntpd_start::{configuration_at, start_lines};
 use ntp_customer_files::{

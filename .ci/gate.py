@@ -126,7 +126,7 @@ class Gate:
             for line in started.stdout:
                 counts = COUNTS.fullmatch(line.strip())
                 counted = counts or counted
-                self.proved += bool(re.fullmatch(r"rt: \w+ proved", line.strip()))
+                self.proved += bool(re.fullmatch(r"rt: \w+ (proved|is kept: .*)", line.strip()))
                 if not counts:
                     self.say(line.rstrip("\n"))
         well = started.returncode == 0

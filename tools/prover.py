@@ -8,6 +8,8 @@ import os
 import re
 import subprocess
 
+from rooms import listed
+
 # What a toolchain has to have, or else it is another one than this was written for: words of `rattle help check`, and files.
 FLAGS = ("--antt-project", "--crate-name", "--extern", "--incremental", "--jobs", "--logic-built", "--only", "-L")
 PROJECT, LOGIC = "rattle/logic/antt-project.json", "logic_built"
@@ -38,17 +40,10 @@ def is_left_by_ci(name, root):
     return os.path.isdir(library(name, root)) and not os.path.exists(f"{os.path.dirname(library(name, root))}/stamp")
 
 
-def direct(name, root):
-    """The libraries that crates.txt lists for a crate, in its order."""
-    with open(f"{root}/crates.txt", encoding="utf-8") as it:
-        lines = [line.partition("#")[0] for line in it]
-    return next(words[2].split() for words in (re.match(r"\s*(\w+)[^:]*:(.*)", line) for line in lines) if words and words[1] == name)
-
-
 def check_words(name, root):
     """The command that checks a library of the repository in its folder; work is kept in out/incremental."""
     of_kit, own, beneath = f"{kit()}/rlibs", [], sorted(os.listdir(f"{root}/crates"))
-    for it in ["std", *direct(name, root)]:
+    for it in ["std", *listed(root)[name]]:
         own += ["--extern", f"{it}={library(it, root) if it in beneath else f'{of_kit}/{it}.rlib'}"]
     for it in beneath:
         own += ["-L", f"dependency={os.path.dirname(library(it, root))}"] if it != name else []

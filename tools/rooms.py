@@ -17,12 +17,18 @@ TOP = os.path.dirname(os.path.dirname(os.path.realpath(__file__)))
 PARTS = ("src", "specs", "proofs")
 
 
-def crates_of(top=TOP):
-    """Each crate that crates.txt lists, with those of the repository that it stands on by name, lowest first."""
+def listed(top=TOP):
+    """The libraries that crates.txt lists for each crate, those of the toolchain too."""
     with open(f"{top}/crates.txt", encoding="utf-8") as it:
         lines = [line.partition("#")[0] for line in it]
     found = dict(re.match(r"\s*(\w+)[^:]*:(.*)", line).groups() for line in lines if ":" in line)
-    direct = {name: [it for it in words.split() if it in found] for name, words in found.items()}
+    return {name: words.split() for name, words in found.items()}
+
+
+def crates_of(top=TOP):
+    """Each crate that crates.txt lists, with those of the repository that it stands on by name, lowest first."""
+    found = listed(top)
+    direct = {name: [it for it in words if it in found] for name, words in found.items()}
     return {name: direct[name] for name in sorted(direct, key=lambda it: len(below(it, direct)))}
 
 

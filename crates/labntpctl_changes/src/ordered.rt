@@ -29,15 +29,22 @@ pub struct Ordered<'a> {
 /// What becomes of a customer.
 #[derive(Clone, Copy)]
 pub enum Change {
+    /// It is enrolled with a new key.
     Enrol {
+        /// How many signed queries a window it may ask.
         budget: NonZero<u16>,
+        /// The algorithm of its key.
         algorithm: Algorithm,
     },
+    /// It is enrolled no longer.
     Revoke,
+    /// It may ask so many signed queries a window.
     Budget(NonZero<u16>),
+    /// It gets a new key beside the one that it has.
     Rollover(Algorithm),
     /// The key of a number goes, or the older one.
     Retire {
+        /// The number of the key; that of the older one where it is left out.
         number: Option<NonZero<u16>>,
         /// Whether the clerk is asked first.
         asks: bool,

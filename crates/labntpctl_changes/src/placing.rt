@@ -4,19 +4,16 @@ use crate::folded_pair::FoldedPair;
 use crate::folding::{PairPaths, others};
 use crate::ordering::tell;
 use jiff::Timestamp;
-use labntpctl_standing::{HeldFile, Standing, standing_at};
+use labntpctl_standing::{HeldFile, Standing, new_for_owner, standing_at};
 use labntpd_start::start_lines;
 use ntp_customer_files::{IO_FAILED, failed_status, memory_status};
 use ntp_keeping::leave_the_same;
 use std::alloc::{AllocError, Global};
-use std::fs::{self, OpenOptions, Permissions};
+use std::fs::{self, Permissions};
 use std::io::{self, ErrorKind, Write};
-use std::os::unix::fs::{MetadataExt, OpenOptionsExt, PermissionsExt, chown};
+use std::os::unix::fs::{MetadataExt, PermissionsExt, chown};
 use std::path::Path;
 use std::time::SystemTime;
-
-/// The mode of a new file that has keys, before it gets that of the old one.
-const OWNERS: u32 = 0o600;
 
 /// The bits of a mode that say who may do what.
 const MODE_BITS: u32 = 0o7777;
@@ -187,11 +184,7 @@ fn write_new(rt: &HostRuntime, path: &str, text: &str, like: &str) -> Result<(),
 // The same, with the error of the system.
 fn written(rt: &HostRuntime, path: &str, text: &str, like: &str) -> io::Result<()> {
     let old = fs::metadata(rt, like)?;
-    let mut file = OpenOptions::new()
-        .write(true)
-        .create_new(true)
-        .mode(OWNERS)
-        .open(rt, path)?;
+    let mut file = new_for_owner(rt, path)?;
     file.write_all(text.as_bytes())?;
     chown(rt, path, Some(old.uid()), Some(old.gid()))?;
     file.set_permissions(Permissions::from_mode(old.mode() & MODE_BITS))?;

@@ -5,7 +5,7 @@ use ntp_keeping::{Grant, NewKey, customer_text};
 use ntp_query::Server;
 use ntp_register::Address;
 use std::alloc::{AllocError, Global};
-use std::fs::OpenOptions;
+use std::fs::{File, OpenOptions};
 use std::io::{self, Write};
 use std::num::NonZero;
 use std::os::unix::fs::OpenOptionsExt;
@@ -72,13 +72,18 @@ pub fn listening(configuration: &Configuration) -> Option<Server> {
     }
 }
 
-/// Writes a new file that its owner alone may read, and has the system store it.
-pub fn write_new(rt: &HostRuntime, path: &str, text: &str) -> io::Result<()> {
-    let mut file = OpenOptions::new()
+/// Opens a new file that its owner alone may read, where there is none.
+pub fn new_for_owner(rt: &HostRuntime, path: &str) -> io::Result<File> {
+    OpenOptions::new()
         .write(true)
         .create_new(true)
         .mode(OWNERS)
-        .open(rt, path)?;
+        .open(rt, path)
+}
+
+/// Writes a new file that its owner alone may read, and has the system store it.
+pub fn write_new(rt: &HostRuntime, path: &str, text: &str) -> io::Result<()> {
+    let mut file = new_for_owner(rt, path)?;
     file.write_all(text.as_bytes())?;
     file.sync_all()
 }

@@ -12,7 +12,9 @@ mod standing;
 mod table;
 
 pub use commands_file::HeldFile;
-pub use customer_file::{ANY, NTP_PORT, address_text, listening, text_for, usual_path, write_new};
+pub use customer_file::{
+    ANY, NTP_PORT, address_text, listening, new_for_owner, text_for, usual_path, write_new,
+};
 pub use differing::{add_difference, add_unknown, differences, key_text, left_at};
 pub use places::FilesNamed;
 pub use reported::{Reported, reported_in, reported_text};

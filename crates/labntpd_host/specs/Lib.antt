@@ -1,1 +1,2 @@
+pub mod FixedClock
 pub mod Reading

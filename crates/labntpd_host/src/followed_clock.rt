@@ -275,6 +275,10 @@ impl<'a, C: Clock + Copy + Drop> ClockSource<'a, C> {
 }
 
 impl<'a, C: Clock + Copy + Drop> ReferenceSource for ClockSource<'a, C> {
+    ghost use Rattle.labntpd_host.specs.FixedClock.{clock_coming};
+
+    ghost coming = { clock_coming };
+
     /// The state that replies tell: of a turn whose clock could not be read, that of an unsynchronised one.
     fn in_force(&mut self, receipt: Option<Moment>) -> Reference {
         let state = match self {

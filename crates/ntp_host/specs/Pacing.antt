@@ -1,7 +1,9 @@
 -- When it is time to ask again.
-use Rattle.std.specs.Prelude.{ℕ, ◌+◌, ◌-◌, ◌%◌, ◌^◌, Bool, true, nat_le, Option, None, Some}
+use Rattle.std.specs.Prelude.{ℕ, ◌+◌, ◌-◌, ◌%◌, ◌^◌, Bool, true, nat_le, Option, None, Some, List, [], ◌∷◌, ◌++◌, drop, if◌then◌else◌}
 use Rattle.ntp_time.specs.declared.stamp.Stamp.{Stamp}
 use Rattle.ntp_time.specs.declared.moment.Moment.{Moment}
+use Rattle.ntp_service_serve.specs.Sequence.{firsts}
+use Rattle.ntp_service_serve.specs.Sources.{Coming}
 
 -- a thousandth of a second, in units of 2^-32 seconds, rounded down (profile)
 abbrev pub millisecond : ℕ
@@ -21,3 +23,18 @@ is_due asked receipt period = true
 abbrev pub asked_after : Option Stamp → Option Moment → Option Stamp
 asked_after asked None = asked
 asked_after asked (Some receipt) = Some receipt.stamp
+
+-- of what it is asked with in turn, what one passes on that passes on what is due by a thousandth of a second (profile)
+abbrev pub passed_on : Option Stamp → List (Option Moment) → List (Option Moment)
+passed_on last [] = []
+passed_on last (a ∷ asked) = if is_due last a millisecond then a ∷ passed_on (asked_after last a) asked else passed_on last asked
+
+-- what it gives in turn, where these are given to what it passes on; to the rest it gives nothing (profile)
+abbrev pub handed_back : {X : Type 0} → Option Stamp → List (Option Moment) → List (Option X) → List (Option X)
+handed_back last [] given = []
+handed_back last (a ∷ asked) given = if is_due last a millisecond
+    then firsts None 1 given ++ handed_back (asked_after last a) asked (drop 1 given) else None ∷ handed_back last asked given
+
+-- what it will give in turn, by what the source will to which it passes them on (profile)
+abbrev pub each_millisecond : {X : Type 0} → Option Stamp → Coming (Option X) → Coming (Option X)
+each_millisecond last coming = λ asked. handed_back last asked (coming (passed_on last asked))

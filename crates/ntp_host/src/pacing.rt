@@ -1,7 +1,7 @@
 //! How often files are asked.
 ghost use Rattle.std.specs.Prelude.{◌≡◌, None, false, IsTrue, [], ◌∷◌, option_map};
 ghost use Rattle.ntp_service_serve.specs.Sources.{Gives};
-ghost use Rattle.ntp_host.specs.Pacing.{millisecond, is_due, asked_after};
+ghost use Rattle.ntp_host.specs.Pacing.{millisecond, is_due, asked_after, each_millisecond};
 
 use ntp_service_serve::CommandsSource;
 use ntp_time::{Moment, Stamp};
@@ -44,10 +44,11 @@ impl<C> EachMillisecond<C> {
 }
 
 impl<C: CommandsSource<A>, A: Allocator> CommandsSource<A> for EachMillisecond<C> {
-    /// What the source gives, where it is asked, and else nothing. It takes memory only as the source does. It does not tell
-    /// what it will give: that depends on what it was asked with before.
+    // It will give what its source will, to what is passed on to that.
+    ghost coming = { λ e. option_map (each_millisecond e.asked) (C.coming e.source) };
+
+    /// What the source gives, where it is asked, and else nothing. It takes memory only as the source does.
     fn look(&mut self, alloc: A, receipt: Option<Moment>) -> Option<Vec<u8, A>>
-        ensures told { Gives None None (receipt ∷ []) (option_map (λ octets. octets.items) result ∷ []) }
         // The source is asked once, with the same receipt, and what it gives is given.
         ensures asked { IsTrue (is_due self.old.asked receipt millisecond)
             → Gives (C.coming self.old.source) (C.coming self.new.source) (receipt ∷ []) (option_map (λ octets. octets.items) result ∷ []) }

@@ -1,6 +1,6 @@
 -- Some looks and then others.
-use Rattle.std.proofs.Common.{◌≡◌, ℕ, ◌+◌, zero, suc, Bool, true, false, Option, None, Some, List, [], ◌∷◌, ◌++◌, length, drop, refl, sym, ap, ◌∙◌, subst, append-nil, length-append, arith}
-use Rattle.std.proofs.lemmas.List.{map-append, drop-drop}
+use Rattle.std.proofs.Common.{◌≡◌, ℕ, ◌+◌, Bool, true, false, Option, None, Some, List, [], ◌∷◌, ◌++◌, length, refl, sym, ap, ◌∙◌, subst, append-nil, length-append, arith}
+use Rattle.std.proofs.lemmas.List.{append_assoc, map-append}
 use Rattle.std.proofs.lemmas.List.Elements.{All-push}
 use Rattle.std.proofs.lemmas.Grind.{flat_map-append}
 use Rattle.ntp_time.specs.declared.moment.Moment.{Moment}
@@ -10,43 +10,23 @@ use Rattle.ntp_events.proofs.Seen.{Sees-nil, Sees-append}
 use Rattle.ntp_service_run.specs.Headline.{Tells}
 use Rattle.ntp_service_run.proofs.Runs.{Tells-nil, Tells-append}
 use Rattle.ntp_service_serve.specs.Port.{Told}
-use Rattle.ntp_service_serve.specs.Sequence.{firsts}
 use Rattle.ntp_customer_files.specs.CommandsFile.{TakenLine, CarriesOut, CarriesOutDue, lines_taken, happened_at_lines, line_observations}
-use Rattle.ntp_service_serve.specs.Sources.{Coming, answers, Gives, CountsOn}
+use Rattle.ntp_service_serve.specs.Sources.{Coming, Gives, CountsOn}
 use Rattle.ntp_server.specs.Rounds.{Look, Parts, AreDueAt, AreDueInTurn}
 use Rattle.ntp_server.specs.Steps.{Looks, LooksOnce, Waits, IsIdle, asked_of, given_of, happened_at_looks, looks_observations}
 
 -- ---- what sources gave
-drop-nil : {X : Type 0} (n : ℕ) → drop {A = X} n [] ≡ []
-drop-nil zero = refl
-drop-nil (suc n) = refl
-
--- the first of what comes, and then the next of it
-answers-add : {X : Type 0} (b : Option Moment → X) (earlier later : List (Option Moment)) (fs : List (Option Moment → X))
-    → answers (earlier ++ later) (firsts b (length (earlier ++ later)) fs)
-    ≡ answers earlier (firsts b (length earlier) fs) ++ answers later (firsts b (length later) (drop (length earlier) fs))
-answers-add b [] later fs = refl
-answers-add b (a ∷ earlier) later [] =
-    ap (λ l. b a ∷ l) (answers-add b earlier later []
-    ∙ ap (λ fs. answers earlier (firsts b (length earlier) []) ++ answers later (firsts b (length later) fs)) (drop-nil (length earlier)))
-answers-add b (a ∷ earlier) later (f ∷ fs) = ap (λ l. f a ∷ l) (answers-add b earlier later fs)
-
 pub Gives-nil : {X : Type 0} (t : Option (Coming X)) → Gives t t [] []
 Gives-nil None = tt
-Gives-nil (Some l) = (refl, refl)
+Gives-nil (Some l) = λ later. refl
 
 pub Gives-append : {X : Type 0} (t u v : Option (Coming X)) (earlier later : List (Option Moment)) (xs ys : List X) → Gives t u earlier xs
     → Gives u v later ys → Gives t v (earlier ++ later) (xs ++ ys)
 Gives-append None u v earlier later xs ys p q = tt
 Gives-append (Some l) None v earlier later xs ys p q = absurd p
 Gives-append (Some l) (Some m) None earlier later xs ys p q = absurd q
-Gives-append {X} (Some l) (Some m) (Some k) earlier later xs ys p q =
-    let rest : Coming X → List (Option Moment → X) → Coming X = λ c fs. record { coming = fs; behind = c.behind } in (
-      ap (λ z. z ++ ys) p.0 ∙ ap (λ z. answers earlier (firsts l.behind (length earlier) l.coming) ++ z)
-          (q.0 ∙ ap (λ c. answers later (firsts c.behind (length later) c.coming)) p.1) ∙ sym (answers-add l.behind earlier later l.coming),
-      q.1 ∙ ap (λ c. rest c (drop (length later) c.coming)) p.1 ∙ ap (rest l)
-          (drop-drop (length later) (length earlier) l.coming ∙ ap (λ n. drop n l.coming) (sym (length-append earlier later))),
-    )
+Gives-append (Some l) (Some m) (Some k) earlier later xs ys p q = λ more.
+    ap l (append_assoc earlier later more) ∙ p (later ++ more) ∙ ap (λ z. xs ++ z) (q more) ∙ sym (append_assoc xs ys (k more))
 
 -- ---- what was counted
 pub CountsOn-nil : (t : Option ℕ) → CountsOn t t 0

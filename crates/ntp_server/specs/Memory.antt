@@ -1,15 +1,16 @@
 -- What the parts of a server that are in memory tell.
-use Rattle.std.specs.Prelude.{ℕ, ◌<◌, Option, None, Some, option_map, List, map, drop, vec_len, vec_capacity, if◌then◌else◌}
+use Rattle.std.specs.Prelude.{ℕ, ◌<◌, Option, None, Some, option_map, List, length, map, drop, vec_len, vec_capacity, if◌then◌else◌}
 use Rattle.ntp_reply.specs.Reference.{ReferenceState}
 use Rattle.ntp_events.specs.declared.observation.Observation.{Observation}
 use Rattle.ntp_server.specs.declared.memory.MemoryCommands.{MemoryCommands}
 use Rattle.ntp_server.specs.declared.memory.MemoryStates.{MemoryStates}
 use Rattle.ntp_server.specs.declared.memory.MemoryObserver.{MemoryObserver}
+use Rattle.ntp_service_serve.specs.Sequence.{firsts}
 use Rattle.ntp_service_serve.specs.Sources.{Coming}
 
 -- these and then nothing more, whatever is asked with (profile)
 abbrev pub commands_coming : List (Option (List ℕ)) → Coming (Option (List ℕ))
-commands_coming looks = record { coming = map (λ look. λ _. look) looks; behind = λ _. None }
+commands_coming looks = λ asked. firsts None (length asked) looks
 
 -- what a commands file in memory will give (profile)
 abbrev pub commands_told : {A : Type 0} → MemoryCommands A → Coming (Option (List ℕ))
@@ -17,7 +18,7 @@ commands_told m = commands_coming (map (λ look. option_map (λ octets. octets.i
 
 -- these states and then one for ever, whatever is asked with (profile)
 abbrev pub states_coming : List ReferenceState → ReferenceState → Coming ReferenceState
-states_coming states behind = record { coming = map (λ state. λ _. state) states; behind = λ _. behind }
+states_coming states behind = λ asked. firsts behind (length asked) states
 
 -- what a list of states will give (profile)
 abbrev pub states_told : {A : Type 0} → MemoryStates A → Coming ReferenceState

@@ -1,5 +1,5 @@
 //! Where a server has its commands and the state of its clock from.
-ghost use Rattle.std.specs.Prelude.{◌≡◌, ℕ, Option, None, Some, List, [], ◌∷◌, option_map};
+ghost use Rattle.std.specs.Prelude.{◌≡◌, ℕ, Option, None, Some, List, [], ◌∷◌, map, option_map};
 ghost use Rattle.ntp_reply.specs.Reference.{ReferenceState};
 ghost use Rattle.ntp_service_serve.specs.Sources.{Coming, Gives, CountsOn};
 
@@ -9,7 +9,7 @@ use std::alloc::Allocator;
 
 /// The commands file of a server, which is looked at in each turn, before its datagram is answered (profile).
 ///
-/// A source may tell what its looks will give, as a list and what is behind it.
+/// A source may tell what its looks will give, to whatever they are asked with.
 pub trait CommandsSource<A: Allocator> {
     // What its looks will give from here on, where the source tells it.
     ghost coming: { Self → Option (Coming (Option (List ℕ))) } = { λ _. None };
@@ -23,7 +23,7 @@ pub trait CommandsSource<A: Allocator> {
 
 /// The state of a server's clock, which is asked for in each turn (profile).
 ///
-/// A source may tell what it will give, as a list and what is behind it.
+/// A source may tell what it will give, to whatever it is asked with.
 pub trait ReferenceSource {
     // What it will give from here on, where the source tells it.
     ghost coming: { Self → Option (Coming ReferenceState) } = { λ _. None };
@@ -49,7 +49,7 @@ pub trait ReferenceSource {
 pub struct FixedReference(pub Reference);
 
 impl ReferenceSource for FixedReference {
-    ghost coming = { λ fixed. Some (record { coming = []; behind = λ _. fixed.0 }) };
+    ghost coming = { λ fixed. Some (map (λ _. fixed.0)) };
 
     fn in_force(&mut self, _receipt: Option<Moment>) -> Reference {
         self.0

@@ -1,5 +1,6 @@
 //! The daemon's port in memory, whose clock moves its host's.
-ghost use Rattle.ntp_service_serve.specs.Memory.{memory_failures};
+ghost use Rattle.std.specs.Prelude.{Some};
+ghost use Rattle.ntp_service_serve.specs.Memory.{told_by, memory_failures};
 
 use crate::files::{COMMANDS, Place};
 use crate::host::MemoryHost;
@@ -78,6 +79,8 @@ impl<'a, 'd> YearQueue<'a, 'd> {
 }
 
 impl<'a, 'd> Port for YearQueue<'a, 'd> {
+    ghost told = { λ year. Some (told_by year.queue.port) };
+
     ghost failure_count = { λ year. memory_failures year.queue.port };
 
     fn receive(&mut self, datagram: &mut DatagramRoom) -> Result<Arrival, PortFault> {

@@ -8,19 +8,19 @@
    case each; and `tools/layout`, since `rt ci` says only at the end of an hour that a file is not laid out.
 2. `rt ci`, the toolchain's gate, where all is laid out: every proof and test from nothing, the wrong bodies of must-fail/, and each program
    by two compilers.
-3. `tests/run`: the programs, as they were built, from outside.
-4. `tools/wrong_bodies`: those of wrong-bodies/, many in one check. All with `--whole`; else those of the crates that changed since the last
-   whole run, and a tenth of the others, another one each day.
+3. `tests/run`: the programs, as they were built, from outside. It waits for most of its time.
+4. Beside it, giving way to it, `tools/wrong_bodies`: those of wrong-bodies/, many in one check. All with `--whole`; else those of the crates
+   that changed since the last whole run, and a tenth of the others, another one each day.
 
 Where `rt ci` says nothing for ten seconds, a line tells what it is at. At the end a table tells what took how long. The last line is
 `N passed, M failed`, or `N passed, M failed, K skipped`. Status 0 only where nothing failed. An interrupt ends all that was started; the
 next `rt ci` gives back what earlier runs kept.
 """
+import concurrent.futures
 import ctypes
 import datetime
 import os
 import re
-import resource
 import shutil
 import signal
 import subprocess
@@ -44,12 +44,6 @@ SILENCE = 10
 COUNTS = re.compile(r"(\d+) passed, (\d+) failed(?:, (\d+) skipped)?")
 # What prctl takes: a process is ended with the one that started it.
 PR_SET_PDEATHSIG = 1
-
-
-def used():
-    """How many seconds of processors all that was started and has ended has used."""
-    it = resource.getrusage(resource.RUSAGE_CHILDREN)
-    return it.ru_utime + it.ru_stime
 
 
 class Checks:
@@ -101,7 +95,6 @@ class Gate:
 
     def __init__(self):
         self.begun, self.last_line = time.monotonic(), time.monotonic()
-        self.passed = self.failed = self.skipped = 0
         self.parts, self.proved, self.checks, self.printing = [], 0, Checks(), threading.Lock()
 
     def say(self, line):
@@ -117,10 +110,13 @@ class Gate:
         passed = int(time.monotonic() - self.begun)
         self.say(f"gate: {passed // 60}:{passed % 60:02} minutes; {left} crates left to prove; now {now or 'no check'}")
 
-    def part(self, name, words):
-        """Runs a part, passes on what it prints but its counts, and counts it. Without a line of counts it is a case."""
-        self.say(f"== {name}")
-        clock, processors, counted = time.monotonic(), used(), None
+    def part(self, name, words, is_beside=False):
+        """Runs a part, passes on what it prints but its counts, and counts it. Without a line of counts it is a case. What one prints that
+        runs beside another is passed on when it has ended."""
+        lines = []
+        say = lines.append if is_beside else self.say
+        say(f"== {name}")
+        clock, counted = time.monotonic(), None
         how = {"stdin": subprocess.DEVNULL, "stdout": subprocess.PIPE, "stderr": subprocess.STDOUT, "errors": "replace"}
         with subprocess.Popen(words, **how) as started:
             for line in started.stdout:
@@ -128,13 +124,17 @@ class Gate:
                 counted = counts or counted
                 self.proved += bool(re.fullmatch(r"rt: \w+ (proved|is kept: .*)", line.strip()))
                 if not counts:
-                    self.say(line.rstrip("\n"))
+                    say(line.rstrip("\n"))
+            # Where two parts run at once, this call alone tells the seconds of one.
+            _, status, usage = os.wait4(started.pid, 0)
+            started.returncode = os.waitstatus_to_exitcode(status)
         well = started.returncode == 0
         some = [int(it or 0) for it in counted.groups()] if counted else [well, not well, 0]
         # A part that fails has a failure, whatever it counted.
         some[1] = max(some[1], not well)
-        self.passed, self.failed, self.skipped = self.passed + some[0], self.failed + some[1], self.skipped + some[2]
-        self.parts.append((name, time.monotonic() - clock, used() - processors, some))
+        self.parts.append((name, time.monotonic() - clock, usage.ru_utime + usage.ru_stime, some))
+        for line in lines:
+            self.say(line)
         return well
 
     def show(self):
@@ -143,9 +143,11 @@ class Gate:
         self.say(f"{'part':24}{'minutes':>9}{'of a processor':>16}{'passed':>8}{'failed':>8}{'skipped':>8}")
         for name, clock, processors, (passed, failed, skipped) in self.parts:
             self.say(f"{name:24}{clock / 60:9.1f}{processors / 60:16.1f}{passed:8}{failed:8}{skipped:8}")
-        clock, processors = (sum(it[at] for it in self.parts) for at in (1, 2))
+        clock, processors = time.monotonic() - self.begun, sum(it[2] for it in self.parts)
         self.say(f"{'in all':24}{clock / 60:9.1f}{processors / 60:16.1f}   on {len(os.sched_getaffinity(0))} processors, load {os.getloadavg()[2]:.1f}")
-        self.say(f"{self.passed} passed, {self.failed} failed" + (f", {self.skipped} skipped" if self.skipped else ""))
+        passed, failed, skipped = (sum(it[3][at] for it in self.parts) for at in range(3))
+        self.say(f"{passed} passed, {failed} failed" + (f", {skipped} skipped" if skipped else ""))
+        return failed
 
 
 def gate(is_whole):
@@ -156,13 +158,15 @@ def gate(is_whole):
             it.part(f"{name} --check", [f"{TOP}/{name}", "--check"])
         is_proved = it.part("tools/layout", [f"{TOP}/tools/layout"]) and it.part("rt ci", ["rt", "ci"])
         if is_proved:
-            it.part("tests/run", [f"{TOP}/tests/run"])
             some = ["--write-digests"] if is_whole else ["--tenth", str(datetime.date.today().timetuple().tm_yday % 10)]
-            it.part("tools/wrong_bodies", [f"{TOP}/tools/wrong_bodies", "--behind-ci", *some])
+            with concurrent.futures.ThreadPoolExecutor() as beside:
+                words = ["nice", f"{TOP}/tools/wrong_bodies", "--behind-ci", *some]
+                tried = beside.submit(it.part, "tools/wrong_bodies", words, is_beside=True)
+                it.part("tests/run", [f"{TOP}/tests/run"])
+                tried.result()
         else:
             it.say("the programs and the wrong bodies of wrong-bodies/ were not tried, since not all is proved")
-    it.show()
-    return 1 if it.failed else 0
+    return 1 if it.show() else 0
 
 
 # ---- Its end

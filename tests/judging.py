@@ -4,6 +4,7 @@ which Python's own unittest makes.
 import contextlib
 import os
 import pwd
+import re
 import shutil
 import signal
 import subprocess
@@ -199,22 +200,35 @@ def tries_in(words):
     return int(words[1]), words[2:]
 
 
+def part_in(words):
+    """Which part of so many is asked for, which `--part K/N` says in front, and the words behind it."""
+    if words[:1] != ("--part",):
+        return 1, 1, words
+    asked = re.fullmatch(r"([1-9][0-9]?)/([1-9][0-9]?)", words[1]) if words[1:] else None
+    part, parts = map(int, asked.groups()) if asked else (1, 0)
+    if part > parts:
+        sys.exit("behind --part stands K/N, the Kth of N parts")
+    return part, parts, words[2:]
+
+
 def chosen(cases, names):
     """The cases in whose names one of these words stands, or all."""
     return {name: case for name, case in cases.items() if not names or any(it in name for it in names)}
 
 
 def asked(test, words, usual, cases):
-    """What `[--tries N] [PROGRAM..] [NAME..]` ask of a test, which judges the usual programs where the words have no others: how often a case
-    is made that fails, the programs, and the cases. Ends where the first program cannot be run, or no case has such a name."""
+    """What `[--tries N] [--part K/N] [PROGRAM..] [NAME..]` ask of a test, which judges the usual programs where the words have no others: how
+    often a case is made that fails, the programs, and the cases; of N parts every Nth. Ends where the first program cannot be run, or no
+    case has such a name."""
     tries, words = tries_in(tuple(words))
+    part, parts, words = part_in(words)
     given, names = [it for it in words if "/" in it], [it for it in words if "/" not in it]
     programs = [os.path.abspath(it) for it in [*given, *usual[len(given) :]]]
     if len(given) > len(usual) or not os.access(programs[0], os.X_OK):
         sys.exit(f"tests/{test}: no program {programs[0]}")
     if not chosen(cases, names):
         sys.exit(f"tests/{test}: no case {' '.join(names)}")
-    return tries, programs, chosen(cases, names)
+    return tries, programs, dict([*chosen(cases, names).items()][part - 1 :: parts])
 
 
 def built(*names):

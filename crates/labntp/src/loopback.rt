@@ -1,9 +1,9 @@
 //! A server and a client meet in this process.
 ghost use Rattle.std.specs.Prelude.{◌≡◌, ◌≢◌};
-ghost use Rattle.ntp_loopback.specs.Words.{HasMet};
+ghost use Rattle.ntp_meeting.specs.Words.{HasMet};
 
 use ntp_customer_files::{DONE, memory_status, socket_status, write_status};
-use ntp_loopback::{LoopbackFault, meet};
+use ntp_meeting::{LoopbackFault, meet};
 use std::alloc::Allocator;
 use std::io::Write;
 use std::net::Net;

@@ -1,4 +1,4 @@
-//! What `ntp_host` and `ntp_loopback` make of clocks, files, receipts and memory that are made up: a program, since no clause says it and
+//! What `ntp_host` and `ntp_meeting` make of clocks, files, receipts and memory that are made up: a program, since no clause says it and
 //! no host shows it. It prints the moments of four clocks, what a source gives that is asked once in a thousandth of a second, how many
 //! calls the looks at a commands file take, what a port waits for, and what comes of refused memory.
 #![tactic(auto)]

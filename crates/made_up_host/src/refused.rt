@@ -1,6 +1,6 @@
 //! A server and a client that meet where memory is refused.
 
-use ntp_loopback::{LoopbackFault, meet};
+use ntp_meeting::{LoopbackFault, meet};
 use refusing::Refusing;
 use std::io::{self, Write};
 

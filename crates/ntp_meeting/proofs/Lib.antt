@@ -8,7 +8,9 @@ mod Speaks
 mod Served
 mod Refused
 mod Replies
+mod Taking
 mod Meetings
+mod Answering
 mod Saved
 mod Departures
 mod Carried

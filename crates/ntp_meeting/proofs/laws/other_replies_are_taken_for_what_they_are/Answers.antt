@@ -1,4 +1,4 @@
-use Rattle.ntp_meeting.proofs.Meetings.{rate-met, nak-met, deny-met, revoked-met, unsynchronised-met}
+use Rattle.ntp_meeting.proofs.Taking.{rate-met, nak-met, deny-met, revoked-met, unsynchronised-met}
 use Rattle.ntp_meeting.proofs.laws.other_replies_are_taken_for_what_they_are.Goals as goal
 
 pub returns-clause-rate : goal.returns-clause-rate

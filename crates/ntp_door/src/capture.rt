@@ -1,6 +1,6 @@
 //! A capture file in pcap form: its header, and its records in order.
 ghost use Rattle.std.specs.Prelude.{◌≡◌, ◌≤◌, ◌<◌, ◌+◌, List, ℕ, length, IfOk, IfSome, IfNone};
-ghost use Rattle.ntp_capture.specs.Capture.{order_of, number_at, HasHead, IsRecord};
+ghost use Rattle.ntp_door.specs.Capture.{order_of, number_at, HasHead, IsRecord};
 
 use crate::link::{Link, link_of};
 use crate::wide::{four_octets, four_turned, split};

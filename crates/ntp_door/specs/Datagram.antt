@@ -1,7 +1,7 @@
 -- A UDP datagram over IPv4.
 use Rattle.std.specs.Prelude.{◌≡◌, ℕ, ◌+◌, ◌*◌, ◌%◌, ◌≤◌, List, ◌++◌, length, slice_index}
 use Rattle.std.specs.List.{slice_range}
-use Rattle.ntp_capture.specs.Wide.{two_octets}
+use Rattle.ntp_door.specs.Wide.{two_octets}
 
 -- a header of IPv4 of a whole UDP datagram: it says version 4 and of how many words of four octets it is, no fragment, and protocol 17
 -- (RFC 791, 3.1)

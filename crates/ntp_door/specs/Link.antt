@@ -1,8 +1,8 @@
 -- What stands before the IPv4 packet of a frame.
 use Rattle.std.specs.Prelude.{◌≡◌, ℕ, ◌==◌, ◌%◌, if◌then◌else◌, List, [], ◌++◌, length, Option, None, Some}
-use Rattle.ntp_capture.specs.Wide.{two_octets}
-use Rattle.ntp_capture.specs.declared.link.Link.{Link}
-use Rattle.ntp_capture.specs.declared.link.Link.TheVariants.{Ethernet, Cooked, CookedSecond, Packet}
+use Rattle.ntp_door.specs.Wide.{two_octets}
+use Rattle.ntp_door.specs.declared.link.Link.{Link}
+use Rattle.ntp_door.specs.declared.link.Link.TheVariants.{Ethernet, Cooked, CookedSecond, Packet}
 
 -- the type of link by its number, of which the lower 16 bits count (pcap-savefile(5), pcap-linktype(7))
 abbrev pub link_of : ℕ → Option Link

@@ -1,6 +1,6 @@
 use Rattle.std.specs.Prelude.{None, is_err}
-use Rattle.ntp_loopback.proofs.Answering.{one-fails}
-use Rattle.ntp_loopback.proofs.pair.Pair.answer.Goals as goal
+use Rattle.ntp_meeting.proofs.Answering.{one-fails}
+use Rattle.ntp_meeting.proofs.pair.Pair.answer.Goals as goal
 
 pub returns : goal.returns
 returns g c =

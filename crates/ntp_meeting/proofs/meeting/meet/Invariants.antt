@@ -1,6 +1,6 @@
 use Rattle.std.proofs.Common.{◌≤◌}
-use Rattle.ntp_loopback.specs.Words.{HasMet}
-use Rattle.ntp_loopback.proofs.meeting.meet.Given as goal
+use Rattle.ntp_meeting.specs.Words.{HasMet}
+use Rattle.ntp_meeting.proofs.meeting.meet.Given as goal
 
 abbrev pub invariant-loop-turn : goal.invariant-loop-turn
 invariant-loop-turn g l = record {

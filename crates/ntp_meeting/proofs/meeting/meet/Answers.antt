@@ -1,6 +1,6 @@
 use Rattle.std.proofs.Common.{rules, arith}
-use Rattle.ntp_loopback.proofs.Meetings.{HasMet-none, HasMet-more}
-use Rattle.ntp_loopback.proofs.meeting.meet.Goals as goal
+use Rattle.ntp_meeting.proofs.Meetings.{HasMet-none, HasMet-more}
+use Rattle.ntp_meeting.proofs.meeting.meet.Goals as goal
 
 pub loop-turn-init : goal.loop-turn-init
 loop-turn-init g c = record { failures = search rules; met = HasMet-none _ }

@@ -1,6 +1,6 @@
 //! A server and a client meet, time after time.
 ghost use Rattle.std.specs.Prelude.{◌≡◌, ℕ, ◌≤◌, OnOk};
-ghost use Rattle.ntp_loopback.specs.Words.{HasMet};
+ghost use Rattle.ntp_meeting.specs.Words.{HasMet};
 
 use crate::pair::{Pair, service_with_one};
 use crate::words::write_word;

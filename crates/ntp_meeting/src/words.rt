@@ -1,7 +1,7 @@
 //! What a client took, in words.
 ghost use Rattle.std.specs.Prelude.{◌≡◌, OnOk};
 ghost use Rattle.std.specs.Io.KnownBytes.{Appends};
-ghost use Rattle.ntp_loopback.specs.Words.{word_of, line_of};
+ghost use Rattle.ntp_meeting.specs.Words.{word_of, line_of};
 
 use ntp_client::Taken;
 use std::io::{self, Write};

@@ -1,6 +1,6 @@
 //! Octets taken apart, and numbers of more octets than one.
 ghost use Rattle.std.specs.Prelude.{◌≡◌, ◌+◌, ◌≤◌, ◌<◌, ◌++◌, length, IfSome, IfNone};
-ghost use Rattle.ntp_capture.specs.Wide.{two_octets, four_octets, four_turned};
+ghost use Rattle.ntp_door.specs.Wide.{two_octets, four_octets, four_turned};
 
 /// The number of two octets from a place on, the most significant first.
 pub(crate) fn two_octets(octets: &[u8], at: usize) -> u64

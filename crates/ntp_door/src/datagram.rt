@@ -1,7 +1,7 @@
 //! The UDP datagram of an IPv4 packet.
 ghost use Rattle.std.specs.Prelude.{◌≡◌, ◌≤◌, ◌++◌, length, IfSome};
 ghost use Rattle.std.specs.List.{slice_range};
-ghost use Rattle.ntp_capture.specs.Datagram.{IsIpHead, IsUdpHead, IsDatagram};
+ghost use Rattle.ntp_door.specs.Datagram.{IsIpHead, IsUdpHead, IsDatagram};
 
 use crate::wide::{split, two_octets};
 

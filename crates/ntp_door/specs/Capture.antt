@@ -1,10 +1,10 @@
 -- A capture file in pcap form (pcap-savefile(5)).
 use Rattle.std.specs.Prelude.{◌≡◌, ℕ, ◌==◌, if◌then◌else◌, List, ◌++◌, length, drop, Option, None, Some}
-use Rattle.ntp_capture.specs.Wide.{four_octets, four_turned}
-use Rattle.ntp_capture.specs.Link.{link_of}
-use Rattle.ntp_capture.specs.declared.capture.Order.{Order}
-use Rattle.ntp_capture.specs.declared.capture.Order.TheVariants.{BigEndian, LittleEndian}
-use Rattle.ntp_capture.specs.declared.link.Link.{Link}
+use Rattle.ntp_door.specs.Wide.{four_octets, four_turned}
+use Rattle.ntp_door.specs.Link.{link_of}
+use Rattle.ntp_door.specs.declared.capture.Order.{Order}
+use Rattle.ntp_door.specs.declared.capture.Order.TheVariants.{BigEndian, LittleEndian}
+use Rattle.ntp_door.specs.declared.link.Link.{Link}
 
 -- the order of the octets in a file's numbers, by its first four: a1b2c3d4, or a1b23c4d where stamps are in nanoseconds (pcap-savefile(5))
 abbrev pub order_of : ℕ → Option Order

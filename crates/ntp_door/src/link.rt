@@ -1,7 +1,7 @@
 //! What stands before the IPv4 packet of a frame.
 ghost use Rattle.std.specs.Prelude.{◌≡◌, ◌+◌, ◌≤◌, ◌++◌, List, ℕ, length, IfSome};
-ghost use Rattle.ntp_capture.specs.Wide.{two_octets};
-ghost use Rattle.ntp_capture.specs.Link.{link_of, IsPacketOf};
+ghost use Rattle.ntp_door.specs.Wide.{two_octets};
+ghost use Rattle.ntp_door.specs.Link.{link_of, IsPacketOf};
 
 use crate::wide::two_octets;
 

@@ -1,4 +1,0 @@
-pub mod Wide
-pub mod Capture
-pub mod Link
-pub mod Datagram

@@ -1,7 +1,7 @@
 //! Customers are served, day and night.
 ghost use Rattle.std.specs.Prelude.{◌≡◌, IfOk};
 
-use labntpd_assembly::{Begun, DaemonObserver, Host, Parts, ServeFault, observer, serve};
+use labntpd_assembly::{Assembly, Begun, Host, Parts, ReportingObserver, ServeFault, observer};
 use labntpd_configuration::Configuration;
 use labntpd_host::{
     BoundAt, ClockSource, HostClocks, Log, QueuedUdp, SOCKETS_ROOM, has_standard_streams,
@@ -24,7 +24,7 @@ type UdpQueue<'a> = FreshPort<
 >;
 
 // Who is told what it does.
-type HostObserver<'a> = DaemonObserver<'a, Stderr, LineWriter<File>>;
+type HostObserver<'a> = ReportingObserver<'a, Stderr, LineWriter<File>>;
 
 /// Serves by what was prepared, for ever. Gives the exit status where that cannot begin; a fault is told in one line on
 /// standard error.
@@ -124,8 +124,11 @@ fn serve_opened<'a>(
         service: loaded.service,
         log: rt.stderr(),
     };
-    match serve(host, parts, begun, &mut rt.stdout(), u64::MAX) {
-        Ok(_) => DONE,
+    match Assembly::begin(host, parts, begun, &mut rt.stdout()) {
+        Ok(mut assembly) => {
+            assembly.serve(u64::MAX);
+            DONE
+        }
         Err(ServeFault::NoMemory) => memory_status(&mut start_lines(rt)),
         Err(ServeFault::NotSaid) => write_status(&mut start_lines(rt)),
     }

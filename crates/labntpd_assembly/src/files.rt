@@ -1,13 +1,46 @@
 //! What the daemon reads and writes while it serves, and why that fails.
 
 use ntp_customer_files::AdmitFault;
-use ntp_host::EachMillisecond;
-use ntp_server::HeldCommands;
+use ntp_host::CommandsFile;
+use ntp_server::AdmittedCommands;
+use ntp_service_serve::CommandsSource;
+use std::alloc::Global;
 use std::fs::Files;
 use std::{fmt, io};
 
-/// The commands of the daemon.
-pub type DaemonCommands<'a, R> = EachMillisecond<HeldCommands<'a, R>>;
+/// The commands of a daemon, and what its log and its statistics tell of their file (profile).
+pub trait DaemonCommands: CommandsSource<Global> {
+    /// What is wrong with the file by now, if anything.
+    fn fault(&self) -> Option<FileFault>;
+
+    /// How many octets the file has.
+    fn octets(&self) -> usize;
+}
+
+/// A file that is read again and again (profile).
+pub trait ReadAgain {
+    /// Why it cannot be read by now, if it cannot.
+    fn read_fault(&self) -> Option<io::Error>;
+}
+
+impl<'a, R: Files> ReadAgain for CommandsFile<'a, R> {
+    fn read_fault(&self) -> Option<io::Error> {
+        self.fault()
+    }
+}
+
+impl<F: CommandsSource<Global> + ReadAgain + Drop> DaemonCommands for AdmittedCommands<F, Global> {
+    fn fault(&self) -> Option<FileFault> {
+        match self.source().read_fault() {
+            Some(error) => Some(FileFault::Unread(error)),
+            None => self.fault().map(FileFault::NotAdmitted),
+        }
+    }
+
+    fn octets(&self) -> usize {
+        self.length()
+    }
+}
 
 /// What is wrong with a file of the daemon.
 #[derive(Clone, Copy)]
@@ -22,17 +55,18 @@ pub enum FileFault {
     Incomplete,
 }
 
-impl FileFault {
-    /// What is wrong with a commands file by now, if anything.
-    pub fn of_commands<R: Files>(commands: &HeldCommands<'_, R>) -> Option<FileFault> {
-        match commands.source().fault() {
-            Some(error) => Some(FileFault::Unread(error)),
-            None => commands.fault().map(FileFault::NotAdmitted),
-        }
+/// Whether of a file the same is told by what was wrong with it at two times.
+pub(crate) fn are_told_alike(one: &Option<FileFault>, other: &Option<FileFault>) -> bool {
+    match (one, other) {
+        (Some(one), Some(other)) => one.is_told_as(other),
+        (None, None) => true,
+        _ => false,
     }
+}
 
-    /// Whether another fault is told alike.
-    pub fn is_told_as(&self, other: &FileFault) -> bool {
+impl FileFault {
+    // Whether another fault is told alike.
+    fn is_told_as(&self, other: &FileFault) -> bool {
         match (self, other) {
             (FileFault::Unread(one), FileFault::Unread(other))
             | (FileFault::Unwritten(one), FileFault::Unwritten(other)) => {

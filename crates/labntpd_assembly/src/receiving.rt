@@ -4,7 +4,9 @@ ghost use Rattle.ntp_reports.specs.declared.kind.Kind.TheVariants.{NothingReceiv
 ghost use Rattle.ntp_reports.specs.Counted.{count_at};
 
 use crate::clock_told::DaemonClock;
+use crate::files::DaemonCommands;
 use crate::housekeeping::Housekeeping;
+use crate::observers::DaemonObserver;
 use crate::parts::{Daemon, DaemonPort};
 use labntpd_host::pause;
 use ntp_reports::Kind;
@@ -43,18 +45,18 @@ impl<'a, R: Files + Clock, L: Write + Drop> Patience<'a, R, L> {
 
 impl<
     'a,
-    'b,
     P: DaemonPort,
-    R: Files + Clock,
+    C: DaemonCommands,
     S: DaemonClock,
+    O: DaemonObserver,
+    R: Files + Clock,
     L: Write + Drop,
-    W: Write + Drop,
-> Reporter<Daemon<'b, P, R, S, L, W>> for Patience<'a, R, L> {
+> Reporter<Daemon<P, C, S, O>> for Patience<'a, R, L> {
     // It knows how many receives of a server have failed; and its housekeeping, how many stale datagrams it has dropped.
-    ghost knows = { λ p server. (p.failed ≡ count_at server.observer.counts NothingReceived) × (p.housekeeping.stale ≡ server.port.stale) };
+    ghost knows = { λ p server. (p.failed ≡ count_at (O.counted server.observer) NothingReceived) × (p.housekeeping.stale ≡ server.port.stale) };
 
-    fn report(&mut self, server: &Daemon<'b, P, R, S, L, W>, receipt: Option<Moment>) {
-        let failed = server.observer.counts.count(Kind::NothingReceived);
+    fn report(&mut self, server: &Daemon<P, C, S, O>, receipt: Option<Moment>) {
+        let failed = server.observer.counts().count(Kind::NothingReceived);
         self.in_a_row = if failed == self.failed {
             0
         } else {

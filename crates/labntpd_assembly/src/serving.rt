@@ -1,15 +1,19 @@
 //! A daemon is put together, and serves.
-ghost use Rattle.std.specs.Prelude.{◌≡◌, ◌+◌, ◌<◌, ◌^◌, IfOk};
+ghost use Rattle.std.specs.Prelude.{◌≡◌, ◌+◌, ◌<◌, ◌^◌, None, false, true, IfOk};
+ghost use Rattle.std.specs.declared.alloc.Global.{Global};
 ghost use Rattle.ntp_reports.specs.Counted.{count_at};
-ghost use Rattle.labntpd_assembly.specs.Assembled.{ServesFromStart};
+ghost use Rattle.ntp_server.specs.Rounds.{ServesRounds};
+ghost use Rattle.labntpd_assembly.specs.Assembled.{daemon_told};
 
 use crate::clock_told::DaemonClock;
-use crate::housekeeping::{Begun, Housekeeping};
-use crate::parts::{Daemon, DaemonPort, Host, Parts};
+use crate::files::DaemonCommands;
+use crate::housekeeping::Housekeeping;
+use crate::observers::DaemonObserver;
+use crate::parts::{Begun, Daemon, DaemonPort, Host, Parts};
 use crate::receiving::Patience;
 use ntp_host::EachMillisecond;
 use ntp_reports::Kind;
-use ntp_server::Server;
+use ntp_server::{Server, Totals};
 use std::fs::Files;
 use std::io::Write;
 use std::time::Clock;
@@ -23,111 +27,73 @@ pub enum ServeFault {
     NotSaid,
 }
 
-/// Puts a daemon together out of its parts, says on `out` that it serves, and serves for so many turns, with all that it does beside
-/// it. Gives the daemon as it is then.
-///
-/// It makes the rounds of `serve_reported`, from the service of the parts on, with no line of the commands file applied before, with a
-/// state of the clock from its source for each. Where the port below `FreshPort` tells its turns, the rounds have these, but those whose
-/// datagrams were dropped and counted as stale, and what it sent is the replies. Of what commands and observer tell this says nothing.
-pub fn serve<'a, P, R, S, L, W, N>(
-    host: Host<'a, R>,
-    parts: Parts<'a, P, R, S, L, W>,
-    begun: Begun,
-    out: &mut N,
-    turns: u64,
-) -> Result<Daemon<'a, P, R, S, L, W>, ServeFault>
-where
-    P: DaemonPort + Drop,
-    R: Files + Clock,
-    S: DaemonClock + Drop,
-    L: Write + Drop,
-    W: Write + Drop,
-    N: Write,
-    requires { parts.port.failures ≡ 0 }
-    ensures { IfOk result (λ daemon. ServesFromStart turns
-        (record {
-          port = P.told parts.entry.port.port;
-          stale = parts.entry.port.stale;
-          states = S.coming parts.entry.reference;
-          tended = S.tended parts.entry.reference;
-          failures = 0;
-          service = parts.entry.service;
-          applied = 0;
-        })
-        (record {
-          port = P.told daemon.port.port;
-          stale = daemon.port.stale;
-          states = S.coming daemon.reference;
-          tended = S.tended daemon.reference;
-          failures = daemon.port.failures;
-          service = daemon.service;
-          applied = daemon.applied;
-        })) }
-{
-    let Parts {
-        port,
-        commands,
-        reference,
-        observer,
-        service,
-        log,
-    } = parts;
-    let housekeeping = begin(host, log, begun, out)?;
-    let mut server = Server {
-        port,
-        commands: EachMillisecond::new(commands),
-        applied: 0,
-        reference,
-        observer,
-        service,
-    };
-    let _beside = serve_beside(&mut server, housekeeping, turns);
-    Ok(server)
+/// A daemon, and what is done beside it.
+#[derive(Drop)]
+pub struct Assembly<'a, P: DaemonPort, C, S, O, R: Files + Clock, L: Write + Drop> {
+    /// The daemon.
+    pub daemon: Daemon<P, C, S, O>,
+    beside: Patience<'a, R, L>,
 }
 
-// Serves, and has its housekeeping done beside it. Gives who did it, as it is then: behind the last turn it knows how many receives have
-// failed, and how many stale datagrams were dropped.
-fn serve_beside<'a, P, R, S, L, W>(
-    server: &mut Daemon<'a, P, R, S, L, W>,
-    housekeeping: Housekeeping<'a, R, L>,
-    turns: u64,
-) -> Patience<'a, R, L>
+impl<'a, P, C, S, O, R, L> Assembly<'a, P, C, S, O, R, L>
 where
     P: DaemonPort + Drop,
-    R: Files + Clock,
+    C: DaemonCommands + Drop,
     S: DaemonClock + Drop,
+    O: DaemonObserver + Drop,
+    R: Files + Clock,
     L: Write + Drop,
-    W: Write + Drop,
-    requires failures { server.old.port.failures + turns < 2 ^ 64 }
-    ensures serves { ServesFromStart turns
-        (record {
-          port = P.told server.old.port.port;
-          stale = server.old.port.stale;
-          states = S.coming server.old.reference;
-          tended = S.tended server.old.reference;
-          failures = server.old.port.failures;
-          service = server.old.service;
-          applied = server.old.applied;
-        })
-        (record {
-          port = P.told server.new.port.port;
-          stale = server.new.port.stale;
-          states = S.coming server.new.reference;
-          tended = S.tended server.new.reference;
-          failures = server.new.port.failures;
-          service = server.new.service;
-          applied = server.new.applied;
-        }) }
-    ensures receives { 0 < turns → result.failed ≡ count_at server.new.observer.counts Kind.NothingReceived }
-    ensures stale { 0 < turns → result.housekeeping.stale ≡ server.new.port.stale }
 {
-    let mut patience = Patience::new(housekeeping);
-    server.serve_reported(turns, &mut patience);
-    patience
+    /// Puts a daemon together out of its parts, and says on `out` that it serves. No line of its commands is applied yet. It takes the room
+    /// for what is done beside it from the host's memory: `NoMemory` where that is refused.
+    pub fn begin<N: Write>(
+        host: Host<'a, R>,
+        parts: Parts<P, C, S, O, L>,
+        begun: Begun,
+        out: &mut N,
+    ) -> Result<Assembly<'a, P, C, S, O, R, L>, ServeFault>
+        ensures port { IfOk result (λ assembly. assembly.daemon.port ≡ parts.port) }
+        ensures commands { IfOk result (λ assembly. assembly.daemon.commands.source ≡ parts.commands) }
+        ensures unasked { IfOk result (λ assembly. assembly.daemon.commands.asked ≡ None) }
+        ensures applied { IfOk result (λ assembly. assembly.daemon.applied ≡ 0) }
+        ensures reference { IfOk result (λ assembly. assembly.daemon.reference ≡ parts.reference) }
+        ensures observer { IfOk result (λ assembly. assembly.daemon.observer ≡ parts.observer) }
+        ensures service { IfOk result (λ assembly. assembly.daemon.service ≡ parts.service) }
+    {
+        let housekeeping = housekeeping_begun(host, parts.log, begun, out)?;
+        Ok(Assembly {
+            daemon: Server {
+                port: parts.port,
+                commands: EachMillisecond::new(parts.commands),
+                applied: 0,
+                reference: parts.reference,
+                observer: parts.observer,
+                service: parts.service,
+            },
+            beside: Patience::new(housekeeping),
+        })
+    }
+
+    /// Serves for so many turns, with all that is done beside it, and cannot fail.
+    ///
+    /// It makes the rounds of `serve_reported`. Where the port below `FreshPort` tells its turns, the rounds have these, but those whose
+    /// datagrams were dropped and counted as stale, and what it sent is the replies; and so with the commands, which are asked once in a
+    /// thousandth of a second at most, with the states of the clock and with the observer: each as far as it tells.
+    pub fn serve(&mut self, turns: u64) -> Totals
+        requires failures { self.old.daemon.port.failures + turns < 2 ^ 64 }
+        ensures serves { ServesRounds Global false true turns
+            (daemon_told (λ p. P.told p.port) (λ p. p.failures) (λ p. p.stale) C.coming S.coming S.tended O.seen self.old.daemon)
+            (daemon_told (λ p. P.told p.port) (λ p. p.failures) (λ p. p.stale) C.coming S.coming S.tended O.seen self.new.daemon) result }
+        // Behind the last turn it is known how many receives have failed, and how many stale datagrams were dropped.
+        ensures receives { 0 < turns → self.new.beside.failed ≡ count_at (O.counted self.new.daemon.observer) Kind.NothingReceived }
+        ensures stale { 0 < turns → self.new.beside.housekeeping.stale ≡ self.new.daemon.port.stale }
+    {
+        self.daemon.serve_reported(turns, &mut self.beside)
+    }
 }
 
-// Says that it serves.
-fn begin<'a, R: Files + Clock, L: Write + Drop, N: Write>(
+// What is done beside a daemon, which says that it serves.
+fn housekeeping_begun<'a, R: Files + Clock, L: Write + Drop, N: Write>(
     host: Host<'a, R>,
     log: L,
     begun: Begun,

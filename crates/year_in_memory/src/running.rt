@@ -1,11 +1,15 @@
 //! The assembly of the daemon, run over parts in memory.
+ghost use Rattle.std.specs.Prelude.{◌≡◌};
 
 use crate::files::{ANSWERS, COMMANDS, Disk, LOG, MemoryFile};
 use crate::host::MemoryHost;
 use crate::judging::Expected;
 use crate::queue::YearQueue;
 use crate::script::{DueLine, Given, Script};
-use labntpd_assembly::{Begun, DaemonObserver, Host, Parts, observer, serve};
+use labntpd_assembly::{
+    Assembly, Begun, DaemonClock, DaemonObserver, DaemonPort, Host, Parts, ReportingObserver,
+    ServeFault, observer,
+};
 use labntpd_configuration::{Configuration, read_configuration};
 use labntpd_host::{BoundAt, ClockSource, HostClocks, Log, LogForm, emptied_file};
 use ntp_freshness::{FreshPort, MemoryQueue, QueueWatch};
@@ -16,9 +20,11 @@ use ntp_service_run::Service;
 use ntp_service_serve::{MemoryPort, Port};
 use std::alloc::Global;
 use std::cell::Cell;
-use std::io::LineWriter;
+use std::fs::Files;
+use std::io::{LineWriter, Write};
 use std::net::{Ipv4Addr, SocketAddrV4};
 use std::test::Fail;
+use std::time::Clock;
 
 /// The configuration of the daemon. What it names of the host beside files is not there.
 const CONFIGURATION: &str = "listen = \"192.0.2.1:123\"\n\
@@ -45,12 +51,11 @@ pub struct Found {
 
 // The parts of the daemon.
 type YearParts<'a, 'd> = Parts<
-    'a,
     YearQueue<'a, 'd>,
-    MemoryHost<'d>,
+    HeldCommands<'a, MemoryHost<'d>>,
     ClockSource<'a, &'a MemoryHost<'d>>,
+    ReportingObserver<'a, MemoryFile<'d>, LineWriter<MemoryFile<'d>>>,
     MemoryFile<'d>,
-    LineWriter<MemoryFile<'d>>,
 >;
 
 /// Runs the assembly of the daemon by a script, on a disk with no file, and tells what is found then.
@@ -102,16 +107,38 @@ fn judged<'a, 'd>(
         return Err(Fail::new("a call has failed by now"));
     }
     let begun = known_at_start(host.configuration.receive_buffer);
-    let mut said = Vec::new(host.alloc);
-    let Ok(daemon) = serve(host, parts, begun, &mut said, expected.turns) else {
+    let Ok(assembly) = served(host, parts, begun, expected.turns) else {
         return Err(Fail::new("the daemon does not begin to serve"));
     };
+    let daemon = &assembly.daemon;
     Ok(Found {
         are_replies_right: expected.are_sent(daemon.port.port().sent()),
         counts: daemon.observer.counts,
         stale: daemon.port.stale(),
         applied: daemon.applied,
     })
+}
+
+// The assembly of these parts, which has served for so many turns. It is generic in them, since the borrow checker does not follow the call
+// of parts that each have two lifetimes.
+fn served<'a, P, S, O, R, L>(
+    host: Host<'a, R>,
+    parts: Parts<P, HeldCommands<'a, R>, S, O, L>,
+    begun: Begun,
+    turns: u64,
+) -> Result<Assembly<'a, P, HeldCommands<'a, R>, S, O, R, L>, ServeFault>
+where
+    P: DaemonPort + Drop,
+    S: DaemonClock + Drop,
+    O: DaemonObserver + Drop,
+    R: Files + Clock,
+    L: Write + Drop,
+    requires { parts.port.failures ≡ 0 }
+{
+    let mut said = Vec::new(host.alloc);
+    let mut assembly = Assembly::begin(host, parts, begun, &mut said)?;
+    assembly.serve(turns);
+    Ok(assembly)
 }
 
 // The parts of the daemon, over a queue.
@@ -163,7 +190,7 @@ fn year_observer<'a, 'd>(
     alloc: Global,
     host: &'a MemoryHost<'d>,
     clocks: &'a HostClocks,
-) -> Result<DaemonObserver<'a, MemoryFile<'d>, LineWriter<MemoryFile<'d>>>, Fail> {
+) -> Result<ReportingObserver<'a, MemoryFile<'d>, LineWriter<MemoryFile<'d>>>, Fail> {
     let answers = LineWriter::new(alloc, emptied_file(host, ANSWERS)?)?;
     let log = Log::new(alloc, emptied_file(host, LOG)?, LogForm::Plain)?;
     let answers = Some(AnswerLines::new(answers));

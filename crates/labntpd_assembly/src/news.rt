@@ -1,0 +1,299 @@
+//! What the log tells of a daemon: what is so from now on, where something else was told last. Of each kind so many lines a minute are
+//! written at most.
+
+use crate::clock_told::is_synchronised;
+use crate::files::{FileFault, are_told_alike};
+use crate::parts::Begun;
+use crate::watched::Watched;
+use labntpd_configuration::Configuration;
+use labntpd_configuration::command_line::VERSION;
+use labntpd_host::{BoundAt, Log, LogForm, Priority};
+use ntp_clock::reference_unsynchronised;
+use ntp_reply::Reference;
+use ntp_reports::{Ask, LineAllowance};
+use ntp_server::{is_nearly_full, write_nearly_full};
+use std::alloc::{AllocError, Global};
+use std::io::Write;
+
+/// A minute's seconds.
+const MINUTE: u64 = 60;
+
+/// The leap indicator where no leap second is announced (RFC 5905, 7.3).
+const NO_LEAP: u8 = 0;
+
+// What was told last.
+#[derive(Clone, Copy)]
+struct Told {
+    // The state of the clock, that of an unsynchronised one where none was told, and the leap second that it announces.
+    clock: Reference,
+    has_clock: bool,
+    leap: u8,
+    stale: u64,
+    is_receiving: bool,
+    is_nearly_full: bool,
+    // What was wrong with each file.
+    files: [Option<FileFault>; 4],
+}
+
+// How many lines of each kind may still be written.
+#[derive(Clone, Copy)]
+struct Allowances {
+    clock: LineAllowance,
+    stale: LineAllowance,
+    files: LineAllowance,
+    receiving: LineAllowance,
+}
+
+/// The log of a daemon, but for its lines of commands.
+#[derive(Drop)]
+pub(crate) struct News<L: Write + Drop> {
+    log: Log<L>,
+    allowances: Allowances,
+    told: Told,
+    // How many seconds have passed.
+    seconds: u64,
+}
+
+impl<L: Write + Drop> News<L> {
+    /// Nothing is told yet. The room for a line is taken here.
+    pub(crate) fn new(alloc: Global, log: L, form: LogForm) -> Result<News<L>, AllocError> {
+        Ok(News {
+            log: Log::new(alloc, log, form)?,
+            allowances: Allowances {
+                clock: LineAllowance::new(),
+                stale: LineAllowance::new(),
+                files: LineAllowance::new(),
+                receiving: LineAllowance::new(),
+            },
+            told: Told {
+                clock: reference_unsynchronised(),
+                has_clock: false,
+                leap: NO_LEAP,
+                stale: 0,
+                is_receiving: true,
+                is_nearly_full: false,
+                files: [None; 4],
+            },
+            seconds: 0,
+        })
+    }
+
+    /// So many seconds have passed.
+    pub(crate) fn at(&mut self, seconds: u64) {
+        self.seconds = seconds;
+    }
+
+    /// How many lines were not written since this was last asked.
+    pub(crate) fn take_dropped(&mut self) -> u64 {
+        self.log.take_dropped()
+    }
+
+    /// Logs with what the daemon begins.
+    pub(crate) fn begin(&mut self, begun: &Begun) {
+        let Begun {
+            bound: BoundAt { local, buffer },
+            wanted_buffer,
+            customers,
+            digests: [configuration, register],
+            ..
+        } = *begun;
+        let line = self.log.begin(Priority::Information);
+        let _ = write!(
+            line,
+            "labntpd {VERSION}: at {local}, {customers} customers, configuration "
+        );
+        write_digest(line, &configuration);
+        let _ = write!(line, ", register ");
+        write_digest(line, &register);
+        self.log.end();
+        let line = self.log.begin(Priority::Information);
+        let _ = write!(
+            line,
+            "receive buffer: {wanted_buffer} octets wanted, {buffer} given, as the kernel counts"
+        );
+        self.log.end();
+    }
+
+    /// Logs that the clock is synchronised, or is not, where that was not told last; and of one that is, its stratum, its reference, and the
+    /// leap second that it announces, where one of them is another.
+    pub(crate) fn tell_clock(&mut self, state: &Reference) {
+        if !is_synchronised(state) {
+            self.tell_unsynchronised(state);
+            return;
+        }
+        let told = self.told.clock;
+        if !is_told_as(&told, state) {
+            self.tell_reference(state);
+        }
+        if self.told.leap != state.leap() {
+            self.tell_leap(state.leap());
+        }
+    }
+
+    // Logs that the clock is not synchronised, where that was not told last.
+    fn tell_unsynchronised(&mut self, state: &Reference) {
+        let told = self.told.clock;
+        let is_told = self.told.has_clock && !is_synchronised(&told);
+        let seconds = self.seconds;
+        if is_told || !may_say(&mut self.allowances.clock, seconds) {
+            return;
+        }
+        self.told.clock = *state;
+        self.told.has_clock = true;
+        self.told.leap = NO_LEAP;
+        let line = self.log.begin(Priority::Warning);
+        let _ = write!(line, "clock: not synchronised");
+        self.log.end();
+    }
+
+    // Logs which clock the host's follows.
+    fn tell_reference(&mut self, state: &Reference) {
+        let seconds = self.seconds;
+        if !may_say(&mut self.allowances.clock, seconds) {
+            return;
+        }
+        self.told.clock = *state;
+        self.told.has_clock = true;
+        let [a, b, c, d] = state.id();
+        let stratum = state.stratum();
+        let line = self.log.begin(Priority::Notice);
+        let _ = write!(
+            line,
+            "clock: synchronised, stratum {stratum}, reference {a:02x}{b:02x}{c:02x}{d:02x}"
+        );
+        self.log.end();
+    }
+
+    // Logs which leap second is announced.
+    fn tell_leap(&mut self, leap: u8) {
+        let seconds = self.seconds;
+        if !may_say(&mut self.allowances.clock, seconds) {
+            return;
+        }
+        self.told.leap = leap;
+        let line = self.log.begin(Priority::Notice);
+        let _ = write!(line, "clock: {}", leap_word(leap));
+        self.log.end();
+    }
+
+    /// Logs that many receives have failed one after another, or that this has ended, where that was not told last.
+    pub(crate) fn tell_receiving(&mut self, is_receiving: bool) {
+        let seconds = self.seconds;
+        if is_receiving == self.told.is_receiving
+            || !may_say(&mut self.allowances.receiving, seconds)
+        {
+            return;
+        }
+        self.told.is_receiving = is_receiving;
+        let _ = if is_receiving {
+            let line = self.log.begin(Priority::Notice);
+            write!(line, "receive: no call fails any longer")
+        } else {
+            let line = self.log.begin(Priority::Error);
+            write!(
+                line,
+                "receive: a hundred calls failed one after another; a pause follows each"
+            )
+        };
+        self.log.end();
+    }
+
+    /// Logs how many stale datagrams were dropped since it was last told.
+    pub(crate) fn tell_stale(&mut self, stale: u64) {
+        let dropped = stale - self.told.stale.min(stale);
+        let seconds = self.seconds;
+        if dropped == 0 || !may_say(&mut self.allowances.stale, seconds) {
+            return;
+        }
+        self.told.stale = stale;
+        let line = self.log.begin(Priority::Warning);
+        let _ = write!(line, "stale: {dropped} datagrams dropped");
+        self.log.end();
+    }
+
+    /// Logs that the commands file, which has so many octets, is nearly full, where that was not told last.
+    pub(crate) fn tell_nearly_full(&mut self, path: &str, octets: usize) {
+        let is_nearly_full = is_nearly_full(octets);
+        let seconds = self.seconds;
+        if is_nearly_full == self.told.is_nearly_full
+            || is_nearly_full && !may_say(&mut self.allowances.files, seconds)
+        {
+            return;
+        }
+        self.told.is_nearly_full = is_nearly_full;
+        if is_nearly_full {
+            let line = self.log.begin(Priority::Warning);
+            let _ = write!(line, "commands file {path}: ");
+            write_nearly_full(line, octets);
+            self.log.end();
+        }
+    }
+
+    /// Logs what is wrong with a file, or that nothing is, where something else was told of it last.
+    pub(crate) fn tell_file(
+        &mut self,
+        which: Watched,
+        fault: Option<FileFault>,
+        configuration: &Configuration,
+    ) {
+        let place = which as usize;
+        let seconds = self.seconds;
+        if are_told_alike(&fault, &self.told.files[place])
+            || !may_say(&mut self.allowances.files, seconds)
+        {
+            return;
+        }
+        self.told.files[place] = fault;
+        let path = which.path_in(configuration);
+        let (name, again) = which.words();
+        let _ = match fault {
+            Some(fault) => write!(
+                self.log.begin(Priority::Error),
+                "{name} file {path}: {fault}"
+            ),
+            None => write!(
+                self.log.begin(Priority::Notice),
+                "{name} file {path}: {again}"
+            ),
+        };
+        self.log.end();
+    }
+
+    /// Logs what was done in so many hours: how many replies with the time, how many RATE, how many datagrams were dropped as stale, and
+    /// how many by the kernel.
+    pub(crate) fn tell_totals(&mut self, hours: u64, time: u64, rate: u64, stale: u64, drops: u64) {
+        let line = self.log.begin(Priority::Information);
+        let _ = write!(
+            line,
+            "totals of {hours} hours: time {time}, rate {rate}, stale {stale}, dropped by the kernel {drops}"
+        );
+        self.log.end();
+    }
+}
+
+// Whether a line of a kind may be written now. It is asked for only where it may, so that what is told later is not counted as held.
+fn may_say(allowance: &mut LineAllowance, seconds: u64) -> bool {
+    let minute = seconds / MINUTE;
+    allowance.has_room(minute) && allowance.ask(minute) != Ask::Hold
+}
+
+// Whether a state that was told is that of a synchronised clock with the stratum and the reference of another one.
+fn is_told_as(told: &Reference, state: &Reference) -> bool {
+    is_synchronised(told) && told.stratum() == state.stratum() && told.id() == state.id()
+}
+
+// What is told of a leap indicator of a synchronised clock (RFC 5905, 7.3).
+fn leap_word(leap: u8) -> &'static str {
+    match leap {
+        NO_LEAP => "no leap second is announced",
+        1 => "a leap second is announced: the last minute of the day has 61 seconds",
+        _ => "a leap second is announced: the last minute of the day has 59 seconds",
+    }
+}
+
+// Writes a digest in hexadecimal digits.
+fn write_digest(line: &mut Vec<u8>, digest: &[u8; 32]) {
+    for octet in digest {
+        let _ = write!(line, "{octet:02x}");
+    }
+}

@@ -1,0 +1,111 @@
+//! Who is told what a daemon does.
+ghost use Rattle.std.specs.Prelude.{◌≡◌};
+ghost use Rattle.ntp_reports.specs.declared.counts.Counts.{Counts};
+ghost use Rattle.ntp_reports.specs.Counted.{nothing_counted};
+
+use crate::command_log::CommandLog;
+use labntpd_host::{HostClocks, Log};
+use ntp_events::Observer;
+use ntp_reports::{AnswerLines, Both, Counting, Counts, CustomerCounts};
+use std::io::{self, Write};
+
+/// Who is told what a daemon does, and tells the log and the statistics of it (profile).
+pub trait DaemonObserver: Observer {
+    // What it has counted.
+    ghost counted: { Self → Counts };
+
+    /// What was counted so far.
+    fn counts(&self) -> &Counts
+        ensures { result.now ≡ counted self.now };
+
+    /// Why an answer to a line of commands could not be written, if one could not.
+    fn answers_fault(&self) -> Option<io::Error>;
+
+    /// How many customers are enrolled.
+    fn customers(&self) -> u64;
+
+    /// What customers were answered, where that is kept.
+    fn reports(&self) -> Option<&CustomerCounts>;
+
+    /// How many of its lines of the log were dropped.
+    fn log_lines_dropped(&self) -> u64;
+}
+
+/// Who logs lines of commands, and counts the customers (profile).
+pub trait LogObserver: Observer {
+    /// How many customers are enrolled.
+    fn customers(&self) -> u64;
+
+    /// How many lines of the log were dropped.
+    fn dropped(&self) -> u64;
+}
+
+impl<'a, W: Write + Drop> LogObserver for CommandLog<'a, W> {
+    fn customers(&self) -> u64 {
+        self.customers()
+    }
+
+    fn dropped(&self) -> u64 {
+        self.dropped()
+    }
+}
+
+/// It counts, answers lines of commands, logs them, and reports of customers.
+pub type ReportingObserver<'a, L, W> = Counting<
+    Both<Option<AnswerLines<W>>, Both<CommandLog<'a, L>, Option<CustomerCounts>>>,
+>;
+
+impl<W: Write, G: LogObserver> DaemonObserver
+    for Counting<Both<Option<AnswerLines<W>>, Both<G, Option<CustomerCounts>>>> {
+    ghost counted = { λ o. o.counts };
+
+    fn counts(&self) -> &Counts {
+        &self.counts
+    }
+
+    fn answers_fault(&self) -> Option<io::Error> {
+        match &self.inner.first {
+            Some(answers) => answers.fault(),
+            None => None,
+        }
+    }
+
+    fn customers(&self) -> u64 {
+        self.inner.second.first.customers()
+    }
+
+    fn reports(&self) -> Option<&CustomerCounts> {
+        self.inner.second.second.as_ref()
+    }
+
+    fn log_lines_dropped(&self) -> u64 {
+        self.inner.second.first.dropped()
+    }
+}
+
+/// Who is told what a daemon does that has so many customers by now. Nothing is counted yet. Lines are answered by `answers` and customers
+/// reported of by `reports`, where these are there.
+pub fn observer<'a, L: Write + Drop, W: Write + Drop>(
+    answers: Option<AnswerLines<W>>,
+    log: Log<L>,
+    clocks: &'a HostClocks,
+    customers: u64,
+    reports: Option<CustomerCounts>,
+) -> ReportingObserver<'a, L, W>
+    ensures counts { result.counts ≡ nothing_counted }
+    ensures answers { result.inner.first ≡ answers }
+    ensures log { result.inner.second.first.log ≡ log }
+    ensures customers { result.inner.second.first.customers ≡ customers }
+    ensures reports { result.inner.second.second ≡ reports }
+{
+    Counting {
+        counts: Counts::new(),
+        inner: Both {
+            first: answers,
+            second: Both {
+                first: CommandLog::new(log, clocks, customers),
+                second: reports,
+            },
+        },
+    }
+}

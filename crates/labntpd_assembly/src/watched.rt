@@ -1,0 +1,99 @@
+//! The files that can fail while a daemon serves, and what was seen of them.
+
+use crate::files::{FileFault, are_told_alike};
+use labntpd_configuration::Configuration;
+use ntp_customer_files::AdmitFault;
+use ntp_reports::FileGauges;
+
+/// The files that can fail.
+#[derive(Clone, Copy)]
+pub(crate) enum Watched {
+    Commands = 0,
+    Answers = 1,
+    Statistics = 2,
+    Customers = 3,
+}
+
+impl Watched {
+    /// What a file is called, and what is told of it where it is well again.
+    pub(crate) fn words(self) -> (&'static str, &'static str) {
+        match self {
+            Watched::Commands => ("commands", "is read again"),
+            Watched::Answers => ("answers", "is written again"),
+            Watched::Statistics => ("statistics", "is written again"),
+            Watched::Customers => ("customers", "is written again"),
+        }
+    }
+
+    /// The path of a file; empty where the configuration has none.
+    pub(crate) fn path_in<'a>(self, configuration: &'a Configuration) -> &'a str {
+        match self {
+            Watched::Commands => configuration.commands.as_str(),
+            Watched::Answers => written_path(&configuration.answers),
+            Watched::Statistics => written_path(&configuration.statistics),
+            Watched::Customers => written_path(&configuration.customers),
+        }
+    }
+}
+
+/// What was wrong with each file when it was last looked at, and how often one began to fail.
+#[derive(Clone, Copy)]
+pub(crate) struct WatchedFiles {
+    seen: [Option<FileFault>; 4],
+    failures: u64,
+}
+
+impl WatchedFiles {
+    /// Nothing wrong was seen yet.
+    pub(crate) fn new() -> WatchedFiles {
+        WatchedFiles {
+            seen: [None; 4],
+            failures: 0,
+        }
+    }
+
+    /// What is wrong with a file was looked for. It is counted where something is wrong that was not before.
+    pub(crate) fn see(&mut self, which: Watched, fault: Option<FileFault>) {
+        let place = which as usize;
+        if fault.is_some() && !are_told_alike(&fault, &self.seen[place]) {
+            self.failures = self.failures.saturating_add(1);
+        }
+        self.seen[place] = fault;
+    }
+
+    /// What is wrong with a file, if anything.
+    pub(crate) fn fault(&self, which: Watched) -> Option<FileFault> {
+        self.seen[which as usize]
+    }
+
+    /// How often a file began to fail.
+    pub(crate) fn failures(&self) -> u64 {
+        self.failures
+    }
+
+    /// Which files are well.
+    pub(crate) fn gauges(&self) -> FileGauges {
+        FileGauges {
+            commands: self.fault(Watched::Commands).is_none(),
+            answers: self.fault(Watched::Answers).is_none(),
+            statistics: self.fault(Watched::Statistics).is_none(),
+            customers: self.fault(Watched::Customers).is_none(),
+        }
+    }
+
+    /// The first line of the commands file in whose place another one stands than was applied, if one does.
+    pub(crate) fn other_line(&self) -> Option<u64> {
+        match self.fault(Watched::Commands) {
+            Some(FileFault::NotAdmitted(AdmitFault::OtherLine(number))) => Some(number),
+            _ => None,
+        }
+    }
+}
+
+// The path of a file that is written, if it is; else nothing.
+fn written_path<'a>(path: &'a Option<String>) -> &'a str {
+    match path {
+        Some(path) => path.as_str(),
+        None => "",
+    }
+}

@@ -1,16 +1,16 @@
 //! What is to be appended for a change, by what the files have come to.
 
+use crate::faults::{judged, made};
 use crate::ordered::{Change, Ordered};
 use labntpctl_standing::{Standing, standing_at};
 use labntpd_configuration::Configuration;
 use labntpd_start::start_lines;
 use ntp_admin::{Command, parse_command, refusal_word};
-use ntp_customer_files::{
-    IO_FAILED, MOST_FILE_OCTETS, TEXT_FAULTY, failed_status, fault_word, memory_status,
-};
+use ntp_customer_files::{MOST_FILE_OCTETS, TEXT_FAULTY, fault_word, memory_status};
 use ntp_keeping::{NEW_KEY_OCTETS, NewKey, Order, lowest_free, order_line, order_shown};
 use ntp_mac::Algorithm;
 use ntp_register::Refusal;
+use std::alloc::{AllocError, Global};
 use std::io::Write;
 use std::num::NonZero;
 use std::random::RandomSource;
@@ -38,28 +38,36 @@ pub fn decide(
     asked: &Ordered<'_>,
     configuration: &Configuration,
 ) -> Result<Decided, u8> {
-    let mut faults = start_lines(rt);
     let path = configuration.commands.as_str();
-    let register = configuration.register.as_str();
-    let mut standing = standing_at(rt, rt.alloc(), register, Some(path), &mut faults)?;
-    standing.judge_end(path, &mut faults)?;
-    let order = order_for(rt, asked, &standing)?;
-    let Ok(line) = order_line(rt.alloc(), order) else {
-        return Err(memory_status(&mut faults));
-    };
-    if standing.octets.saturating_add(line.len()) > MOST_FILE_OCTETS {
-        let _ = writeln!(
-            faults,
-            "{path}: at most {MOST_FILE_OCTETS} octets are wanted"
-        );
-        return Err(TEXT_FAULTY);
-    }
-    if let Err(refusal) = outcome(rt, &mut standing, line.as_str())? {
-        return Err(refused(rt, refusal));
-    }
-    let Ok(shown) = order_shown(rt.alloc(), order) else {
-        return Err(memory_status(&mut faults));
-    };
+    let mut standing = whole_standing(rt, configuration.register.as_str(), path)?;
+    decide_over(rt, asked, path, &mut standing)
+}
+
+// The same over what the files have come to.
+fn decide_over(
+    rt: &HostRuntime,
+    asked: &Ordered<'_>,
+    path: &str,
+    standing: &mut Standing,
+) -> Result<Decided, u8> {
+    let order = order_for(rt, asked, standing)?;
+    let decided = made(rt, decided_by(rt.alloc(), standing, order))?;
+    judge(rt, path, standing, decided.line.as_str())?;
+    Ok(decided)
+}
+
+/// What a register and a commands file have come to, which a line feed ends. A fault is told in one line, and gives the exit status.
+pub fn whole_standing(rt: &HostRuntime, register: &str, commands: &str) -> Result<Standing, u8> {
+    let mut faults = start_lines(rt);
+    let standing = standing_at(rt, rt.alloc(), register, Some(commands), &mut faults)?;
+    standing.judge_end(commands, &mut faults)?;
+    Ok(standing)
+}
+
+// The line of an order, behind those that have come to this.
+fn decided_by(alloc: Global, standing: &Standing, order: Order) -> Result<Decided, AllocError> {
+    let line = order_line(alloc, order)?;
+    let shown = order_shown(alloc, order)?;
     Ok(Decided {
         line,
         shown,
@@ -70,6 +78,28 @@ pub fn decide(
     })
 }
 
+// Judges that a line, which ends with its line feed, may stand in the commands file at a path, and that the daemon will not refuse it.
+fn judge(rt: &HostRuntime, path: &str, standing: &mut Standing, line: &str) -> Result<(), u8> {
+    if standing.octets.saturating_add(line.len()) > MOST_FILE_OCTETS {
+        let _ = writeln!(
+            start_lines(rt),
+            "{path}: at most {MOST_FILE_OCTETS} octets are wanted"
+        );
+        return Err(TEXT_FAULTY);
+    }
+    match parse_command(line.trim_end_matches('\n')) {
+        Ok(command) => match standing.service.command(&command) {
+            Ok(()) => Ok(()),
+            Err(refusal) => Err(refused(rt, refusal)),
+        },
+        Err(fault) => {
+            let word = fault_word(fault);
+            let _ = writeln!(start_lines(rt), "faulty {word}");
+            Err(TEXT_FAULTY)
+        }
+    }
+}
+
 // Tells a refusal, and gives the exit status.
 fn refused(rt: &HostRuntime, refusal: Refusal) -> u8 {
     if refusal == Refusal::NoMemory {
@@ -78,22 +108,6 @@ fn refused(rt: &HostRuntime, refusal: Refusal) -> u8 {
     let word = refusal_word(refusal);
     let _ = writeln!(start_lines(rt), "refused {word}");
     TEXT_FAULTY
-}
-
-// What the daemon will answer to a line, which ends with its line feed.
-fn outcome(
-    rt: &HostRuntime,
-    standing: &mut Standing,
-    line: &str,
-) -> Result<Result<(), Refusal>, u8> {
-    match parse_command(line.trim_end_matches('\n')) {
-        Ok(command) => Ok(standing.service.command(&command)),
-        Err(fault) => {
-            let word = fault_word(fault);
-            let _ = writeln!(start_lines(rt), "faulty {word}");
-            Err(TEXT_FAULTY)
-        }
-    }
 }
 
 // The order for a change, with a number and a new key where it needs them.
@@ -125,14 +139,11 @@ fn order_for(rt: &HostRuntime, asked: &Ordered<'_>, standing: &Standing) -> Resu
 
 /// The lowest number that nobody holds; else tells that there is none, and gives the exit status.
 pub fn free_number(rt: &HostRuntime, standing: &Standing) -> Result<NonZero<u16>, u8> {
-    let mut faults = start_lines(rt);
-    let Ok(held) = standing.held_numbers(rt.alloc()) else {
-        return Err(memory_status(&mut faults));
-    };
+    let held = made(rt, standing.held_numbers(rt.alloc()))?;
     match lowest_free(&held) {
         Some(number) => Ok(number),
         None => {
-            let _ = writeln!(faults, "every key number is held");
+            let _ = writeln!(start_lines(rt), "every key number is held");
             Err(TEXT_FAULTY)
         }
     }
@@ -142,9 +153,7 @@ pub fn free_number(rt: &HostRuntime, standing: &Standing) -> Result<NonZero<u16>
 pub fn new_key(rt: &HostRuntime, algorithm: Algorithm, is_shown: bool) -> Result<NewKey, u8> {
     let mut octets = [0; NEW_KEY_OCTETS];
     if !is_shown {
-        if let Err(error) = rt.fill_bytes(&mut octets) {
-            return Err(failed_status("random octets", &error, &mut start_lines(rt)));
-        }
+        judged(rt, "random octets", rt.fill_bytes(&mut octets))?;
     }
     Ok(NewKey { algorithm, octets })
 }

@@ -1,16 +1,17 @@
 //! The commands file, folded into the register.
 
-use crate::deciding::{free_number, new_key};
+use crate::deciding::{free_number, new_key, whole_standing};
+use crate::faults::{judged, made};
 use crate::folded_pair::{FoldedPair, folded_pair};
 use crate::key_octets::{KeyOctets, add_from_lines, add_from_register};
 use crate::ordering::tell;
 use crate::placing::{put_in_place, write_beside};
 use indexmap::IndexMap;
-use labntpctl_standing::{HeldFile, Standing, standing_at};
+use labntpctl_standing::{HeldFile, Standing};
 use labntpd_start::{configuration_at, start_lines};
-use ntp_customer_files::{DONE, MOST_FILE_OCTETS, TEXT_FAULTY, failed_status, memory_status};
+use ntp_customer_files::{DONE, MOST_FILE_OCTETS, TEXT_FAULTY, memory_status};
 use ntp_host::read_regular_file;
-use ntp_keeping::{FoldFault, GivenKey, Kept, Terms, fold};
+use ntp_keeping::{FoldFault, Folded, GivenKey, Kept, NewKey, Terms, fold};
 use ntp_mac::{Algorithm, Key};
 use ntp_register::{Address, Customer};
 use ntp_service_run::Service;
@@ -45,80 +46,111 @@ pub fn fold_status(rt: &HostRuntime, asked: &FoldAsked<'_>) -> u8 {
     }
 }
 
-// Folds, or tells what would be written.
+// Folds while no clerk appends, or tells what would be written.
 fn folded(rt: &HostRuntime, asked: &FoldAsked<'_>) -> Result<(), u8> {
-    let mut faults = start_lines(rt);
-    let configuration = configuration_at(rt, rt.alloc(), asked.config, &mut faults)?;
+    let configuration = configuration_at(rt, rt.alloc(), asked.config, &mut start_lines(rt))?;
     let paths = PairPaths {
         register: configuration.register.as_str(),
         commands: configuration.commands.as_str(),
     };
-    let held = match HeldFile::hold(rt, paths.commands) {
-        Ok(held) => held,
-        Err(error) => return Err(failed_status(paths.commands, &error, &mut faults)),
-    };
-    let old = standing_at(
-        rt,
-        rt.alloc(),
-        paths.register,
-        Some(paths.commands),
-        &mut faults,
-    )?;
-    old.judge_end(paths.commands, &mut faults)?;
-    let pair = pair_for(rt, paths, &old)?;
-    tell_sizes(rt, &old, &pair)?;
+    let held = judged(rt, paths.commands, HeldFile::hold(rt, paths.commands))?;
+    let done = folded_at(rt, asked, paths);
+    drop(held);
+    done
+}
+
+// The same for the files at these paths.
+fn folded_at(rt: &HostRuntime, asked: &FoldAsked<'_>, paths: PairPaths<'_>) -> Result<(), u8> {
+    let old = whole_standing(rt, paths.register, paths.commands)?;
+    folded_from(rt, asked, paths, &old)
+}
+
+// The same, by what they have come to.
+fn folded_from(
+    rt: &HostRuntime,
+    asked: &FoldAsked<'_>,
+    paths: PairPaths<'_>,
+    old: &Standing,
+) -> Result<(), u8> {
+    let pair = pair_for(rt, paths, old)?;
+    tell_sizes(rt, old, &pair)?;
     if asked.dry_run {
         return Ok(());
     }
     match asked.output {
-        Some(directory) => write_beside(rt, directory, paths, &pair, &old)?,
-        None => put_in_place(rt, paths, &pair, &old)?,
+        Some(directory) => write_beside(rt, directory, paths, &pair, old),
+        None => put_in_place(rt, paths, &pair, old),
     }
-    drop(held);
-    Ok(())
 }
 
 // The texts of the new files.
 fn pair_for(rt: &HostRuntime, paths: PairPaths<'_>, old: &Standing) -> Result<FoldedPair, u8> {
-    let mut faults = start_lines(rt);
-    let Ok(customers) = customers_of(rt.alloc(), old) else {
-        return Err(memory_status(&mut faults));
+    let customers = made(rt, customers_of(rt.alloc(), old))?;
+    let spare = spare_for(rt, old, &customers)?;
+    let folded = folded_by(rt, old, &customers, &spare)?;
+    let (document, octets) = written_in(rt, paths, old, &spare)?;
+    let Some(reference) = document.get("reference").and_then(Value::as_str) else {
+        return Err(memory_status(&mut start_lines(rt)));
     };
-    let document = document_at(rt, paths.register)?;
-    let lines = text_at(rt, paths.commands)?;
-    // With nobody revoked it is not used.
-    let spare = if customers.iter().any(|customer| customer.terms.is_none()) {
+    let pair = folded_pair(rt.alloc(), reference, &customers, &folded, &octets);
+    unless_others(rt, pair)
+}
+
+// A key that nobody has.
+#[derive(Clone, Copy)]
+struct SpareKey {
+    number: NonZero<u16>,
+    key: NewKey,
+}
+
+// The key with which a customer who is revoked is enrolled before it is revoked again. With nobody revoked it is not used.
+fn spare_for(rt: &HostRuntime, old: &Standing, customers: &[Kept]) -> Result<SpareKey, u8> {
+    let number = if customers.iter().any(|customer| customer.terms.is_none()) {
         free_number(rt, old)?
     } else {
         NonZero::<u16>::MIN
     };
-    let made = new_key(rt, Algorithm::Sha1, false)?;
-    let Ok(key) = Key::new(made.algorithm, &made.octets) else {
-        return Err(memory_status(&mut faults));
+    let key = new_key(rt, Algorithm::Sha1, false)?;
+    Ok(SpareKey { number, key })
+}
+
+// The commands into which those of the old files are folded.
+fn folded_by(
+    rt: &HostRuntime,
+    old: &Standing,
+    customers: &[Kept],
+    spare: &SpareKey,
+) -> Result<Folded, u8> {
+    let Ok(key) = Key::new(spare.key.algorithm, &spare.key.octets) else {
+        return Err(memory_status(&mut start_lines(rt)));
     };
-    let octets = octets_of(
-        rt.alloc(),
-        old,
-        &document,
-        lines.as_str(),
-        spare,
-        &made.octets,
-    );
-    let spare = GivenKey { number: spare, key };
-    let folded = match fold(rt.alloc(), &old.history, &customers, &spare) {
-        Ok(folded) => folded,
-        Err(FoldFault::NoMemory) => return Err(memory_status(&mut faults)),
-        Err(FoldFault::Other) => return Err(others(rt)),
+    let spare = GivenKey {
+        number: spare.number,
+        key,
     };
-    let reference = document.get("reference").and_then(Value::as_str);
-    let (Ok(octets), Some(reference)) = (octets, reference) else {
-        return Err(memory_status(&mut faults));
-    };
-    match folded_pair(rt.alloc(), reference, &customers, &folded, &octets) {
-        Ok(Some(pair)) => Ok(pair),
-        Ok(None) => Err(others(rt)),
-        Err(_) => Err(memory_status(&mut faults)),
+    unless_others(rt, fold(rt.alloc(), &old.history, customers, &spare))
+}
+
+// What was folded; else the exit status for a fault, which is told.
+fn unless_others<T>(rt: &HostRuntime, folded: Result<T, FoldFault>) -> Result<T, u8> {
+    match folded {
+        Ok(folded) => Ok(folded),
+        Err(FoldFault::NoMemory) => Err(memory_status(&mut start_lines(rt))),
+        Err(FoldFault::Other) => Err(others(rt)),
     }
+}
+
+// What the old files write: the document of the register, and the octets of the keys.
+fn written_in(
+    rt: &HostRuntime,
+    paths: PairPaths<'_>,
+    old: &Standing,
+    spare: &SpareKey,
+) -> Result<(Value, KeyOctets), u8> {
+    let document = document_at(rt, paths.register)?;
+    let lines = text_at(rt, paths.commands)?;
+    let octets = octets_of(rt.alloc(), old, &document, lines.as_str(), spare);
+    Ok((document, made(rt, octets)?))
 }
 
 /// Tells that the customers would be others, and gives the exit status.
@@ -141,12 +173,10 @@ fn document_at(rt: &HostRuntime, path: &str) -> Result<Value, u8> {
 
 // The text of a file that was read before.
 fn text_at(rt: &HostRuntime, path: &str) -> Result<String, u8> {
-    match read_regular_file(rt, rt.alloc(), path, MOST_FILE_OCTETS as u32) {
-        Ok(octets) => match String::from_utf8(octets) {
-            Ok(text) => Ok(text),
-            Err(_) => Err(others(rt)),
-        },
-        Err(error) => Err(failed_status(path, &error, &mut start_lines(rt))),
+    let octets = read_regular_file(rt, rt.alloc(), path, MOST_FILE_OCTETS as u32);
+    match String::from_utf8(judged(rt, path, octets)?) {
+        Ok(text) => Ok(text),
+        Err(_) => Err(others(rt)),
     }
 }
 
@@ -156,18 +186,23 @@ fn octets_of(
     old: &Standing,
     register: &Value,
     lines: &str,
-    spare: NonZero<u16>,
-    spare_octets: &[u8],
+    spare: &SpareKey,
 ) -> Result<KeyOctets, AllocError> {
     let mut octets = IndexMap::new(alloc);
-    let mut copy = Vec::new(alloc);
-    copy.extend_from_slice(spare_octets)?;
-    octets.insert(spare.get(), copy)?;
+    add_spare(alloc, &mut octets, spare)?;
     if let Some(customers) = register.get("customer").and_then(Value::as_array) {
         add_from_register(alloc, &mut octets, &old.service, customers, &old.history)?;
     }
     add_from_lines(alloc, &mut octets, &old.service, lines)?;
     Ok(octets)
+}
+
+// Adds the octets of the spare key.
+fn add_spare(alloc: Global, octets: &mut KeyOctets, spare: &SpareKey) -> Result<(), AllocError> {
+    let mut copy = Vec::new(alloc);
+    copy.extend_from_slice(&spare.key.octets)?;
+    octets.insert(spare.number.get(), copy)?;
+    Ok(())
 }
 
 // The customers, in the order of their first enrolments.

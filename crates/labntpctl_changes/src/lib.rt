@@ -2,6 +2,7 @@
 #![tactic(auto)]
 
 mod deciding;
+mod faults;
 mod folded_pair;
 mod folding;
 mod key_octets;

@@ -1,19 +1,18 @@
 //! A change of a customer: one line of commands, appended while no other clerk appends, and the daemon's answer to it.
 
 use crate::deciding::{Decided, decide};
+use crate::faults::{judged, made};
 use crate::ordered::{Change, Ordered};
 use crate::retiring::is_wanted;
 use crate::waiting::{GOOD, answer_in_time, is_answered};
 use labntpctl_standing::{HeldFile, listening, text_for, usual_path, write_new};
 use labntpd_configuration::Configuration;
 use labntpd_start::{configuration_at, start_lines};
-use ntp_customer_files::{
-    DONE, IO_FAILED, TEXT_FAULTY, failed_status, memory_status, write_status,
-};
+use ntp_customer_files::{DONE, IO_FAILED, TEXT_FAULTY, write_status};
 use std::alloc::{AllocError, Global};
 use std::fmt::Display;
 use std::fs;
-use std::io::Write;
+use std::io::{self, Write};
 
 /// Makes a change, tells what came of it, and gives the exit status. A fault is told in one line.
 pub fn order_status(rt: &HostRuntime, asked: &Ordered<'_>) -> u8 {
@@ -26,43 +25,89 @@ pub fn order_status(rt: &HostRuntime, asked: &Ordered<'_>) -> u8 {
 fn ordered(rt: &HostRuntime, asked: &Ordered<'_>) -> Result<u8, u8> {
     let configuration = configuration_at(rt, rt.alloc(), asked.config, &mut start_lines(rt))?;
     if asked.dry_run {
-        let decided = decide(rt, asked, &configuration)?;
-        show(rt, &decided)?;
-        return Ok(DONE);
+        return only_shown(rt, asked, &configuration);
     }
-    let Some(asked) = confirmed(rt, asked, &configuration)? else {
-        return Ok(TEXT_FAULTY);
-    };
+    match confirmed(rt, asked, &configuration)? {
+        Some(asked) => carried_out(rt, &asked, &configuration),
+        None => Ok(TEXT_FAULTY),
+    }
+}
+
+// Shows the line of a change.
+fn only_shown(
+    rt: &HostRuntime,
+    asked: &Ordered<'_>,
+    configuration: &Configuration,
+) -> Result<u8, u8> {
+    show(rt, &decide(rt, asked, configuration)?)?;
+    Ok(DONE)
+}
+
+// Makes a change that is confirmed, and waits for the answer to it.
+fn carried_out(
+    rt: &HostRuntime,
+    asked: &Ordered<'_>,
+    configuration: &Configuration,
+) -> Result<u8, u8> {
+    let files = made(rt, answers_files(rt.alloc(), asked, configuration))?;
+    let appended = append(rt, asked, configuration, &files)?;
+    tell_appended(rt, &appended)?;
+    let number = appended.decided.number;
+    if appended.is_answered {
+        return Ok(not_answered(rt, number));
+    }
+    match made(
+        rt,
+        answer_in_time(rt, rt.alloc(), &files, number, asked.wait),
+    )? {
+        Some(answer) => told_answer(rt, &appended, answer.as_str()),
+        None => Ok(not_answered(rt, number)),
+    }
+}
+
+// A line that was appended.
+#[derive(Drop)]
+struct Appended {
+    decided: Decided,
+    // The path of what the customer gets, if it gets a key.
+    given: Option<String>,
+    // Whether an answer to a line of its number stood there before, which is none to it.
+    is_answered: bool,
+}
+
+// Appends the line of a change, while no other clerk appends.
+fn append(
+    rt: &HostRuntime,
+    asked: &Ordered<'_>,
+    configuration: &Configuration,
+    files: &[&str],
+) -> Result<Appended, u8> {
     let path = configuration.commands.as_str();
-    let mut held = match HeldFile::hold(rt, path) {
-        Ok(held) => held,
-        Err(error) => return Err(failed_status(path, &error, &mut start_lines(rt))),
-    };
-    let decided = decide(rt, &asked, &configuration)?;
-    let Ok(files) = answers_files(rt.alloc(), &asked, &configuration) else {
-        return Err(memory_status(&mut start_lines(rt)));
-    };
-    let Ok(is_answered) = is_answered(rt, rt.alloc(), &files, decided.number) else {
-        return Err(memory_status(&mut start_lines(rt)));
-    };
-    let given = give(rt, &asked, &configuration, &decided)?;
-    if let Err(error) = held.append(decided.octets, decided.line.as_str()) {
-        take_back(rt, &given);
-        return Err(failed_status(path, &error, &mut start_lines(rt)));
-    }
-    if let Err(error) = held.store() {
-        return Err(failed_status(path, &error, &mut start_lines(rt)));
-    }
-    drop(held);
-    show(rt, &decided)?;
-    tell_given(rt, &given)?;
-    if is_answered {
-        return Ok(not_answered(rt, decided.number));
-    }
-    match answer_in_time(rt, rt.alloc(), &files, decided.number, asked.wait) {
-        Ok(Some(answer)) => told_answer(rt, &decided, &given, answer.as_str()),
-        Ok(None) => Ok(not_answered(rt, decided.number)),
-        Err(_) => Err(memory_status(&mut start_lines(rt))),
+    let mut held = judged(rt, path, HeldFile::hold(rt, path))?;
+    let decided = decide(rt, asked, configuration)?;
+    let is_answered = made(rt, is_answered(rt, rt.alloc(), files, decided.number))?;
+    let given = give(rt, asked, configuration, &decided)?;
+    judged(rt, path, append_line(rt, &mut held, &decided, &given))?;
+    Ok(Appended {
+        decided,
+        given,
+        is_answered,
+    })
+}
+
+// Appends a line to the commands file, and has the system store it. Where it is not appended, what was written for the customer goes.
+fn append_line(
+    rt: &HostRuntime,
+    held: &mut HeldFile,
+    decided: &Decided,
+    given: &Option<String>,
+) -> io::Result<()> {
+    match held.append(decided.octets, decided.line.as_str()) {
+        Ok(()) => held.store(),
+        Err(error) => {
+            take_back(rt, given);
+            Err(error)
+        }
     }
 }
 
@@ -128,7 +173,6 @@ fn give(
     configuration: &Configuration,
     decided: &Decided,
 ) -> Result<Option<String>, u8> {
-    let mut faults = start_lines(rt);
     let Some((number, key)) = decided.key else {
         return Ok(None);
     };
@@ -136,15 +180,15 @@ fn give(
         Some(path) => String::from_str(rt.alloc(), path),
         None => usual_path(rt.alloc(), asked.address, number),
     };
+    let path = made(rt, path)?;
     let server = asked.server.or(listening(configuration));
-    let text = text_for(rt.alloc(), asked.address, number, key, server);
-    let (Ok(path), Ok(text)) = (path, text) else {
-        return Err(memory_status(&mut faults));
-    };
-    match write_new(rt, path.as_str(), text.as_str()) {
-        Ok(()) => Ok(Some(path)),
-        Err(error) => Err(failed_status(path.as_str(), &error, &mut faults)),
-    }
+    let text = made(rt, text_for(rt.alloc(), asked.address, number, key, server))?;
+    judged(
+        rt,
+        path.as_str(),
+        write_new(rt, path.as_str(), text.as_str()),
+    )?;
+    Ok(Some(path))
 }
 
 // Takes back what the customer does not get.
@@ -154,27 +198,23 @@ fn take_back(rt: &HostRuntime, given: &Option<String>) {
     }
 }
 
-// Tells where that stands which the customer gets.
-fn tell_given(rt: &HostRuntime, given: &Option<String>) -> Result<(), u8> {
-    match given {
+// Tells which line was appended, and where that stands which the customer gets.
+fn tell_appended(rt: &HostRuntime, appended: &Appended) -> Result<(), u8> {
+    show(rt, &appended.decided)?;
+    match &appended.given {
         None => Ok(()),
         Some(path) => tell(rt, format_args!("for the customer: {path}\n")),
     }
 }
 
 // Tells the answer of the daemon, and gives the exit status.
-fn told_answer(
-    rt: &HostRuntime,
-    decided: &Decided,
-    given: &Option<String>,
-    answer: &str,
-) -> Result<u8, u8> {
-    let number = decided.number;
+fn told_answer(rt: &HostRuntime, appended: &Appended, answer: &str) -> Result<u8, u8> {
+    let number = appended.decided.number;
     tell(rt, format_args!("line {number}: {answer}\n"))?;
     if answer == GOOD {
         return Ok(DONE);
     }
-    take_back(rt, given);
+    take_back(rt, &appended.given);
     Ok(TEXT_FAULTY)
 }
 

@@ -1,12 +1,13 @@
 //! New files beside the old ones, or in their place.
 
+use crate::faults::{judged, made};
 use crate::folded_pair::FoldedPair;
 use crate::folding::{PairPaths, others};
 use crate::ordering::tell;
 use jiff::Timestamp;
 use labntpctl_standing::{HeldFile, Standing, new_for_owner, standing_at};
 use labntpd_start::start_lines;
-use ntp_customer_files::{IO_FAILED, failed_status, memory_status};
+use ntp_customer_files::{IO_FAILED, failed_status};
 use ntp_keeping::leave_the_same;
 use std::alloc::{AllocError, Global};
 use std::fs::{self, Permissions};
@@ -18,14 +19,21 @@ use std::time::SystemTime;
 /// The bits of a mode that say who may do what.
 const MODE_BITS: u32 = 0o7777;
 
-/// Where the new files are written before they are put in place, and under which names the old ones are kept.
+/// Names beside a file.
+#[derive(Drop)]
+struct Beside {
+    // Where the new file is written before it is put in place.
+    new: String,
+    // Under which the old one is kept.
+    kept: String,
+}
+
+/// Names beside both files, and that of the commands file that stands there before the new one.
 #[derive(Drop)]
 struct Names {
-    register: String,
-    commands: String,
+    register: Beside,
+    commands: Beside,
     between: String,
-    kept_register: String,
-    kept_commands: String,
 }
 
 /// Writes new files into a directory, and tells how they are put in place.
@@ -38,19 +46,30 @@ pub fn write_beside(
 ) -> Result<(), u8> {
     let register = in_directory(rt, directory, paths.register)?;
     let commands = in_directory(rt, directory, paths.commands)?;
-    write_new(
-        rt,
-        register.as_str(),
-        pair.register.as_str(),
-        paths.register,
-    )?;
-    write_new(
-        rt,
-        commands.as_str(),
-        pair.commands.as_str(),
-        paths.commands,
-    )?;
-    judge(rt, register.as_str(), commands.as_str(), old)?;
+    let new = PairPaths {
+        register: register.as_str(),
+        commands: commands.as_str(),
+    };
+    write_pair(rt, new, pair, paths, old)?;
+    tell_moves(rt, new, paths)
+}
+
+// Writes new files to these paths, and judges them.
+fn write_pair(
+    rt: &HostRuntime,
+    new: PairPaths<'_>,
+    pair: &FoldedPair,
+    paths: PairPaths<'_>,
+    old: &Standing,
+) -> Result<(), u8> {
+    write_new(rt, new.register, pair.register.as_str(), paths.register)?;
+    write_new(rt, new.commands, pair.commands.as_str(), paths.commands)?;
+    judge(rt, new.register, new.commands, old)
+}
+
+// Tells how new files are put in place.
+fn tell_moves(rt: &HostRuntime, new: PairPaths<'_>, paths: PairPaths<'_>) -> Result<(), u8> {
+    let (register, commands) = (new.register, new.commands);
     let (old_register, old_commands) = (paths.register, paths.commands);
     tell(
         rt,
@@ -68,15 +87,14 @@ pub fn put_in_place(
     pair: &FoldedPair,
     old: &Standing,
 ) -> Result<(), u8> {
-    let names = names_of(rt, paths)?;
-    let placed = placed(rt, paths, pair, old, &names);
-    if placed.is_err() {
-        for left in [&names.register, &names.commands, &names.between] {
+    let names = made(rt, names_at(rt.alloc(), paths, time_now(rt)?))?;
+    if let Err(status) = placed(rt, paths, pair, old, &names) {
+        for left in [&names.register.new, &names.commands.new, &names.between] {
             let _ = fs::remove_file(rt, left.as_str());
         }
-        return placed;
+        return Err(status);
     }
-    let (register, commands) = (names.kept_register.as_str(), names.kept_commands.as_str());
+    let (register, commands) = (names.register.kept.as_str(), names.commands.kept.as_str());
     tell(
         rt,
         format_args!(
@@ -93,7 +111,7 @@ fn placed(
     old: &Standing,
     names: &Names,
 ) -> Result<(), u8> {
-    let (register, commands) = (names.register.as_str(), names.commands.as_str());
+    let (register, commands) = (names.register.new.as_str(), names.commands.new.as_str());
     let between = names.between.as_str();
     write_again(rt, register, pair.register.as_str(), paths.register)?;
     write_again(rt, commands, pair.commands.as_str(), paths.commands)?;
@@ -103,49 +121,54 @@ fn placed(
     judge(rt, register, commands, old)?;
     // No clerk appends to a file that another one takes the place of.
     let held = (hold(rt, between)?, hold(rt, commands)?);
-    told(
-        rt,
-        paths.register,
-        keep(rt, paths.register, names.kept_register.as_str()),
-    )?;
-    told(
-        rt,
-        paths.commands,
-        keep(rt, paths.commands, names.kept_commands.as_str()),
-    )?;
-    told(rt, paths.commands, rename(rt, between, paths.commands))?;
-    told(rt, paths.register, rename(rt, register, paths.register))?;
-    told(rt, paths.commands, rename(rt, commands, paths.commands))?;
+    let done = moved(rt, paths, names);
     drop(held);
-    Ok(())
+    done
+}
+
+// Keeps the old files, and puts the new ones in their place.
+fn moved(rt: &HostRuntime, paths: PairPaths<'_>, names: &Names) -> Result<(), u8> {
+    keep(rt, paths.register, names.register.kept.as_str())?;
+    keep(rt, paths.commands, names.commands.kept.as_str())?;
+    rename(rt, names.between.as_str(), paths.commands)?;
+    rename(rt, names.register.new.as_str(), paths.register)?;
+    rename(rt, names.commands.new.as_str(), paths.commands)
 }
 
 // Judges that a register and a commands file, as the daemon reads them, make the customers of the old ones.
 fn judge(rt: &HostRuntime, register: &str, commands: &str, old: &Standing) -> Result<(), u8> {
     let mut faults = start_lines(rt);
     let new = standing_at(rt, rt.alloc(), register, Some(commands), &mut faults)?;
-    match leave_the_same(rt.alloc(), &old.history, &new.history) {
-        Ok(true) => Ok(()),
-        Ok(false) => Err(others(rt)),
-        Err(_) => Err(memory_status(&mut faults)),
+    judge_alike(rt, old, &new)
+}
+
+// Judges that files make the customers of the old ones.
+fn judge_alike(rt: &HostRuntime, old: &Standing, new: &Standing) -> Result<(), u8> {
+    let is_same = leave_the_same(rt.alloc(), &old.history, &new.history);
+    if made(rt, is_same)? {
+        Ok(())
+    } else {
+        Err(others(rt))
     }
 }
 
 // Holds a commands file.
 fn hold(rt: &HostRuntime, path: &str) -> Result<HeldFile, u8> {
-    match HeldFile::hold(rt, path) {
-        Ok(held) => Ok(held),
-        Err(error) => Err(failed_status(path, &error, &mut start_lines(rt))),
-    }
+    judged(rt, path, HeldFile::hold(rt, path))
 }
 
 // Keeps a file under another name too, under which there is none yet.
-fn keep(rt: &HostRuntime, path: &str, kept: &str) -> io::Result<()> {
-    fs::hard_link(rt, path, kept)
+fn keep(rt: &HostRuntime, path: &str, kept: &str) -> Result<(), u8> {
+    judged(rt, path, fs::hard_link(rt, path, kept))
 }
 
 // Puts a file in the place of another, and has the system store that.
-fn rename(rt: &HostRuntime, from: &str, to: &str) -> io::Result<()> {
+fn rename(rt: &HostRuntime, from: &str, to: &str) -> Result<(), u8> {
+    judged(rt, to, renamed(rt, from, to))
+}
+
+// The same, with the error of the system.
+fn renamed(rt: &HostRuntime, from: &str, to: &str) -> io::Result<()> {
     fs::rename(rt, from, to)?;
     fs::open(rt, directory_of(to))?.sync_all()
 }
@@ -155,14 +178,6 @@ fn directory_of(path: &str) -> &str {
     match Path::new(path).parent() {
         Some(parent) if !parent.as_str().is_empty() => parent.as_str(),
         _ => ".",
-    }
-}
-
-// Tells why something was not done at a path.
-fn told(rt: &HostRuntime, path: &str, done: io::Result<()>) -> Result<(), u8> {
-    match done {
-        Ok(()) => Ok(()),
-        Err(error) => Err(failed_status(path, &error, &mut start_lines(rt))),
     }
 }
 
@@ -178,7 +193,7 @@ fn write_again(rt: &HostRuntime, path: &str, text: &str, like: &str) -> Result<(
 
 // Writes a new file, where there is none, with the owner and the mode of another one.
 fn write_new(rt: &HostRuntime, path: &str, text: &str, like: &str) -> Result<(), u8> {
-    told(rt, path, written(rt, path, text, like))
+    judged(rt, path, written(rt, path, text, like))
 }
 
 // The same, with the error of the system.
@@ -194,41 +209,34 @@ fn written(rt: &HostRuntime, path: &str, text: &str, like: &str) -> io::Result<(
 // The path of a file of the same name in a directory.
 fn in_directory(rt: &HostRuntime, directory: &str, path: &str) -> Result<String, u8> {
     let name = Path::new(path).file_name().unwrap_or(path);
-    match format!(in rt.alloc(); "{directory}/{name}") {
-        Ok(path) => Ok(path),
-        Err(_) => Err(memory_status(&mut start_lines(rt))),
-    }
+    made(rt, format!(in rt.alloc(); "{directory}/{name}"))
 }
 
-// The names of the new files, and of those that are kept, with the time.
-fn names_of(rt: &HostRuntime, paths: PairPaths<'_>) -> Result<Names, u8> {
-    let time = time_now(rt)?;
-    match names_at(rt.alloc(), paths, time) {
-        Ok(names) => Ok(names),
-        Err(_) => Err(memory_status(&mut start_lines(rt))),
-    }
-}
-
-// The same at a time.
+// The names beside both files, with a time for those that are kept.
 fn names_at(alloc: Global, paths: PairPaths<'_>, time: Timestamp) -> Result<Names, AllocError> {
-    let (register, commands) = (paths.register, paths.commands);
+    let register = names_beside(alloc, paths.register, time)?;
+    let commands = names_beside(alloc, paths.commands, time)?;
+    let path = paths.commands;
     Ok(Names {
-        register: format!(in alloc; "{register}.fold")?,
-        commands: format!(in alloc; "{commands}.fold")?,
-        between: format!(in alloc; "{commands}.between")?,
-        kept_register: format!(in alloc; "{register}.{time}")?,
-        kept_commands: format!(in alloc; "{commands}.{time}")?,
+        register,
+        commands,
+        between: format!(in alloc; "{path}.between")?,
+    })
+}
+
+// The names beside a file.
+fn names_beside(alloc: Global, path: &str, time: Timestamp) -> Result<Beside, AllocError> {
+    Ok(Beside {
+        new: format!(in alloc; "{path}.fold")?,
+        kept: format!(in alloc; "{path}.{time}")?,
     })
 }
 
 // The time, to whole seconds.
 fn time_now(rt: &HostRuntime) -> Result<Timestamp, u8> {
-    let seconds = match SystemTime::now(rt) {
-        Ok(now) => now
-            .duration_since(SystemTime::UNIX_EPOCH)
-            .map_or(0, |since| since.as_secs()),
-        Err(error) => return Err(failed_status("clock", &error, &mut start_lines(rt))),
-    };
+    let seconds = judged(rt, "clock", SystemTime::now(rt))?
+        .duration_since(SystemTime::UNIX_EPOCH)
+        .map_or(0, |since| since.as_secs());
     match Timestamp::from_second(i64::try_from(seconds).unwrap_or(0)) {
         Ok(time) => Ok(time),
         Err(_) => Err(IO_FAILED),

@@ -1,5 +1,6 @@
 //! A lost commands file, as far as it can be had back: from a backup, and from what labntpd tells of its customers.
 
+use crate::faults::{judged, made};
 use crate::ordering::tell;
 use crate::recovered_lines::{HadBack, answered_lines, had_back, is_amended, whole_text};
 use labntpctl_standing::{
@@ -8,9 +9,7 @@ use labntpctl_standing::{
 };
 use labntpd_configuration::Configuration;
 use labntpd_start::{configuration_at, start_lines};
-use ntp_customer_files::{
-    DONE, IO_FAILED, MOST_FILE_OCTETS, TEXT_FAULTY, failed_status, memory_status,
-};
+use ntp_customer_files::{DONE, IO_FAILED, MOST_FILE_OCTETS, TEXT_FAULTY, failed_status};
 use ntp_host::read_regular_file;
 use ntp_keeping::are_same;
 use std::alloc::{AllocError, Global};
@@ -61,21 +60,21 @@ pub fn recover_status(rt: &HostRuntime, asked: &RecoverAsked<'_>) -> u8 {
 
 // Writes a new commands file, and tells of it.
 fn recover(rt: &HostRuntime, asked: &RecoverAsked<'_>) -> Result<u8, u8> {
-    let mut faults = start_lines(rt);
-    let configuration = configuration_at(rt, rt.alloc(), asked.config, &mut faults)?;
-    let register = configuration.register.as_str();
+    let configuration = configuration_at(rt, rt.alloc(), asked.config, &mut start_lines(rt))?;
     let sources = read_sources(rt, asked, &configuration)?;
-    let Ok(found) = had_back(rt.alloc(), &sources.files, &sources.daemon) else {
-        return Err(memory_status(&mut faults));
-    };
-    let text = text_of(rt, asked.output, &sources, &found)?;
-    let new = standing_by(rt, rt.alloc(), register, text.as_bytes(), &mut faults)?;
-    let Ok(back) = read_back(rt.alloc(), &sources, &new) else {
-        return Err(memory_status(&mut faults));
-    };
-    if let Err(error) = write_new(rt, asked.output, text.as_str()) {
-        return Err(failed_status(asked.output, &error, &mut faults));
-    }
+    recover_from(rt, asked, configuration.register.as_str(), &sources)
+}
+
+// The same from what was read.
+fn recover_from(
+    rt: &HostRuntime,
+    asked: &RecoverAsked<'_>,
+    register: &str,
+    sources: &Sources,
+) -> Result<u8, u8> {
+    let found = had_back(rt.alloc(), &sources.files, &sources.daemon);
+    let found = made(rt, found)?;
+    let back = write_back(rt, asked, register, sources, &found)?;
     tell_found(rt, &found, &back, sources.daemon.len())?;
     if found.lost.is_empty() && back.others.is_empty() {
         Ok(DONE)
@@ -90,21 +89,59 @@ fn read_sources(
     asked: &RecoverAsked<'_>,
     configuration: &Configuration,
 ) -> Result<Sources, u8> {
-    let mut faults = start_lines(rt);
     let register = configuration.register.as_str();
     let daemon = daemon_customers(rt, asked.config, configuration)?;
     let backup = backup_for(rt, asked, configuration.commands.as_str())?;
-    let files = standing_by(rt, rt.alloc(), register, backup.as_bytes(), &mut faults)?;
+    let files = standing_of(rt, register, backup.as_str())?;
+    let answered = answered_of(rt, configuration, files.lines)?;
+    Ok(Sources {
+        daemon,
+        backup,
+        files,
+        answered,
+    })
+}
+
+// What a register file has come to with a text in the place of a commands file.
+fn standing_of(rt: &HostRuntime, register: &str, commands: &str) -> Result<Standing, u8> {
+    standing_by(
+        rt,
+        rt.alloc(),
+        register,
+        commands.as_bytes(),
+        &mut start_lines(rt),
+    )
+}
+
+// The answers to lines behind the first `lines`, as comments.
+fn answered_of(rt: &HostRuntime, configuration: &Configuration, lines: u64) -> Result<String, u8> {
     let answers = answers_of(rt, configuration)?;
-    match answered_lines(rt.alloc(), answers.as_str(), files.lines) {
-        Ok(answered) => Ok(Sources {
-            daemon,
-            backup,
-            files,
-            answered,
-        }),
-        Err(_) => Err(memory_status(&mut faults)),
-    }
+    made(rt, answered_lines(rt.alloc(), answers.as_str(), lines))
+}
+
+// Writes the new file, and gives what it makes.
+fn write_back(
+    rt: &HostRuntime,
+    asked: &RecoverAsked<'_>,
+    register: &str,
+    sources: &Sources,
+    found: &HadBack,
+) -> Result<ReadBack, u8> {
+    let text = text_of(rt, asked.output, sources, found)?;
+    let back = made_by(rt, register, sources, text.as_str())?;
+    judged(rt, asked.output, write_new(rt, asked.output, text.as_str()))?;
+    Ok(back)
+}
+
+// What a text makes in the place of the commands file.
+fn made_by(
+    rt: &HostRuntime,
+    register: &str,
+    sources: &Sources,
+    text: &str,
+) -> Result<ReadBack, u8> {
+    let new = standing_of(rt, register, text)?;
+    made(rt, read_back(rt.alloc(), sources, &new))
 }
 
 // The customers of the daemon, by its customers file.
@@ -134,18 +171,15 @@ fn daemon_customers(
 
 // The whole lines of the backup, or of what is left of the commands file at a path. What is behind them is told.
 fn backup_for(rt: &HostRuntime, asked: &RecoverAsked<'_>, commands: &str) -> Result<String, u8> {
-    let mut faults = start_lines(rt);
     let path = asked.backup.unwrap_or(commands);
     let octets = match read_regular_file(rt, rt.alloc(), path, MOST_FILE_OCTETS as u32) {
         Ok(octets) => octets,
         Err(error) if asked.backup.is_none() && error.kind() == ErrorKind::NotFound => {
             Vec::new(rt.alloc())
         }
-        Err(error) => return Err(failed_status(path, &error, &mut faults)),
+        Err(error) => return Err(failed_status(path, &error, &mut start_lines(rt))),
     };
-    let Ok(text) = whole_lines(rt.alloc(), &octets) else {
-        return Err(memory_status(&mut faults));
-    };
+    let text = made(rt, whole_lines(rt.alloc(), &octets))?;
     let (kept, behind) = (text.len(), octets.len().saturating_sub(text.len()));
     if behind > 0 {
         tell(
@@ -183,29 +217,22 @@ fn answers_of(rt: &HostRuntime, configuration: &Configuration) -> Result<String,
     let Some(path) = &configuration.answers else {
         return Ok(String::new(rt.alloc()));
     };
-    let octets = match read_regular_file(rt, rt.alloc(), path.as_str(), MOST_ANSWERS) {
-        Ok(octets) => octets,
-        Err(error) if error.kind() == ErrorKind::NotFound => return Ok(String::new(rt.alloc())),
-        Err(error) => return Err(failed_status(path.as_str(), &error, &mut start_lines(rt))),
-    };
-    match whole_lines(rt.alloc(), &octets) {
-        Ok(text) => Ok(text),
-        Err(_) => Err(memory_status(&mut start_lines(rt))),
+    match read_regular_file(rt, rt.alloc(), path.as_str(), MOST_ANSWERS) {
+        Ok(octets) => made(rt, whole_lines(rt.alloc(), &octets)),
+        Err(error) if error.kind() == ErrorKind::NotFound => Ok(String::new(rt.alloc())),
+        Err(error) => Err(failed_status(path.as_str(), &error, &mut start_lines(rt))),
     }
 }
 
 // The text of the new file, which is no longer than a commands file may be.
 fn text_of(rt: &HostRuntime, path: &str, sources: &Sources, found: &HadBack) -> Result<String, u8> {
-    let mut faults = start_lines(rt);
     let (backup, answered) = (sources.backup.as_str(), sources.answered.as_str());
-    let Ok(text) = whole_text(rt.alloc(), backup, found, answered) else {
-        return Err(memory_status(&mut faults));
-    };
+    let text = made(rt, whole_text(rt.alloc(), backup, found, answered))?;
     if text.len() <= MOST_FILE_OCTETS {
         return Ok(text);
     }
     let _ = writeln!(
-        faults,
+        start_lines(rt),
         "{path}: at most {MOST_FILE_OCTETS} octets are wanted"
     );
     Err(TEXT_FAULTY)

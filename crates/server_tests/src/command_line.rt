@@ -9,14 +9,14 @@ use ntp_register::Refusal;
 use ntp_register_file::RegisterFault;
 use ntp_service_replay::Watched;
 use refusing::{Broken, Refusing};
-use std::alloc::Global;
+use std::alloc::{Allocator, Global};
 use std::io::{self, ErrorKind, Read, Write};
 use std::process::Abort;
 use std::test::Fail;
 
 // The status that a replay ends with.
-fn status<R: Read + Drop, W: Write + Drop, F: Write>(
-    alloc: Global,
+fn status<A: Allocator + Copy, R: Read + Drop, W: Write + Drop, F: Write>(
+    alloc: A,
     reader: R,
     writer: W,
     faults: &mut F,
@@ -32,15 +32,21 @@ fn told(alloc: Global, script: &[u8]) -> Vec<u8> {
     faults
 }
 
+// One octet more than a line may have.
+const LONG: [u8; 4097] = [b'#'; 4097];
+
+// Scripts, each with the line that tells its fault.
+const FAULTY_SCRIPTS: [(&[u8], &[u8]); 4] = [
+    (b"revoke 192.0.2.10\n", b""),
+    (b"\nenroll 192.0.2.10\n", b"line 2: word\n"),
+    (b"#\n\xff\n", b"line 2: not utf-8\n"),
+    (&LONG, b"line 1: long\n"),
+];
+
 #[test]
 fn each_fault_of_a_script_has_its_line(rt: HostRuntime) {
-    for (script, line) in [
-        (b"revoke 192.0.2.10\n".as_slice(), b"".as_slice()),
-        (b"\nenroll 192.0.2.10\n", b"line 2: word\n"),
-        (b"#\n\xff\n", b"line 2: not utf-8\n"),
-        (&[b'#'; 4097], b"line 1: long\n"),
-    ] {
-        assert_eq!(rt; told(rt.alloc(), script).as_slice(), line);
+    for (script, line) in FAULTY_SCRIPTS {
+        assert!(rt; told(rt.alloc(), script).as_slice() == line);
     }
 }
 
@@ -49,26 +55,28 @@ fn a_failed_read_or_write_is_told_where_it_can_be(rt: HostRuntime) {
     let alloc = rt.alloc();
     let script = b"enrol 192.0.2.10 7 md5 6b6579 10\n".as_slice();
     let mut faults = Vec::new(alloc);
-    assert_eq!(rt;
-        status(alloc, Broken, Vec::new(alloc), &mut faults),
-        IO_FAILED
-    );
-    assert_eq!(rt; status(alloc, script, Broken, &mut faults), IO_FAILED);
-    assert_eq!(rt; faults.as_slice(), b"read\nwrite\n".as_slice());
-    assert_eq!(rt; status(alloc, script, Broken, &mut Broken), IO_FAILED);
+    assert!(rt; status(alloc, Broken, Vec::new(alloc), &mut faults) == IO_FAILED);
+    assert!(rt; status(alloc, script, Broken, &mut faults) == IO_FAILED);
+    assert!(rt; faults.as_slice() == b"read\nwrite\n".as_slice());
+    assert!(rt; status(alloc, script, Broken, &mut Broken) == IO_FAILED);
+}
+
+// What a command line comes to that gives no job, and then one that could not be read, for want of memory or since it is no text.
+fn statuses_without_a_job<F: Write>(faults: &mut F) -> [u8; 3] {
+    [
+        usage_status(faults),
+        unread_status(&io::Error::from(ErrorKind::OutOfMemory), faults),
+        unread_status(&io::Error::from(ErrorKind::InvalidData), faults),
+    ]
 }
 
 #[test]
 fn a_command_line_that_gives_no_job_is_told(rt: HostRuntime) {
-    let memory = io::Error::from(ErrorKind::OutOfMemory);
-    let no_text = io::Error::from(ErrorKind::InvalidData);
+    let statuses = [USAGE_REFUSED, MEMORY_OUT, USAGE_REFUSED];
     let mut faults = Vec::new(rt.alloc());
-    assert_eq!(rt; usage_status(&mut faults), USAGE_REFUSED);
-    assert_eq!(rt; unread_status(&memory, &mut faults), MEMORY_OUT);
-    assert_eq!(rt; unread_status(&no_text, &mut faults), USAGE_REFUSED);
-    assert_eq!(rt; faults.as_slice(), b"usage\nmemory\nusage\n".as_slice());
-    assert_eq!(rt; usage_status(&mut Broken), USAGE_REFUSED);
-    assert_eq!(rt; unread_status(&memory, &mut Broken), MEMORY_OUT);
+    assert!(rt; statuses_without_a_job(&mut faults) == statuses);
+    assert!(rt; faults.as_slice() == b"usage\nmemory\nusage\n".as_slice());
+    assert!(rt; statuses_without_a_job(&mut Broken) == statuses);
 }
 
 // A script in two parts: an enrolment, and behind a comment the end of that enrolment.
@@ -95,11 +103,11 @@ enum Refused {
 // The status that a replay of the script ends with where its memory comes from there, what it has written, and its faults.
 fn ended(memory: &Refusing<Global>, alloc: Global) -> (u8, Vec<u8>, Vec<u8>) {
     // No read gives both parts, so that more than what was read is left where a replay stops.
-    let mut reader = Watched::new(ENROLMENT.as_bytes().chain(REVOCATION.as_bytes()));
-    let mut writer = Watched::new(Vec::new(alloc));
+    let reader = ENROLMENT.as_bytes().chain(REVOCATION.as_bytes());
+    let mut written = Vec::new(alloc);
     let mut faults = Vec::new(alloc);
-    let status = replay_status(memory, &mut reader, &mut writer, &mut faults);
-    (status, writer.into_inner(), faults)
+    let status = status(memory, reader, &mut written, &mut faults);
+    (status, written, faults)
 }
 
 // Replays the script with its nth allocation refused. A replay that stops tells of memory, once, behind the answers to
@@ -146,60 +154,84 @@ fn a_refused_allocation_ends_a_replay_or_is_its_answer(rt: HostRuntime) {
     assert!(rt; enrolment_refused);
 }
 
+// Words, one at a blank.
+fn words(alloc: Global, line: &str) -> Result<Vec<String>, Fail> {
+    let mut words = Vec::new(alloc);
+    for word in line.split(' ') {
+        words.push(String::from_str(alloc, word)?)?;
+    }
+    Ok(words)
+}
+
+// Whether words ask to serve with these files, at this port and for so many turns.
+fn asks_to_serve(words: &[String], register: &str, commands: &str, port: u16, turns: u32) -> bool {
+    match job(words) {
+        Some(Job::Serve(serving)) => {
+            serving.register == register
+                && serving.commands == commands
+                && serving.port.get() == port
+                && serving.turns == turns
+        }
+        _ => false,
+    }
+}
+
 // What words ask for is the contract of `job`; here it is seen once that each job is found at all.
 #[test]
 fn each_job_has_its_words(rt: HostRuntime) -> Result<(), Fail> {
-    let mut words = vec![in rt.alloc(); String::from_str(rt.alloc(), "replay")?]?;
-    assert_eq!(rt; job(&words), Some(Job::Replay));
-    words.clear();
-    for word in "loopback --turns 1000".split(' ') {
-        words.push(String::from_str(rt.alloc(), word)?)?;
-    }
-    assert_eq!(rt; job(&words), Some(Job::Loopback { turns: 1000 }));
-    words.clear();
-    for word in "serve --register r --commands c --port 12300 --turns 7".split(' ') {
-        words.push(String::from_str(rt.alloc(), word)?)?;
-    }
-    let Some(Job::Serve(serving)) = job(&words) else {
-        return Err("no server".into());
-    };
-    assert_eq!(rt; serving.register, "r");
-    assert_eq!(rt; serving.commands, "c");
-    assert_eq!(rt; serving.port.get(), 12_300);
-    assert_eq!(rt; serving.turns, 7);
+    let replay = words(rt.alloc(), "replay")?;
+    assert!(rt; job(&replay) == Some(Job::Replay));
+    let loopback = words(rt.alloc(), "loopback --turns 1000")?;
+    assert!(rt; job(&loopback) == Some(Job::Loopback { turns: 1000 }));
+    let line = "serve --register r --commands c --port 12300 --turns 7";
+    let serve = words(rt.alloc(), line)?;
+    assert!(rt; asks_to_serve(&serve, "r", "c", 12_300, 7));
     Ok(())
 }
+
+// The second customer of a file has a fault, or is refused.
+const CUSTOMER_FAULTY: LoadFault = LoadFault::Register(RegisterFault::Entry {
+    place: 1,
+    fault: LineFault::Number,
+});
+
+const CUSTOMER_WITHOUT_MEMORY: LoadFault = LoadFault::Register(RegisterFault::Entry {
+    place: 1,
+    fault: LineFault::NoMemory,
+});
+
+const CUSTOMER_REFUSED: LoadFault = LoadFault::Refused {
+    place: 1,
+    refusal: Refusal::KeyTaken,
+};
+
+const CUSTOMER_REFUSED_MEMORY: LoadFault = LoadFault::Refused {
+    place: 1,
+    refusal: Refusal::NoMemory,
+};
+
+const REGISTER_FAULTS: [LoadFault; 9] = [
+    LoadFault::Read,
+    LoadFault::Register(RegisterFault::Toml),
+    LoadFault::Register(RegisterFault::Shape),
+    LoadFault::Register(RegisterFault::Reference),
+    LoadFault::Register(RegisterFault::NoMemory),
+    CUSTOMER_FAULTY,
+    CUSTOMER_WITHOUT_MEMORY,
+    CUSTOMER_REFUSED,
+    CUSTOMER_REFUSED_MEMORY,
+];
 
 #[test]
 fn each_fault_of_a_register_file_has_its_line(rt: HostRuntime) {
     let mut faults = Vec::new(rt.alloc());
-    for fault in [
-        LoadFault::Read,
-        LoadFault::Register(RegisterFault::Toml),
-        LoadFault::Register(RegisterFault::Shape),
-        LoadFault::Register(RegisterFault::Reference),
-        LoadFault::Register(RegisterFault::NoMemory),
-        customer_faulty(LineFault::Number),
-        customer_faulty(LineFault::NoMemory),
-        customer_refused(Refusal::KeyTaken),
-        customer_refused(Refusal::NoMemory),
-    ] {
+    for fault in REGISTER_FAULTS {
         // The status is the contract's.
         let status = load_status(fault, &mut faults);
-        assert_eq!(rt; load_status(fault, &mut Broken), status);
+        assert!(rt; load_status(fault, &mut Broken) == status);
     }
     let lines =
         "register: read\nregister: toml\nregister: shape\nregister: reference\nmemory\nregister: customer 1: number\n\
         memory\nregister: customer 1: key-taken\nregister: customer 1: no-memory\n";
-    assert_eq!(rt; faults.as_slice(), lines.as_bytes());
-}
-
-// The second customer of a file has a fault.
-fn customer_faulty(fault: LineFault) -> LoadFault {
-    LoadFault::Register(RegisterFault::Entry { place: 1, fault })
-}
-
-// The second customer of a file is refused.
-fn customer_refused(refusal: Refusal) -> LoadFault {
-    LoadFault::Refused { place: 1, refusal }
+    assert!(rt; faults.as_slice() == lines.as_bytes());
 }

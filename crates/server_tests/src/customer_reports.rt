@@ -1,7 +1,7 @@
 //! What is reported of customers, and the line that is written of one.
 
 use ntp_admin::parse_command;
-use ntp_events::{Arrival, LineFault, LineOutcome, Observer, Sending, TurnOutcome};
+use ntp_events::{Arrival, Command, LineOutcome, Observer, Sending, TurnOutcome};
 use ntp_mac::Reply;
 use ntp_register::Address;
 use ntp_reply::{Answer, Reason};
@@ -9,9 +9,10 @@ use ntp_reports::{CustomerCounts, Kind, customer_line};
 use ntp_service_run::Service;
 use ntp_time::{Moment, Stamp};
 use refusing::Refusing;
-use std::alloc::Allocator;
+use std::alloc::{Allocator, Global};
+use std::process::Abort;
 use std::test::Fail;
-use worked_data::{CUSTOMER, moment};
+use worked_data::{CUSTOMER, moment, ordered};
 
 // An address that was never enrolled.
 const STRANGER: Address = Address([192, 0, 2, 99]);
@@ -55,20 +56,72 @@ fn time(number: u32) -> Option<Answer> {
     })
 }
 
-// A line of commands that both are told of.
-fn carry_out<A: Allocator + Copy>(
-    service: &mut Service<A>,
-    counts: &mut CustomerCounts<A>,
-    number: u64,
-    line: &str,
-) -> Result<(), Fail> {
-    let command = parse_command(line)?;
-    counts.command(&command);
-    let outcome = match service.command(&command) {
+// What a service answers to a command.
+fn outcome<A: Allocator + Copy>(service: &mut Service<A>, command: &Command) -> LineOutcome {
+    match ordered(service, command) {
         Ok(()) => LineOutcome::Done,
         Err(refusal) => LineOutcome::Refused(refusal),
+    }
+}
+
+// A line of a commands file that a service carries out and an observer is told of.
+fn carry_out<A: Allocator + Copy, O: Observer>(
+    service: &mut Service<A>,
+    observer: &mut O,
+    number: u64,
+    line: &str,
+) {
+    match parse_command(line) {
+        Ok(command) => {
+            observer.command(&command);
+            observer.line(number, outcome(service, &command));
+        }
+        Err(fault) => observer.line(number, LineOutcome::Faulty(fault)),
+    }
+}
+
+// Lines with their numbers. Of those that are refused, and of what is no command at all, nothing is reported.
+const LINES: [(u64, &str); 5] = [
+    (3, "enrol 192.0.2.10 7 md5 6b6579 10"),
+    (4, "rollover 192.0.2.10 8 sha1 6b6579"),
+    (5, "enrol 192.0.2.10 9 md5 6b6579 10"),
+    (6, "enroll 192.0.2.10 9 md5 6b6579 10"),
+    (7, "retire 192.0.2.99 1"),
+];
+
+// Whether the customer is reported of, and nobody else: one answer with the time, which the older key signed then.
+fn is_reported<A: Allocator + Copy>(counts: &CustomerCounts<A>, signed: Moment) -> bool {
+    let Some(report) = counts.report(CUSTOMER) else {
+        return false;
     };
-    counts.line(number, outcome);
+    report.last_signed(7) == Some(signed)
+        && report.last_signed(8).is_none()
+        && report.counts().count(Kind::Basic) == 1
+        && counts.report(STRANGER).is_none()
+        && counts.len() == 1
+}
+
+// What comes of those lines, of turns that are told without memory, and of a revocation.
+fn reports<'a>(
+    rt: &impl Abort,
+    alloc: Global,
+    memory: &'a Refusing<Global>,
+    service: &mut Service<&'a Refusing<Global>>,
+    counts: &mut CustomerCounts<&'a Refusing<Global>>,
+) -> Result<(), Fail> {
+    for (number, line) in LINES {
+        carry_out(service, counts, number, line);
+    }
+    let signed = moment(0xec00_0000_0000_0000);
+    memory.refuse_all();
+    assert!(rt; hear(counts, signed) == Some(()));
+    memory.refuse_none();
+    assert!(rt; memory.refused() == 0);
+    assert!(rt; is_reported(counts, signed));
+    assert_written(rt, alloc, service, counts, LINE)?;
+    carry_out(service, counts, 8, "revoke 192.0.2.10");
+    assert_written(rt, alloc, service, counts, REVOKED_LINE)?;
+    assert!(rt; !counts.has_missed());
     Ok(())
 }
 
@@ -77,51 +130,11 @@ fn a_customer_is_reported_of(rt: HostRuntime) -> Result<(), Fail> {
     let memory = Refusing::new(rt.alloc());
     let mut service = Service::new(&memory);
     let mut counts = CustomerCounts::new(&memory);
-    carry_out(
-        &mut service,
-        &mut counts,
-        3,
-        "enrol 192.0.2.10 7 md5 6b6579 10",
-    )?;
-    carry_out(
-        &mut service,
-        &mut counts,
-        4,
-        "rollover 192.0.2.10 8 sha1 6b6579",
-    )?;
-    // Refused, and no command at all: nothing is reported of them.
-    carry_out(
-        &mut service,
-        &mut counts,
-        5,
-        "enrol 192.0.2.10 9 md5 6b6579 10",
-    )?;
-    counts.line(6, LineOutcome::Faulty(LineFault::Word));
-    carry_out(&mut service, &mut counts, 7, "retire 192.0.2.99 1")?;
-
-    memory.refuse_all();
-    let first = moment(0xec00_0000_0000_0000);
-    assert_eq!(rt; hear(&mut counts, first), Some(()));
-    assert_eq!(rt; memory.refused(), 0);
-    let Some(report) = counts.report(CUSTOMER) else {
-        return Err(Fail::from("nothing is reported"));
-    };
-    assert_eq!(rt; report.last_signed(7), Some(first));
-    assert_eq!(rt; report.last_signed(8), None);
-    assert_eq!(rt; report.counts().count(Kind::Basic), 1);
-    assert!(rt; counts.report(STRANGER).is_none());
-    assert_eq!(rt; counts.len(), 1);
-
-    memory.refuse_none();
-    assert_eq!(rt; written(&rt, &service, &counts)?.as_str(), LINE);
-    carry_out(&mut service, &mut counts, 8, "revoke 192.0.2.10")?;
-    assert_eq!(rt; written(&rt, &service, &counts)?.as_str(), REVOKED_LINE);
-    assert!(rt; !counts.has_missed());
-    Ok(())
+    reports(&rt, rt.alloc(), &memory, &mut service, &mut counts)
 }
 
 // Tells of four turns, of which the last is a stranger's.
-fn hear<A: Allocator + Copy>(counts: &mut CustomerCounts<A>, first: Moment) -> Option<()> {
+fn hear<O: Observer>(counts: &mut O, first: Moment) -> Option<()> {
     counts.turn(&turn(CUSTOMER, moment(1), Answer::Rate(sealed(7)?)));
     counts.turn(&turn(CUSTOMER, first, time(7)?));
     counts.turn(&turn(CUSTOMER, moment(2), Answer::Deny(sealed(8)?)));
@@ -130,20 +143,26 @@ fn hear<A: Allocator + Copy>(counts: &mut CustomerCounts<A>, first: Moment) -> O
     Some(())
 }
 
-// The line of the customer.
-fn written<A: Allocator + Copy>(
-    rt: &HostRuntime,
+// This is the line of the customer.
+fn assert_written<A: Allocator + Copy>(
+    rt: &impl Abort,
+    alloc: Global,
     service: &Service<A>,
     counts: &CustomerCounts<A>,
-) -> Result<String, Fail> {
-    let Some((address, report)) = counts.nth(0) else {
-        return Err(Fail::from("nothing is reported"));
-    };
-    let Some(customer) = service.customer(*address) else {
-        return Err(Fail::from("no such customer"));
-    };
-    let octets = customer_line(rt.alloc(), *address, customer, report)?;
-    Ok(String::from_utf8(octets)?)
+    line: &str,
+) -> Result<(), Fail> {
+    let (address, report) = counts.nth(0).ok_or("nothing is reported")?;
+    let customer = service.customer(*address).ok_or("no such customer")?;
+    let octets = customer_line(alloc, *address, customer, report)?;
+    assert_eq!(rt; str::from_utf8(&octets), Ok(line));
+    Ok(())
+}
+
+// Counts that are told of a customer at the start.
+fn start<A: Allocator + Copy>(counts: &mut CustomerCounts<A>) -> Result<(), Fail> {
+    let command = parse_command("enrol 192.0.2.10 7 md5 6b6579 10")?;
+    counts.enrolled_at_start(&command);
+    Ok(())
 }
 
 #[test]
@@ -151,8 +170,7 @@ fn a_report_that_finds_no_memory_is_missed(rt: HostRuntime) -> Result<(), Fail> 
     let memory = Refusing::new(rt.alloc());
     let mut counts = CustomerCounts::new(&memory);
     memory.refuse_all();
-    counts.enrolled_at_start(&parse_command("enrol 192.0.2.10 7 md5 6b6579 10")?);
-    assert!(rt; counts.has_missed());
-    assert!(rt; counts.report(CUSTOMER).is_none());
+    start(&mut counts)?;
+    assert!(rt; counts.has_missed() && counts.report(CUSTOMER).is_none());
     Ok(())
 }

@@ -3,8 +3,10 @@
 
 use ntp_freshness::{FreshPort, MemoryQueue, QueueWatch};
 use ntp_server::{MemoryCommands, MemoryObserver, Server};
-use ntp_service_serve::{FixedReference, MOST_RECEIVED_OCTETS, MemoryPort, Port, TimedPort, Turn};
-use std::alloc::Allocator;
+use ntp_service_serve::{
+    FixedReference, MOST_RECEIVED_OCTETS, MemoryPort, Port, PortFault, TimedPort, Turn,
+};
+use std::alloc::{AllocError, Global};
 use std::test::Fail;
 use worked_data::{
     CUSTOMER, FIRST_QUERY, SECOND_QUERY, SECOND_REPLY, enrolled_service, reference, turn,
@@ -14,7 +16,7 @@ use worked_data::{
 const LONGEST: u64 = 250_000_000;
 
 // Moments in nanoseconds.
-fn nanoseconds<A: Allocator + Copy>(alloc: A, milliseconds: &[u32]) -> Result<Vec<u64, A>, Fail> {
+fn nanoseconds(alloc: Global, milliseconds: &[u32]) -> Result<Vec<u64>, AllocError> {
     let mut moments = Vec::new(alloc);
     for moment in milliseconds {
         moments.push(u64::from(*moment) * 1_000_000)?;
@@ -24,12 +26,12 @@ fn nanoseconds<A: Allocator + Copy>(alloc: A, milliseconds: &[u32]) -> Result<Ve
 
 // A port over a queue to which the datagrams of these turns come, each after so many milliseconds, beside a clock that shows these
 // milliseconds.
-fn fresh<A: Allocator + Copy>(
-    alloc: A,
-    turns: Vec<Turn<A>, A>,
+fn fresh(
+    alloc: Global,
+    turns: Vec<Turn>,
     due: &[u32],
     readings: &[u32],
-) -> Result<FreshPort<MemoryQueue<A>>, Fail> {
+) -> Result<FreshPort<MemoryQueue>, Fail> {
     let queue = MemoryQueue::new(
         alloc,
         MemoryPort::new(alloc, turns)?,
@@ -40,64 +42,53 @@ fn fresh<A: Allocator + Copy>(
     Ok(FreshPort::new(queue, QueueWatch::new(LONGEST)))
 }
 
-// The same of datagrams of 48 octets, each after so many milliseconds and from a UDP port.
-fn port<A: Allocator + Copy>(
-    alloc: A,
-    coming: &[(u32, u16)],
-    readings: &[u32],
-) -> Result<FreshPort<MemoryQueue<A>>, Fail> {
+// Turns with datagrams of 48 octets, so many of them, each from the UDP port of its place.
+fn datagrams(alloc: Global, count: usize) -> Result<Vec<Turn>, Fail> {
     let mut turns = Vec::new(alloc);
-    let mut due = Vec::new(alloc);
-    for (at, port) in coming {
-        turns.push(turn(alloc, *port, 0, &[0; 48], true)?)?;
-        due.push(*at)?;
+    let mut port = 0u16;
+    for _ in 0..count {
+        turns.push(turn(alloc, port, 0, &[0; 48], true)?)?;
+        port = port.wrapping_add(1);
     }
-    fresh(alloc, turns, &due, readings)
+    Ok(turns)
+}
+
+// A port to which such datagrams come, each after so many milliseconds.
+fn port(alloc: Global, due: &[u32], readings: &[u32]) -> Result<FreshPort<MemoryQueue>, Fail> {
+    fresh(alloc, datagrams(alloc, due.len())?, due, readings)
 }
 
 // The UDP port of the next datagram that may be answered, where one comes in time.
-fn next<A: Allocator>(port: &mut FreshPort<MemoryQueue<A>>) -> Result<Option<u16>, &'static str> {
+fn next(port: &mut FreshPort<MemoryQueue>) -> Result<Option<u16>, PortFault> {
     if port.failures() > 0 {
-        return Err("a call failed");
+        return Err(PortFault::Receive);
     }
     match port.receive_in_time(&mut [0; MOST_RECEIVED_OCTETS]) {
         None => Ok(None),
         Some(Ok(arrival)) => Ok(Some(arrival.port)),
-        Some(Err(_)) => Err("nothing was received"),
+        Some(Err(fault)) => Err(fault),
     }
 }
 
+// When eleven datagrams come.
+const STOPPED: [u32; 11] = [
+    200, 500, 800, 1_100, 1_400, 1_700, 2_000, 2_300, 2_600, 2_900, 5_150,
+];
+
 #[test]
 fn what_waited_while_the_process_was_stopped_is_dropped(rt: HostRuntime) -> Result<(), Fail> {
-    let coming = [
-        (200, 0),
-        (500, 1),
-        (800, 2),
-        (1_100, 3),
-        (1_400, 4),
-        (1_700, 5),
-        (2_000, 6),
-        (2_300, 7),
-        (2_600, 8),
-        (2_900, 9),
-        (5_150, 10),
-    ];
     // Two takes at 5,100 ms, after a stop of five seconds, and one later. Before the second the nine that are left are counted,
     // and behind it eight are swept out.
-    let readings = [0, 100, 5_100, 5_100, 5_200];
-    let mut port = port(rt.alloc(), &coming, &readings)?;
+    let mut port = port(rt.alloc(), &STOPPED, &[0, 100, 5_100, 5_100, 5_200])?;
     for (expected, stale) in [(None, 0), (Some(10), 10), (None, 10)] {
-        assert_eq!(rt; next(&mut port), Ok(expected));
-        assert_eq!(rt; port.stale(), stale);
+        assert!(rt; next(&mut port) == Ok(expected));
+        assert!(rt; port.stale() == stale);
     }
     Ok(())
 }
 
 // How many are passed on in so many calls, and how many are dropped.
-fn passed_on<A: Allocator>(
-    port: &mut FreshPort<MemoryQueue<A>>,
-    calls: u32,
-) -> Result<(usize, u64), &'static str> {
+fn passed_on(port: &mut FreshPort<MemoryQueue>, calls: u32) -> Result<(usize, u64), PortFault> {
     let mut passed_on = 0usize;
     for _ in 0..calls {
         if next(port)?.is_some() {
@@ -107,60 +98,61 @@ fn passed_on<A: Allocator>(
     Ok((passed_on, port.stale()))
 }
 
-// The same of two hundred datagrams, one each 10 ms, of which so many always wait.
-fn passed_on_in_overload<A: Allocator + Copy>(
-    alloc: A,
-    waiting: u16,
-) -> Result<(usize, u64), Fail> {
-    let mut coming = [(0, 0); 200];
+// A port to which two hundred datagrams come, one each 10 ms, of which so many always wait.
+fn overloaded(alloc: Global, waiting: u32) -> Result<FreshPort<MemoryQueue>, Fail> {
+    let mut due = [0; 200];
     let mut readings = [0; 201];
-    for number in 0..200u16 {
-        let place = usize::from(number);
-        coming[place] = (1 + u32::from(number.saturating_sub(waiting)) * 10, number);
-        readings[place + 1] = 10 + u32::from(number) * 10;
+    for number in 0..200u32 {
+        let place = number as usize;
+        due[place] = 1 + number.saturating_sub(waiting) * 10;
+        readings[place + 1] = 10 + number * 10;
     }
-    Ok(passed_on(&mut port(alloc, &coming, &readings)?, 200)?)
+    port(alloc, &due, &readings)
 }
 
 #[test]
 fn overload_is_answered_by_what_came_behind_the_stale_ones(rt: HostRuntime) -> Result<(), Fail> {
     // The queue is never seen empty. Three datagrams that a look finds are taken out 30 ms later.
-    assert_eq!(rt; passed_on_in_overload(rt.alloc(), 3)?, (200, 0));
+    let mut port = overloaded(rt.alloc(), 3)?;
+    assert!(rt; passed_on(&mut port, 200) == Ok((200, 0)));
     // Thirty would be taken out 300 ms later. Nothing had come at 0 ms, and thirty were counted at 80 ms. The 25th datagram is in
     // hand at 250 ms: it is dropped, and so are the 13 of the thirty behind it. What comes next came after 80 ms. The 17 that
     // wait then are counted; at 330 ms one is dropped, and the nine that are left of them. Six wait then, and are in time.
-    assert_eq!(rt; passed_on_in_overload(rt.alloc(), 30)?, (176, 24));
+    let mut port = overloaded(rt.alloc(), 30)?;
+    assert!(rt; passed_on(&mut port, 200) == Ok((176, 24)));
     Ok(())
+}
+
+// A port to which a datagram comes each second, beside a clock that is read each tenth of a second.
+fn sparse(alloc: Global) -> Result<FreshPort<MemoryQueue>, Fail> {
+    let mut due = [0; 20];
+    for second in 0..20u32 {
+        due[second as usize] = second * 1_000 + 950;
+    }
+    let mut readings = [0; 250];
+    for wait in 0..250u32 {
+        readings[wait as usize] = wait * 100;
+    }
+    port(alloc, &due, &readings)
 }
 
 #[test]
 fn sparse_datagrams_are_answered(rt: HostRuntime) -> Result<(), Fail> {
-    let mut coming = [(0, 0); 20];
-    for second in 0..20u16 {
-        coming[usize::from(second)] = (u32::from(second) * 1_000 + 950, second);
-    }
-    let mut readings = [0; 250];
-    for wait in 0..250u16 {
-        readings[usize::from(wait)] = u32::from(wait) * 100;
-    }
-    let mut port = port(rt.alloc(), &coming, &readings)?;
-    assert_eq!(rt; passed_on(&mut port, 230), Ok((20, 0)));
+    let mut port = sparse(rt.alloc())?;
+    assert!(rt; passed_on(&mut port, 230) == Ok((20, 0)));
     Ok(())
 }
 
 // A server of the customer over such a port.
-type FreshServer<A> = Server<
-    FreshPort<MemoryQueue<A>>,
-    MemoryCommands<A>,
+type FreshServer = Server<
+    FreshPort<MemoryQueue>,
+    MemoryCommands<Global>,
     FixedReference,
-    MemoryObserver<A>,
-    A,
+    MemoryObserver<Global>,
+    Global,
 >;
 
-fn server_at<A: Allocator + Copy>(
-    alloc: A,
-    port: FreshPort<MemoryQueue<A>>,
-) -> Result<FreshServer<A>, Fail> {
+fn server_at(alloc: Global, port: FreshPort<MemoryQueue>) -> Result<FreshServer, Fail> {
     Ok(Server {
         port,
         commands: MemoryCommands::new(Vec::new(alloc)),
@@ -172,29 +164,41 @@ fn server_at<A: Allocator + Copy>(
 }
 
 // How many datagrams came in one turn of it, how many replies were sent, and how many datagrams were dropped.
-fn one_turn<A: Allocator + Copy>(
-    server: &mut FreshServer<A>,
-) -> Result<(u64, u64, u64), &'static str> {
+fn one_turn(server: &mut FreshServer) -> Result<(u64, u64, u64), PortFault> {
     if server.port.failures() > 0 {
-        return Err("a call of the port has failed");
+        return Err(PortFault::Receive);
     }
     let totals = server.serve(1);
     Ok((totals.arrivals, totals.sent, server.port.stale()))
 }
 
+// Whether it has sent this reply to a UDP port of the customer, and nothing else.
+fn has_sent_only(server: &FreshServer, port: u16, reply: &[u8]) -> bool {
+    match server.port.port().sent() {
+        [sent] => sent.address == CUSTOMER && sent.port == port && sent.reply.octets() == reply,
+        _ => false,
+    }
+}
+
+// Turns with two queries of the customer.
+fn queries(alloc: Global) -> Result<Vec<Turn>, Fail> {
+    let mut turns = Vec::new(alloc);
+    for (port, receipt, query) in [
+        (5001, 0xec00_0010_9000_0000, FIRST_QUERY),
+        (5002, 0xec00_0011_9000_0000, SECOND_QUERY),
+    ] {
+        turns.push(turn(alloc, port, receipt, query, true)?)?;
+    }
+    Ok(turns)
+}
+
 #[test]
 fn what_is_answered_is_what_came_behind_the_stale_ones(rt: HostRuntime) -> Result<(), Fail> {
     let alloc = rt.alloc();
-    let mut turns = Vec::new(alloc);
-    turns.push(turn(alloc, 5001, 0xec00_0010_9000_0000, FIRST_QUERY, true)?)?;
-    turns.push(turn(alloc, 5002, 0xec00_0011_9000_0000, SECOND_QUERY, true)?)?;
     // The first waits for 4,900 ms, the second for 50 ms.
-    let port = fresh(alloc, turns, &[200, 5_150], &[0, 5_100, 5_200])?;
+    let port = fresh(alloc, queries(alloc)?, &[200, 5_150], &[0, 5_100, 5_200])?;
     let mut server = server_at(alloc, port)?;
-    assert_eq!(rt; one_turn(&mut server), Ok((1, 1, 1)));
-    let sent = server.port.port().sent();
-    assert_eq!(rt; sent.len(), 1);
-    assert_eq!(rt; (sent[0].address, sent[0].port), (CUSTOMER, 5002));
-    assert_eq!(rt; sent[0].reply.octets(), SECOND_REPLY);
+    assert!(rt; one_turn(&mut server) == Ok((1, 1, 1)));
+    assert!(rt; has_sent_only(&server, 5002, SECOND_REPLY));
     Ok(())
 }

@@ -13,6 +13,8 @@ mod freshness;
 #[cfg(test)]
 mod held_commands;
 #[cfg(test)]
+mod looks;
+#[cfg(test)]
 mod replay;
 #[cfg(test)]
 mod reports;

@@ -11,6 +11,9 @@ use ntp_reports::{
 use ntp_request::Malformed;
 use ntp_time::{Short, Stamp};
 use refusing::{Broken, Refusing};
+use std::alloc::Global;
+use std::io::Write;
+use std::process::Abort;
 use std::test::Fail;
 use worked_data::{CUSTOMER, moment};
 
@@ -171,71 +174,83 @@ fn time(receive: u64, transmit: u64) -> Option<TurnOutcome> {
     Some(answered(answer, Sending::Noted))
 }
 
+// The receive stamp and the transmit stamp of replies.
+const STAMPS: [(u64, u64); 5] = [
+    // The departure of the same reply: at once, later, and in the next era.
+    (7, 7),
+    (7, 8),
+    (u64::MAX, 1),
+    // That of an earlier reply: a little before, and in the era before.
+    (7, 6),
+    (1, u64::MAX),
+];
+
+// Tells an observer of a turn so often.
+fn hear_of<O: Observer>(observer: &mut O, times: u64, outcome: &TurnOutcome) {
+    for _ in 0..times {
+        observer.turn(outcome);
+    }
+}
+
 // Tells an observer of turns with a reply.
 fn hear_of_replies<O: Observer>(observer: &mut O) -> Option<()> {
-    for (receive, transmit) in [
-        // The departure of the same reply: at once, later, and in the next era.
-        (7, 7),
-        (7, 8),
-        (u64::MAX, 1),
-        // That of an earlier reply: a little before, and in the era before.
-        (7, 6),
-        (1, u64::MAX),
-    ] {
-        observer.turn(&time(receive, transmit)?);
+    for (receive, transmit) in STAMPS {
+        hear_of(observer, 1, &time(receive, transmit)?);
     }
-    for (times, answer, sending) in [
-        (4, Answer::Rate(reply(0, 0)?), Sending::Sent),
-        (5, Answer::Deny(reply(0, 0)?), Sending::NotSent),
-        (6, Answer::Nak(reply(0, 0)?), Sending::Sent),
-    ] {
-        let outcome = answered(answer, sending);
-        for _ in 0..times {
-            observer.turn(&outcome);
-        }
-    }
+    let rate = Answer::Rate(reply(0, 0)?);
+    let deny = Answer::Deny(reply(0, 0)?);
+    let nak = Answer::Nak(reply(0, 0)?);
+    hear_of(observer, 4, &answered(rate, Sending::Sent));
+    hear_of(observer, 5, &answered(deny, Sending::NotSent));
+    hear_of(observer, 6, &answered(nak, Sending::Sent));
     Some(())
 }
 
+// How often there is no answer, for each reason.
+const SILENCES: [(u64, Reason); 12] = [
+    (10, Reason::Unregistered),
+    (11, Reason::Malformed(Malformed::Short)),
+    (12, Reason::Malformed(Malformed::Long)),
+    (13, Reason::Malformed(Malformed::FieldShort { at: 48 })),
+    (14, Reason::Malformed(Malformed::FieldUnaligned { at: 48 })),
+    (15, Reason::Malformed(Malformed::FieldPastEnd { at: 48 })),
+    (16, Reason::Malformed(Malformed::Rest { at: 48 })),
+    (17, Reason::Version),
+    (18, Reason::Mode),
+    (19, Reason::Bare),
+    (20, Reason::Muted),
+    (21, Reason::OverBudget),
+];
+
 // Tells an observer of turns without a reply.
 fn hear_of_silences<O: Observer>(observer: &mut O) {
-    for _ in 0..7 {
-        observer.turn(&TurnOutcome::NothingReceived);
-    }
-    for (times, reason) in [
-        (10, Reason::Unregistered),
-        (11, Reason::Malformed(Malformed::Short)),
-        (12, Reason::Malformed(Malformed::Long)),
-        (13, Reason::Malformed(Malformed::FieldShort { at: 48 })),
-        (14, Reason::Malformed(Malformed::FieldUnaligned { at: 48 })),
-        (15, Reason::Malformed(Malformed::FieldPastEnd { at: 48 })),
-        (16, Reason::Malformed(Malformed::Rest { at: 48 })),
-        (17, Reason::Version),
-        (18, Reason::Mode),
-        (19, Reason::Bare),
-        (20, Reason::Muted),
-        (21, Reason::OverBudget),
-    ] {
-        for _ in 0..times {
-            observer.turn(&answered(Answer::Silent(reason), Sending::NoReply));
-        }
+    hear_of(observer, 7, &TurnOutcome::NothingReceived);
+    for (times, reason) in SILENCES {
+        hear_of(
+            observer,
+            times,
+            &answered(Answer::Silent(reason), Sending::NoReply),
+        );
     }
 }
 
+// How often each answer is given to lines of commands.
+const LINES: [(u64, LineOutcome); 10] = [
+    (8, LineOutcome::Done),
+    (9, LineOutcome::Faulty(LineFault::Budget)),
+    (30, LineOutcome::Refused(Refusal::AlreadyEnrolled)),
+    (31, LineOutcome::Refused(Refusal::KeyTaken)),
+    (32, LineOutcome::Refused(Refusal::NoMemory)),
+    (33, LineOutcome::Refused(Refusal::NotEnrolled)),
+    (34, LineOutcome::Refused(Refusal::SameNumber)),
+    (35, LineOutcome::Refused(Refusal::RoomFull)),
+    (36, LineOutcome::Refused(Refusal::OnlyKey)),
+    (37, LineOutcome::Refused(Refusal::NotHeld)),
+];
+
 // Tells an observer of lines of commands.
 fn hear_of_lines<O: Observer>(observer: &mut O) {
-    for (times, outcome) in [
-        (8, LineOutcome::Done),
-        (9, LineOutcome::Faulty(LineFault::Budget)),
-        (30, LineOutcome::Refused(Refusal::AlreadyEnrolled)),
-        (31, LineOutcome::Refused(Refusal::KeyTaken)),
-        (32, LineOutcome::Refused(Refusal::NoMemory)),
-        (33, LineOutcome::Refused(Refusal::NotEnrolled)),
-        (34, LineOutcome::Refused(Refusal::SameNumber)),
-        (35, LineOutcome::Refused(Refusal::RoomFull)),
-        (36, LineOutcome::Refused(Refusal::OnlyKey)),
-        (37, LineOutcome::Refused(Refusal::NotHeld)),
-    ] {
+    for (times, outcome) in LINES {
         for number in 0..times {
             observer.line(number, outcome);
         }
@@ -243,41 +258,39 @@ fn hear_of_lines<O: Observer>(observer: &mut O) {
 }
 
 // What is told beside the counts.
-fn gauges() -> Gauges<'static> {
-    Gauges {
-        stale: 50,
-        kernel_drops: 51,
-        receive_buffer: 55,
-        queue_wait: Some(12_500_000),
-        send_would_wait: 56,
-        sweeps: 57,
-        commands_lines: 58,
-        commands_octets: Some(59),
-        commands_other_line: Some(60),
-        register_digest: 0xba78_16bf_8f01,
-        customers: 52,
-        clock: ClockGauges {
-            is_synchronised: true,
-            age: Some(1_050_000_000),
-            stratum: 2,
-            leap: 1,
-            root_delay: Short(0x8000),
-            root_dispersion: Short(0x0010_0001),
-            offset: Some(-1_000_000_002),
-            belief: Belief::Far,
-        },
-        files: FileGauges {
-            commands: true,
-            answers: false,
-            statistics: true,
-            customers: false,
-        },
-        log_lines_dropped: 53,
-        files_unreadable: 54,
-        start_time: 1_790_000_000_000_000_001,
-        version: "0.1.0",
-    }
-}
+const GAUGES: Gauges<'static> = Gauges {
+    stale: 50,
+    kernel_drops: 51,
+    receive_buffer: 55,
+    queue_wait: Some(12_500_000),
+    send_would_wait: 56,
+    sweeps: 57,
+    commands_lines: 58,
+    commands_octets: Some(59),
+    commands_other_line: Some(60),
+    register_digest: 0xba78_16bf_8f01,
+    customers: 52,
+    clock: ClockGauges {
+        is_synchronised: true,
+        age: Some(1_050_000_000),
+        stratum: 2,
+        leap: 1,
+        root_delay: Short(0x8000),
+        root_dispersion: Short(0x0010_0001),
+        offset: Some(-1_000_000_002),
+        belief: Belief::Far,
+    },
+    files: FileGauges {
+        commands: true,
+        answers: false,
+        statistics: true,
+        customers: false,
+    },
+    log_lines_dropped: 53,
+    files_unreadable: 54,
+    start_time: 1_790_000_000_000_000_001,
+    version: "0.1.0",
+};
 
 // An observer that tells nobody.
 #[derive(Drop)]
@@ -291,59 +304,85 @@ impl Observer for Nobody {
     fn turn(&mut self, _outcome: &TurnOutcome) {}
 }
 
+// Just this is written of these counts, without memory.
+fn assert_statistics(
+    rt: &impl Abort,
+    memory: &Refusing<Global>,
+    counts: &Counts,
+    wanted: &str,
+) -> Result<(), Fail> {
+    let mut text = Vec::with_capacity(memory, 8192)?;
+    memory.refuse_all();
+    let written = write_statistics(&mut text, counts, &GAUGES);
+    assert!(rt; written.is_ok() && memory.refused() == 0);
+    assert_eq!(rt; str::from_utf8(text.as_slice()), Ok(wanted));
+    Ok(())
+}
+
 #[test]
 fn statistics_are_written_without_memory(rt: HostRuntime) -> Result<(), Fail> {
     let mut counting = Counting {
         counts: Counts::new(),
         inner: Nobody,
     };
-    assert_eq!(rt; hear_of_replies(&mut counting), Some(()));
+    assert!(rt; hear_of_replies(&mut counting) == Some(()));
     hear_of_silences(&mut counting);
     hear_of_lines(&mut counting);
-    assert_eq!(rt; counting.counts.count(Kind::Noted), 5);
-
+    assert!(rt; counting.counts.count(Kind::Noted) == 5);
     let memory = Refusing::new(rt.alloc());
-    let mut text = Vec::with_capacity(&memory, 8192)?;
-    memory.refuse_all();
-    let written = write_statistics(&mut text, &counting.counts, &gauges());
-    assert!(rt; written.is_ok());
-    assert_eq!(rt; memory.refused(), 0);
-    assert_eq!(rt; str::from_utf8(text.as_slice()), Ok(STATISTICS));
-    Ok(())
+    assert_statistics(&rt, &memory, &counting.counts, STATISTICS)
 }
 
-#[test]
-fn a_clock_of_which_nothing_is_known_has_no_age(rt: HostRuntime) -> Result<(), Fail> {
-    let mut text = Vec::new(rt.alloc());
+// Where nothing is known of the clock, and little of the files.
+fn unknown() -> Gauges<'static> {
     let clock = ClockGauges {
         is_synchronised: false,
         age: None,
         offset: None,
-        ..gauges().clock
+        ..GAUGES.clock
     };
-    let gauges = Gauges {
+    Gauges {
         clock,
         queue_wait: None,
         commands_octets: None,
         commands_other_line: None,
-        ..gauges()
-    };
-    let written = write_statistics(&mut text, &Counts::new(), &gauges);
-    assert!(rt; written.is_ok());
-    let text = str::from_utf8(text.as_slice())?;
-    assert!(rt; text.contains("\nlabntp_clock_synchronised 0\n"));
-    assert!(rt; text.contains("\nlabntp_commands_other_line 0\n"));
-    for unknown in [
-        "clock_age_seconds",
-        "clock_offset_seconds",
-        "queue_wait_seconds",
-        "commands_octets",
-    ] {
-        let line = format!(in rt.alloc(); "\nlabntp_{unknown} NaN\n")?;
-        assert!(rt; text.contains(line.as_str()), "{unknown}");
+        ..GAUGES
     }
-    assert!(rt; write_statistics(&mut Broken, &Counts::new(), &gauges).is_err());
+}
+
+// Lines of what is written then.
+const UNKNOWN_LINES: [&str; 6] = [
+    "\nlabntp_clock_synchronised 0\n",
+    "\nlabntp_commands_other_line 0\n",
+    "\nlabntp_clock_age_seconds NaN\n",
+    "\nlabntp_clock_offset_seconds NaN\n",
+    "\nlabntp_queue_wait_seconds NaN\n",
+    "\nlabntp_commands_octets NaN\n",
+];
+
+// Whether it can be written what is not known.
+fn writes_unknown<W: Write>(out: &mut W) -> bool {
+    write_statistics(out, &Counts::new(), &unknown()).is_ok()
+}
+
+#[test]
+fn a_clock_of_which_nothing_is_known_has_no_age(rt: HostRuntime) -> Result<(), Fail> {
+    let mut octets = Vec::new(rt.alloc());
+    assert!(rt; writes_unknown(&mut octets));
+    let text = str::from_utf8(octets.as_slice())?;
+    for line in UNKNOWN_LINES {
+        assert!(rt; text.contains(line), "{line}");
+    }
+    assert!(rt; !writes_unknown(&mut Broken));
     Ok(())
+}
+
+// Tells an observer of three lines, between which is a turn.
+fn hear_of_three_lines<O: Observer>(observer: &mut O) {
+    observer.line(1, LineOutcome::Done);
+    observer.turn(&TurnOutcome::NothingReceived);
+    observer.line(3, LineOutcome::Refused(Refusal::AlreadyEnrolled));
+    observer.line(12, LineOutcome::Faulty(LineFault::KeyText));
 }
 
 #[test]
@@ -355,39 +394,33 @@ fn lines_are_answered_without_memory(rt: HostRuntime) -> Result<(), Fail> {
         first: AnswerLines::new(&mut first),
         second: AnswerLines::new(Broken),
     };
-    both.line(1, LineOutcome::Done);
-    both.turn(&TurnOutcome::NothingReceived);
-    both.line(3, LineOutcome::Refused(Refusal::AlreadyEnrolled));
-    both.line(12, LineOutcome::Faulty(LineFault::KeyText));
-    assert!(rt; both.first.fault().is_none());
-    assert!(rt; both.second.fault().is_some());
-    assert_eq!(rt; memory.refused(), 0);
-    assert_eq!(rt;
-        str::from_utf8(first.as_slice()),
-        Ok("1 done\n3 refused already-enrolled\n12 faulty key\n")
-    );
+    hear_of_three_lines(&mut both);
+    assert!(rt; both.first.fault().is_none() && both.second.fault().is_some());
+    assert!(rt; memory.refused() == 0);
+    let answers = b"1 done\n3 refused already-enrolled\n12 faulty key\n";
+    assert!(rt; first.as_slice() == answers.as_slice());
     Ok(())
 }
+
+// In which minute, how often, and what is then answered to whether a line may be said.
+const ASKS: [(u64, u64, Ask); 7] = [
+    (0, 10, Ask::Say),
+    (0, 2, Ask::Hold),
+    (1, 1, Ask::SayWithMore(2)),
+    (1, 9, Ask::Say),
+    (1, 1, Ask::Hold),
+    (29_000_000, 1, Ask::SayWithMore(1)),
+    (29_000_001, 1, Ask::Say),
+];
 
 #[test]
 fn ten_lines_a_minute_are_allowed(rt: HostRuntime) {
     let mut allowance = LineAllowance::new();
-    for (minute, times, answer) in [
-        (0, 10, Ask::Say),
-        (0, 2, Ask::Hold),
-        (1, 1, Ask::SayWithMore(2)),
-        (1, 9, Ask::Say),
-        (1, 1, Ask::Hold),
-        (29_000_000, 1, Ask::SayWithMore(1)),
-        (29_000_001, 1, Ask::Say),
-    ] {
+    for (minute, times, answer) in ASKS {
         for _ in 0..times {
-            assert_eq!(rt;
-                allowance.has_room(minute),
-                answer != Ask::Hold,
-                "in minute {minute}"
-            );
-            assert_eq!(rt; allowance.ask(minute), answer, "in minute {minute}");
+            let has_room = allowance.has_room(minute);
+            assert!(rt; has_room == (answer != Ask::Hold), "in minute {minute}");
+            assert!(rt; allowance.ask(minute) == answer, "in minute {minute}");
         }
     }
 }

@@ -4,6 +4,7 @@
 //! key `key` and the octets before the key number, and of `hashlib.sha1` with the key `new`.
 ghost use Rattle.std.specs.Prelude.{◌≡◌};
 
+use crate::looks::commands;
 use ntp_admin::parse_command;
 use ntp_events::{Arrival, LineOutcome, Observation, Sending, TurnOutcome};
 use ntp_mac::Reply;
@@ -18,7 +19,7 @@ use ntp_service_serve::{
 };
 use ntp_time::{Moment, Stamp};
 use refusing::Refusing;
-use std::alloc::Allocator;
+use std::alloc::{Allocator, Global};
 use std::process::Abort;
 use std::test::Fail;
 use worked_data::{CUSTOMER, FIRST_QUERY, FIRST_REPLY, SECOND_QUERY, moment, reference, turn};
@@ -134,22 +135,6 @@ fn port<A: Allocator + Copy>(
     Ok(MemoryPort::new(alloc, turns)?)
 }
 
-// A commands file that is looked at so often: what it has then, or nothing where it is as it was.
-fn commands<A: Allocator + Copy>(
-    alloc: A,
-    files: &[Option<&[u8]>],
-) -> Result<MemoryCommands<A>, Fail> {
-    let mut looks = Vec::new(alloc);
-    for file in files {
-        let look = match file {
-            Some(octets) => Some(octets.to_vec(alloc)?),
-            None => None,
-        };
-        looks.push(look)?;
-    }
-    Ok(MemoryCommands::new(looks))
-}
-
 // A server that knows nobody, whose observer has room for so many observations.
 fn server<P: Drop, R: Drop, A: Allocator + Copy>(
     alloc: A,
@@ -204,65 +189,73 @@ fn told_of_three_turns() -> Result<[Observation; 7], Fail> {
     ])
 }
 
-#[test]
-fn commands_are_carried_out_before_the_datagram_is_answered(rt: HostRuntime) -> Result<(), Fail> {
-    let alloc = rt.alloc();
-    let coming = [
-        (5001, FIRST_RECEIPT, FIRST_QUERY),
-        (5002, SECOND_RECEIPT, FIRST_QUERY),
-        (5003, THIRD_RECEIPT, SECOND_QUERY),
-    ];
-    let looks = [None, Some(ENROLMENT), Some(REVOCATION)];
-    let fixed = FixedReference(reference()?);
-    let told = told_of_three_turns()?;
-    let mut server = server(
-        alloc,
-        port(alloc, &coming)?,
-        commands(alloc, &looks)?,
-        fixed,
-        7,
-    )?;
-    let mut shown = Shown(Vec::new(alloc));
-    assert_eq!(rt; served(&rt, &mut server, 3, &mut shown), totals(3, 2, 1));
-    assert_eq!(rt; server.applied, 2);
+// The datagrams that come one behind another, and those behind two keys.
+const COMING: [(u16, u64, &[u8]); 3] = [
+    (5001, FIRST_RECEIPT, FIRST_QUERY),
+    (5002, SECOND_RECEIPT, FIRST_QUERY),
+    (5003, THIRD_RECEIPT, SECOND_QUERY),
+];
+
+const COMING_SIGNED: [(u16, u64, &[u8]); 3] = [
+    (5001, SECOND_RECEIPT, FIRST_QUERY),
+    (5002, THIRD_RECEIPT, SECOND_QUERY),
+    (5003, FOURTH_RECEIPT, NEWER_QUERY),
+];
+
+// Whether a reporter was shown a server at each datagram, of whose commands one line more was applied each time.
+fn is_shown_each(shown: &Shown) -> bool {
     let lines_applied = [
         (Some(moment(FIRST_RECEIPT)), 0),
         (Some(moment(SECOND_RECEIPT)), 1),
         (Some(moment(THIRD_RECEIPT)), 2),
     ];
-    assert_eq!(rt; shown.0.as_slice(), lines_applied.as_slice());
+    shown.0.as_slice() == lines_applied.as_slice()
+}
+
+#[test]
+fn commands_are_carried_out_before_the_datagram_is_answered(rt: HostRuntime) -> Result<(), Fail> {
+    let alloc = rt.alloc();
+    let fixed = FixedReference(reference()?);
+    let told = told_of_three_turns()?;
+    let port = port(alloc, &COMING)?;
+    let commands = commands(alloc, &[None, Some(ENROLMENT), Some(REVOCATION)])?;
+    let mut server = server(alloc, port, commands, fixed, 7)?;
+    let mut shown = Shown(Vec::new(alloc));
+    assert!(rt; served(&rt, &mut server, 3, &mut shown) == totals(3, 2, 1));
+    assert!(rt; server.applied == 2 && is_shown_each(&shown));
     assert!(rt; !server.observer.has_missed());
-    assert_eq!(rt; server.observer.seen(), told.as_slice());
+    assert!(rt; server.observer.seen() == told.as_slice());
     Ok(())
+}
+
+// A server whose memory can be refused, of a customer with two keys.
+type SignedServer<'a> = Server<
+    MemoryPort<&'a Refusing<Global>>,
+    MemoryCommands<&'a Refusing<Global>>,
+    MemoryStates<&'a Refusing<Global>>,
+    MemoryObserver<&'a Refusing<Global>>,
+    &'a Refusing<Global>,
+>;
+
+fn signed_server(memory: &Refusing<Global>) -> Result<SignedServer<'_>, Fail> {
+    let mut states = Vec::new(memory);
+    states.push(reference()?)?;
+    let states = MemoryStates::new(states, reference()?);
+    let port = port(memory, &COMING_SIGNED)?;
+    let commands = commands(memory, &[Some(TWO_KEYS)])?;
+    server(memory, port, commands, states, 5)
 }
 
 #[test]
 fn serving_takes_no_memory_where_no_commands_change(rt: HostRuntime) -> Result<(), Fail> {
     let memory = Refusing::new(rt.alloc());
-    let coming = [
-        (5001, SECOND_RECEIPT, FIRST_QUERY),
-        (5002, THIRD_RECEIPT, SECOND_QUERY),
-        (5003, FOURTH_RECEIPT, NEWER_QUERY),
-    ];
-    let port = port(&memory, &coming)?;
-    let commands = commands(&memory, &[Some(TWO_KEYS)])?;
-    let mut states = Vec::new(&memory);
-    states.push(reference()?)?;
-    let states = MemoryStates::new(states, reference()?);
-    let mut server = server(&memory, port, commands, states, 5)?;
-    assert_eq!(rt;
-        served(&rt, &mut server, 1, &mut NoReports),
-        totals(1, 1, 1)
-    );
+    let mut server = signed_server(&memory)?;
+    assert!(rt; served(&rt, &mut server, 1, &mut NoReports) == totals(1, 1, 1));
     let before = memory.calls();
     memory.refuse_all();
-    assert_eq!(rt;
-        served(&rt, &mut server, 3, &mut NoReports),
-        totals(2, 2, 2)
-    );
-    assert_eq!(rt; memory.calls(), before);
-    assert!(rt; server.observer.has_missed());
-    assert_eq!(rt; server.observer.seen().len(), 5);
+    assert!(rt; served(&rt, &mut server, 3, &mut NoReports) == totals(2, 2, 2));
+    assert!(rt; memory.calls() == before);
+    assert!(rt; server.observer.has_missed() && server.observer.seen().len() == 5);
     Ok(())
 }
 
@@ -308,10 +301,10 @@ impl TimedPort for Quiet {
     }
 }
 
-#[test]
-fn commands_are_carried_out_while_nothing_comes(rt: HostRuntime) -> Result<(), Fail> {
-    let alloc = rt.alloc();
-    let commands = commands(alloc, &[Some(ENROLMENT), Some(REVOCATION)])?;
+// A server to which nothing comes, whose commands file has a line more at each of two looks.
+fn quiet_server(
+    alloc: Global,
+) -> Result<Server<Quiet, MemoryCommands<Global>, Tended, MemoryObserver<Global>, Global>, Fail> {
     let quiet = Quiet {
         waits: 2,
         failed: 0,
@@ -320,22 +313,32 @@ fn commands_are_carried_out_while_nothing_comes(rt: HostRuntime) -> Result<(), F
         reference: reference()?,
         times: 0,
     };
-    let mut server = server(alloc, quiet, commands, tended, 5)?;
-    let mut shown = Shown(Vec::new(alloc));
-    assert_eq!(rt; served(&rt, &mut server, 1, &mut shown), totals(0, 0, 0));
-    assert_eq!(rt; server.applied, 2);
-    assert_eq!(rt; server.reference.times, 2);
-    assert_eq!(rt;
-        shown.0.as_slice(),
-        [(None, 1), (None, 2), (None, 2)].as_slice()
-    );
-    let told = [
+    let commands = commands(alloc, &[Some(ENROLMENT), Some(REVOCATION)])?;
+    server(alloc, quiet, commands, tended, 5)
+}
+
+// What is told of its commands, and of a turn in which nothing could be received.
+fn told_while_nothing_comes() -> Result<[Observation; 5], Fail> {
+    Ok([
         command(ENROL)?,
         done(1),
         command(REVOKE)?,
         done(2),
         Observation::Turn(TurnOutcome::NothingReceived),
-    ];
-    assert_eq!(rt; server.observer.seen(), told.as_slice());
+    ])
+}
+
+// When it is shown to a reporter, and how many lines are applied by then.
+const SHOWN_QUIET: [(Option<Moment>, u64); 3] = [(None, 1), (None, 2), (None, 2)];
+
+#[test]
+fn commands_are_carried_out_while_nothing_comes(rt: HostRuntime) -> Result<(), Fail> {
+    let told = told_while_nothing_comes()?;
+    let mut server = quiet_server(rt.alloc())?;
+    let mut shown = Shown(Vec::new(rt.alloc()));
+    assert!(rt; served(&rt, &mut server, 1, &mut shown) == totals(0, 0, 0));
+    assert!(rt; server.applied == 2 && server.reference.times == 2);
+    assert!(rt; shown.0.as_slice() == SHOWN_QUIET.as_slice());
+    assert!(rt; server.observer.seen() == told.as_slice());
     Ok(())
 }

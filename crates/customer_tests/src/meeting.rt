@@ -111,23 +111,22 @@ fn basic(receipt: u64) -> Option<Taken> {
     Some(sample(receipt, receipt.wrapping_add(0x100), false))
 }
 
+// When the next request leaves and comes, and when the reply to it arrives.
+const NEXT: [u64; 3] = [
+    0xec00_0011_8000_0000,
+    0xec00_0011_9000_0000,
+    0xec00_0011_a000_0000,
+];
+
 #[test]
 fn a_basic_and_an_interleaved_sample(rt: HostRuntime) -> Result<(), Fail> {
     let mut client = client()?;
     let mut server = enrolled_server(rt.alloc())?;
-    let next = [
-        0xec00_0011_8000_0000,
-        0xec00_0011_9000_0000,
-        0xec00_0011_a000_0000,
-    ];
     let departure = 0xec00_0010_9000_0180;
-    assert_eq!(rt;
-        answered(&mut client, &mut server, [T, R, ARRIVAL]),
-        basic(R)
-    );
+    assert!(rt; answered(&mut client, &mut server, [T, R, ARRIVAL]) == basic(R));
     assert!(rt; departs(&mut server, departure));
-    let interleaved = answered(&mut client, &mut server, next);
-    assert_eq!(rt; interleaved, Some(sample(R, departure, true)));
+    let interleaved = Some(sample(R, departure, true));
+    assert!(rt; answered(&mut client, &mut server, NEXT) == interleaved);
     Ok(())
 }
 
@@ -138,14 +137,8 @@ fn samples_under_both_keys_of_a_customer(rt: HostRuntime) -> Result<(), Fail> {
     let later = R + 0x800_0000;
     let mut server = enrolled_server(rt.alloc())?;
     assert!(rt; is_done(&mut server, "rollover 192.0.2.10 9 sha1 6e65776572"));
-    assert_eq!(rt;
-        answered(&mut with_older, &mut server, [T, R, ARRIVAL]),
-        basic(R)
-    );
-    assert_eq!(rt;
-        answered(&mut with_newer, &mut server, [T, later, ARRIVAL]),
-        basic(later)
-    );
+    assert!(rt; answered(&mut with_older, &mut server, [T, R, ARRIVAL]) == basic(R));
+    assert!(rt; answered(&mut with_newer, &mut server, [T, later, ARRIVAL]) == basic(later));
     Ok(())
 }
 
@@ -154,12 +147,8 @@ fn a_rate_past_the_budget(rt: HostRuntime) -> Result<(), Fail> {
     let mut client = client()?;
     let mut server = enrolled_server(rt.alloc())?;
     assert!(rt; is_done(&mut server, "budget 192.0.2.10 1"));
-    for expected in [basic(R), Some(Taken::Rate)] {
-        assert_eq!(rt;
-            answered(&mut client, &mut server, [T, R, ARRIVAL]),
-            expected
-        );
-    }
+    assert!(rt; answered(&mut client, &mut server, [T, R, ARRIVAL]) == basic(R));
+    assert!(rt; answered(&mut client, &mut server, [T, R, ARRIVAL]) == Some(Taken::Rate));
     Ok(())
 }
 
@@ -169,8 +158,8 @@ fn refusals(rt: HostRuntime) -> Result<(), Fail> {
     let mut client = client()?;
     let mut server = enrolled_server(rt.alloc())?;
     let other = answered(&mut stranger, &mut server, [T, R, ARRIVAL]);
-    assert_eq!(rt; other, Some(Taken::Nak));
+    assert!(rt; other == Some(Taken::Nak));
     let unsigned = answered_unsigned(&mut client, &mut server, [T, R, ARRIVAL]);
-    assert_eq!(rt; unsigned, Some(Taken::Deny));
+    assert!(rt; unsigned == Some(Taken::Deny));
     Ok(())
 }

@@ -92,55 +92,62 @@ fn key() -> Result<Key, KeyFault> {
 // Each order with its address and number, its answer, and who then holds the number.
 type Row = (Order, Address, u16, Result<(), Refusal>, Option<Address>);
 
-// Orders with a key are answered so, one after another.
-fn answers(rt: &impl Abort, register: &mut Agreeing, key: Key, rows: &[Row]) {
-    for (order, address, number, expected, holder) in rows {
-        let answered = answer(rt, register, *order, *address, *number, key);
-        assert_eq!(rt; (answered, register.holder(*number)), (*expected, *holder));
-    }
+// An order with a key is answered so.
+fn is_answered(rt: &impl Abort, register: &mut Agreeing, key: Key, row: Row) {
+    let (order, address, number, expected, holder) = row;
+    let answered = answer(rt, register, order, address, number, key);
+    assert_eq!(rt; (answered, register.holder(number)), (expected, holder));
 }
+
+// Enrolments and revocations, one behind another.
+const ENROLMENTS: [Row; 9] = [
+    (Order::Enrol, A, 7, Ok(()), Some(A)),
+    (Order::Enrol, A, 7, Err(Refusal::AlreadyEnrolled), Some(A)),
+    (Order::Enrol, B, 7, Err(Refusal::KeyTaken), Some(A)),
+    (Order::Revoke, A, 7, Ok(()), None),
+    (Order::Revoke, A, 7, Err(Refusal::NotEnrolled), None),
+    (Order::Revoke, B, 7, Err(Refusal::NotEnrolled), None),
+    (Order::Enrol, B, 7, Ok(()), Some(B)),
+    (Order::Enrol, A, 7, Err(Refusal::KeyTaken), Some(B)),
+    (Order::Enrol, A, 8, Ok(()), Some(A)),
+];
 
 #[test]
 fn refusals_come_in_their_order(rt: HostRuntime) -> Result<(), Fail> {
     let key = key()?;
     let mut register = Agreeing::new(rt.alloc());
-    let rows = [
-        (Order::Enrol, A, 7, Ok(()), Some(A)),
-        (Order::Enrol, A, 7, Err(Refusal::AlreadyEnrolled), Some(A)),
-        (Order::Enrol, B, 7, Err(Refusal::KeyTaken), Some(A)),
-        (Order::Revoke, A, 7, Ok(()), None),
-        (Order::Revoke, A, 7, Err(Refusal::NotEnrolled), None),
-        (Order::Revoke, B, 7, Err(Refusal::NotEnrolled), None),
-        (Order::Enrol, B, 7, Ok(()), Some(B)),
-        (Order::Enrol, A, 7, Err(Refusal::KeyTaken), Some(B)),
-        (Order::Enrol, A, 8, Ok(()), Some(A)),
-    ];
-    answers(&rt, &mut register, key, &rows);
+    for row in ENROLMENTS {
+        is_answered(&rt, &mut register, key, row);
+    }
     Ok(())
 }
+
+// Changes of keys, one behind another.
+const CHANGES: [Row; 15] = [
+    (Order::Rollover, A, 7, Err(Refusal::NotEnrolled), None),
+    (Order::Retire, A, 7, Err(Refusal::NotEnrolled), None),
+    (Order::Enrol, A, 7, Ok(()), Some(A)),
+    (Order::Enrol, B, 8, Ok(()), Some(B)),
+    (Order::Rollover, A, 7, Err(Refusal::SameNumber), Some(A)),
+    (Order::Rollover, A, 8, Err(Refusal::KeyTaken), Some(B)),
+    (Order::Retire, A, 8, Err(Refusal::NotHeld), Some(B)),
+    (Order::Retire, A, 7, Err(Refusal::OnlyKey), Some(A)),
+    (Order::Rollover, A, 9, Ok(()), Some(A)),
+    (Order::Rollover, A, 9, Err(Refusal::SameNumber), Some(A)),
+    (Order::Rollover, A, 8, Err(Refusal::RoomFull), Some(B)),
+    (Order::Retire, A, 8, Err(Refusal::NotHeld), Some(B)),
+    (Order::Revoke, A, 7, Ok(()), None),
+    (Order::Rollover, A, 9, Err(Refusal::NotEnrolled), None),
+    (Order::Retire, A, 9, Err(Refusal::NotEnrolled), None),
+];
 
 #[test]
 fn changes_of_keys_are_refused_in_their_order(rt: HostRuntime) -> Result<(), Fail> {
     let key = key()?;
     let mut register = Agreeing::new(rt.alloc());
-    let rows = [
-        (Order::Rollover, A, 7, Err(Refusal::NotEnrolled), None),
-        (Order::Retire, A, 7, Err(Refusal::NotEnrolled), None),
-        (Order::Enrol, A, 7, Ok(()), Some(A)),
-        (Order::Enrol, B, 8, Ok(()), Some(B)),
-        (Order::Rollover, A, 7, Err(Refusal::SameNumber), Some(A)),
-        (Order::Rollover, A, 8, Err(Refusal::KeyTaken), Some(B)),
-        (Order::Retire, A, 8, Err(Refusal::NotHeld), Some(B)),
-        (Order::Retire, A, 7, Err(Refusal::OnlyKey), Some(A)),
-        (Order::Rollover, A, 9, Ok(()), Some(A)),
-        (Order::Rollover, A, 9, Err(Refusal::SameNumber), Some(A)),
-        (Order::Rollover, A, 8, Err(Refusal::RoomFull), Some(B)),
-        (Order::Retire, A, 8, Err(Refusal::NotHeld), Some(B)),
-        (Order::Revoke, A, 7, Ok(()), None),
-        (Order::Rollover, A, 9, Err(Refusal::NotEnrolled), None),
-        (Order::Retire, A, 9, Err(Refusal::NotEnrolled), None),
-    ];
-    answers(&rt, &mut register, key, &rows);
+    for row in CHANGES {
+        is_answered(&rt, &mut register, key, row);
+    }
     Ok(())
 }
 
@@ -149,37 +156,48 @@ fn a_customer_has_what_it_was_enrolled_with(rt: HostRuntime) -> Result<(), Fail>
     let key = key()?;
     let mut register = Register::new(rt.alloc());
     assert!(rt; register.customer(A).is_none());
-    assert_eq!(rt; register.enrol(A, 65535, key, 1), Ok(()));
-    assert_eq!(rt; terms(register.customer(A)), Some((65535, key, 1, true)));
-    assert_eq!(rt; register.revoke(A), Ok(()));
+    assert!(rt; register.enrol(A, 65535, key, 1).is_ok());
+    assert!(rt; terms(register.customer(A)) == Some((65535, key, 1, true)));
+    assert!(rt; register.revoke(A).is_ok());
     assert!(rt; register.customer_mut(A).is_some());
-    assert_eq!(rt; terms(register.customer(A)), None);
+    assert!(rt; terms(register.customer(A)).is_none());
     Ok(())
+}
+
+// Whether A has these terms and a budget of 10.
+fn has_terms(register: &Agreeing, number: u16, key: Key, has_room: bool) -> bool {
+    terms(register.customer(A)) == Some((number, key, 10, has_room))
+}
+
+// The key of A under a number.
+fn key_of_a(register: &Agreeing, number: u16) -> Option<Key> {
+    key_for(register.customer(A), number)
+}
+
+// What A holds under a number of a MAC.
+fn held_by_a(register: &Agreeing, number: u32) -> Option<NumberedKey> {
+    held(register.customer(A), number)
+}
+
+// Two keys of A, of which the newer one stays.
+fn roll_over(rt: &impl Abort, it: &mut Agreeing, key: Key, newer: Key) {
+    is_answered(rt, it, key, (Order::Enrol, A, 7, Ok(()), Some(A)));
+    is_answered(rt, it, newer, (Order::Rollover, A, 9, Ok(()), Some(A)));
+    assert!(rt; it.holder(7) == Some(A));
+    assert!(rt; has_terms(it, 7, key, false));
+    assert!(rt; key_of_a(it, 9) == Some(newer));
+    assert!(rt; held_by_a(it, 7) == Some(NumberedKey { number: 7, key }));
+    assert!(rt; held_by_a(it, 65536 + 7).is_none());
+    is_answered(rt, it, key, (Order::Retire, A, 7, Ok(()), None));
+    assert!(rt; has_terms(it, 9, newer, true));
+    assert!(rt; key_of_a(it, 7).is_none());
+    is_answered(rt, it, key, (Order::Enrol, B, 7, Ok(()), Some(B)));
 }
 
 #[test]
 fn a_key_comes_and_the_older_one_goes(rt: HostRuntime) -> Result<(), Fail> {
-    let key = key()?;
     let newer = Key::new(Algorithm::Sha1, b"newer")?;
     let mut it = Agreeing::new(rt.alloc());
-    answers(&rt, &mut it, key, &[(Order::Enrol, A, 7, Ok(()), Some(A))]);
-    answers(
-        &rt,
-        &mut it,
-        newer,
-        &[(Order::Rollover, A, 9, Ok(()), Some(A))],
-    );
-    assert_eq!(rt; it.holder(7), Some(A));
-    assert_eq!(rt; terms(it.customer(A)), Some((7, key, 10, false)));
-    assert_eq!(rt; key_for(it.customer(A), 9), Some(newer));
-    assert_eq!(rt;
-        held(it.customer(A), 7),
-        Some(NumberedKey { number: 7, key })
-    );
-    assert_eq!(rt; held(it.customer(A), 65536 + 7), None);
-    answers(&rt, &mut it, key, &[(Order::Retire, A, 7, Ok(()), None)]);
-    assert_eq!(rt; terms(it.customer(A)), Some((9, newer, 10, true)));
-    assert_eq!(rt; key_for(it.customer(A), 7), None);
-    answers(&rt, &mut it, key, &[(Order::Enrol, B, 7, Ok(()), Some(B))]);
+    roll_over(&rt, &mut it, key()?, newer);
     Ok(())
 }

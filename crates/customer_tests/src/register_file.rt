@@ -116,78 +116,86 @@ fn one_document_in_four_forms(rt: HostRuntime) -> Result<(), Fail> {
     Ok(())
 }
 
+// Files with no customers.
+const NO_CUSTOMERS: [&str; 4] = [
+    "reference = \"00\"",
+    "reference = \"\"",
+    "reference = \"0001ec00000000000000104e495354ec00000000000000\"",
+    "customer = []\nreference = \"0001ec00000000000000104e495354ec00000000000000\"",
+];
+
 #[test]
 fn files_with_no_customers(rt: HostRuntime) -> Result<(), Fail> {
-    let files = [
-        "reference = \"00\"",
-        "reference = \"\"",
-        "reference = \"0001ec00000000000000104e495354ec00000000000000\"",
-        "customer = []\nreference = \"0001ec00000000000000104e495354ec00000000000000\"",
-    ];
-    for text in files {
+    for text in NO_CUSTOMERS {
         assert!(rt; read_register(rt.alloc(), text)?.is_empty(), "of {text}");
     }
     Ok(())
 }
 
+// What is wrong with a file.
+const TOML: Option<RegisterFault> = Some(RegisterFault::Toml);
+
+const SHAPE: Option<RegisterFault> = Some(RegisterFault::Shape);
+
+const BAD: Option<RegisterFault> = Some(RegisterFault::Reference);
+
+// Files, and what the reader of registers and that of references find wrong with each.
+const TOP_LEVELS: [(&str, Option<RegisterFault>, Option<RegisterFault>); 30] = [
+    ("", SHAPE, SHAPE),
+    ("# nothing\n", SHAPE, SHAPE),
+    ("reference = ", TOML, TOML),
+    ("reference", TOML, TOML),
+    ("reference = \"00\"\nreference = \"00\"", TOML, TOML),
+    ("reference = \"00\"\rcustomer = []", TOML, TOML),
+    ("reference = \"00\nx = 1", TOML, TOML),
+    ("reference = \"00\"\n\"reference\" = \"00\"", TOML, TOML),
+    ("reference = \"00\"", None, BAD),
+    ("reference = \"\"", None, BAD),
+    (
+        "reference = \"0001ec00000000000000104e495354ec0000000000000g\"",
+        None,
+        BAD,
+    ),
+    (
+        "reference = \"0301ec00000000000000104e495354ec00000000000000\"",
+        None,
+        BAD,
+    ),
+    (
+        "reference = \"0310ec00000000000000104e495354ec00000000000000\"",
+        None,
+        None,
+    ),
+    (
+        "reference = \"0001EC00000000000000104E495354EC00000000000000\"",
+        None,
+        None,
+    ),
+    ("reference.x = \"00\"", SHAPE, SHAPE),
+    ("[reference]", SHAPE, SHAPE),
+    ("References = \"00\"", SHAPE, SHAPE),
+    ("x = 1\nreference = \"00\"", SHAPE, SHAPE),
+    ("reference = \"00\"\n[x]", SHAPE, SHAPE),
+    ("reference = \"00\"\nx.y = 1", SHAPE, SHAPE),
+    ("reference = \"00\"\ncustomer = []\nx = 1", SHAPE, SHAPE),
+    ("customer = []", SHAPE, SHAPE),
+    ("customer = []\nx = \"00\"", SHAPE, SHAPE),
+    ("reference = \"00\"\ncustomer = {}", SHAPE, SHAPE),
+    ("reference = \"00\"\n[customer]\nnumber = 7", SHAPE, SHAPE),
+    (
+        "reference = \"00\"\ncustomer = []\n[[customer]]",
+        TOML,
+        TOML,
+    ),
+    ("reference = \"00\"\ncustomer = [1]", SHAPE, BAD),
+    ("reference = \"00\"\ncustomer = [[]]", SHAPE, BAD),
+    ("reference = \"00\"\ncustomer = [{}]", SHAPE, BAD),
+    ("reference = \"00\"\n[[customer]]", SHAPE, BAD),
+];
+
 #[test]
 fn top_levels(rt: HostRuntime) {
-    const TOML: Option<RegisterFault> = Some(RegisterFault::Toml);
-    const SHAPE: Option<RegisterFault> = Some(RegisterFault::Shape);
-    const BAD: Option<RegisterFault> = Some(RegisterFault::Reference);
-    let files = [
-        ("", SHAPE, SHAPE),
-        ("# nothing\n", SHAPE, SHAPE),
-        ("reference = ", TOML, TOML),
-        ("reference", TOML, TOML),
-        ("reference = \"00\"\nreference = \"00\"", TOML, TOML),
-        ("reference = \"00\"\rcustomer = []", TOML, TOML),
-        ("reference = \"00\nx = 1", TOML, TOML),
-        ("reference = \"00\"\n\"reference\" = \"00\"", TOML, TOML),
-        ("reference = \"00\"", None, BAD),
-        ("reference = \"\"", None, BAD),
-        (
-            "reference = \"0001ec00000000000000104e495354ec0000000000000g\"",
-            None,
-            BAD,
-        ),
-        (
-            "reference = \"0301ec00000000000000104e495354ec00000000000000\"",
-            None,
-            BAD,
-        ),
-        (
-            "reference = \"0310ec00000000000000104e495354ec00000000000000\"",
-            None,
-            None,
-        ),
-        (
-            "reference = \"0001EC00000000000000104E495354EC00000000000000\"",
-            None,
-            None,
-        ),
-        ("reference.x = \"00\"", SHAPE, SHAPE),
-        ("[reference]", SHAPE, SHAPE),
-        ("References = \"00\"", SHAPE, SHAPE),
-        ("x = 1\nreference = \"00\"", SHAPE, SHAPE),
-        ("reference = \"00\"\n[x]", SHAPE, SHAPE),
-        ("reference = \"00\"\nx.y = 1", SHAPE, SHAPE),
-        ("reference = \"00\"\ncustomer = []\nx = 1", SHAPE, SHAPE),
-        ("customer = []", SHAPE, SHAPE),
-        ("customer = []\nx = \"00\"", SHAPE, SHAPE),
-        ("reference = \"00\"\ncustomer = {}", SHAPE, SHAPE),
-        ("reference = \"00\"\n[customer]\nnumber = 7", SHAPE, SHAPE),
-        (
-            "reference = \"00\"\ncustomer = []\n[[customer]]",
-            TOML,
-            TOML,
-        ),
-        ("reference = \"00\"\ncustomer = [1]", SHAPE, BAD),
-        ("reference = \"00\"\ncustomer = [[]]", SHAPE, BAD),
-        ("reference = \"00\"\ncustomer = [{}]", SHAPE, BAD),
-        ("reference = \"00\"\n[[customer]]", SHAPE, BAD),
-    ];
-    for (text, register, reference) in files {
+    for (text, register, reference) in TOP_LEVELS {
         assert!(rt;
             has_faults(text, register, reference, rt.alloc()),
             "of {text}"
@@ -223,27 +231,30 @@ fn each_key_of_a_customer_missing_or_doubled(rt: HostRuntime) -> Result<(), Fail
     Ok(())
 }
 
+// A value of each type.
+const VALUES: [&str; 7] = [
+    "\"7\"",
+    "7",
+    "7.0",
+    "true",
+    "1979-05-27",
+    "[7]",
+    "{ x = 7 }",
+];
+
+// The names of the keys of a customer, and the type that each has.
+const TYPES: [(&str, usize); 5] = [
+    ("address", 0),
+    ("number", 1),
+    ("algorithm", 0),
+    ("key", 0),
+    ("budget", 1),
+];
+
 #[test]
 fn each_other_type_at_each_key(rt: HostRuntime) -> Result<(), Fail> {
-    // A value of each type, and which of them each key has.
-    let values = [
-        "\"7\"",
-        "7",
-        "7.0",
-        "true",
-        "1979-05-27",
-        "[7]",
-        "{ x = 7 }",
-    ];
-    let keys = [
-        ("address", 0),
-        ("number", 1),
-        ("algorithm", 0),
-        ("key", 0),
-        ("budget", 1),
-    ];
-    for (kind, value) in values.iter().enumerate() {
-        for (place, (name, own)) in keys.iter().enumerate() {
+    for (kind, value) in VALUES.iter().enumerate() {
+        for (place, (name, own)) in TYPES.iter().enumerate() {
             if kind != *own {
                 let line = format!(in rt.alloc(); "{name} = {value}")?;
                 let files = [(place, line.as_str())];
@@ -254,65 +265,70 @@ fn each_other_type_at_each_key(rt: HostRuntime) -> Result<(), Fail> {
     Ok(())
 }
 
+// Neither reader reads this beginning with a value behind it.
+fn is_no_value(rt: &impl Abort, alloc: Global, before: &str, value: &str) -> Result<(), Fail> {
+    let text = format!(in alloc; "{before}{value}")?;
+    assert!(rt; has_faults(text.as_str(), SHAPE, SHAPE, alloc), "of {text}");
+    Ok(())
+}
+
 #[test]
 fn each_other_type_at_the_top_level(rt: HostRuntime) -> Result<(), Fail> {
-    let shape = Some(RegisterFault::Shape);
-    for (value, is_text, is_array) in [
-        ("\"7\"", true, false),
-        ("7", false, false),
-        ("7.0", false, false),
-        ("true", false, false),
-        ("1979-05-27", false, false),
-        ("[7]", false, true),
-        ("{ x = 7 }", false, false),
-    ] {
-        let reference = format!(in rt.alloc(); "reference = {value}")?;
-        let customer = format!(in rt.alloc(); "{REFERENCE}customer = {value}")?;
-        let is_shape = |text: &str| has_faults(text, shape, shape, rt.alloc());
-        assert!(rt; is_text || is_shape(reference.as_str()), "of {reference}");
-        assert!(rt; is_array || is_shape(customer.as_str()), "of {customer}");
+    let customer = format!(in rt.alloc(); "{REFERENCE}customer = ")?;
+    for (kind, value) in VALUES.iter().enumerate() {
+        // A reference is a text, and the customers are an array.
+        if kind != 0 {
+            is_no_value(&rt, rt.alloc(), "reference = ", value)?;
+        }
+        if kind != 5 {
+            is_no_value(&rt, rt.alloc(), customer.as_str(), value)?;
+        }
     }
     Ok(())
 }
 
+// Lines that make no TOML, each in place of a key.
+const NO_DOCUMENT: [(usize, &str); 12] = [
+    (0, "address = \"192.0.2.10\"\n\"address\" = \"192.0.2.10\""),
+    (0, "address = \"192.0.2.10\"\naddress.x = 1"),
+    (1, "number = 07"),
+    (1, "number = 7_"),
+    (1, "number = 9223372036854775808"),
+    (1, "number = -9223372036854775809"),
+    (1, "number = 0x1_0000_0000_0000_0000"),
+    (2, "algorithm = md5"),
+    (3, "key = \"6b\\x\""),
+    (3, "key = 6b6579"),
+    (4, "budget = 10 20"),
+    (4, "budget = 10\n[customer]"),
+];
+
 #[test]
 fn customers_that_make_no_document(rt: HostRuntime) -> Result<(), Fail> {
-    let files = [
-        (0, "address = \"192.0.2.10\"\n\"address\" = \"192.0.2.10\""),
-        (0, "address = \"192.0.2.10\"\naddress.x = 1"),
-        (1, "number = 07"),
-        (1, "number = 7_"),
-        (1, "number = 9223372036854775808"),
-        (1, "number = -9223372036854775809"),
-        (1, "number = 0x1_0000_0000_0000_0000"),
-        (2, "algorithm = md5"),
-        (3, "key = \"6b\\x\""),
-        (3, "key = 6b6579"),
-        (4, "budget = 10 20"),
-        (4, "budget = 10\n[customer]"),
-    ];
     let toml = RegisterFault::Toml;
-    have_faults(&rt, rt.alloc(), &files, toml, Some(toml))?;
+    have_faults(&rt, rt.alloc(), &NO_DOCUMENT, toml, Some(toml))?;
     Ok(())
 }
 
+// Lines that give a customer of another form.
+const OTHER_FORMS: [(usize, &str); 12] = [
+    (1, "# number = 7"),
+    (4, "Budget = 10"),
+    (0, "address.text = \"192.0.2.10\""),
+    (1, "number = inf"),
+    (4, "budget = 1e1"),
+    (4, "budget = 10\nx = 1"),
+    (4, "budget = 10\nx.y = 1"),
+    (4, "budget = 10\n[customer.x]"),
+    (4, "budget = 10\n[[customer.x]]"),
+    (4, "budget = 10\nreference = \"00\""),
+    (4, "budget = 10\n[[customer]]"),
+    (1, "number = 0\nx = 1"),
+];
+
 #[test]
 fn customers_of_another_form(rt: HostRuntime) -> Result<(), Fail> {
-    let files = [
-        (1, "# number = 7"),
-        (4, "Budget = 10"),
-        (0, "address.text = \"192.0.2.10\""),
-        (1, "number = inf"),
-        (4, "budget = 1e1"),
-        (4, "budget = 10\nx = 1"),
-        (4, "budget = 10\nx.y = 1"),
-        (4, "budget = 10\n[customer.x]"),
-        (4, "budget = 10\n[[customer.x]]"),
-        (4, "budget = 10\nreference = \"00\""),
-        (4, "budget = 10\n[[customer]]"),
-        (1, "number = 0\nx = 1"),
-    ];
-    have_faults(&rt, rt.alloc(), &files, RegisterFault::Shape, None)?;
+    have_faults(&rt, rt.alloc(), &OTHER_FORMS, RegisterFault::Shape, None)?;
     Ok(())
 }
 
@@ -331,44 +347,52 @@ fn have_a_faulty_value(
     Ok(())
 }
 
+// Lines with a faulty value, by their keys.
+const ADDRESSES: [&str; 6] = [
+    "address = \"\"",
+    "address = \"192.0.2\"",
+    "address = \"192.0.2.300\"",
+    "address = \"192.0.02.10\"",
+    "address = \"192.0.2.10 \"",
+    "address = \"x\"\n",
+];
+
+const NUMBERS: [&str; 7] = [
+    "number = 0",
+    "number = -0",
+    "number = -7",
+    "number = 65536",
+    "number = 65543",
+    "number = 9223372036854775807",
+    "number = -9223372036854775808",
+];
+
+const ALGORITHMS: [&str; 3] = [
+    "algorithm = \"\"",
+    "algorithm = \"sha2\"",
+    "algorithm = \"MD5\"",
+];
+
+const KEYS: [&str; 4] = [
+    "key = \"\"",
+    "key = \"6b657\"",
+    "key = \"6b657g\"",
+    "key = \"000102030405060708090a0b0c0d0e0f101112131415161718191a1b1c1d1e1f20\"",
+];
+
+const BUDGETS: [&str; 3] = ["budget = 0", "budget = -1", "budget = 0x10000"];
+
+const FAULTY_VALUES: [(usize, LineFault, &[&str]); 5] = [
+    (0, LineFault::Address, &ADDRESSES),
+    (1, LineFault::Number, &NUMBERS),
+    (2, LineFault::Algorithm, &ALGORITHMS),
+    (3, LineFault::KeyText, &KEYS),
+    (4, LineFault::Budget, &BUDGETS),
+];
+
 #[test]
 fn customers_with_a_faulty_value(rt: HostRuntime) -> Result<(), Fail> {
-    let addresses = [
-        "address = \"\"",
-        "address = \"192.0.2\"",
-        "address = \"192.0.2.300\"",
-        "address = \"192.0.02.10\"",
-        "address = \"192.0.2.10 \"",
-        "address = \"x\"\n",
-    ];
-    let numbers = [
-        "number = 0",
-        "number = -0",
-        "number = -7",
-        "number = 65536",
-        "number = 65543",
-        "number = 9223372036854775807",
-        "number = -9223372036854775808",
-    ];
-    let algorithms = [
-        "algorithm = \"\"",
-        "algorithm = \"sha2\"",
-        "algorithm = \"MD5\"",
-    ];
-    let keys = [
-        "key = \"\"",
-        "key = \"6b657\"",
-        "key = \"6b657g\"",
-        "key = \"000102030405060708090a0b0c0d0e0f101112131415161718191a1b1c1d1e1f20\"",
-    ];
-    let budgets = ["budget = 0", "budget = -1", "budget = 0x10000"];
-    for (place, fault, lines) in [
-        (0, LineFault::Address, addresses.as_slice()),
-        (1, LineFault::Number, &numbers),
-        (2, LineFault::Algorithm, &algorithms),
-        (3, LineFault::KeyText, &keys),
-        (4, LineFault::Budget, &budgets),
-    ] {
+    for (place, fault, lines) in FAULTY_VALUES {
         have_a_faulty_value(&rt, place, fault, lines, rt.alloc())?;
     }
     Ok(())
@@ -380,60 +404,94 @@ const LONGEST_KEY: [u8; 32] = [
     26, 27, 28, 29, 30, 31,
 ];
 
+// The line of the longest key.
+const LONGEST: &str = "key = \"000102030405060708090a0b0c0d0e0f101112131415161718191a1b1c1d1e1f\"";
+
+// Lines with a value at its limit, each in place of a key; and the address's last octet, the number, the key and the budget.
+const LIMITS: [(usize, &str, u8, u16, &[u8], u16); 7] = [
+    (1, "number = 1", 10, 1, b"key", 10),
+    (1, "number = 65_535", 10, 65_535, b"key", 10),
+    (4, "budget = 1", 10, 7, b"key", 1),
+    (4, "budget = 0xFFFF", 10, 7, b"key", 65_535),
+    (0, "address = \"192.0.2.255\"", 255, 7, b"key", 10),
+    (3, "key = \"00\"", 10, 7, b"\0", 10),
+    (3, LONGEST, 10, 7, &LONGEST_KEY, 10),
+];
+
+// Whether a file with a line in place of a key of the customer gives just this enrolment.
+fn gives(alloc: Global, place: usize, instead: &str, expected: Command) -> Result<bool, Fail> {
+    let text = file_with(alloc, place, instead)?;
+    let commands = read_register(alloc, text.as_str())?;
+    Ok(commands.as_slice() == [expected].as_slice())
+}
+
 #[test]
 fn values_at_their_limits(rt: HostRuntime) -> Result<(), Fail> {
-    let longest = "key = \"000102030405060708090a0b0c0d0e0f101112131415161718191a1b1c1d1e1f\"";
-    for (place, instead, last, number, key, budget) in [
-        (1, "number = 1", 10, 1, b"key".as_slice(), 10),
-        (1, "number = 65_535", 10, 65_535, b"key", 10),
-        (4, "budget = 1", 10, 7, b"key", 1),
-        (4, "budget = 0xFFFF", 10, 7, b"key", 65_535),
-        (0, "address = \"192.0.2.255\"", 255, 7, b"key", 10),
-        (3, "key = \"00\"", 10, 7, b"\0", 10),
-        (3, longest, 10, 7, &LONGEST_KEY, 10),
-    ] {
-        let text = file_with(rt.alloc(), place, instead)?;
-        let commands = read_register(rt.alloc(), text.as_str())?;
+    for (place, instead, last, number, key, budget) in LIMITS {
         let expected = enrolment(last, number, Key::new(Algorithm::Md5, key)?, budget)?;
         assert!(rt;
-            commands.as_slice() == [expected].as_slice(),
+            gives(rt.alloc(), place, instead, expected)?,
             "of {instead}"
         );
     }
     Ok(())
 }
 
+// Customers: a good one, and others with one fault or more.
+const GOOD: &str =
+    "{ address = \"192.0.2.10\", number = 7, algorithm = \"md5\", key = \"6b6579\", budget = 10 }";
+
+const ALL_WRONG: &str = "{ address = \"\", number = 0, algorithm = \"\", key = \"\", budget = 0 }";
+
+const NO_BUDGET: &str =
+    "{ address = \"192.0.2.10\", number = 7, algorithm = \"md5\", key = \"6b6579\" }";
+
+const NUMBER_0: &str =
+    "{ address = \"192.0.2.20\", number = 0, algorithm = \"\", key = \"\", budget = 0 }";
+
+const KEY_0: &str =
+    "{ address = \"192.0.2.20\", number = 8, algorithm = \"sha1\", key = \"\", budget = 0 }";
+
+// What is wrong first with a file of three customers.
+fn is_first(
+    rt: &impl Abort,
+    alloc: Global,
+    [first, second, third]: [&str; 3],
+    expected: Option<RegisterFault>,
+) -> Result<(), Fail> {
+    let text = format!(in alloc; "{REFERENCE}customer = [{first}, {second}, {third}]")?;
+    assert!(rt;
+        has_faults(text.as_str(), expected, None, alloc),
+        "of {text}"
+    );
+    Ok(())
+}
+
 #[test]
-fn the_first_fault_in_file_order(rt: HostRuntime) {
-    let good =
-        "{ address = \"192.0.2.10\", number = 7, algorithm = \"md5\", key = \"6b6579\", budget = 10 }";
-    let all_wrong = "{ address = \"\", number = 0, algorithm = \"\", key = \"\", budget = 0 }";
-    let no_budget =
-        "{ address = \"192.0.2.10\", number = 7, algorithm = \"md5\", key = \"6b6579\" }";
-    let number_0 =
-        "{ address = \"192.0.2.20\", number = 0, algorithm = \"\", key = \"\", budget = 0 }";
-    let key_0 =
-        "{ address = \"192.0.2.20\", number = 8, algorithm = \"sha1\", key = \"\", budget = 0 }";
-    let files = [
-        ([good, good, good], None),
-        ([good, all_wrong, number_0], at(1, LineFault::Address)),
-        ([good, number_0, key_0], at(1, LineFault::Number)),
-        ([good, good, key_0], at(2, LineFault::KeyText)),
-        ([number_0, no_budget, good], at(0, LineFault::Number)),
-        ([good, no_budget, number_0], Some(RegisterFault::Shape)),
-        ([good, "7", number_0], Some(RegisterFault::Shape)),
-    ];
-    for ([first, second, third], expected) in files {
-        match format!(in rt.alloc(); "{REFERENCE}customer = [{first}, {second}, {third}]") {
-            Ok(text) => {
-                assert!(rt;
-                    has_faults(text.as_str(), expected, None, rt.alloc()),
-                    "of {text}"
-                )
-            }
-            Err(_) => panic!(rt; "no memory"),
-        }
-    }
+fn the_first_fault_in_file_order(rt: HostRuntime) -> Result<(), Fail> {
+    let alloc = rt.alloc();
+    is_first(&rt, alloc, [GOOD, GOOD, GOOD], None)?;
+    is_first(
+        &rt,
+        alloc,
+        [GOOD, ALL_WRONG, NUMBER_0],
+        at(1, LineFault::Address),
+    )?;
+    is_first(
+        &rt,
+        alloc,
+        [GOOD, NUMBER_0, KEY_0],
+        at(1, LineFault::Number),
+    )?;
+    is_first(&rt, alloc, [GOOD, GOOD, KEY_0], at(2, LineFault::KeyText))?;
+    is_first(
+        &rt,
+        alloc,
+        [NUMBER_0, NO_BUDGET, GOOD],
+        at(0, LineFault::Number),
+    )?;
+    is_first(&rt, alloc, [GOOD, NO_BUDGET, NUMBER_0], SHAPE)?;
+    is_first(&rt, alloc, [GOOD, "7", NUMBER_0], SHAPE)
 }
 
 // The fault of a customer.

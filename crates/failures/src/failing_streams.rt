@@ -31,9 +31,8 @@ fn a_read_fails_at_each_place(rt: HostRuntime) {
     for place in 0..=script.len() {
         let (written, end) = replayed(rt.alloc(), script, place, usize::MAX);
         let lines = ended_lines(&script[..place]);
-        assert_eq!(rt;
-            end,
-            stopped(lines + 1, ReplayFaultKind::Read),
+        assert!(rt;
+            end == stopped(lines + 1, ReplayFaultKind::Read),
             "at {place}"
         );
         are_first_answers(&rt, &written, lines);
@@ -46,12 +45,11 @@ fn a_write_fails_at_each_place(rt: HostRuntime) {
     for place in 0..answers.len() {
         let (written, end) = replayed(rt.alloc(), SCRIPT.as_bytes(), usize::MAX, place);
         let lines = ended_lines(&answers[..place]);
-        assert_eq!(rt;
-            end,
-            stopped(lines + 1, ReplayFaultKind::Write),
+        let is_stopped = end == stopped(lines + 1, ReplayFaultKind::Write);
+        assert!(rt;
+            is_stopped && written.as_slice() == &answers[..place],
             "at {place}"
         );
-        assert_eq!(rt; written.as_slice(), &answers[..place], "at {place}");
     }
 }
 
@@ -59,8 +57,7 @@ fn a_write_fails_at_each_place(rt: HostRuntime) {
 fn what_passes_all_changes_nothing(rt: HostRuntime) {
     let script = SCRIPT.as_bytes();
     let (written, end) = replayed(rt.alloc(), script, script.len() + 1, ANSWERS.len());
-    assert_eq!(rt; end, Ok(()));
-    assert_eq!(rt; written.as_slice(), ANSWERS.as_bytes());
+    assert!(rt; end.is_ok() && written.as_slice() == ANSWERS.as_bytes());
 }
 
 const ENROLMENT: &[u8] = b"enrol 192.0.2.10 7 md5 6b6579 10\n";
@@ -80,18 +77,21 @@ fn script(alloc: Global, line: &[u8]) -> Result<Vec<u8>, AllocError> {
     Ok(text)
 }
 
+// Second lines, behind how many octets the reader and the writer fail, and the fault.
+const SECOND_LINES: [(&[u8], usize, usize, ReplayFaultKind); 4] = [
+    (QUERY, usize::MAX, 5, ReplayFaultKind::Write),
+    (QUERY, ENROLMENT.len(), usize::MAX, ReplayFaultKind::Read),
+    (&LONG, usize::MAX, usize::MAX, ReplayFaultKind::LineLong),
+    (b"\xff\n", usize::MAX, usize::MAX, ReplayFaultKind::NotUtf8),
+];
+
 #[test]
 fn the_second_line_meets_each_fault(rt: HostRuntime) -> Result<(), Fail> {
-    for (line, read, written, kind) in [
-        (QUERY, usize::MAX, 5, ReplayFaultKind::Write),
-        (QUERY, ENROLMENT.len(), usize::MAX, ReplayFaultKind::Read),
-        (&LONG, usize::MAX, usize::MAX, ReplayFaultKind::LineLong),
-        (b"\xff\n", usize::MAX, usize::MAX, ReplayFaultKind::NotUtf8),
-    ] {
+    for (line, read, written, kind) in SECOND_LINES {
         let text = script(rt.alloc(), line)?;
         let (answers, end) = replayed(rt.alloc(), &text, read, written);
-        assert_eq!(rt; end, stopped(2, kind));
-        assert_eq!(rt; answers.as_slice(), b"done\n".as_slice());
+        assert!(rt; end == stopped(2, kind));
+        assert!(rt; answers.as_slice() == b"done\n".as_slice());
     }
     Ok(())
 }

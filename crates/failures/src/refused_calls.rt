@@ -32,7 +32,10 @@ fn call_refused(
 pub(crate) fn slots_refused(rt: &impl Abort, alloc: Global, n: u64) -> Refused {
     let memory = Refusing::new(alloc);
     memory.refuse_nth(n);
-    let end = Slots::new(&memory).map(|slots| slots.find(Stamp(0)).is_none());
+    let end = match Slots::new(&memory) {
+        Ok(slots) => Ok(slots.find(Stamp(0)).is_none()),
+        Err(NoMemory) => Err(NoMemory),
+    };
     call_refused(rt, &memory, end)
 }
 
@@ -55,14 +58,21 @@ pub(crate) fn event_refused(rt: &impl Abort, alloc: Global, n: u64) -> Result<Re
     Ok(call_refused(rt, &memory, end))
 }
 
+// Whether a line is the second answer of the exchange.
+fn is_second_answer(line: &str) -> bool {
+    line.strip_suffix('\n') == ANSWERS.lines().nth(1)
+}
+
 /// The answer to that query is printed as it is worked.
 pub(crate) fn answer_refused(rt: &impl Abort, alloc: Global, n: u64) -> Result<Refused, Fail> {
     let outcomes = Service::new(alloc).run(&events(alloc)?)?;
     let outcome = outcomes.get(1).ok_or("no answer")?;
     let memory = Refusing::new(alloc);
     memory.refuse_nth(n);
-    let end = print_answer(&memory, outcome).map(|line| line.as_str().strip_suffix('\n')
-        == ANSWERS.lines().nth(1));
+    let end = match print_answer(&memory, outcome) {
+        Ok(line) => Ok(is_second_answer(line.as_str())),
+        Err(NoMemory) => Err(NoMemory),
+    };
     Ok(call_refused(rt, &memory, end))
 }
 
@@ -77,7 +87,10 @@ pub(crate) fn port_refused(rt: &impl Abort, alloc: Global, n: u64) -> Result<Ref
         sends: true,
     })?;
     memory.refuse_nth(n);
-    let end = MemoryPort::new(&memory, turns).map(|port| port.sent().is_empty());
+    let end = match MemoryPort::new(&memory, turns) {
+        Ok(port) => Ok(port.sent().is_empty()),
+        Err(NoMemory) => Err(NoMemory),
+    };
     Ok(call_refused(rt, &memory, end))
 }
 

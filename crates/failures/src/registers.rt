@@ -17,7 +17,7 @@ fn enrol_and_compare(
 ) -> Result<(), AllocError>
     requires { 0 < number }
 {
-    assert_eq!(rt; twin.enrol(address_at(place), number)?, Ok(()));
+    assert!(rt; twin.enrol(address_at(place), number)?.is_ok());
     assert!(rt; twin.is_told(address_at(place), number));
     Ok(())
 }
@@ -29,7 +29,7 @@ fn revoke_and_compare(
     place: u16,
     number: u16,
 ) -> Result<(), AllocError> {
-    assert_eq!(rt; twin.revoke(address_at(place), number)?, Ok(()));
+    assert!(rt; twin.revoke(address_at(place), number)?.is_ok());
     assert!(rt; twin.is_told(address_at(place), number));
     Ok(())
 }
@@ -74,7 +74,7 @@ fn place_refused(
     assert!(rt; twin.are_told(100));
     let refused = command_refused(rt, memory, end);
     if refused == Refused::Command {
-        assert_eq!(rt; twin.enrol(address_at(place), place + 300)?, Ok(()));
+        assert!(rt; twin.enrol(address_at(place), place + 300)?.is_ok());
         assert!(rt; twin.are_told(100));
     }
     Ok(refused)

@@ -1,15 +1,15 @@
 //! What no contract says of a server: the replies of its turns to the octet, where a turn has no datagram or a send fails; that
 //! serving takes no memory; and a port of which nothing is known.
-ghost use Rattle.std.specs.Prelude.{◌≡◌, IfOk};
-ghost use Rattle.ntp_service_serve.specs.Memory.{memory_failures};
+ghost use Rattle.std.specs.Prelude.{◌≡◌};
 
 use ntp_register::Address;
-use ntp_service_serve::{
-    Arrival, DatagramRoom, MemoryPort, Port, PortFault, Sent, Served, Turn, serve,
-};
+use ntp_reply::Reference;
+use ntp_service_run::Service;
+use ntp_service_serve::{Arrival, DatagramRoom, MemoryPort, Port, PortFault, Sent, Turn, serve};
 use ntp_time::Moment;
 use refusing::Refusing;
-use std::alloc::Allocator;
+use std::alloc::{Allocator, Global};
+use std::process::Abort;
 use std::test::Fail;
 use worked_data::{
     CUSTOMER, FIRST_QUERY, FIRST_REPLY, PLANNED_REPLY, SECOND_QUERY, SECOND_REPLY, THIRD_QUERY,
@@ -31,9 +31,7 @@ const OTHERS: [(u16, &[(u16, &[u8])]); 3] = [
 ];
 
 // A port with three turns. The send to this UDP port fails.
-fn three_turns<A: Allocator + Copy>(alloc: A, failing: u16) -> Result<MemoryPort<A>, Fail>
-    ensures { IfOk result (λ port. memory_failures port ≡ 0) }
-{
+fn three_turns<A: Allocator + Copy>(alloc: A, failing: u16) -> Result<MemoryPort<A>, Fail> {
     let mut turns = Vec::new(alloc);
     for (port, receipt, octets) in TURNS {
         turns.push(turn(alloc, port, receipt, octets, port != failing)?)?;
@@ -51,8 +49,16 @@ fn empty_turn() -> Turn {
     }
 }
 
-// The arrivals, the replies sent and the departures noted.
-fn counts(served: Served) -> [u32; 3] {
+// The arrivals, the replies sent and the departures noted in so many turns of a port of which no call has failed.
+fn served<P: Port, A: Allocator + Copy>(
+    rt: &impl Abort,
+    port: &mut P,
+    service: &mut Service<A>,
+    reference: &Reference,
+    turns: u32,
+) -> [u32; 3] {
+    assert!(rt; port.failures() == 0);
+    let served = serve(port, service, reference, turns);
     [served.arrivals, served.sent, served.departed]
 }
 
@@ -70,16 +76,22 @@ fn are_sent(sent: &[Sent], expected: &[(u16, &[u8])]) -> bool {
             .all(|(sent, (port, reply))| is_sent(sent, *port, reply))
 }
 
+// A port with a turn that has a datagram, between two that have none.
+fn one_of_three(alloc: Global) -> Result<MemoryPort, Fail> {
+    let mut turns = Vec::new(alloc);
+    turns.push(empty_turn())?;
+    turns.push(turn(alloc, 5001, 0xec00_0010_9000_0000, FIRST_QUERY, true)?)?;
+    turns.push(empty_turn())?;
+    Ok(MemoryPort::new(alloc, turns)?)
+}
+
 #[test]
 fn a_turn_without_a_datagram_is_no_event(rt: HostRuntime) -> Result<(), Fail> {
-    let mut turns = Vec::new(rt.alloc());
-    turns.push(empty_turn())?;
-    turns.push(turn(rt.alloc(), 5001, 0xec00_0010_9000_0000, FIRST_QUERY, true)?)?;
-    turns.push(empty_turn())?;
-    let mut port = MemoryPort::new(rt.alloc(), turns)?;
+    let reference = reference()?;
+    let mut port = one_of_three(rt.alloc())?;
     let mut service = enrolled_service(rt.alloc())?;
-    let served = serve(&mut port, &mut service, &reference()?, 4);
-    assert_eq!(rt; (counts(served), port.failures()), ([1, 1, 1], 3));
+    let counts = served(&rt, &mut port, &mut service, &reference, 4);
+    assert!(rt; counts == [1, 1, 1] && port.failures() == 3);
     assert!(rt; are_sent(port.sent(), &[(5001, FIRST_REPLY)]));
     Ok(())
 }
@@ -90,8 +102,8 @@ fn each_send_fails_in_turn(rt: HostRuntime) -> Result<(), Fail> {
     for (failing, expected) in OTHERS {
         let mut port = three_turns(rt.alloc(), failing)?;
         let mut service = enrolled_service(rt.alloc())?;
-        let served = serve(&mut port, &mut service, &reference, 3);
-        assert_eq!(rt; (counts(served), port.failures()), ([3, 2, 2], 1));
+        let counts = served(&rt, &mut port, &mut service, &reference, 3);
+        assert!(rt; counts == [3, 2, 2] && port.failures() == 1);
         assert!(rt; are_sent(port.sent(), expected), "without {failing}");
     }
     Ok(())
@@ -99,16 +111,15 @@ fn each_send_fails_in_turn(rt: HostRuntime) -> Result<(), Fail> {
 
 #[test]
 fn serving_takes_no_memory(rt: HostRuntime) -> Result<(), Fail> {
+    let reference = reference()?;
     let memory = Refusing::new(rt.alloc());
     let mut service = enrolled_service(&memory)?;
     let mut port = three_turns(&memory, 5002)?;
     let before = memory.calls();
     memory.refuse_all();
-    let served = serve(&mut port, &mut service, &reference()?, 4);
-    assert_eq!(rt;
-        (memory.calls(), served.sent, port.failures()),
-        (before, 2, 2)
-    );
+    let counts = served(&rt, &mut port, &mut service, &reference, 4);
+    assert!(rt; memory.calls() == before);
+    assert!(rt; counts == [3, 2, 2] && port.failures() == 2);
     Ok(())
 }
 
@@ -142,9 +153,10 @@ impl Port for Broken {
 
 #[test]
 fn a_broken_port_gives_no_event(rt: HostRuntime) -> Result<(), Fail> {
+    let reference = reference()?;
     let mut service = enrolled_service(rt.alloc())?;
     let mut port = Broken { failed: 0 };
-    let served = serve(&mut port, &mut service, &reference()?, 3);
-    assert_eq!(rt; (served.arrivals, served.sent, port.failures()), (0, 0, 3));
+    let counts = served(&rt, &mut port, &mut service, &reference, 3);
+    assert!(rt; counts == [0, 0, 0] && port.failures() == 3);
     Ok(())
 }

@@ -187,9 +187,14 @@ impl<A: Allocator + Copy> Twin<A> {
         self.is_known(address) && self.is_held(number) && self.has_own_key(address, number)
     }
 
-    /// Whether so is all that can be asked of the first addresses and of each number.
-    pub(crate) fn are_told(&self, addresses: u16) -> bool {
+    /// Whether so is all that can be asked of the first addresses.
+    pub(crate) fn are_first_told(&self, addresses: u16) -> bool {
         (0..addresses).all(|place| self.is_told(address_at(place), place))
+    }
+
+    /// The same, and of each number.
+    pub(crate) fn are_told(&self, addresses: u16) -> bool {
+        self.are_first_told(addresses)
             && self.is_told(Address([192, 0, 2, 10]), u16::MAX)
             && self
                 .plain

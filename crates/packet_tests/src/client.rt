@@ -4,7 +4,7 @@ ghost use Rattle.std.specs.Prelude.{◌≤◌};
 
 use crate::packets::{moment, packet, stamps};
 use ntp_client::{Client, Distrust, Sample, Taken};
-use ntp_mac::{Algorithm, Key};
+use ntp_mac::{Algorithm, Key, Reply};
 use ntp_request::Malformed;
 use ntp_time::Stamp;
 use std::process::Abort;
@@ -104,12 +104,22 @@ fn sample(departure: u64, interleaved: bool) -> Taken {
     })
 }
 
+// The request that a client makes at a stamp.
+fn request(client: &mut Client, at: u64) -> Reply {
+    client.request(moment(at))
+}
+
+// What a client takes octets for that come at a stamp.
+fn take(client: &mut Client, octets: &[u8], at: u64) -> Taken {
+    client.take(octets, moment(at))
+}
+
 // After its first request a client takes these octets so; and then the reply to that is still a sample.
 fn takes(rt: &impl Abort, octets: &[u8], expected: Taken) -> Result<(), Fail> {
     let mut client = asked()?;
-    assert_eq!(rt; client.take(octets, moment(ARRIVAL)), expected);
-    let taken = client.take(&first_reply(), moment(ARRIVAL));
-    assert_eq!(rt; taken, sample(DEPARTURE, false), "after {expected:?}");
+    let taken = take(&mut client, octets, ARRIVAL);
+    let then = take(&mut client, &first_reply(), ARRIVAL);
+    assert_eq!(rt; [taken, then], [expected, sample(DEPARTURE, false)]);
     Ok(())
 }
 
@@ -118,52 +128,42 @@ fn refuses(rt: &impl Abort, octets: &[u8], why: Distrust) -> Result<(), Fail> {
     takes(rt, octets, Taken::Refused(why))
 }
 
+/// The digest of the second request behind the first exchange.
+const NEXT_DIGEST: u128 = 0xff09_9f8a_9ae2_53f3_a818_3e89_2fcd_9325;
+
+/// What is taken where no request is open.
+const NOTHING_ASKED: Taken = Taken::Refused(Distrust::NothingAsked);
+
 #[test]
 fn an_exchange_and_an_interleaved_one(rt: HostRuntime) -> Result<(), Fail> {
     let mut client = client()?;
-    let second_digest = 0xff09_9f8a_9ae2_53f3_a818_3e89_2fcd_9325;
-    for (transmit, request, reply, arrival, taken) in [
-        (
-            T,
-            query(0, 0, T, REQUEST_DIGEST),
-            first_reply(),
-            ARRIVAL,
-            sample(DEPARTURE, false),
-        ),
-        (
-            NEXT_T,
-            query(R, ARRIVAL, NEXT_T, second_digest),
-            interleaved_reply(),
-            NEXT_ARRIVAL,
-            sample(0xec00_0010_9000_0180, true),
-        ),
-    ] {
-        let made = client.request(moment(transmit));
-        assert_eq!(rt; made.octets(), request.as_slice());
-        assert_eq!(rt; client.take(&reply, moment(arrival)), taken);
-    }
-    let taken = client.take(&interleaved_reply(), moment(NEXT_ARRIVAL));
-    assert_eq!(rt; taken, Taken::Refused(Distrust::NothingAsked));
+    let first = request(&mut client, T);
+    assert!(rt; first.octets() == query(0, 0, T, REQUEST_DIGEST).as_slice());
+    assert!(rt; take(&mut client, &first_reply(), ARRIVAL) == sample(DEPARTURE, false));
+    let second = request(&mut client, NEXT_T);
+    assert!(rt; second.octets() == query(R, ARRIVAL, NEXT_T, NEXT_DIGEST).as_slice());
+    let taken = sample(0xec00_0010_9000_0180, true);
+    assert!(rt; take(&mut client, &interleaved_reply(), NEXT_ARRIVAL) == taken);
+    assert!(rt; take(&mut client, &interleaved_reply(), NEXT_ARRIVAL) == NOTHING_ASKED);
     Ok(())
 }
 
 #[test]
 fn an_exchange_is_carried_by_one_request(rt: HostRuntime) -> Result<(), Fail> {
     let mut client = asked()?;
-    let taken = client.take(&first_reply(), moment(ARRIVAL));
-    assert_eq!(rt; taken, sample(DEPARTURE, false));
-    let _second = client.request(moment(NEXT_T));
-    let third = client.request(moment(T));
-    assert_eq!(rt; third.octets(), query(0, 0, T, REQUEST_DIGEST).as_slice());
-    let taken = client.take(&interleaved_reply(), moment(NEXT_ARRIVAL));
-    assert_eq!(rt; taken, Taken::Refused(Distrust::Origin));
+    assert!(rt; take(&mut client, &first_reply(), ARRIVAL) == sample(DEPARTURE, false));
+    let _second = request(&mut client, NEXT_T);
+    let third = request(&mut client, T);
+    assert!(rt; third.octets() == query(0, 0, T, REQUEST_DIGEST).as_slice());
+    let taken = take(&mut client, &interleaved_reply(), NEXT_ARRIVAL);
+    assert!(rt; taken == Taken::Refused(Distrust::Origin));
     Ok(())
 }
 
 #[test]
 fn nothing_is_taken_before_a_request(rt: HostRuntime) -> Result<(), Fail> {
-    let taken = client()?.take(&first_reply(), moment(ARRIVAL));
-    assert_eq!(rt; taken, Taken::Refused(Distrust::NothingAsked));
+    let mut client = client()?;
+    assert!(rt; take(&mut client, &first_reply(), ARRIVAL) == NOTHING_ASKED);
     Ok(())
 }
 
@@ -236,13 +236,9 @@ fn a_deny_leaves_the_request_open(rt: HostRuntime) -> Result<(), Fail> {
 fn a_rate_ends_the_request(rt: HostRuntime) -> Result<(), Fail> {
     let rate = kiss(RATE, 0x5cc5_bdaa_8b50_2fef_0193_f560_3208_e8b7);
     let mut client = asked()?;
-    for (octets, taken) in [
-        (rate, Taken::Rate),
-        (rate, Taken::Refused(Distrust::NothingAsked)),
-        (first_reply(), Taken::Refused(Distrust::NothingAsked)),
-    ] {
-        assert_eq!(rt; client.take(&octets, moment(ARRIVAL)), taken);
-    }
+    assert!(rt; take(&mut client, &rate, ARRIVAL) == Taken::Rate);
+    assert!(rt; take(&mut client, &rate, ARRIVAL) == NOTHING_ASKED);
+    assert!(rt; take(&mut client, &first_reply(), ARRIVAL) == NOTHING_ASKED);
     Ok(())
 }
 
@@ -275,19 +271,22 @@ fn offset_and_delay(rt: HostRuntime) {
         (INTERLEAVED, 384, 536_870_528),
     ] {
         let sample = later(t2, t3, t4);
-        assert_eq!(rt; sample.offset_twice(), offset_twice);
-        assert_eq!(rt; sample.delay(), delay);
+        assert!(rt; sample.offset_twice() == offset_twice);
+        assert!(rt; sample.delay() == delay);
     }
 }
 
+// Samples by their later stamps, and what is printed of each.
+const PRINTED: [([u64; 3], &str); 4] = [
+    (BASIC, "offset 0.000000030 s, delay 0.124999940 s"),
+    (INTERLEAVED, "offset 0.000000045 s, delay 0.124999911 s"),
+    (BEHIND, "offset -2.500000000 s, delay 0.250000000 s"),
+    (HALF_BEHIND, "offset 0.000000000 s, delay 0.000000000 s"),
+];
+
 #[test]
 fn offset_and_delay_are_printed(rt: HostRuntime) -> Result<(), Fail> {
-    for ([t2, t3, t4], printed) in [
-        (BASIC, "offset 0.000000030 s, delay 0.124999940 s"),
-        (INTERLEAVED, "offset 0.000000045 s, delay 0.124999911 s"),
-        (BEHIND, "offset -2.500000000 s, delay 0.250000000 s"),
-        (HALF_BEHIND, "offset 0.000000000 s, delay 0.000000000 s"),
-    ] {
+    for ([t2, t3, t4], printed) in PRINTED {
         let text = format!(in rt.alloc(); "{}", later(t2, t3, t4))?;
         assert_eq!(rt; text.as_str(), printed);
     }

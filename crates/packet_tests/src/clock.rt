@@ -10,6 +10,7 @@ use ntp_mac::{Algorithm, Key, Reply, seal};
 use ntp_packet::{Header, read_header};
 use ntp_reply::{BadReference, Reference};
 use ntp_time::{Short, Stamp};
+use std::process::Abort;
 use std::test::Fail;
 
 /// Believed for 16 s, up to a root distance of 1 s, a clock set 4,096 s ago and a step of 0.5 s.
@@ -25,6 +26,11 @@ const SECOND: u64 = 1_000_000_000;
 
 /// A second in units of 2^-32 seconds.
 const UNITS: u64 = 1 << 32;
+
+/// An hour and a quarter of a second in these.
+const HOUR: u64 = 3_600 * UNITS;
+
+const QUARTER: u64 = UNITS / 4;
 
 /// A thousandth of a second in nanoseconds.
 const MILLISECOND: u64 = 1_000_000;
@@ -106,12 +112,17 @@ fn following() -> Result<Follower, Fail> {
     }
 }
 
+// The state that is in force so many seconds after the request left.
+fn in_force(follower: &Follower, seconds: u64) -> Reference {
+    follower.in_force(seconds_later(seconds))
+}
+
 #[test]
 fn before_an_answer_nothing_is_known(rt: HostRuntime) -> Result<(), Fail> {
     let follower = follower()?;
     let state = follower.in_force(at(ANSWERED));
-    assert_eq!(rt; state, reference_unsynchronised());
-    assert_eq!(rt; follower.age(SECOND), None);
+    assert!(rt; state == reference_unsynchronised());
+    assert!(rt; follower.age(SECOND).is_none());
     assert!(rt; !follower.is_set_since(at(ANSWERED)));
     Ok(())
 }
@@ -121,17 +132,13 @@ fn chronyd_is_followed(rt: HostRuntime) -> Result<(), Fail> {
     let follower = following()?;
     assert!(rt; follower.learned().is_some());
     assert!(rt; follower.is_followed(at(ANSWERED)));
-    assert_eq!(rt; follower.age(11 * SECOND), Some(10 * SECOND));
-    for (seconds, state) in [
-        // 1 as told, and 1.5 for the offset, rounded up.
-        (0, state_of_chronyd(3)?),
-        // 10 s later it is 10 · 15 · 10^-6 · 2^16 = 9.8 more, rounded up.
-        (10, state_of_chronyd(13)?),
-        // 16 s later it is not believed.
-        (16, reference_unsynchronised()),
-    ] {
-        assert_eq!(rt; follower.in_force(seconds_later(seconds)), state);
-    }
+    assert!(rt; follower.age(11 * SECOND) == Some(10 * SECOND));
+    // 1 as told, and 1.5 for the offset, rounded up.
+    assert!(rt; in_force(&follower, 0) == state_of_chronyd(3)?);
+    // 10 s later it is 10 · 15 · 10^-6 · 2^16 = 9.8 more, rounded up.
+    assert!(rt; in_force(&follower, 10) == state_of_chronyd(13)?);
+    // 16 s later it is not believed.
+    assert!(rt; in_force(&follower, 16) == reference_unsynchronised());
     Ok(())
 }
 
@@ -141,11 +148,10 @@ fn chronyd_that_follows_nothing_is_not_followed(rt: HostRuntime) -> Result<(), F
     let _request = follower.request(at(ASKED_AGAIN));
     let answer = packet(HEADER_UNSYNCHRONISED, DIGEST_UNSYNCHRONISED);
     let taken = follower.take(&answer, at(ANSWERED_AGAIN));
-    assert_eq!(rt; taken, Taken::Refused(Distrust::Unsynchronised));
+    assert!(rt; taken == Taken::Refused(Distrust::Unsynchronised));
     assert!(rt; follower.learned().is_none());
-    let later = seconds_later(10);
-    assert!(rt; !follower.is_followed(later));
-    assert_eq!(rt; follower.in_force(later), reference_unsynchronised());
+    assert!(rt; !follower.is_followed(seconds_later(10)));
+    assert!(rt; in_force(&follower, 10) == reference_unsynchronised());
     Ok(())
 }
 
@@ -191,6 +197,45 @@ impl Host {
         let state = self.follower.in_force(self.reading(seconds));
         state.root_dispersion().0
     }
+
+    // The same behind what happens then.
+    fn dispersion_behind(&mut self, seconds: u64, then: Then) -> Result<u32, Fail> {
+        match then {
+            Then::Nothing => {}
+            Then::Look => {
+                let now = self.reading(seconds);
+                if !self.follower.look(now) {
+                    return Err(Fail::from("the clock was not set"));
+                }
+            }
+            Then::Answer(set) => {
+                let _taken = self.ask(seconds, set)?;
+            }
+        }
+        Ok(self.dispersion(seconds))
+    }
+}
+
+// What happens beside the clock: nothing, a look at it, or an answer with this reference time.
+#[derive(Clone, Copy)]
+enum Then {
+    Nothing,
+    Look,
+    Answer(u64),
+}
+
+// How far the clock is set; so many seconds after the first question; what happens then; and the dispersion that replies tell behind it.
+type Step = (u64, u64, Then, u32);
+
+// A new host goes these steps.
+fn goes(rt: &impl Abort, steps: &[Step], name: &str) -> Result<(), Fail> {
+    let mut host = Host::new()?;
+    for (set, seconds, then, told) in steps {
+        host.set = *set;
+        let dispersion = host.dispersion_behind(*seconds, *then)?;
+        assert_eq!(rt; dispersion, *told, "{name}: {set} at {seconds}");
+    }
+    Ok(())
 }
 
 // An answer: its reference time, its origin and its receipt, and when it left.
@@ -210,64 +255,57 @@ fn signed(header: &Header) -> Result<Reply, Fail> {
     Ok(reply)
 }
 
+// A reference time from before the first question, and a later one.
+const BEFORE: u64 = ASKED - 10 * UNITS;
+
+const LATER: u64 = ASKED - 5 * UNITS;
+
 #[test]
 fn a_clock_that_was_set_waits_for_an_update(rt: HostRuntime) -> Result<(), Fail> {
-    let hour = 3_600 * UNITS;
-    let quarter = UNITS / 4;
     for (name, set, told) in [
         ("by 2 s", 2 * UNITS, FAR),
-        ("by 3,600 s", hour, FAR),
+        ("by 3,600 s", HOUR, FAR),
         ("back by 2 s", (2 * UNITS).wrapping_neg(), FAR),
-        ("back by 3,600 s", hour.wrapping_neg(), FAR),
+        ("back by 3,600 s", HOUR.wrapping_neg(), FAR),
         // 0.25 · 2^16 more.
-        ("by 0.25 s", quarter, 200 + 16_384),
-        ("back by 0.25 s", quarter.wrapping_neg(), 200 + 16_384),
+        ("by 0.25 s", QUARTER, 200 + 16_384),
+        ("back by 0.25 s", QUARTER.wrapping_neg(), 200 + 16_384),
     ] {
-        let mut host = Host::new()?;
-        let _taken = host.ask(0, ASKED - 10 * UNITS)?;
-        assert_eq!(rt; host.dispersion(0), 200, "{name}: before");
-        assert_eq!(rt; host.dispersion(1), 201, "{name}: a second later");
-        host.set = set;
-        assert_eq!(rt; host.dispersion(0), told, "{name}: at once");
-        let _taken = host.ask(1, ASKED - 10 * UNITS)?;
-        assert_eq!(rt; host.dispersion(1), told, "{name}: the same reference time");
-        let _taken = host.ask(2, ASKED - 5 * UNITS)?;
-        assert_eq!(rt; host.dispersion(2), told, "{name}: one before that");
-        let now = host.reading(3).clock.stamp.0;
-        let _taken = host.ask(3, now.wrapping_sub(UNITS / 2))?;
-        assert_eq!(rt; host.dispersion(3), 200, "{name}: an update");
+        let update = ASKED.wrapping_add(set).wrapping_add(5 * UNITS / 2);
+        let steps = [
+            (0, 0, Then::Answer(BEFORE), 200),
+            (0, 1, Then::Nothing, 201),
+            (set, 0, Then::Nothing, told),
+            (set, 1, Then::Answer(BEFORE), told),
+            (set, 2, Then::Answer(LATER), told),
+            (set, 3, Then::Answer(update), 200),
+        ];
+        goes(&rt, &steps, name)?;
     }
     Ok(())
 }
 
 #[test]
 fn the_first_answer_behind_a_step_shows_no_update(rt: HostRuntime) -> Result<(), Fail> {
-    let mut host = Host::new()?;
-    let _taken = host.ask(0, ASKED - 10 * UNITS)?;
-    host.set = 2 * UNITS;
-    let now = host.reading(1).clock.stamp.0;
-    let _taken = host.ask(1, now)?;
-    assert_eq!(rt; host.dispersion(1), FAR);
-    let _taken = host.ask(2, now.wrapping_add(UNITS))?;
-    assert_eq!(rt; host.dispersion(2), 200);
-    Ok(())
+    let set = 2 * UNITS;
+    let now = ASKED + 3 * UNITS;
+    let steps = [
+        (0, 0, Then::Answer(BEFORE), 200),
+        (set, 1, Then::Answer(now), FAR),
+        (set, 2, Then::Answer(now + UNITS), 200),
+    ];
+    goes(&rt, &steps, "set by 2 s")
 }
 
 #[test]
 fn there_and_back_costs_nothing(rt: HostRuntime) -> Result<(), Fail> {
-    let mut host = Host::new()?;
-    let _taken = host.ask(0, ASKED - 10 * UNITS)?;
-    host.set = 60 * UNITS;
-    let now = host.reading(1);
-    assert!(rt; host.follower.look(now));
-    assert_eq!(rt; host.dispersion(1), FAR);
-    host.set = 0;
-    let now = host.reading(1);
-    assert!(rt; host.follower.look(now));
-    assert_eq!(rt; host.dispersion(1), 201);
-    let _taken = host.ask(2, ASKED - 10 * UNITS)?;
-    assert_eq!(rt; host.dispersion(2), 200);
-    Ok(())
+    let steps = [
+        (0, 0, Then::Answer(BEFORE), 200),
+        (60 * UNITS, 1, Then::Look, FAR),
+        (0, 1, Then::Look, 201),
+        (0, 2, Then::Answer(BEFORE), 200),
+    ];
+    goes(&rt, &steps, "there and back")
 }
 
 #[test]
@@ -277,7 +315,7 @@ fn a_step_within_an_exchange_refuses_the_answer(rt: HostRuntime) -> Result<(), F
     let mut set = at(ANSWERED);
     set.ticks = set.ticks.wrapping_sub(2 * MILLISECOND);
     let taken = follower.take(&packet(HEADER, DIGEST), set);
-    assert_eq!(rt; taken, Taken::Refused(Distrust::NothingAsked));
+    assert!(rt; taken == Taken::Refused(Distrust::NothingAsked));
     assert!(rt; follower.learned().is_none());
     Ok(())
 }
@@ -288,42 +326,37 @@ fn a_late_answer_is_no_answer_to_the_next_question(rt: HostRuntime) -> Result<()
     let _request = follower.request(at(ASKED));
     let _request = follower.request(seconds_later(1));
     let taken = follower.take(&packet(HEADER, DIGEST), seconds_later(1));
-    assert_eq!(rt; taken, Taken::Refused(Distrust::Origin));
+    assert!(rt; taken == Taken::Refused(Distrust::Origin));
     Ok(())
+}
+
+// A kiss-o'-death to a question, which asks for fewer.
+fn rate_of(question: &Reply) -> Result<Reply, Fail> {
+    let asked = read_header(question.octets()).ok_or("no header")?;
+    let kiss = Header::blank(4, 4)
+        .with_leap(3)
+        .with_reference_id(*b"RATE")
+        .with_origin(asked.transmit());
+    signed(&kiss)
 }
 
 #[test]
 fn a_rate_slows_the_questions_for_an_hour(rt: HostRuntime) -> Result<(), Fail> {
     let mut follower = follower()?;
-    assert_eq!(rt; follower.period(SECOND), SECOND);
-    let question = follower.request(at(ASKED));
-    let Some(asked) = read_header(question.octets()) else {
-        return Err(Fail::from("no header"));
-    };
-    let kiss = Header::blank(4, 4)
-        .with_leap(3)
-        .with_reference_id(*b"RATE")
-        .with_origin(asked.transmit());
-    let kiss = signed(&kiss)?;
-    assert_eq!(rt; follower.take(kiss.octets(), at(ASKED)), Taken::Rate);
-    for (ticks, period) in [
-        (SECOND, 8 * SECOND),
-        (3_601 * SECOND - 1, 8 * SECOND),
-        (3_601 * SECOND, SECOND),
-    ] {
-        assert_eq!(rt; follower.period(ticks), period, "{ticks}");
-    }
+    assert!(rt; follower.period(SECOND) == SECOND);
+    let kiss = rate_of(&follower.request(at(ASKED)))?;
+    assert!(rt; follower.take(kiss.octets(), at(ASKED)) == Taken::Rate);
+    assert!(rt; follower.period(SECOND) == 8 * SECOND);
+    assert!(rt; follower.period(3_601 * SECOND - 1) == 8 * SECOND);
+    assert!(rt; follower.period(3_601 * SECOND) == SECOND);
     Ok(())
 }
 
 #[test]
 fn a_clock_that_was_not_read_is_unsynchronised(rt: HostRuntime) -> Result<(), Fail> {
     let state = state_of_chronyd(3)?;
-    assert_eq!(rt;
-        reference_where_read(moment(0), state),
-        reference_unsynchronised()
-    );
-    assert_eq!(rt; reference_where_read(moment(1), state), state);
+    assert!(rt; reference_where_read(moment(0), state) == reference_unsynchronised());
+    assert!(rt; reference_where_read(moment(1), state) == state);
     Ok(())
 }
 
@@ -367,65 +400,79 @@ fn dispersion(answer: &ClockAnswer, nanos: u64, units: u64) -> u32 {
     state.root_dispersion().0
 }
 
+// When the clock was set, 4,096 s before the answers of the rows are 10 s old.
+const SET: u64 = CAME - 4_086 * UNITS;
+
+// Answers by their leap, stratum, root delay, reference time and twice their offset; and the dispersion that replies tell 10 s later.
+// It is 200 + 66 + 10 = 276 then, and the root distance with a delay of 130,520 is 130,520 / 2 + 276 = 65,536, or 1 s.
+const ANSWERS: [(&str, u8, u8, u32, u64, i128, u32); 8] = [
+    ("all at their limits", 0, 2, 130_520, SET, TWICE_1_MS, 276),
+    ("ahead of the daemon", 2, 15, 130_520, SET, -TWICE_1_MS, 276),
+    ("a greater delay", 0, 2, 130_521, SET, TWICE_1_MS, FAR),
+    ("set before that", 0, 2, 130_520, SET - 1, TWICE_1_MS, FAR),
+    ("never set", 0, 2, 0, 0, TWICE_1_MS, FAR),
+    (
+        "set 0.5 s later",
+        0,
+        2,
+        0,
+        CAME + UNITS / 2,
+        TWICE_1_MS,
+        276,
+    ),
+    (
+        "set still later",
+        0,
+        2,
+        0,
+        CAME + UNITS / 2 + 1,
+        TWICE_1_MS,
+        FAR,
+    ),
+    ("unsynchronised", 3, 16, 0, SET, TWICE_1_MS, FAR),
+];
+
 #[test]
 fn answers_at_the_limits(rt: HostRuntime) -> Result<(), Fail> {
-    // 10 s after it came the dispersion is 200 + 66 + 10 = 276, and the root distance with a delay of 130,520 is
-    // 130,520 / 2 + 276 = 65,536, or 1 s. The clock was then set 4,096 s ago.
-    let set = CAME - 4_086 * UNITS;
-    for (name, leap, stratum, delay, set, offset_twice, expected) in [
-        ("all at their limits", 0, 2, 130_520, set, TWICE_1_MS, 276),
-        ("ahead of the daemon", 2, 15, 130_520, set, -TWICE_1_MS, 276),
-        ("a greater delay", 0, 2, 130_521, set, TWICE_1_MS, FAR),
-        ("set before that", 0, 2, 130_520, set - 1, TWICE_1_MS, FAR),
-        ("never set", 0, 2, 0, 0, TWICE_1_MS, FAR),
-        (
-            "set 0.5 s later",
-            0,
-            2,
-            0,
-            CAME + UNITS / 2,
-            TWICE_1_MS,
-            276,
-        ),
-        (
-            "set still later",
-            0,
-            2,
-            0,
-            CAME + UNITS / 2 + 1,
-            TWICE_1_MS,
-            FAR,
-        ),
-        ("unsynchronised", 3, 16, 0, set, TWICE_1_MS, FAR),
-    ] {
+    for (name, leap, stratum, delay, set, offset_twice, expected) in ANSWERS {
         let answer = answer(leap, stratum, delay, set, offset_twice)?;
-        assert_eq!(rt;
-            dispersion(&answer, 10 * SECOND, 10 * UNITS),
-            expected,
-            "{name}"
-        );
+        let told = dispersion(&answer, 10 * SECOND, 10 * UNITS);
+        assert!(rt; told == expected, "{name}: {told}");
     }
     Ok(())
 }
 
+// Ten seconds of both clocks, and half a second of the host's.
+const NANOS_10: u64 = 10 * SECOND;
+
+const UNITS_10: u64 = 10 * UNITS;
+
+const HALF: u64 = UNITS / 2;
+
+// What the clocks went on by behind an answer, and the dispersion that replies then tell.
+const CLOCKS: [(&str, u64, u64, u32); 7] = [
+    ("at once", 0, 0, 266),
+    // 1 for a nanosecond by which the clocks went apart.
+    ("just young", 16 * SECOND - 1, 16 * UNITS, 283),
+    ("old", 16 * SECOND, 16 * UNITS, FAR),
+    // The dispersion has grown by 0.5 s too.
+    (
+        "put forward by 0.5 s",
+        NANOS_10,
+        UNITS_10 + HALF,
+        276 + 32_768,
+    ),
+    ("forward by more", NANOS_10, UNITS_10 + HALF + 1, FAR),
+    ("put back by 0.5 s", NANOS_10, UNITS_10 - HALF, 276 + 32_768),
+    ("back by more", NANOS_10, UNITS_10 - HALF - 1, FAR),
+];
+
 #[test]
 fn clocks_at_the_limits(rt: HostRuntime) -> Result<(), Fail> {
     let answer = answer(1, 2, 0, CAME, TWICE_1_MS)?;
-    // Ten seconds of both clocks, and half a second of the host's.
-    let (nanos, units) = (10 * SECOND, 10 * UNITS);
-    let half = UNITS / 2;
-    for (name, nanos, units, expected) in [
-        ("at once", 0, 0, 266),
-        // 1 for a nanosecond by which the clocks went apart.
-        ("just young", 16 * SECOND - 1, 16 * UNITS, 283),
-        ("old", 16 * SECOND, 16 * UNITS, FAR),
-        // The dispersion has grown by 0.5 s too.
-        ("put forward by 0.5 s", nanos, units + half, 276 + 32_768),
-        ("forward by more", nanos, units + half + 1, FAR),
-        ("put back by 0.5 s", nanos, units - half, 276 + 32_768),
-        ("back by more", nanos, units - half - 1, FAR),
-    ] {
-        assert_eq!(rt; dispersion(&answer, nanos, units), expected, "{name}");
+    for (name, nanos, units, expected) in CLOCKS {
+        let told = dispersion(&answer, nanos, units);
+        assert!(rt; told == expected, "{name}: {told}");
     }
     Ok(())
 }

@@ -32,61 +32,67 @@ const SIGNED_BY_SHA1: [u8; 88] = [
     0xbc, 0xdd, 0x24, 0x8a, 0x63, 0x81, 0x46, 0x29,
 ];
 
-// The texts of RFC 1321, A.5, each as a key and the octets behind it.
+// The texts of RFC 1321, A.5, each as a key and the octets behind it, and its digest.
+const MD5_TEXTS: [(&str, &str, u128); 6] = [
+    ("a", "", 0x0cc1_75b9_c0f1_b6a8_31c3_99e2_6977_2661),
+    ("a", "bc", 0x9001_5098_3cd2_4fb0_d696_3f7d_28e1_7f72),
+    (
+        "message",
+        " digest",
+        0xf96b_697d_7cb7_938d_525a_2f31_aaf1_61d0,
+    ),
+    (
+        "abcdefghijklm",
+        "nopqrstuvwxyz",
+        0xc3fc_d3d7_6192_e400_7dfb_496c_ca67_e13b,
+    ),
+    (
+        "ABCDEFGHIJKLMNOPQRSTUVWXYZabcdef",
+        "ghijklmnopqrstuvwxyz0123456789",
+        0xd174_ab98_d277_d9f5_a561_1c2c_9f41_9d9f,
+    ),
+    (
+        "1234567890",
+        "1234567890123456789012345678901234567890123456789012345678901234567890",
+        0x57ed_f4a2_2be3_c955_ac49_da2e_2107_b67a,
+    ),
+];
+
+// The digest of octets behind a key.
+fn digest_of(algorithm: Algorithm, key: &str, octets: &str) -> Result<Digest, Fail> {
+    let key = Key::new(algorithm, key.as_bytes())?;
+    Ok(digest(&key, octets.as_bytes()))
+}
+
 #[test]
 fn digests_of_md5(rt: HostRuntime) -> Result<(), Fail> {
-    for (key, octets, expected) in [
-        ("a", "", 0x0cc1_75b9_c0f1_b6a8_31c3_99e2_6977_2661u128),
-        ("a", "bc", 0x9001_5098_3cd2_4fb0_d696_3f7d_28e1_7f72),
-        (
-            "message",
-            " digest",
-            0xf96b_697d_7cb7_938d_525a_2f31_aaf1_61d0,
-        ),
-        (
-            "abcdefghijklm",
-            "nopqrstuvwxyz",
-            0xc3fc_d3d7_6192_e400_7dfb_496c_ca67_e13b,
-        ),
-        (
-            "ABCDEFGHIJKLMNOPQRSTUVWXYZabcdef",
-            "ghijklmnopqrstuvwxyz0123456789",
-            0xd174_ab98_d277_d9f5_a561_1c2c_9f41_9d9f,
-        ),
-        (
-            "1234567890",
-            "1234567890123456789012345678901234567890123456789012345678901234567890",
-            0x57ed_f4a2_2be3_c955_ac49_da2e_2107_b67a,
-        ),
-    ] {
-        let key = Key::new(Algorithm::Md5, key.as_bytes())?;
+    for (key, octets, expected) in MD5_TEXTS {
+        let digest = digest_of(Algorithm::Md5, key, octets)?;
         let expected = Digest::Md5(expected.to_be_bytes());
-        assert_eq!(rt; digest(&key, octets.as_bytes()), expected, "of {octets}");
+        assert!(rt; digest == expected, "of {octets}");
     }
     Ok(())
 }
 
-// The texts of the examples for FIPS 180-4, each as a key and the octets behind it.
+// The texts of the examples for FIPS 180-4, each as a key and the octets behind it, and its digest.
+const SHA1_TEXTS: [(&str, &str, [u8; 20]); 2] = [
+    (
+        "a",
+        "bc",
+        *b"\xa9\x99\x3e\x36\x47\x06\x81\x6a\xba\x3e\x25\x71\x78\x50\xc2\x6c\x9c\xd0\xd8\x9d",
+    ),
+    (
+        "abcdbcdecdefdefg",
+        "efghfghighijhijkijkljklmklmnlmnomnopnopq",
+        *b"\x84\x98\x3e\x44\x1c\x3b\xd2\x6e\xba\xae\x4a\xa1\xf9\x51\x29\xe5\xe5\x46\x70\xf1",
+    ),
+];
+
 #[test]
 fn digests_of_sha1(rt: HostRuntime) -> Result<(), Fail> {
-    for (key, octets, expected) in [
-        (
-            "a",
-            "bc",
-            *b"\xa9\x99\x3e\x36\x47\x06\x81\x6a\xba\x3e\x25\x71\x78\x50\xc2\x6c\x9c\xd0\xd8\x9d",
-        ),
-        (
-            "abcdbcdecdefdefg",
-            "efghfghighijhijkijkljklmklmnlmnomnopnopq",
-            *b"\x84\x98\x3e\x44\x1c\x3b\xd2\x6e\xba\xae\x4a\xa1\xf9\x51\x29\xe5\xe5\x46\x70\xf1",
-        ),
-    ] {
-        let key = Key::new(Algorithm::Sha1, key.as_bytes())?;
-        assert_eq!(rt;
-            digest(&key, octets.as_bytes()),
-            Digest::Sha1(expected),
-            "of {octets}"
-        );
+    for (key, octets, expected) in SHA1_TEXTS {
+        let digest = digest_of(Algorithm::Sha1, key, octets)?;
+        assert!(rt; digest == Digest::Sha1(expected), "of {octets}");
     }
     Ok(())
 }
@@ -99,7 +105,7 @@ fn keys_of_1_to_32_octets(rt: HostRuntime) {
         (Algorithm::Md5, &[7; 32], None),
         (Algorithm::Sha1, &[7], None),
     ] {
-        assert_eq!(rt; Key::new(algorithm, octets).err(), fault);
+        assert!(rt; Key::new(algorithm, octets).err() == fault);
     }
 }
 
@@ -118,19 +124,24 @@ fn sealed(algorithm: Algorithm, key: &[u8], number: u16) -> Result<Reply, Fail> 
     Ok(reply)
 }
 
+// The key numbers and the digests of that reply, sealed by MD5 and by SHA-1.
+const MD5_MAC: [u8; 20] =
+    *b"\0\0\0\x07\x7b\xcf\xfc\xfd\x4b\xb6\x86\x4e\xdc\x41\x08\x77\x39\x9f\x16\xc8";
+
+const SHA1_MAC: [u8; 24] =
+    *b"\0\0\x01\x08\xe8\xb5\x74\x13\x65\x9e\x04\xa8\xf6\xd2\xf1\xd4\x76\x28\xaf\xad\xe1\x8c\x62\x83";
+
+// Whether a sealed reply has the header, and this MAC behind it.
+fn is_sealed(reply: &Reply, mac: &[u8]) -> bool {
+    reply.octets().starts_with(&HEADER) && reply.octets().get(48..) == Some(mac)
+}
+
 #[test]
 fn sealed_replies(rt: HostRuntime) -> Result<(), Fail> {
-    let md5 = b"\0\0\0\x07\x7b\xcf\xfc\xfd\x4b\xb6\x86\x4e\xdc\x41\x08\x77\x39\x9f\x16\xc8";
-    let sha1 =
-        b"\0\0\x01\x08\xe8\xb5\x74\x13\x65\x9e\x04\xa8\xf6\xd2\xf1\xd4\x76\x28\xaf\xad\xe1\x8c\x62\x83";
-    for (algorithm, key, number, mac) in [
-        (Algorithm::Md5, b"key".as_slice(), 7, md5.as_slice()),
-        (Algorithm::Sha1, b"other", 0x0108, sha1),
-    ] {
-        let reply = sealed(algorithm, key, number)?;
-        assert!(rt; reply.octets().starts_with(&HEADER));
-        assert_eq!(rt; reply.octets().get(48..), Some(mac));
-    }
+    let by_md5 = sealed(Algorithm::Md5, b"key", 7)?;
+    assert!(rt; is_sealed(&by_md5, &MD5_MAC));
+    let by_sha1 = sealed(Algorithm::Sha1, b"other", 0x0108)?;
+    assert!(rt; is_sealed(&by_sha1, &SHA1_MAC));
     Ok(())
 }
 
@@ -138,14 +149,14 @@ fn sealed_replies(rt: HostRuntime) -> Result<(), Fail> {
 fn a_crypto_nak_has_four_octets_of_zero(rt: HostRuntime) -> Result<(), Fail> {
     let mut reply = Reply::from_header(&read_header(&HEADER).ok_or("no header")?);
     add_nak(&mut reply);
-    assert_eq!(rt; reply.octets().get(48..), Some([0; 4].as_slice()));
+    assert!(rt; reply.octets().get(48..) == Some([0; 4].as_slice()));
     Ok(())
 }
 
 #[test]
 fn replies_of_at_most_72_octets(rt: HostRuntime) {
     for (octets, is_reply) in [([1; 72].as_slice(), true), (&[1; 73], false)] {
-        assert_eq!(rt; Reply::from_octets(octets).is_some(), is_reply);
+        assert!(rt; Reply::from_octets(octets).is_some() == is_reply);
     }
 }
 
@@ -164,17 +175,10 @@ fn is_signed(request: &[u8], algorithm: Algorithm, key: &[u8], number: u16) -> R
 
 #[test]
 fn signed_requests(rt: HostRuntime) -> Result<(), Fail> {
-    for (algorithm, key, number, expected) in [
-        (Algorithm::Md5, b"key".as_slice(), 7, true),
-        (Algorithm::Md5, b"key", 8, false),
-        (Algorithm::Md5, b"other", 7, false),
-        (Algorithm::Sha1, b"key", 7, false),
-    ] {
-        assert_eq!(rt;
-            is_signed(&SIGNED_BY_MD5, algorithm, key, number)?,
-            expected
-        );
-    }
+    assert!(rt; is_signed(&SIGNED_BY_MD5, Algorithm::Md5, b"key", 7)?);
+    assert!(rt; !is_signed(&SIGNED_BY_MD5, Algorithm::Md5, b"key", 8)?);
+    assert!(rt; !is_signed(&SIGNED_BY_MD5, Algorithm::Md5, b"other", 7)?);
+    assert!(rt; !is_signed(&SIGNED_BY_MD5, Algorithm::Sha1, b"key", 7)?);
     assert!(rt; is_signed(&SIGNED_BY_SHA1, Algorithm::Sha1, b"other", 8)?);
     Ok(())
 }

@@ -3,6 +3,7 @@
 use crate::plain_reader::{LENGTHS, WHOLE_LENGTHS, agrees_on, spelled};
 use arrayvec::ArrayVec;
 use ntp_request::{FieldFault, Malformed, Tail, read_request, write_field};
+use std::process::Abort;
 use std::test::Fail;
 
 /// A client's request of version 4: mode 3, poll 6, and a transmit stamp.
@@ -38,31 +39,37 @@ fn field(length: u8) -> [u8; 28] {
 fn reads_a_field_with_no_mac(rt: HostRuntime) -> Result<(), Fail> {
     let octets = datagram(&field(28));
     let request = read_request(octets.as_slice())?;
-    assert_eq!(rt; (request.header.mode(), request.signed.len()), (3, 76));
-    assert_eq!(rt; request.tail, Tail::Absent);
-    assert_eq!(rt; spelled(request.fields).as_slice(), field(28).as_slice());
+    assert!(rt; request.header.mode() == 3 && request.signed.len() == 76);
+    assert!(rt; request.tail == Tail::Absent);
+    assert!(rt; spelled(request.fields).as_slice() == field(28).as_slice());
     Ok(())
+}
+
+// What is wrong with the header with some octets behind it.
+fn fault_of(behind: &[u8]) -> Option<Malformed> {
+    read_request(datagram(behind).as_slice()).err()
 }
 
 #[test]
 fn refuses_what_is_no_request(rt: HostRuntime) {
-    assert_eq!(rt; read_request(&HEADER[..47]).err(), Some(Malformed::Short));
-    for (behind, fault) in [
-        ([0; 977].as_slice(), Malformed::Long),
-        (&[0; 16], Malformed::Rest { at: 48 }),
-        (&field(0x0c), Malformed::FieldShort { at: 48 }),
-        (&field(0x12), Malformed::FieldUnaligned { at: 48 }),
-        (&field(0x40), Malformed::FieldPastEnd { at: 48 }),
-    ] {
-        assert_eq!(rt;
-            read_request(datagram(behind).as_slice()).err(),
-            Some(fault)
-        );
+    assert!(rt; read_request(&HEADER[..47]).err() == Some(Malformed::Short));
+    assert!(rt; fault_of(&[0; 977]) == Some(Malformed::Long));
+    assert!(rt; fault_of(&[0; 16]) == Some(Malformed::Rest { at: 48 }));
+    assert!(rt; fault_of(&field(0x0c)) == Some(Malformed::FieldShort { at: 48 }));
+    assert!(rt; fault_of(&field(0x12)) == Some(Malformed::FieldUnaligned { at: 48 }));
+    assert!(rt; fault_of(&field(0x40)) == Some(Malformed::FieldPastEnd { at: 48 }));
+}
+
+// Whether this tail is read of the header with some octets behind it.
+fn has_tail(behind: &[u8], tail: Tail<'_>) -> bool {
+    match read_request(datagram(behind).as_slice()) {
+        Ok(request) => request.tail == tail,
+        Err(_) => false,
     }
 }
 
 #[test]
-fn reads_each_tail(rt: HostRuntime) -> Result<(), Fail> {
+fn reads_each_tail(rt: HostRuntime) {
     let md5 = Tail::Md5 {
         number: 0x07070707,
         digest: &[7; 16],
@@ -71,41 +78,36 @@ fn reads_each_tail(rt: HostRuntime) -> Result<(), Fail> {
         number: 0x08080808,
         digest: &[8; 20],
     };
-    for (behind, tail) in [
-        ([0; 4].as_slice(), Tail::Bare(0)),
-        (&[7; 20], md5),
-        (&[8; 24], sha1),
-    ] {
-        let octets = datagram(behind);
-        assert_eq!(rt; read_request(octets.as_slice())?.tail, tail);
-    }
-    Ok(())
+    assert!(rt; has_tail(&[0; 4], Tail::Bare(0)));
+    assert!(rt; has_tail(&[7; 20], md5));
+    assert!(rt; has_tail(&[8; 24], sha1));
+}
+
+// Whether octets are written so as a field of kind 0x0104.
+fn is_written(value: &[u8], expected: &[u8]) -> bool {
+    let mut out = ArrayVec::new();
+    write_field(0x0104, value, &mut out).is_ok() && out.as_slice() == expected
 }
 
 #[test]
 fn writes_a_padded_field(rt: HostRuntime) {
-    for (value, expected) in [
-        ([1, 2, 3, 4, 5].as_slice(), PADDED_TO_16.as_slice()),
-        (&[9; 13], &PADDED_TO_20),
-    ] {
-        let mut out = ArrayVec::new();
-        assert_eq!(rt; write_field(0x0104, value, &mut out), Ok(()));
-        assert_eq!(rt; out.as_slice(), expected);
-    }
+    assert!(rt; is_written(&[1, 2, 3, 4, 5], &PADDED_TO_16));
+    assert!(rt; is_written(&[9; 13], &PADDED_TO_20));
+}
+
+// What comes of a field of five octets behind others, which stay as they are; and how many there are then.
+fn written_behind(rt: &impl Abort, before: &[u8]) -> (Result<(), FieldFault>, usize) {
+    let mut out = ArrayVec::new();
+    let _ = out.try_extend_from_slice(before);
+    let written = write_field(0x0104, &[1, 2, 3, 4, 5], &mut out);
+    assert!(rt; out.as_slice().starts_with(before));
+    (written, out.len())
 }
 
 #[test]
 fn writes_a_field_only_where_it_fits(rt: HostRuntime) {
-    for (before, written, after) in [
-        ([0; 1008].as_slice(), Ok(()), 1024),
-        (&[0; 1012], Err(FieldFault::Full), 1012),
-    ] {
-        let mut out = ArrayVec::new();
-        let _ = out.try_extend_from_slice(before);
-        assert_eq!(rt; write_field(0x0104, &[1, 2, 3, 4, 5], &mut out), written);
-        assert_eq!(rt; out.len(), after);
-        assert!(rt; out.as_slice().starts_with(before));
-    }
+    assert!(rt; written_behind(&rt, &[0; 1008]) == (Ok(()), 1024));
+    assert!(rt; written_behind(&rt, &[0; 1012]) == (Err(FieldFault::Full), 1012));
 }
 
 // One to three fields, of which the last has any length, in datagrams of 48 to 130 octets.

@@ -27,42 +27,78 @@ pub fn check_configuration(
     path: &str,
     report: &mut Report,
 ) -> Result<Configured, u8> {
-    let none = Configured {
-        register: None,
-        commands: None,
-    };
-    let text = match small_text(rt, rt.alloc(), path, &mut report.out) {
-        Ok(text) => text,
+    match small_text(rt, rt.alloc(), path, &mut report.out) {
+        Ok(text) => check_text(rt, path, text.as_str(), report),
         Err(status) => {
             report.take(status);
-            return Ok(none);
+            Ok(no_files())
         }
-    };
-    let document = match toml::table_from_str(rt.alloc(), text.as_str()) {
-        Ok(document) => document,
-        Err(error) => {
-            let Some(fault) = NoToml::of(text.as_str(), error) else {
-                return Err(memory_status(&mut report.out));
-            };
-            report.fault(path, fault);
-            return Ok(none);
-        }
-    };
-    match read_configuration(rt.alloc(), text.as_str()) {
-        Ok(_) => {}
-        Err(ConfigurationFault::NoMemory) => return Err(memory_status(&mut report.out)),
-        Err(_) => match found_in(rt.alloc(), text.as_str(), &document) {
-            Ok(found) => {
-                report.take(TEXT_FAULTY);
-                report.found(path, &found);
+    }
+}
+
+// Tells every fault of the text of a configuration file.
+fn check_text(
+    rt: &HostRuntime,
+    path: &str,
+    text: &str,
+    report: &mut Report,
+) -> Result<Configured, u8> {
+    match toml::table_from_str(rt.alloc(), text) {
+        Ok(document) => check_document(rt, path, text, &document, report),
+        Err(error) => match NoToml::of(text, error) {
+            Some(fault) => {
+                report.fault(path, fault);
+                Ok(no_files())
             }
-            Err(_) => return Err(memory_status(&mut report.out)),
+            None => Err(memory_status(&mut report.out)),
         },
     }
-    check_places(rt, path, &document, report)?;
-    check_clock_key(rt, &document, report);
-    match configured_in(rt.alloc(), &document) {
+}
+
+// The files that are named where nothing is.
+fn no_files() -> Configured {
+    Configured {
+        register: None,
+        commands: None,
+    }
+}
+
+// Tells every fault of a document.
+fn check_document(
+    rt: &HostRuntime,
+    path: &str,
+    text: &str,
+    document: &Table,
+    report: &mut Report,
+) -> Result<Configured, u8> {
+    check_settings(rt.alloc(), path, text, document, report)?;
+    check_places(rt, path, document, report)?;
+    check_clock_key(rt, document, report);
+    match configured_in(rt.alloc(), document) {
         Ok(configured) => Ok(configured),
+        Err(_) => Err(memory_status(&mut report.out)),
+    }
+}
+
+// Tells every fault of the settings of a document.
+fn check_settings(
+    alloc: Global,
+    path: &str,
+    text: &str,
+    document: &Table,
+    report: &mut Report,
+) -> Result<(), u8> {
+    let found = match read_configuration(alloc, text) {
+        Ok(_) => return Ok(()),
+        Err(ConfigurationFault::NoMemory) => Err(AllocError),
+        Err(_) => found_in(alloc, text, document),
+    };
+    match found {
+        Ok(found) => {
+            report.take(TEXT_FAULTY);
+            report.found(path, &found);
+            Ok(())
+        }
         Err(_) => Err(memory_status(&mut report.out)),
     }
 }

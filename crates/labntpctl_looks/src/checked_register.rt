@@ -92,7 +92,7 @@ fn check_text(alloc: Global, path: &str, text: &str, report: &mut Report) -> Res
         }
     };
     match search(alloc, text, &document) {
-        Ok(Searched { found, checked }) => {
+        Ok(Finder { found, checked, .. }) => {
             report.found(path, &found);
             Ok(checked)
         }
@@ -100,34 +100,17 @@ fn check_text(alloc: Global, path: &str, text: &str, report: &mut Report) -> Res
     }
 }
 
-// What was found in a register file.
-#[derive(Drop)]
-struct Searched {
-    found: Vec<Found>,
-    checked: Checked,
-}
-
-// Searches a document for faults, in the order of its lines.
-fn search(alloc: Global, text: &str, document: &Table) -> Result<Searched, AllocError> {
-    let lines = key_lines(alloc, text, "customer")?;
+// Searches a document for faults.
+fn search<'a>(alloc: Global, text: &str, document: &'a Table) -> Result<Finder<'a>, AllocError> {
     let mut finder = Finder {
         alloc,
         document,
-        lines,
+        lines: key_lines(alloc, text, "customer")?,
         found: Vec::new(alloc),
         checked: Checked::new(alloc),
     };
-    finder.top()?;
-    for (place, customer) in customers(document).iter().enumerate() {
-        finder.customer(place as u64, customer)?;
-    }
-    let Finder {
-        mut found,
-        checked,
-        ..
-    } = finder;
-    found.sort_by_key(|found| found.line)?;
-    Ok(Searched { found, checked })
+    finder.search()?;
+    Ok(finder)
 }
 
 // A document that is searched for faults.
@@ -141,6 +124,16 @@ struct Finder<'a> {
 }
 
 impl<'a> Finder<'a> {
+    // Searches all, and sorts what was found by its lines.
+    fn search(&mut self) -> Result<(), AllocError> {
+        let document = self.document;
+        self.top()?;
+        for (place, customer) in customers(document).iter().enumerate() {
+            self.customer(place as u64, customer)?;
+        }
+        self.found.sort_by_key(|found| found.line)
+    }
+
     // Searches the top level.
     fn top(&mut self) -> Result<(), AllocError> {
         let document = self.document;
@@ -192,18 +185,31 @@ impl<'a> Finder<'a> {
 
     // Searches a customer that has a fault.
     fn faulty(&mut self, place: u64, customer: &Value) -> Result<(), AllocError> {
-        let who = CustomerAt::new(self.document, place);
-        let table = match customer_table(customer) {
-            Ok(table) => table,
-            Err(fault) => {
-                return self.add(self.line(place), true, format_args!("{who}: {fault}"));
+        match customer_table(customer) {
+            Ok(table) => {
+                self.members(place, table)?;
+                self.keys(place, table)
             }
-        };
+            Err(fault) => {
+                let who = CustomerAt::new(self.document, place);
+                self.add(self.line(place), true, format_args!("{who}: {fault}"))
+            }
+        }
+    }
+
+    // Searches what a customer has to have.
+    fn members(&mut self, place: u64, table: &Table) -> Result<(), AllocError> {
         for member in MEMBERS.iter() {
             if let Some(wrong) = wrong_at(table, *member) {
                 self.member(place, table, *member, wrong)?;
             }
         }
+        Ok(())
+    }
+
+    // Searches the keys of a customer.
+    fn keys(&mut self, place: u64, table: &Table) -> Result<(), AllocError> {
+        let who = CustomerAt::new(self.document, place);
         for key in table.keys() {
             if let Some(fault) = customer_key_fault(key.as_str()) {
                 let line = self.line_of(place, key.as_str());

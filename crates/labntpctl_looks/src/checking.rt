@@ -47,13 +47,12 @@ fn check_customers(
     commands: Option<&str>,
     report: &mut Report,
 ) -> Result<(), u8> {
-    let mut checked = match register {
-        None => Checked::new(rt.alloc()),
-        Some(path) => check_register(rt, path, report)?,
-    };
-    if let Some(path) = commands {
-        checked = check_commands(rt, path, checked, report)?;
-    }
+    let checked = checked_in(rt, register, commands, report)?;
+    tell_well(&checked, report)
+}
+
+// Tells how many customers there are, where nothing is wrong.
+fn tell_well(checked: &Checked, report: &mut Report) -> Result<(), u8> {
     if checked.counts.has_missed() {
         return Err(memory_status(&mut report.out));
     }
@@ -62,4 +61,21 @@ fn check_customers(
         let _ = writeln!(report.out, "ok: {customers} customers");
     }
     Ok(())
+}
+
+// Tells every fault of a register and of commands, and gives the customers that they make.
+fn checked_in(
+    rt: &HostRuntime,
+    register: Option<&str>,
+    commands: Option<&str>,
+    report: &mut Report,
+) -> Result<Checked, u8> {
+    let checked = match register {
+        None => Checked::new(rt.alloc()),
+        Some(path) => check_register(rt, path, report)?,
+    };
+    match commands {
+        None => Ok(checked),
+        Some(path) => check_commands(rt, path, checked, report),
+    }
 }

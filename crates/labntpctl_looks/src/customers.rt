@@ -1,7 +1,8 @@
 //! Who is enrolled.
 
 use labntpctl_standing::{
-    FilesNamed, Standing, differences, reported_in, reported_text, standing_at, write_table,
+    FilesNamed, Reported, Standing, differences, reported_in, reported_text, standing_at,
+    write_table,
 };
 use labntpd_configuration::Configuration;
 use labntpd_start::{configuration_at, start_lines};
@@ -18,29 +19,39 @@ pub fn customers_status(rt: &HostRuntime, files: FilesNamed<'_>, json: bool) -> 
     }
 }
 
-// Tells who is enrolled, and in which the daemon's file and the others differ.
+// Tells who is enrolled.
 fn listed(rt: &HostRuntime, files: FilesNamed<'_>, json: bool) -> Result<(), u8> {
     match files {
-        FilesNamed::Each { register, commands } => {
-            let text = lines_by(rt, register, commands)?;
-            write_lines(rt, text.as_str(), json)
-        }
+        FilesNamed::Each { register, commands } => listed_by(rt, register, commands, json),
         FilesNamed::Configured(path) => {
             let configuration = configuration_at(rt, rt.alloc(), path, &mut start_lines(rt))?;
-            let register = configuration.register.as_str();
-            let commands = configuration.commands.as_str();
-            match reported_by(rt, &configuration)? {
-                Some(text) => {
-                    write_lines(rt, text.as_str(), json)?;
-                    compare(rt, text.as_str(), register, commands);
-                    Ok(())
-                }
-                None => {
-                    let text = lines_by(rt, register, Some(commands))?;
-                    write_lines(rt, text.as_str(), json)
-                }
-            }
+            listed_for(rt, &configuration, json)
         }
+    }
+}
+
+// Tells whom the files alone have.
+fn listed_by(
+    rt: &HostRuntime,
+    register: &str,
+    commands: Option<&str>,
+    json: bool,
+) -> Result<(), u8> {
+    let text = lines_by(rt, register, commands)?;
+    write_lines(rt, text.as_str(), json)
+}
+
+// Tells whom the daemon has, and in which its file and the others differ; where it has no file, whom the others have.
+fn listed_for(rt: &HostRuntime, configuration: &Configuration, json: bool) -> Result<(), u8> {
+    let register = configuration.register.as_str();
+    let commands = configuration.commands.as_str();
+    match reported_by(rt, configuration)? {
+        Some(text) => {
+            write_lines(rt, text.as_str(), json)?;
+            compare(rt, text.as_str(), register, commands);
+            Ok(())
+        }
+        None => listed_by(rt, register, Some(commands), json),
     }
 }
 
@@ -65,7 +76,7 @@ fn write_lines(rt: &HostRuntime, text: &str, json: bool) -> Result<(), u8> {
     }
 }
 
-// Tells each difference between the daemon's customers and those of the files. Where the files have a fault, that is told.
+// Tells in which the daemon's file and the others differ. Where these have a fault, that is told.
 fn compare(rt: &HostRuntime, text: &str, register: &str, commands: &str) {
     let mut faults = start_lines(rt);
     let Ok(daemon) = reported_in(rt, text) else {
@@ -74,7 +85,13 @@ fn compare(rt: &HostRuntime, text: &str, register: &str, commands: &str) {
     let Ok(files) = standing_at(rt, rt.alloc(), register, Some(commands), &mut faults) else {
         return;
     };
-    match differences(rt.alloc(), &daemon, &files) {
+    tell_differences(rt, &daemon, &files);
+}
+
+// Tells each difference between the daemon's customers and those of the files.
+fn tell_differences(rt: &HostRuntime, daemon: &[Reported], files: &Standing) {
+    let mut faults = start_lines(rt);
+    match differences(rt.alloc(), daemon, files) {
         Ok(lines) => {
             for line in lines.as_str().lines() {
                 let _ = writeln!(faults, "{line}");

@@ -62,14 +62,19 @@ pub fn door_status(rt: &HostRuntime, asked: &Door<'_>) -> u8 {
 // Prints the rules, writes them, or keeps them.
 fn opened(rt: &HostRuntime, asked: &Door<'_>) -> Result<(), u8> {
     let configuration = configuration_at(rt, rt.alloc(), asked.config, &mut start_lines(rt))?;
-    let server = server_for(rt, asked, &configuration)?;
+    opened_by(rt, asked, &configuration)
+}
+
+// The same by a configuration.
+fn opened_by(rt: &HostRuntime, asked: &Door<'_>, configuration: &Configuration) -> Result<(), u8> {
+    let server = server_for(rt, asked, configuration)?;
     match asked.output {
-        Output::Printed => print(rt, &rules(rt, &configuration, server)?),
+        Output::Printed => print(rt, &rules(rt, configuration, server)?),
         Output::Written(path) => {
-            let rules = rules(rt, &configuration, server)?;
+            let rules = rules(rt, configuration, server)?;
             replace(rt, path, &rules)
         }
-        Output::Kept(path) => keep(rt, &configuration, server, path),
+        Output::Kept(path) => keep(rt, configuration, server, path),
     }
 }
 

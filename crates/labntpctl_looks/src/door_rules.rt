@@ -29,6 +29,15 @@ table inet labntpd {
     }
 ";
 
+/// What stands between them and the rules that are written anew.
+const FLUSHED: &str = "\
+}
+
+flush chain inet labntpd door
+flush chain inet labntpd queries
+flush map inet labntpd customers
+";
+
 /// What goes beyond the limit of all strangers together. They get no answer; but who was enrolled since the rules were loaded is one of them.
 /// A hundred datagrams a second cost the server less than a thousandth of a processor.
 const STRANGERS: &str = "limit rate over 100/second burst 100 packets";
@@ -54,22 +63,25 @@ pub fn rules_text(alloc: Global, server: Server, sources: &[Source]) -> Result<S
     let (grouping, limits) = limits_for(alloc, sources)?;
     let mut text = String::from_str(alloc, HEAD)?;
     for shared in limits.iter() {
-        text.push_str(used_text(alloc, shared.group)?.as_str())?;
+        add(&mut text, used_text(alloc, shared.group))?;
     }
-    text.push_str("}\n\nflush chain inet labntpd door\nflush chain inet labntpd queries\n")?;
-    text.push_str("flush map inet labntpd customers\n")?;
+    text.push_str(FLUSHED)?;
     for shared in limits.iter() {
-        let group = shared.group;
-        text.push_str(format!(in alloc; "flush chain inet labntpd budget_{group}\n")?.as_str())?;
+        add(&mut text, flushed_text(alloc, shared.group))?;
     }
     text.push_str("\ntable inet labntpd {\n")?;
-    text.push_str(customers_text(alloc, sources, grouping)?.as_str())?;
+    add(&mut text, customers_text(alloc, sources, grouping))?;
     for shared in limits.iter() {
-        text.push_str(limit_text(alloc, shared)?.as_str())?;
+        add(&mut text, limit_text(alloc, shared))?;
     }
-    text.push_str(door_text(alloc, server)?.as_str())?;
+    add(&mut text, door_text(alloc, server))?;
     text.push_str("}\n")?;
     Ok(text)
+}
+
+// Adds a text that was made, if it was.
+fn add(text: &mut String, made: Result<String, AllocError>) -> Result<(), AllocError> {
+    text.push_str(made?.as_str())
 }
 
 // The limits that these sources have, and who shares one.
@@ -121,6 +133,11 @@ fn used_text(alloc: Global, group: u32) -> Result<String, AllocError> {
     )
 }
 
+// That the chain of a group is written anew.
+fn flushed_text(alloc: Global, group: u32) -> Result<String, AllocError> {
+    format!(in alloc; "flush chain inet labntpd budget_{group}\n")
+}
+
 // Who the customers are.
 fn customers_text(
     alloc: Global,
@@ -134,15 +151,19 @@ fn customers_text(
     if !sources.is_empty() {
         text.push_str("        elements = {\n")?;
         for source in sources.iter() {
-            let address = address_text(alloc, source.address)?;
             let group = group_for(source.budget, grouping);
-            let line = format!(in alloc; "            {address} : goto budget_{group},\n")?;
-            text.push_str(line.as_str())?;
+            add(&mut text, customer_text(alloc, source.address, group))?;
         }
         text.push_str("        }\n")?;
     }
     text.push_str("    }\n")?;
     Ok(text)
+}
+
+// The line of a customer.
+fn customer_text(alloc: Global, address: Address, group: u32) -> Result<String, AllocError> {
+    let address = address_text(alloc, address)?;
+    format!(in alloc; "            {address} : goto budget_{group},\n")
 }
 
 // The rule for the sources of a group.

@@ -14,7 +14,7 @@ use ntp_reply::{Answer, Reason};
 use ntp_request::{Malformed, Tail, read_request};
 use ntp_time::{Moment, Stamp};
 use std::alloc::{AllocError, Global};
-use std::fmt;
+use std::fmt::{self, Display};
 use std::io::{self, BufWriter, Stdout, Write};
 
 /// How many octets a capture file has at most.
@@ -44,32 +44,48 @@ pub fn explain_status(rt: &HostRuntime, config: &str, explained: Explained<'_>) 
 
 // Explains what datagrams would get.
 fn explain(rt: &HostRuntime, config: &str, explained: Explained<'_>) -> Result<u8, u8> {
-    let mut faults = start_lines(rt);
-    let configuration = configuration_at(rt, rt.alloc(), config, &mut faults)?;
-    let (register, commands) = (
-        configuration.register.as_str(),
-        configuration.commands.as_str(),
-    );
-    let standing = standing_at(rt, rt.alloc(), register, Some(commands), &mut faults)?;
-    let Ok(out) = BufWriter::new(rt.alloc(), rt.stdout()) else {
-        return Err(memory_status(&mut faults));
-    };
-    let mut explainer = Explainer {
-        out,
-        standing,
-        now: moment_now(&rt),
-        explained: 0,
-    };
+    let configuration = configuration_at(rt, rt.alloc(), config, &mut start_lines(rt))?;
+    let mut explainer = new_explainer(rt, &configuration)?;
+    explain_by(rt, &mut explainer, port_of(&configuration), explained)
+}
+
+// Explains what datagrams to a port would get.
+fn explain_by(
+    rt: &HostRuntime,
+    explainer: &mut Explainer,
+    port: u16,
+    explained: Explained<'_>,
+) -> Result<u8, u8> {
     explainer.head();
     let status = match explained {
-        Explained::Datagram { octets, from } => datagram_status(rt, &mut explainer, octets, from)?,
-        Explained::Capture(path) => {
-            capture_status(rt, &mut explainer, path, port_of(&configuration))?
-        }
+        Explained::Datagram { octets, from } => datagram_status(rt, explainer, octets, from)?,
+        Explained::Capture(path) => capture_status(rt, explainer, path, port)?,
     };
     match explainer.out.flush() {
         Ok(()) => Ok(status),
-        Err(_) => Err(write_status(&mut faults)),
+        Err(_) => Err(write_status(&mut start_lines(rt))),
+    }
+}
+
+// Who explains by the files of a configuration.
+fn new_explainer(rt: &HostRuntime, configuration: &Configuration) -> Result<Explainer, u8> {
+    let register = configuration.register.as_str();
+    let commands = configuration.commands.as_str();
+    let standing = standing_at(
+        rt,
+        rt.alloc(),
+        register,
+        Some(commands),
+        &mut start_lines(rt),
+    )?;
+    match BufWriter::new(rt.alloc(), rt.stdout()) {
+        Ok(out) => Ok(Explainer {
+            out,
+            standing,
+            now: moment_now(&rt),
+            explained: 0,
+        }),
+        Err(_) => Err(memory_status(&mut start_lines(rt))),
     }
 }
 
@@ -111,33 +127,37 @@ fn capture_status(
     path: &str,
     port: u16,
 ) -> Result<u8, u8> {
-    let mut faults = start_lines(rt);
-    let octets = match read_regular_file(rt, rt.alloc(), path, MOST_CAPTURE_OCTETS) {
-        Ok(octets) => octets,
-        Err(error) => return Err(failed_status(path, &error, &mut faults)),
-    };
-    if octets.len() > MOST_CAPTURE_OCTETS as usize {
-        let _ = writeln!(
-            faults,
-            "{path}: at most {MOST_CAPTURE_OCTETS} octets are wanted"
-        );
-        return Err(TEXT_FAULTY);
-    }
+    let octets = capture_octets(rt, path)?;
     let capture = match capture_in(&octets) {
         Ok(capture) => capture,
-        Err(fault) => {
-            let _ = writeln!(faults, "{path}: {fault}");
-            return Err(TEXT_FAULTY);
-        }
+        Err(fault) => return Err(faulty(rt, path, fault)),
     };
     let records = told(rt, explainer.capture(rt.alloc(), capture, port))?;
     if records.is_cut {
         let _ = explainer.out.flush();
         let record = records.whole.saturating_add(1);
-        let _ = writeln!(faults, "{path}: record {record} is cut short");
-        return Err(TEXT_FAULTY);
+        return Err(faulty(rt, path, format_args!("record {record} is cut short")));
     }
     Ok(DONE)
+}
+
+// The octets of a capture file.
+fn capture_octets(rt: &HostRuntime, path: &str) -> Result<Vec<u8>, u8> {
+    match read_regular_file(rt, rt.alloc(), path, MOST_CAPTURE_OCTETS) {
+        Ok(octets) if octets.len() <= MOST_CAPTURE_OCTETS as usize => Ok(octets),
+        Ok(_) => Err(faulty(
+            rt,
+            path,
+            format_args!("at most {MOST_CAPTURE_OCTETS} octets are wanted"),
+        )),
+        Err(error) => Err(failed_status(path, &error, &mut start_lines(rt))),
+    }
+}
+
+// Tells a fault of a file, and gives the exit status.
+fn faulty<D: Display + Drop>(rt: &HostRuntime, path: &str, fault: D) -> u8 {
+    let _ = writeln!(start_lines(rt), "{path}: {fault}");
+    TEXT_FAULTY
 }
 
 // What was told, or the exit status for want of memory.
@@ -397,7 +417,7 @@ fn write_fields<W: Write>(out: &mut W, octets: &[u8]) -> io::Result<()> {
 #[derive(Clone, Copy)]
 struct Why(Reason);
 
-impl fmt::Display for Why {
+impl Display for Why {
     fn fmt<W: fmt::Write>(&self, f: &mut fmt::Formatter<W>) -> fmt::Result {
         match self.0 {
             Reason::Unregistered => f.write_str("its address was never enrolled"),

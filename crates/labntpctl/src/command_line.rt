@@ -75,8 +75,13 @@ pub fn parse<'a>(alloc: Global, words: &'a [String]) -> Result<Asked<'a>, Error>
     let matches = command(alloc)?.try_get_matches_from(words)?;
     match asked_in(&matches) {
         Ok(asked) => Ok(asked),
-        Err(message) => { Err(command(alloc)?.error(ErrorKind::ValueValidation, message)?) }
+        Err(message) => Err(unfit(alloc, message)?),
     }
+}
+
+// The error of words that do not fit together.
+fn unfit(alloc: Global, message: &str) -> Result<Error, AllocError> {
+    command(alloc)?.error(ErrorKind::ValueValidation, message)
 }
 
 // What the matches ask for; else what is wrong with them.
@@ -89,15 +94,15 @@ fn asked_in<'a>(matches: &ArgMatches<'a>) -> Result<Asked<'a>, &'static str> {
             files: files_in(matches)?,
             json: matches.get_flag("json"),
         }),
-        "door" => Ok(Asked::Door(door_in(matches)?)),
-        "check" => Ok(Asked::Check(files_in(matches)?)),
+        "door" => door_in(matches).map(Asked::Door),
+        "check" => files_in(matches).map(Asked::Check),
         "explain" => Ok(Asked::Explain {
             config: config_in(matches),
             explained: explained_in(matches)?,
         }),
-        "fold" => Ok(Asked::Fold(fold_in(matches)?)),
-        "recover" => Ok(Asked::Recover(recover_in(matches)?)),
-        _ => Ok(Asked::Order(ordered_in(name, matches)?)),
+        "fold" => Ok(Asked::Fold(fold_in(matches))),
+        "recover" => recover_in(matches).map(Asked::Recover),
+        _ => ordered_in(name, matches).map(Asked::Order),
     }
 }
 
@@ -156,12 +161,12 @@ fn explained_in<'a>(matches: &ArgMatches<'a>) -> Result<Explained<'a>, &'static 
 }
 
 // What is asked of a fold.
-fn fold_in<'a>(matches: &ArgMatches<'a>) -> Result<FoldAsked<'a>, &'static str> {
-    Ok(FoldAsked {
+fn fold_in<'a>(matches: &ArgMatches<'a>) -> FoldAsked<'a> {
+    FoldAsked {
         config: config_in(matches),
         output: matches.get_str("output"),
         dry_run: matches.get_flag("dry-run"),
-    })
+    }
 }
 
 // The path of the configuration file.
@@ -262,27 +267,28 @@ fn wait_in(matches: &ArgMatches<'_>) -> Result<u64, &'static str> {
 
 // The command line, with its help.
 fn command<'a>(alloc: Global) -> Result<Command<'a>, AllocError> {
-    Command::new(alloc, "labntpctl")
+    let mut command = Command::new(alloc, "labntpctl")
         .version(VERSION)
         .about("Keeps the customers of labntpd")
         .after_help(AFTER_HELP)
         .subcommand_required(true)
-        .disable_help_subcommand(true)
-        .subcommand(customers_command(alloc)?)?
-        .subcommand(door_command(alloc)?)?
-        .subcommand(check_command(alloc)?)?
-        .subcommand(explain_command(alloc)?)?
-        .subcommand(enrol_command(alloc)?)?
-        .subcommand(order(
-            alloc,
-            "revoke",
-            "Ends an enrolment: the address is refused from now on",
-        )?)?
-        .subcommand(budget_command(alloc)?)?
-        .subcommand(rollover_command(alloc)?)?
-        .subcommand(retire_command(alloc)?)?
-        .subcommand(fold_command(alloc)?)?
-        .subcommand(recover_command(alloc)?)
+        .disable_help_subcommand(true);
+    for below in [
+        customers_command(alloc),
+        door_command(alloc),
+        check_command(alloc),
+        explain_command(alloc),
+        enrol_command(alloc),
+        revoke_command(alloc),
+        budget_command(alloc),
+        rollover_command(alloc),
+        retire_command(alloc),
+        fold_command(alloc),
+        recover_command(alloc),
+    ] {
+        command = command.subcommand(below?)?;
+    }
+    Ok(command)
 }
 
 // Who is enrolled.
@@ -290,37 +296,30 @@ fn customers_command<'a>(alloc: Global) -> Result<Command<'a>, AllocError> {
     let command = Command::new(alloc, "customers").about(
         "Lists the customers: with counts and last uses where labntpd writes its customers file, else from the register and the commands",
     );
-    files_of(alloc, command)?.arg(
-        Arg::new(alloc, "json")
-            .long("json")
-            .action(ArgAction::SetTrue)
-            .help("Prints an object of JSON for each customer"),
+    with(
+        alloc,
+        files_of(alloc, command)?,
+        &[flag("json").help("Prints an object of JSON for each customer")],
     )
 }
 
 // The rules of the door.
 fn door_command<'a>(alloc: Global) -> Result<Command<'a>, AllocError> {
-    Command::new(alloc, "door")
-        .about("Prints rules of nftables that let pass from each customer what its budget asks for")
-        .arg(config(alloc))?
-        .arg(value(
-            alloc,
-            "address",
-            "ADDRESS[:PORT]",
-            "Where labntpd is asked [default: where it listens]",
-        ))?
-        .arg(value(
-            alloc,
-            "output",
-            "FILE",
-            "Writes the rules into a file, if it has others",
-        ))?
-        .arg(
-            Arg::new(alloc, "watch")
-                .long("watch")
-                .action(ArgAction::SetTrue)
-                .help("Runs on, and writes the file again whenever the rules change"),
-        )
+    let command = Command::new(alloc, "door").about(
+        "Prints rules of nftables that let pass from each customer what its budget asks for",
+    );
+    with(
+        alloc,
+        command,
+        &[
+            config(),
+            value("address", "ADDRESS[:PORT]").help(
+                "Where labntpd is asked [default: where it listens]",
+            ),
+            value("output", "FILE").help("Writes the rules into a file, if it has others"),
+            flag("watch").help("Runs on, and writes the file again whenever the rules change"),
+        ],
+    )
 }
 
 // Every fault of the files.
@@ -333,59 +332,55 @@ fn check_command<'a>(alloc: Global) -> Result<Command<'a>, AllocError> {
 
 // What datagrams would get.
 fn explain_command<'a>(alloc: Global) -> Result<Command<'a>, AllocError> {
-    Command::new(alloc, "explain")
-        .about(
-            "Tells what a datagram would get by the register and the commands, and why, and spends nothing of a budget",
-        )
-        .arg(
-            Arg::new(alloc, "datagram")
-                .value_name("DATAGRAM")
-                .action(ArgAction::Set)
-                .help("The octets of the UDP payload, in hexadecimal digits"),
-        )?
-        .arg(value(
-            alloc,
-            "from",
-            "ADDRESS",
-            "The IPv4 address from which it came",
-        ))?
-        .arg(value(
-            alloc,
-            "pcap",
-            "FILE",
-            "A capture file in pcap form: each UDP datagram to the port is explained",
-        ))?
-        .arg(config(alloc))
+    let command = Command::new(alloc, "explain").about(
+        "Tells what a datagram would get by the register and the commands, and why, and spends nothing of a budget",
+    );
+    with(
+        alloc,
+        command,
+        &[
+            word("datagram", "DATAGRAM").help(
+                "The octets of the UDP payload, in hexadecimal digits",
+            ),
+            value("from", "ADDRESS").help("The IPv4 address from which it came"),
+            value("pcap", "FILE").help(
+                "A capture file in pcap form: each UDP datagram to the port is explained",
+            ),
+            config(),
+        ],
+    )
 }
 
 // A command that reads the files of a configuration, or those that are named one by one.
 fn files_of<'a>(alloc: Global, command: Command<'a>) -> Result<Command<'a>, AllocError> {
-    command
-        .arg(config(alloc).conflicts_with("register")?)?
-        .arg(
-            Arg::new(alloc, "register")
-                .value_name("REGISTER")
-                .action(ArgAction::Set)
-                .help("The register file, where no configuration is named"),
-        )?
-        .arg(
-            Arg::new(alloc, "commands")
-                .value_name("COMMANDS")
-                .action(ArgAction::Set)
-                .help("The commands file"),
-        )
+    let config = config().made(alloc).conflicts_with("register")?;
+    with(
+        alloc,
+        command.arg(config)?,
+        &[
+            word("register", "REGISTER").help("The register file, where no configuration is named"),
+            word("commands", "COMMANDS").help("The commands file"),
+        ],
+    )
 }
 
 // A new customer.
 fn enrol_command<'a>(alloc: Global) -> Result<Command<'a>, AllocError> {
     let about =
         "Enrols an address under the lowest free number with a new key, and writes what the customer gets";
-    let command = order(alloc, "enrol", about)?.arg(number(
-        alloc,
-        "budget",
+    let budget = number("budget").help(
         "Signed queries that get the time in 64 seconds [default: 10]",
-    ))?;
-    with_key(alloc, command)
+    );
+    with_key(
+        alloc,
+        with(alloc, order(alloc, "enrol", about)?, &[budget])?,
+    )
+}
+
+// An enrolment that ends.
+fn revoke_command<'a>(alloc: Global) -> Result<Command<'a>, AllocError> {
+    let about = "Ends an enrolment: the address is refused from now on";
+    order(alloc, "revoke", about)
 }
 
 // Another budget.
@@ -409,139 +404,199 @@ fn rollover_command<'a>(alloc: Global) -> Result<Command<'a>, AllocError> {
 
 // A key that goes.
 fn retire_command<'a>(alloc: Global) -> Result<Command<'a>, AllocError> {
-    order(
+    let about =
+        "Tells when a key was last used, asks, and takes it from an address that has another";
+    with(
         alloc,
-        "retire",
-        "Tells when a key was last used, asks, and takes it from an address that has another",
-    )?
-    .arg(number(
-        alloc,
-        "number",
-        "The key's number [default: that of the older one]",
-    ))?
-    .arg(
-        Arg::new(alloc, "yes")
-            .long("yes")
-            .action(ArgAction::SetTrue)
-            .help("Does not ask first"),
+        order(alloc, "retire", about)?,
+        &[
+            number("number").help("The key's number [default: that of the older one]"),
+            flag("yes").help("Does not ask first"),
+        ],
     )
 }
 
 // A shorter commands file.
 fn fold_command<'a>(alloc: Global) -> Result<Command<'a>, AllocError> {
-    Command::new(alloc, "fold")
-        .about(
-            "Folds the commands into the register: both files are written anew, and make the same customers",
-        )
-        .arg(config(alloc))?
-        .arg(value(
-            alloc,
-            "output",
-            "DIRECTORY",
-            "Where the new files are written, if not in the place of the old ones",
-        ))?
-        .arg(
-            Arg::new(alloc, "dry-run")
-                .long("dry-run")
-                .action(ArgAction::SetTrue)
-                .help("Only tells how long the new files would be"),
-        )
+    let command = Command::new(alloc, "fold").about(
+        "Folds the commands into the register: both files are written anew, and make the same customers",
+    );
+    with(
+        alloc,
+        command,
+        &[
+            config(),
+            value("output", "DIRECTORY").help(
+                "Where the new files are written, if not in the place of the old ones",
+            ),
+            flag("dry-run").help("Only tells how long the new files would be"),
+        ],
+    )
 }
 
 // A lost commands file.
 fn recover_command<'a>(alloc: Global) -> Result<Command<'a>, AllocError> {
-    Command::new(alloc, "recover")
-        .about(
-            "Writes a new commands file where that of labntpd is lost or damaged: the lines of a backup, and what labntpd's customers file tells beside them",
-        )
-        .arg(config(alloc))?
-        .arg(value(
-            alloc,
-            "backup",
-            "FILE",
-            "A backup of the commands file [default: what is left of that file]",
-        ))?
-        .arg(value(
-            alloc,
-            "output",
-            "FILE",
-            "Where the new commands file is written",
-        )
-        .required(true))
+    let command = Command::new(alloc, "recover").about(
+        "Writes a new commands file where that of labntpd is lost or damaged: the lines of a backup, and what labntpd's customers file tells beside them",
+    );
+    with(
+        alloc,
+        command,
+        &[
+            config(),
+            value("backup", "FILE").help(
+                "A backup of the commands file [default: what is left of that file]",
+            ),
+            wanted(value("output", "FILE")).help("Where the new commands file is written"),
+        ],
+    )
 }
 
 // A command that changes a customer.
 fn order<'a>(alloc: Global, name: &'a str, about: &'a str) -> Result<Command<'a>, AllocError> {
-    Command::new(alloc, name)
-        .about(about)
-        .arg(
-            Arg::new(alloc, "address")
-                .value_name("ADDRESS")
-                .required(true)
-                .action(ArgAction::Set)
-                .help("The customer's IPv4 address"),
-        )?
-        .arg(config(alloc))?
-        .arg(value(
-            alloc,
-            "wait",
-            "S",
-            "How many seconds the answer is waited for [default: 5]",
-        )
-        .value_parser(ValueParser::Float))?
-        .arg(value(
-            alloc,
-            "answers",
-            "FILE[,FILE..]",
-            "The answers files of all processes that serve [default: that of the configuration]",
-        ))?
-        .arg(
-            Arg::new(alloc, "dry-run")
-                .long("dry-run")
-                .action(ArgAction::SetTrue)
-                .help("Only shows the line, with KEY in the place of a key"),
-        )
+    with(
+        alloc,
+        Command::new(alloc, name).about(about),
+        &[
+            wanted(word("address", "ADDRESS")).help("The customer's IPv4 address"),
+            config(),
+            seconds("wait").help("How many seconds the answer is waited for [default: 5]"),
+            value("answers", "FILE[,FILE..]").help(
+                "The answers files of all processes that serve [default: that of the configuration]",
+            ),
+            flag("dry-run").help("Only shows the line, with KEY in the place of a key"),
+        ],
+    )
 }
 
 // A command that makes a key.
 fn with_key<'a>(alloc: Global, command: Command<'a>) -> Result<Command<'a>, AllocError> {
-    command
-        .arg(value(
-            alloc,
-            "algorithm",
-            "ALGORITHM",
-            "md5 or sha1 [default: sha1]",
-        ))?
-        .arg(value(
-            alloc,
-            "output",
-            "FILE",
-            "A new file for what the customer gets [default: ADDRESS-NUMBER.keys]",
-        ))?
-        .arg(value(
-            alloc,
-            "server",
-            "ADDRESS[:PORT]",
-            "Where the customer asks [default: where labntpd listens]",
-        ))
+    with(
+        alloc,
+        command,
+        &[
+            value("algorithm", "ALGORITHM").help("md5 or sha1 [default: sha1]"),
+            value("output", "FILE").help(
+                "A new file for what the customer gets [default: ADDRESS-NUMBER.keys]",
+            ),
+            value("server", "ADDRESS[:PORT]").help(
+                "Where the customer asks [default: where labntpd listens]",
+            ),
+        ],
+    )
+}
+
+// A command with arguments.
+fn with<'a>(
+    alloc: Global,
+    command: Command<'a>,
+    arguments: &[Argument<'a>],
+) -> Result<Command<'a>, AllocError> {
+    let mut command = command;
+    for argument in arguments {
+        command = command.arg(argument.made(alloc))?;
+    }
+    Ok(command)
+}
+
+// What a command is given.
+#[derive(Clone, Copy)]
+struct Argument<'a> {
+    name: &'a str,
+    form: Form,
+    // How the help shows its value.
+    shown: &'a str,
+    help: &'a str,
+    is_wanted: bool,
+}
+
+// How an argument is written.
+#[derive(Clone, Copy)]
+enum Form {
+    // A name alone.
+    Flag,
+    // A value alone.
+    Word,
+    // A name with a value: any, a number of a key or a budget, or seconds.
+    Value,
+    Number,
+    Seconds,
+}
+
+impl<'a> Argument<'a> {
+    // The same with a text for the help.
+    fn help(self, help: &'a str) -> Argument<'a> {
+        Argument { help, ..self }
+    }
+
+    // The same for the parser.
+    fn made(self, alloc: Global) -> Arg<'a> {
+        let argument = Arg::new(alloc, self.name).help(self.help);
+        if let Form::Flag = self.form {
+            return argument.long(self.name).action(ArgAction::SetTrue);
+        }
+        let argument = argument
+            .value_name(self.shown)
+            .required(self.is_wanted)
+            .action(ArgAction::Set);
+        match self.form {
+            Form::Flag | Form::Word => argument,
+            Form::Value => argument.long(self.name),
+            Form::Number => argument
+                .long(self.name)
+                .value_parser(ValueParser::unsigned(1, 65_535)),
+            Form::Seconds => argument.long(self.name).value_parser(ValueParser::Float),
+        }
+    }
 }
 
 // The configuration file.
-fn config<'a>(alloc: Global) -> Arg<'a> {
-    let help = "The configuration file of labntpd [default: /etc/labntp/labntpd.toml]";
-    value(alloc, "config", "FILE", help)
+fn config<'a>() -> Argument<'a> {
+    value("config", "FILE").help(
+        "The configuration file of labntpd [default: /etc/labntp/labntpd.toml]",
+    )
+}
+
+// An argument of a form, whose value the help shows so.
+fn argument_of<'a>(name: &'a str, form: Form, shown: &'a str) -> Argument<'a> {
+    Argument {
+        name,
+        form,
+        shown,
+        help: "",
+        is_wanted: false,
+    }
+}
+
+// A name without a value.
+fn flag<'a>(name: &'a str) -> Argument<'a> {
+    argument_of(name, Form::Flag, "")
+}
+
+// A value without a name.
+fn word<'a>(name: &'a str, shown: &'a str) -> Argument<'a> {
+    argument_of(name, Form::Word, shown)
 }
 
 // A name with a value.
-fn value<'a>(alloc: Global, name: &'a str, shown: &'a str, help: &'a str) -> Arg<'a> {
-    Arg::new(alloc, name)
-        .long(name)
-        .value_name(shown)
-        .action(ArgAction::Set)
-        .help(help)
+fn value<'a>(name: &'a str, shown: &'a str) -> Argument<'a> {
+    argument_of(name, Form::Value, shown)
 }
 
 // A name with a number of a key, or a budget.
-fn number<'a>(alloc: Global, name: &'a str, help: &'a str) -> Arg<'a> {
-    value(alloc, name, "N", help).value_parser(ValueParser::unsigned(1, 65_535))
+fn number<'a>(name: &'a str) -> Argument<'a> {
+    argument_of(name, Form::Number, "N")
+}
+
+// A name with seconds.
+fn seconds<'a>(name: &'a str) -> Argument<'a> {
+    argument_of(name, Form::Seconds, "S")
+}
+
+// An argument without which there is no command.
+fn wanted<'a>(argument: Argument<'a>) -> Argument<'a> {
+    Argument {
+        is_wanted: true,
+        ..argument
+    }
 }

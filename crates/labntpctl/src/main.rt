@@ -28,18 +28,25 @@ fn status(rt: &HostRuntime) -> u8 {
         Err(error) => return unread_status(&error, &mut start_lines(rt)),
     };
     match parse(rt.alloc(), &words) {
-        Ok(Asked::Customers { files, json }) => customers_status(rt, files, json),
-        Ok(Asked::Door(door)) => door_status(rt, &door),
-        Ok(Asked::Check(files)) => check_status(rt, files),
-        Ok(Asked::Explain { config, explained }) => explain_status(rt, config, explained),
-        Ok(Asked::Order(order)) => order_status(rt, &order),
-        Ok(Asked::Fold(fold)) => fold_status(rt, &fold),
-        Ok(Asked::Recover(recover)) => recover_status(rt, &recover),
+        Ok(asked) => done(rt, asked),
         Err(error) if error.kind() == ErrorKind::OutOfMemory => memory_status(&mut start_lines(rt)),
         Err(error) => {
             let _ = error.print(rt);
             error.exit_code() as u8
         }
+    }
+}
+
+// Does what is asked for, and gives the exit status.
+fn done(rt: &HostRuntime, asked: Asked<'_>) -> u8 {
+    match asked {
+        Asked::Customers { files, json } => customers_status(rt, files, json),
+        Asked::Door(door) => door_status(rt, &door),
+        Asked::Check(files) => check_status(rt, files),
+        Asked::Explain { config, explained } => explain_status(rt, config, explained),
+        Asked::Order(order) => order_status(rt, &order),
+        Asked::Fold(fold) => fold_status(rt, &fold),
+        Asked::Recover(recover) => recover_status(rt, &recover),
     }
 }
 

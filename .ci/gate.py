@@ -160,7 +160,7 @@ def gate(is_whole):
         if is_proved:
             some = ["--write-digests"] if is_whole else ["--tenth", str(datetime.date.today().timetuple().tm_yday % 10)]
             with concurrent.futures.ThreadPoolExecutor() as beside:
-                words = ["nice", f"{TOP}/tools/wrong_bodies", "--behind-ci", *some]
+                words = ["nice", "-n", "19", f"{TOP}/tools/wrong_bodies", "--behind-ci", *some]
                 tried = beside.submit(it.part, "tools/wrong_bodies", words, is_beside=True)
                 it.part("tests/run", [f"{TOP}/tests/run"])
                 tried.result()

@@ -11,8 +11,8 @@ use Rattle.ntp_server.specs.Parts.{parts_of}
 use Rattle.ntp_server.specs.Rounds.{Parts}
 use Rattle.ntp_server.specs.declared.server.Server.{Server}
 
--- what the parts of a daemon tell, by what each does: its port, how many calls of that failed and what it dropped; its commands, which are asked
--- once in a thousandth of a second at most; its states, how often their source was given time; its observer. Its reporter tells nothing (profile)
+-- what the parts of a daemon tell, by what each does: its port, how many calls of that failed and what it dropped; its commands, as
+-- `EachMillisecond` asks for them; its states, how often their source was given time; its observer. Its reporter tells nothing (profile)
 abbrev pub daemon_told : {P C S O A : Type 0} → (P → Option Told) → (P → ℕ) → (P → ℕ) → (C → Option (Coming (Option (List ℕ))))
     → (S → Option (Coming ReferenceState)) → (S → Option ℕ) → (O → Option (List Observation)) → Server P (EachMillisecond C) S O A → Parts
 daemon_told told failures dropped commands states tended seen daemon =

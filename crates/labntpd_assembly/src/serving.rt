@@ -77,8 +77,8 @@ where
     /// Serves for so many turns, with all that is done beside it, and cannot fail.
     ///
     /// It makes the rounds of `serve_reported`. Where the port below `FreshPort` tells its turns, the rounds have these, but those whose
-    /// datagrams were dropped and counted as stale, and what it sent is the replies; and so with the commands, which are asked once in a
-    /// thousandth of a second at most, with the states of the clock and with the observer: each as far as it tells.
+    /// datagrams were dropped and counted as stale, and what it sent is the replies; and so with the commands, as `EachMillisecond` asks for
+    /// them, with the states of the clock and with the observer: each as far as it tells.
     pub fn serve(&mut self, turns: u64) -> Totals
         requires failures { self.old.daemon.port.failures + turns < 2 ^ 64 }
         ensures serves { ServesRounds Global false true turns

@@ -201,7 +201,7 @@ def tries_in(words):
 
 
 def part_in(words):
-    """Which part of so many is asked for, which `--part K/N` says in front, and the words behind it."""
+    """K, N, and the words behind, of words that begin with `--part K/N`; the only part where they do not."""
     if words[:1] != ("--part",):
         return 1, 1, words
     asked = re.fullmatch(r"([1-9][0-9]?)/([1-9][0-9]?)", words[1]) if words[1:] else None

@@ -4,9 +4,8 @@ use crate::words::{Query, Who};
 use crate::work::{enrolled, fill, moment, reference, sign};
 use ntp_admin::Command;
 use ntp_mac::{Algorithm, Key};
-use ntp_register::Address;
 use ntp_reply::{Answer, Reason, Reference};
-use ntp_service::Service;
+use ntp_service::{Address, Service};
 use std::alloc::Global;
 
 /// The first stamp; the queries come a second apart, so that each stamp is new.

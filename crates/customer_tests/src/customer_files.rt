@@ -2,22 +2,18 @@
 //! commands.
 
 use crate::register_text::EXAMPLE;
-use ntp_admin::parse_command;
+use ntp_admin::{RegisterFault, parse_command};
 use ntp_customer_files::{
     FaultLines, LoadFault, Loaded, MOST_FILE_OCTETS, apply_commands, commands_step, fault_word,
     load_register,
 };
-use ntp_events::{Command, LineFault, LineOutcome, Observer, TurnOutcome};
-use ntp_register::Refusal;
-use ntp_register_file::RegisterFault;
 use ntp_reply::Reference;
-use ntp_service_run::Service;
-use refusing::{Broken, Refusing};
+use ntp_service::{Command, LineFault, LineOutcome, Observer, Refusal, Service, TurnOutcome};
 use std::alloc::{AllocError, Allocator, Global};
 use std::io::{self, ErrorKind, Write};
 use std::process::Abort;
 use std::test::Fail;
-use worked_data::reference;
+use test_support::{Broken, Refusing, reference};
 
 const A: &str = "enrol 192.0.2.10 7 md5 6b6579 10";
 

@@ -1,4 +1,4 @@
-//! Tests of the crates that say who is a customer, one module for each: `ntp_register`, `ntp_register_file`, `ntp_customer_files`;
+//! Tests of the crates that say who is a customer, one module for each: `ntp_service`, `ntp_admin`, `ntp_customer_files`;
 //! of `ntp_meeting`, in which a customer's client meets the server; and of `refusing`, the allocator with which tests refuse
 //! memory. They stand here since a crate with tests is proved twice.
 #![tactic(auto)]

@@ -4,11 +4,11 @@ use ntp_admin::parse_command;
 use ntp_client::{Client, Sample, Taken};
 use ntp_mac::{Algorithm, Key};
 use ntp_reply::{Answer, Reference};
-use ntp_service_run::Service;
+use ntp_service::Service;
 use ntp_time::Stamp;
 use std::alloc::Global;
 use std::test::Fail;
-use worked_data::{CUSTOMER, enrolled_service, moment, reference};
+use test_support::{CUSTOMER, enrolled_service, moment, reference};
 
 /// The transmit stamp of the first request.
 const T: u64 = 0xec00_0010_8000_0000;

@@ -1,7 +1,7 @@
 //! That the allocator refuses what it is told to refuse, and counts.
 
-use refusing::Refusing;
 use std::alloc::{AllocError, Allocator, Global};
+use test_support::Refusing;
 
 // A list that has to grow more than once.
 fn grown<A: Allocator>(alloc: A) -> Result<usize, AllocError> {

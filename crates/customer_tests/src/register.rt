@@ -1,10 +1,10 @@
 //! What no contract says: that commands succeed; and worked orders, each with its answer.
 
 use ntp_mac::{Algorithm, Key, KeyFault};
-use ntp_register::{Address, Customer, NumberedKey, Refusal, Register};
+use ntp_service::{Address, Customer, NumberedKey, Refusal, Register};
 use std::process::Abort;
 use std::test::Fail;
-use worked_data::Agreeing;
+use test_support::Agreeing;
 
 const A: Address = Address([192, 0, 2, 10]);
 

@@ -1,15 +1,14 @@
 //! Register files of every form, with the answers that the format and TOML's standard give.
 
 use crate::register_text::EXAMPLE;
-use ntp_events::{Command, LineFault};
+use ntp_admin::{RegisterFault, read_reference, read_register};
 use ntp_mac::{Algorithm, Key};
-use ntp_register::Address;
-use ntp_register_file::{RegisterFault, read_reference, read_register};
+use ntp_service::{Address, Command, LineFault};
 use std::alloc::{AllocError, Global};
 use std::num::NonZero;
 use std::process::Abort;
 use std::test::Fail;
-use worked_data::reference;
+use test_support::reference;
 
 // The document of the example with its customers in an array, the reference behind them, and no line feed at the end.
 const INLINE: &str = r#"customer = [

@@ -6,7 +6,7 @@ use crate::first_answers::{are_first_answers, ended_lines};
 use ntp_service_replay::{ReplayFault, ReplayFaultKind, Watched, replay};
 use std::alloc::{AllocError, Global};
 use std::test::Fail;
-use worked_data::{ANSWERS, SCRIPT};
+use test_support::{ANSWERS, SCRIPT};
 
 // What a replay of a text writes where the reader fails behind so many octets, and the writer too, and how it ends.
 fn replayed(

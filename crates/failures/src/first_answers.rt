@@ -3,7 +3,7 @@
 ghost use Rattle.std.specs.Prelude.{◌≤◌, length};
 
 use std::process::Abort;
-use worked_data::ANSWERS;
+use test_support::ANSWERS;
 
 /// The answers where the enrolment is refused memory: those to an address that was never enrolled.
 pub(crate) const UNENROLLED_ANSWERS: &str = "refused no-memory\n\

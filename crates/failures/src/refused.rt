@@ -8,11 +8,11 @@ use crate::refused_calls::{
 use crate::refused_enrolments::{again_refused, first_refused, line_refused};
 use crate::refused_rollovers::{rollover_line_refused, rollover_refused};
 use crate::registers::{next_refused, revoked_refused};
-use ntp_register::Refusal;
-use refusing::Refusing;
+use ntp_service::Refusal;
 use std::alloc::Global;
 use std::process::Abort;
 use std::test::Fail;
+use test_support::Refusing;
 
 // More allocations than any call here asks for.
 const MOST: u64 = 1000;

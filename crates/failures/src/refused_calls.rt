@@ -3,16 +3,15 @@
 use crate::first_answers::{UNENROLLED_ANSWERS, are_first_answers};
 use crate::refused::Refused;
 use ntp_admin::{Event, LineFault, NoMemory, parse_event, print_answer};
+use ntp_customer::Slots;
+use ntp_service::Service;
 use ntp_service_replay::{ReplayFaultKind, Watched, replay};
-use ntp_service_run::Service;
 use ntp_service_serve::{MemoryPort, Turn};
-use ntp_slots::Slots;
 use ntp_time::Stamp;
-use refusing::Refusing;
 use std::alloc::{Allocator, Global};
 use std::process::Abort;
 use std::test::Fail;
-use worked_data::{ANSWERS, CUSTOMER, SCRIPT, events, moment, printed, run};
+use test_support::{ANSWERS, CUSTOMER, Refusing, SCRIPT, events, moment, printed, run};
 
 // What was refused a call that tells it by `NoMemory`, and else is right.
 fn call_refused(

@@ -4,15 +4,13 @@ use crate::refused::{Refused, command_refused};
 use ntp_admin::Command;
 use ntp_customer_files::commands_step;
 use ntp_mac::{Algorithm, Key};
-use ntp_register::{Address, Refusal};
 use ntp_reply::{Answer, Reason};
-use ntp_service_run::Service;
-use refusing::Refusing;
+use ntp_service::{Address, Refusal, Service};
 use std::alloc::{Allocator, Global};
 use std::num::NonZero;
 use std::process::Abort;
 use std::test::Fail;
-use worked_data::{Agreeing, CUSTOMER, answered, moment, ordered, reference};
+use test_support::{Agreeing, CUSTOMER, Refusing, answered, moment, ordered, reference};
 
 const NEIGHBOUR: Address = Address([192, 0, 2, 20]);
 

@@ -5,13 +5,11 @@ use crate::refused::{Call, Refused, command_refused, refusals};
 use crate::refused_enrolments::{enrol, step};
 use crate::twin::{Twin, address_at};
 use ntp_admin::parse_command;
-use ntp_register::Refusal;
-use ntp_service_run::Service;
-use refusing::Refusing;
+use ntp_service::{Refusal, Service};
 use std::alloc::{AllocError, Allocator, Global};
 use std::process::Abort;
 use std::test::Fail;
-use worked_data::ordered;
+use test_support::{Refusing, ordered};
 
 // How many customers there are at most.
 const MOST_CUSTOMERS: u16 = 64;

@@ -3,10 +3,10 @@ ghost use Rattle.std.specs.Prelude.{◌<◌};
 
 use crate::refused::{Refused, command_refused};
 use crate::twin::{Twin, address_at};
-use refusing::Refusing;
 use std::alloc::{AllocError, Allocator, Global};
 use std::process::Abort;
 use std::test::Fail;
+use test_support::Refusing;
 
 // Enrols an address with a number, by which both are then told.
 fn enrol_and_compare(

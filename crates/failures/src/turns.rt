@@ -2,18 +2,16 @@
 //! serving takes no memory; and a port of which nothing is known.
 ghost use Rattle.std.specs.Prelude.{◌≡◌};
 
-use ntp_register::Address;
 use ntp_reply::Reference;
-use ntp_service_run::Service;
+use ntp_service::{Address, Service};
 use ntp_service_serve::{Arrival, DatagramRoom, MemoryPort, Port, PortFault, Sent, Turn, serve};
 use ntp_time::Moment;
-use refusing::Refusing;
 use std::alloc::{Allocator, Global};
 use std::process::Abort;
 use std::test::Fail;
-use worked_data::{
-    CUSTOMER, FIRST_QUERY, FIRST_REPLY, PLANNED_REPLY, SECOND_QUERY, SECOND_REPLY, THIRD_QUERY,
-    THIRD_REPLY, enrolled_service, moment, reference, turn,
+use test_support::{
+    CUSTOMER, FIRST_QUERY, FIRST_REPLY, PLANNED_REPLY, Refusing, SECOND_QUERY, SECOND_REPLY,
+    THIRD_QUERY, THIRD_REPLY, enrolled_service, moment, reference, turn,
 };
 
 // The UDP ports, the receipts and the queries of three turns.

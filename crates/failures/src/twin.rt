@@ -2,11 +2,11 @@
 ghost use Rattle.std.specs.Prelude.{◌<◌};
 
 use ntp_mac::{Algorithm, Key};
-use ntp_register::{Address, Refusal};
+use ntp_service::{Address, Refusal};
 use std::alloc::{AllocError, Allocator, Global};
 use std::collections::BTreeMap;
 use std::test::Fail;
-use worked_data::Agreeing;
+use test_support::Agreeing;
 
 // What is to be in a register.
 #[derive(Drop)]

@@ -3,12 +3,12 @@ ghost use Rattle.std.specs.Prelude.{◌≡◌};
 ghost use Rattle.ntp_host.specs.Failures.{udp_failures};
 
 use labntp_command_line::Serving;
+use ntp_admin::RegisterFault;
 use ntp_customer_files::{
     DONE, FaultLines, LoadFault, Loaded, MOST_FILE_OCTETS, load_register, load_status,
     socket_status, write_status,
 };
 use ntp_host::{CommandsFile, UdpPort, read_file};
-use ntp_register_file::RegisterFault;
 use ntp_server::{Server, Totals};
 use ntp_service_serve::FixedReference;
 use std::alloc::Global;

@@ -1,8 +1,8 @@
 -- What a replay by the program ends with.
 use Rattle.std.specs.Prelude.{◌≡◌, ◌⊎◌, ℕ, List}
-use Rattle.ntp_register.specs.Registry.{Registry}
-use Rattle.ntp_events.specs.declared.line_fault.LineFault.{LineFault}
-use Rattle.ntp_events.specs.declared.line_fault.LineFault.TheVariants as line_fault
+use Rattle.ntp_service.specs.Registry.{Registry}
+use Rattle.ntp_service.specs.declared.line_fault.LineFault.{LineFault}
+use Rattle.ntp_service.specs.declared.line_fault.LineFault.TheVariants as line_fault
 use Rattle.ntp_service_replay.specs.declared.faults.ReplayFault.{ReplayFault}
 use Rattle.ntp_service_replay.specs.declared.faults.ReplayFaultKind.{ReplayFaultKind}
 use Rattle.ntp_service_replay.specs.declared.faults.ReplayFaultKind.TheVariants.{Line, Read, Write, NoMemory}

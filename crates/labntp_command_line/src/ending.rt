@@ -5,7 +5,7 @@ ghost use Rattle.ntp_service_replay.specs.Watched.{inner_of, has_failed, read_co
 ghost use Rattle.labntp_command_line.specs.Ends.{Ends, status_of};
 
 use ntp_customer_files::{DONE, IO_FAILED, TEXT_FAULTY, fault_word, memory_status, write_status};
-use ntp_events::LineFault;
+use ntp_service::LineFault;
 use ntp_service_replay::{ReplayFault, ReplayFaultKind, Watched, replay};
 use std::alloc::Allocator;
 use std::io::{Read, Write};

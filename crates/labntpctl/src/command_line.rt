@@ -10,7 +10,7 @@ use labntpd_configuration::command_line::VERSION;
 use ntp_admin::words;
 use ntp_mac::Algorithm;
 use ntp_query::{Server, server_in};
-use ntp_register::Address;
+use ntp_service::Address;
 use std::alloc::{AllocError, Global};
 use std::num::{self, NonZero};
 

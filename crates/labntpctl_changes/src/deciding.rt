@@ -9,7 +9,7 @@ use ntp_admin::{Command, parse_command, refusal_word};
 use ntp_customer_files::{MOST_FILE_OCTETS, TEXT_FAULTY, fault_word, memory_status};
 use ntp_keeping::{NEW_KEY_OCTETS, NewKey, Order, lowest_free, order_line, order_shown};
 use ntp_mac::Algorithm;
-use ntp_register::Refusal;
+use ntp_service::Refusal;
 use std::alloc::{AllocError, Global};
 use std::io::Write;
 use std::num::NonZero;

@@ -3,8 +3,7 @@
 use indexmap::IndexMap;
 use ntp_admin::{Command, parse_command};
 use ntp_mac::Key;
-use ntp_register::Address;
-use ntp_service_run::Service;
+use ntp_service::{Address, Service};
 use std::alloc::{AllocError, Global};
 use std::hash::{BuildHasherDefault, FoldHasher};
 use toml::Value;

@@ -2,7 +2,7 @@
 
 use ntp_mac::Algorithm;
 use ntp_query::Server;
-use ntp_register::Address;
+use ntp_service::Address;
 use std::num::NonZero;
 
 /// A change that is asked for.

@@ -3,7 +3,7 @@
 use labntpctl_standing::{Reported, Standing, address_text, key_text, left_at};
 use ntp_admin::Command;
 use ntp_keeping::{Amendment, Seen, SeenKey, SeenTerms, amendment_for, command_line, lost_keys};
-use ntp_register::Address;
+use ntp_service::Address;
 use std::alloc::{AllocError, Global};
 use std::num::NonZero;
 

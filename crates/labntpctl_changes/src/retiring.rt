@@ -7,7 +7,7 @@ use labntpctl_standing::{
 use labntpd_configuration::Configuration;
 use labntpd_start::start_lines;
 use ntp_customer_files::failed_status;
-use ntp_register::Address;
+use ntp_service::Address;
 use serde_json::Value;
 use std::alloc::{AllocError, Global};
 use std::io::Read;

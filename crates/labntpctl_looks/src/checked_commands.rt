@@ -11,11 +11,10 @@ use ntp_checking::{
 use ntp_customer_files::{
     MOST_FILE_OCTETS, TEXT_FAULTY, apply_commands, failed_status, fault_word, memory_status,
 };
-use ntp_events::{LineOutcome, Observer, TurnOutcome};
 use ntp_host::read_regular_file;
-use ntp_register::Refusal;
 use ntp_reports::Both;
 use ntp_server::{is_nearly_full, write_nearly_full};
+use ntp_service::{LineOutcome, Observer, Refusal, TurnOutcome};
 use std::alloc::Global;
 use std::fmt::Display;
 use std::io::Write;

@@ -2,7 +2,7 @@
 
 use crate::report::{Found, Report, add_found};
 use labntpd_start::{readers_of, tell_octets};
-use ntp_admin::{Command, refusal_word, words};
+use ntp_admin::{Command, customer_in, refusal_word, words};
 use ntp_checking::{
     CustomerAt, DocumentLines, HardlyMeant, MEMBERS, Member, NoToml, REFERENCE_FAULT, Wrong,
     budget_warning, customer_key_fault, customer_table, customers, customers_fault, hostless,
@@ -11,10 +11,8 @@ use ntp_checking::{
 };
 use ntp_customer_files::{MOST_FILE_OCTETS, TEXT_FAULTY, failed_status, memory_status};
 use ntp_host::read_regular_file;
-use ntp_register::Refusal;
-use ntp_register_file::customer_in;
 use ntp_reports::CustomerCounts;
-use ntp_service_run::Service;
+use ntp_service::{Refusal, Service};
 use std::alloc::{AllocError, Global};
 use std::fmt::Display;
 use toml::{Table, Value};

@@ -10,7 +10,7 @@ use ntp_customer_files::{
 };
 use ntp_host::{CommandsFile, read_regular_file};
 use ntp_query::Server;
-use ntp_register::Address;
+use ntp_service::Address;
 use ntp_service_serve::CommandsSource;
 use std::alloc::{AllocError, Global};
 use std::io::Write;

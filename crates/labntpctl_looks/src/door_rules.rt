@@ -3,7 +3,7 @@
 use labntpctl_standing::address_text;
 use ntp_door::{Grouping, Limit, group_for, limit_for, limit_statement};
 use ntp_query::Server;
-use ntp_register::Address;
+use ntp_service::Address;
 use std::alloc::{AllocError, Global};
 
 /// How many limits there are at most: where there are more budgets, customers share those of powers of two.

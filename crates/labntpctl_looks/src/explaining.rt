@@ -8,10 +8,9 @@ use ntp_customer_files::{DONE, TEXT_FAULTY, failed_status, memory_status, write_
 use ntp_door::{Capture, Datagram, Record, capture_in, datagram_in, next_record, packet_in};
 use ntp_host::{moment_now, read_regular_file};
 use ntp_mac::Algorithm;
-use ntp_packet::read_header;
-use ntp_register::Address;
+use ntp_packet::{Malformed, Tail, read_header, read_request};
 use ntp_reply::{Answer, Reason};
-use ntp_request::{Malformed, Tail, read_request};
+use ntp_service::Address;
 use ntp_time::{Moment, Stamp};
 use std::alloc::{AllocError, Global};
 use std::fmt::{self, Display};

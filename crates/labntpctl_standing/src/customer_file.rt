@@ -3,7 +3,7 @@
 use labntpd_configuration::{Configuration, Listen};
 use ntp_keeping::{Grant, NewKey, customer_text};
 use ntp_query::Server;
-use ntp_register::Address;
+use ntp_service::Address;
 use std::alloc::{AllocError, Global};
 use std::fs::{File, OpenOptions};
 use std::io::{self, Write};

@@ -6,7 +6,7 @@ use crate::standing::Standing;
 use indexmap::IndexMap;
 use ntp_keeping::{Seen, SeenKey, SeenTerms, are_same};
 use ntp_mac::Algorithm;
-use ntp_register::{Address, Customer};
+use ntp_service::{Address, Customer};
 use std::alloc::{AllocError, Global};
 use std::hash::{BuildHasherDefault, FoldHasher};
 

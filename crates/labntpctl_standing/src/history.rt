@@ -1,6 +1,6 @@
 //! The commands of a register and of a commands file, in their order.
 
-use ntp_events::{Command, LineOutcome, Observer, TurnOutcome};
+use ntp_service::{Command, LineOutcome, Observer, TurnOutcome};
 
 /// An observer that keeps each command that it hears.
 #[derive(Drop)]

@@ -6,7 +6,7 @@ use ntp_admin::words;
 use ntp_customer_files::{TEXT_FAULTY, failed_status};
 use ntp_host::read_regular_file;
 use ntp_keeping::{Seen, SeenKey, SeenTerms};
-use ntp_register::Address;
+use ntp_service::Address;
 use serde_json::Value;
 use std::alloc::Global;
 use std::io::{ErrorKind, Write};

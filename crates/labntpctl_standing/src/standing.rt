@@ -7,11 +7,10 @@ use ntp_customer_files::{
     Loaded, MOST_FILE_OCTETS, TEXT_FAULTY, apply_commands, failed_status, memory_status,
 };
 use ntp_host::read_regular_file;
-use ntp_register::Address;
 use ntp_reply::Reference;
 use ntp_reports::{Both, CustomerCounts};
 use ntp_server::begin_commands;
-use ntp_service_run::Service;
+use ntp_service::{Address, Service};
 use std::alloc::{AllocError, Global};
 use std::fs::Files;
 use std::io::Write;

@@ -1,7 +1,7 @@
 -- What a daemon tells that was put together.
 use Rattle.std.specs.Prelude.{ℕ, Option, None, option_map, List}
 use Rattle.ntp_time.specs.declared.moment.Moment.{Moment}
-use Rattle.ntp_events.specs.declared.observation.Observation.{Observation}
+use Rattle.ntp_service.specs.declared.observation.Observation.{Observation}
 use Rattle.ntp_reply.specs.Reference.{ReferenceState}
 use Rattle.ntp_service_serve.specs.Port.{Told}
 use Rattle.ntp_service_serve.specs.Sources.{Coming}

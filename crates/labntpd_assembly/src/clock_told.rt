@@ -1,7 +1,7 @@
 //! What is told of the source of the clock's state.
 
 use labntpd_host::{ClockSource, FollowedClock};
-use ntp_clock::{ClockAnswer, Doubt, Reading};
+use ntp_client::{ClockAnswer, Doubt, Reading};
 use ntp_reply::Reference;
 use ntp_reports::{Belief, ClockGauges};
 use ntp_service_serve::ReferenceSource;

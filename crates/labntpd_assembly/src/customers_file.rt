@@ -3,7 +3,7 @@
 use crate::files::FileFault;
 use labntpd_host::new_file;
 use ntp_reports::{CustomerCounts, customer_line};
-use ntp_service_run::Service;
+use ntp_service::Service;
 use std::alloc::{AllocError, Global};
 use std::fs::{self, Files};
 use std::io::{self, Write};

@@ -10,7 +10,7 @@ use crate::parts::{Begun, Daemon, DaemonPort, Host};
 use crate::watched::{Watched, WatchedFiles};
 use labntpd_configuration::command_line::VERSION;
 use labntpd_host::{SOCKETS_ROOM, queue_state, replace_file};
-use ntp_clock::Reading;
+use ntp_client::Reading;
 use ntp_host::moment_now;
 use ntp_reports::{ClockGauges, Counts, Gauges, Kind, write_statistics};
 use ntp_server::Reporter;

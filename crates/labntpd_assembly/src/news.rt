@@ -8,7 +8,7 @@ use crate::watched::Watched;
 use labntpd_configuration::Configuration;
 use labntpd_configuration::command_line::VERSION;
 use labntpd_host::{BoundAt, Log, LogForm, Priority};
-use ntp_clock::reference_unsynchronised;
+use ntp_client::reference_unsynchronised;
 use ntp_reply::Reference;
 use ntp_reports::{Ask, LineAllowance};
 use ntp_server::{is_nearly_full, write_nearly_full};

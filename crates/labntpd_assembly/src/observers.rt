@@ -5,8 +5,8 @@ ghost use Rattle.ntp_reports.specs.Counted.{nothing_counted};
 
 use crate::command_log::CommandLog;
 use labntpd_host::{HostClocks, Log};
-use ntp_events::Observer;
 use ntp_reports::{AnswerLines, Both, Counting, Counts, CustomerCounts};
+use ntp_service::Observer;
 use std::io::{self, Write};
 
 /// Who is told what a daemon does, and tells the log and the statistics of it (profile).

@@ -4,7 +4,7 @@ use labntpd_host::{BoundAt, HostClocks, LogForm, QueuedUdp};
 use ntp_freshness::{FreshPort, QueuedPort};
 use ntp_host::EachMillisecond;
 use ntp_server::Server;
-use ntp_service_run::Service;
+use ntp_service::Service;
 use ntp_service_serve::TimedPort;
 use std::alloc::Global;
 use std::fs::Files;

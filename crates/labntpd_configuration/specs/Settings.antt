@@ -4,7 +4,7 @@ use Rattle.std.specs.Option.{ok_or, option_map, option_map_or}
 use Rattle.std.specs.Str.{bytes_eq}
 use Rattle.std.specs.declared.num.NonZeroU16.{NonZeroU16}
 use Rattle.toml.specs.Data.{Data, Members, no_members, member, get_member, as_str, as_table}
-use Rattle.ntp_request.specs.FirstCase.{◌>>=◌}
+use Rattle.ntp_packet.specs.FirstCase.{◌>>=◌}
 use Rattle.ntp_mac.specs.declared.key.Algorithm.{Algorithm}
 use Rattle.labntpd_configuration.specs.declared.configuration.Endpoint.{Endpoint}
 use Rattle.labntpd_configuration.specs.declared.configuration.Listen.{Listen}

@@ -1,7 +1,7 @@
 //! What a configuration file says.
 
 use ntp_mac::Algorithm;
-use ntp_register::Address;
+use ntp_service::Address;
 use std::net::{Ipv4Addr, SocketAddrV4};
 use std::num::NonZero;
 

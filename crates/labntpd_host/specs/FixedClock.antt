@@ -2,7 +2,7 @@
 use Rattle.std.specs.Prelude.{Option, None, Some, map}
 use Rattle.ntp_time.specs.declared.moment.Moment.{Moment}
 use Rattle.ntp_reply.specs.Reference.{ReferenceState}
-use Rattle.ntp_clock.specs.InForce.{where_read}
+use Rattle.ntp_client.specs.InForce.{where_read}
 use Rattle.ntp_service_serve.specs.Sources.{Coming}
 use Rattle.labntpd_host.specs.declared.followed_clock.ClockSource.{ClockSource}
 use Rattle.labntpd_host.specs.declared.followed_clock.ClockSource.TheVariants.{Fixed, Followed}

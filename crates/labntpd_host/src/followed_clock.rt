@@ -1,8 +1,9 @@
 //! The state of the clock, from the register file or from the host's clock daemon.
 
 use crate::queued_udp::HostClocks;
-use ntp_client::{Distrust, Taken};
-use ntp_clock::{Follower, Reading, is_read, reference_unsynchronised, reference_where_read};
+use ntp_client::{
+    Distrust, Follower, Reading, Taken, is_read, reference_unsynchronised, reference_where_read,
+};
 use ntp_host::moment_now;
 use ntp_reply::Reference;
 use ntp_service_serve::ReferenceSource;

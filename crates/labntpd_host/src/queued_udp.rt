@@ -11,7 +11,7 @@ use libc::net::{POLLIN, poll};
 use libc::types::pollfd;
 use ntp_freshness::QueuedPort;
 use ntp_host::UdpPort;
-use ntp_register::Address;
+use ntp_service::Address;
 use ntp_service_serve::{Arrival, DatagramRoom, Port, PortFault, TimedPort};
 use ntp_time::{Moment, Stamp};
 use std::cell::Cell;

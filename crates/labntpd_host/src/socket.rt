@@ -7,7 +7,7 @@ use libc::net::{
     AF_INET, IPPROTO_TCP, MSG_DONTWAIT, MSG_NOSIGNAL, SO_RCVBUF, SO_SNDBUF, SOL_SOCKET,
     TCP_NODELAY, getsockopt, recv, sendto, setsockopt,
 };
-use ntp_register::Address;
+use ntp_service::Address;
 use os::{FromRawFd, errno};
 use std::io::{self, ErrorKind};
 use std::net::{Net, SocketAddr, SocketAddrV4, UdpSocket};

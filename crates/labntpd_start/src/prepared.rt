@@ -6,14 +6,14 @@ use labntpd_configuration::{
     ClockDaemon, ClockSource, Configuration, ConfigurationFault, key_in_file, read_configuration,
 };
 use labntpd_host::StartLines;
-use ntp_clock::{ClockLimits, Follower};
+use ntp_admin::read_register;
+use ntp_client::{ClockLimits, Follower};
 use ntp_customer_files::{
     Loaded, MOST_FILE_OCTETS, TEXT_FAULTY, failed_status, load_register, memory_status,
 };
-use ntp_events::Command;
 use ntp_host::read_regular_file;
-use ntp_register_file::read_register;
 use ntp_reports::CustomerCounts;
+use ntp_service::Command;
 use ntp_time::Short;
 use sha2::{Digest, Sha256};
 use std::alloc::Global;

@@ -1,13 +1,12 @@
 //! What is wrong with a register file, and where.
 
-use ntp_admin::refusal_word;
+use ntp_admin::{RegisterFault, refusal_word};
 use ntp_checking::{
     CustomerAt, Member, REFERENCE_FAULT, customers, place_in, wrong_at_top, wrong_in_customer,
 };
 use ntp_customer_files::{
     LoadFault, MOST_FILE_OCTETS, TEXT_FAULTY, line_without_text, load_status,
 };
-use ntp_register_file::RegisterFault;
 use std::alloc::Global;
 use std::io::{self, Write};
 use toml::Table;

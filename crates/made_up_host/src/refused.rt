@@ -1,8 +1,8 @@
 //! A server and a client that meet where memory is refused.
 
 use ntp_meeting::{LoopbackFault, meet};
-use refusing::Refusing;
 use std::io::{self, Write};
+use test_support::Refusing;
 
 // More allocations than two meetings ask for.
 const MOST: u64 = 200;

@@ -1,2 +1,5 @@
 pub mod Cuts
 pub mod Numbers
+pub mod Counts
+pub mod Wholes
+pub mod FileOrder

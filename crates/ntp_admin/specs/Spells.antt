@@ -2,14 +2,14 @@
 use Rattle.std.specs.Prelude.{◌≡◌, ◌==◌, ℕ, Bool, true, false, if◌then◌else◌, List, [], ◌∷◌, codes, Result, Ok, Err}
 use Rattle.std.specs.Option.{ok_or}
 use Rattle.std.specs.Str.{bytes_eq}
-use Rattle.ntp_request.specs.FirstCase.{◌>>=◌}
+use Rattle.ntp_packet.specs.FirstCase.{◌>>=◌}
 use Rattle.ntp_admin.specs.Words.{words, address_in, number_in, algorithm_in, key_in, stamp_in, moment_in, reference_in, octets_in}
-use Rattle.ntp_events.specs.declared.command.Command.{Command}
-use Rattle.ntp_events.specs.declared.command.Command.TheVariants as command
-use Rattle.ntp_events.specs.declared.event.Event.{Event}
-use Rattle.ntp_events.specs.declared.event.Event.TheVariants as event
-use Rattle.ntp_events.specs.declared.line_fault.LineFault.{LineFault}
-use Rattle.ntp_events.specs.declared.line_fault.LineFault.TheVariants as fault
+use Rattle.ntp_service.specs.declared.command.Command.{Command}
+use Rattle.ntp_service.specs.declared.command.Command.TheVariants as command
+use Rattle.ntp_service.specs.declared.event.Event.{Event}
+use Rattle.ntp_service.specs.declared.event.Event.TheVariants as event
+use Rattle.ntp_service.specs.declared.line_fault.LineFault.{LineFault}
+use Rattle.ntp_service.specs.declared.line_fault.LineFault.TheVariants as fault
 
 -- whether a line is no event: it is empty, or begins with `#` (profile)
 abbrev pub is_passed_over : List ℕ → Bool

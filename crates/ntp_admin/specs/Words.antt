@@ -15,7 +15,7 @@ use Rattle.ntp_time.specs.declared.stamp.Short.{Short}
 use Rattle.ntp_time.specs.declared.moment.Moment.{Moment}
 use Rattle.ntp_mac.specs.declared.key.Algorithm.{Algorithm}
 use Rattle.ntp_mac.specs.declared.key.Algorithm.TheVariants.{Md5, Sha1}
-use Rattle.ntp_register.specs.declared.address.Address.{Address}
+use Rattle.ntp_service.specs.declared.address.Address.{Address}
 use Rattle.ntp_reply.specs.Reference.{ReferenceState, is_reference}
 
 -- the parts of a text that stand between separators; an empty text is one empty part (profile)

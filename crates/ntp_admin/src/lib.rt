@@ -1,11 +1,19 @@
-//! The texts that stand for events, commands and outcomes.
+//! The texts that stand for events, commands and outcomes, and the register file, in TOML: the reference state and the
+//! customers with which a server begins.
 #![tactic(auto)]
 
+mod customers;
+mod fault;
+mod form;
 mod parsing;
 mod parts;
 mod printing;
+mod register_reader;
 pub mod words;
 
-pub use ntp_events::{Command, Event, LineFault, NoMemory, Octets, Outcome};
+pub use customers::customer_in;
+pub use fault::RegisterFault;
+pub use ntp_service::{Command, Event, LineFault, NoMemory, Octets, Outcome};
 pub use parsing::{is_passed_over, parse_command, parse_event};
 pub use printing::{print_answer, refusal_word};
+pub use register_reader::{read_reference, read_register};

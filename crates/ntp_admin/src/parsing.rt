@@ -5,7 +5,7 @@ ghost use Rattle.ntp_admin.specs.Spells.{is_passed_over, enrol_in, revoke_in, ne
 
 use crate::parts::Parts;
 use crate::words;
-use ntp_events::{Command, Event, LineFault};
+use ntp_service::{Command, Event, LineFault};
 use std::alloc::Allocator;
 
 /// Whether a line is no event and no command: it is empty, or begins with `#` (profile).

@@ -2,7 +2,7 @@
 ghost use Rattle.std.specs.Prelude.{◌≡◌, ◌≢◌, ◌<◌, [], ◌∷◌, OnOk, IfErr, MatchOption, MatchResult};
 ghost use Rattle.ntp_admin.specs.Words.{parts};
 
-use ntp_events::LineFault;
+use ntp_service::LineFault;
 use std::marker::Model;
 
 /// The parts of a text that are still to be read, where the parts stand between separators.

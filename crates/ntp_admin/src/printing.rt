@@ -3,11 +3,10 @@ ghost use Rattle.std.specs.Prelude.{◌≡◌, ◌++◌, IfOk, codes, string_byt
 ghost use Rattle.hex.specs.Hex.{encode_lower};
 ghost use Rattle.ntp_admin.specs.Answers.{malformed_text, reason_text, answer_text, stamp_text, refusal_text, outcome_text};
 
-use ntp_events::{NoMemory, Outcome};
 use ntp_mac::Reply;
-use ntp_register::Refusal;
+use ntp_packet::Malformed;
 use ntp_reply::{Answer, Reason};
-use ntp_request::Malformed;
+use ntp_service::{NoMemory, Outcome, Refusal};
 use ntp_time::Stamp;
 use std::alloc::{AllocError, Allocator};
 

@@ -1,8 +1,8 @@
 -- At which word a line of commands has a fault.
 use Rattle.std.specs.Prelude.{ℕ, List, codes, if◌then◌else◌, Option, None, Some}
 use Rattle.std.specs.Str.{bytes_eq}
-use Rattle.ntp_events.specs.declared.line_fault.LineFault.{LineFault}
-use Rattle.ntp_events.specs.declared.line_fault.LineFault.TheVariants as fault
+use Rattle.ntp_service.specs.declared.line_fault.LineFault.{LineFault}
+use Rattle.ntp_service.specs.declared.line_fault.LineFault.TheVariants as fault
 
 -- the place of the word, counted from 0, behind a first word, by the forms of the commands: a budget is the last word of two (profile)
 abbrev pub faulty_place : List ℕ → LineFault → Option ℕ

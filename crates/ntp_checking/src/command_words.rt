@@ -2,7 +2,7 @@
 ghost use Rattle.std.specs.Prelude.{◌≡◌};
 ghost use Rattle.ntp_checking.specs.CommandWords.{faulty_place};
 
-use ntp_events::LineFault;
+use ntp_service::LineFault;
 
 /// A word of a line, and the column of its first octet, counted from 1.
 #[derive(Clone, Copy)]

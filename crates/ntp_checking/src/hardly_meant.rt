@@ -3,7 +3,7 @@ ghost use Rattle.std.specs.Prelude.{◌≡◌};
 ghost use Rattle.ntp_checking.specs.HardlyMeant.{hostless, key_warning, budget_warning};
 
 use ntp_mac::{Algorithm, Key};
-use ntp_register::Address;
+use ntp_service::Address;
 use std::fmt;
 
 /// Fewer octets than a key should have (profile).

@@ -1,7 +1,6 @@
 //! What the words of faults and refusals mean.
 
-use ntp_events::LineFault;
-use ntp_register::Refusal;
+use ntp_service::{LineFault, Refusal};
 
 /// What the fault of a line means, in a sentence.
 pub fn fault_meaning(fault: LineFault) -> &'static str {

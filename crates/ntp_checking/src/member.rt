@@ -7,8 +7,8 @@ ghost use Rattle.ntp_checking.specs.Members.{key_of, is_member, is_address, is_k
 use crate::register_form::TableFault;
 use labntpd_configuration::{algorithm_of, number_of};
 use ntp_admin::words;
-use ntp_events::LineFault;
 use ntp_mac::Algorithm;
+use ntp_service::LineFault;
 use toml::{Table, Value};
 
 /// A key of a customer, in the order in which they are looked at (profile).

@@ -6,11 +6,11 @@ use Rattle.std.proofs.lemmas.Bool.Decides.{nat_tests}
 use Rattle.ntp_time.specs.declared.moment.Moment.{Moment}
 use Rattle.ntp_packet.specs.Header.{HeaderFields}
 use Rattle.ntp_packet.specs.Kiss.{rate_code}
-use Rattle.ntp_request.specs.FirstCase.{◌>>◌, provided, decided}
-use Rattle.ntp_request.specs.Tail.{TailValue, NoTail, BareTail, MacTail}
-use Rattle.ntp_request.specs.Request.{RequestValue, IsRequest}
-use Rattle.ntp_request.proofs.FirstCase.{after-provided, after-ok_or, after-map_err}
-use Rattle.ntp_request.proofs.Octets.{AreOctets}
+use Rattle.ntp_packet.specs.FirstCase.{◌>>◌, provided, decided}
+use Rattle.ntp_packet.specs.Tail.{TailValue, NoTail, BareTail, MacTail}
+use Rattle.ntp_packet.specs.Request.{RequestValue, IsRequest}
+use Rattle.ntp_packet.proofs.FirstCase.{after-provided, after-ok_or, after-map_err}
+use Rattle.ntp_packet.proofs.Octets.{AreOctets}
 use Rattle.ntp_mac.specs.Reading.{Reads, reading_of}
 use Rattle.ntp_mac.specs.Signed.{IsSigned}
 use Rattle.ntp_mac.proofs.ReadAs.{Reads-reading_of}

@@ -2,3 +2,4 @@ pub mod Pairings
 pub mod Authentic
 pub mod Samples
 pub mod Takings
+pub mod AuthenticAnswers

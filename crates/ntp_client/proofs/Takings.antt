@@ -6,8 +6,8 @@ use Rattle.ntp_time.specs.declared.stamp.Stamp.{Stamp}
 use Rattle.ntp_time.specs.declared.moment.Moment.{Moment}
 use Rattle.ntp_time.proofs.Freshness.{fresh-apart, fresh-nonzero}
 use Rattle.ntp_packet.specs.Header.{HeaderFields}
-use Rattle.ntp_request.specs.FirstCase.{◌>>◌, decided}
-use Rattle.ntp_request.specs.Request.{RequestValue}
+use Rattle.ntp_packet.specs.FirstCase.{◌>>◌, decided}
+use Rattle.ntp_packet.specs.Request.{RequestValue}
 use Rattle.ntp_mac.specs.Key.{SymmetricKey}
 use Rattle.ntp_mac.specs.Reading.{reading_of}
 use Rattle.ntp_mac.specs.Signed.{IsSigned}

@@ -3,8 +3,8 @@ use Rattle.std.specs.Prelude.{ℕ, not, ◌==◌, ok_or, Result, Ok}
 use Rattle.ntp_time.specs.declared.moment.Moment.{Moment}
 use Rattle.ntp_packet.specs.Header.{HeaderFields}
 use Rattle.ntp_packet.specs.Kiss.{rate_code}
-use Rattle.ntp_request.specs.FirstCase.{◌>>=◌, ◌>>◌, provided}
-use Rattle.ntp_request.specs.Request.{RequestValue}
+use Rattle.ntp_packet.specs.FirstCase.{◌>>=◌, ◌>>◌, provided}
+use Rattle.ntp_packet.specs.Request.{RequestValue}
 use Rattle.ntp_mac.specs.Key.{SymmetricKey}
 use Rattle.ntp_mac.specs.Signed.{is_signed}
 use Rattle.ntp_client.specs.declared.exchange.Outstanding.{Outstanding}

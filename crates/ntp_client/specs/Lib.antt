@@ -4,3 +4,7 @@ pub mod Pairing
 pub mod Sample
 pub mod Taking
 pub mod Judging
+pub mod Reading
+pub mod Watching
+pub mod InForce
+pub mod Learning

@@ -3,7 +3,7 @@ use Rattle.std.specs.Prelude.{◌≡◌, ◌≢◌, ℕ, ◌≤◌, ◌⊎◌, t
 use Rattle.ntp_time.specs.declared.moment.Moment.{Moment}
 use Rattle.ntp_time.specs.Fresh.{fresh}
 use Rattle.ntp_packet.specs.Header.{HeaderFields}
-use Rattle.ntp_request.specs.Request.{RequestValue, IsRequest}
+use Rattle.ntp_packet.specs.Request.{RequestValue, IsRequest}
 use Rattle.ntp_mac.specs.Signed.{IsSigned}
 use Rattle.ntp_client.specs.declared.exchange.Exchange.{Exchange}
 use Rattle.ntp_client.specs.declared.exchange.Outstanding.{Outstanding}

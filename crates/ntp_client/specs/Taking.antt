@@ -5,9 +5,9 @@ use Rattle.std.specs.Cmp.Lexicographic.{pointwise}
 use Rattle.ntp_time.specs.declared.moment.Moment.{Moment}
 use Rattle.ntp_packet.specs.Header.{HeaderFields}
 use Rattle.ntp_packet.specs.Kiss.{rate_code, deny_code}
-use Rattle.ntp_request.specs.FirstCase.{◌>>=◌, ◌>>◌, provided, map_err, decided}
-use Rattle.ntp_request.specs.Tail.{TailValue, NoTail, BareTail, MacTail}
-use Rattle.ntp_request.specs.Request.{RequestValue}
+use Rattle.ntp_packet.specs.FirstCase.{◌>>=◌, ◌>>◌, provided, map_err, decided}
+use Rattle.ntp_packet.specs.Tail.{TailValue, NoTail, BareTail, MacTail}
+use Rattle.ntp_packet.specs.Request.{RequestValue}
 use Rattle.ntp_mac.specs.Reading.{reading_of}
 use Rattle.ntp_mac.specs.Signed.{is_signed}
 use Rattle.ntp_client.specs.declared.exchange.Exchange.{Exchange}

@@ -1,6 +1,6 @@
 //! A client, with its request and what it takes for a reply.
 ghost use Rattle.std.specs.Prelude.{◌≡◌, ◌↔◌, ◌<◌, List, ℕ, Some, Ok};
-ghost use Rattle.ntp_request.specs.FirstCase.{decided};
+ghost use Rattle.ntp_packet.specs.FirstCase.{decided};
 ghost use Rattle.ntp_mac.specs.Reading.{reading_of};
 ghost use Rattle.ntp_client.specs.State.{new_client, IsClient};
 ghost use Rattle.ntp_client.specs.Query.{query_octets, next_query, after_query};
@@ -14,7 +14,7 @@ use crate::pairing::exchange_of;
 use crate::query::{query_header, transmit_of};
 use crate::{Distrust, Sample, Taken};
 use ntp_mac::{Key, Reply, seal};
-use ntp_request::{Request, read_request};
+use ntp_packet::{Request, read_request};
 use ntp_time::Moment;
 use std::marker::Model;
 

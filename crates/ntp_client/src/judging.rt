@@ -1,6 +1,6 @@
 //! What a reply is taken for, in the order of the cases.
 ghost use Rattle.std.specs.Prelude.{◌≡◌};
-ghost use Rattle.ntp_request.specs.FirstCase.{decided};
+ghost use Rattle.ntp_packet.specs.FirstCase.{decided};
 ghost use Rattle.ntp_client.specs.Taking.{is_kiss, is_unsynchronised, lacks_stamp};
 ghost use Rattle.ntp_client.specs.Judging.{authentic_steps, mac_steps, tail_steps, packet_steps};
 
@@ -9,8 +9,7 @@ use crate::pairing::{Pairing, is_basic, pairing_of, sample_of};
 use crate::query::VERSION;
 use crate::{Distrust, Sample, Taken};
 use ntp_mac::{Key, verifies};
-use ntp_packet::{DENY_CODE, Header, RATE_CODE};
-use ntp_request::{Request, Tail};
+use ntp_packet::{DENY_CODE, Header, RATE_CODE, Request, Tail};
 use ntp_time::Moment;
 
 /// The mode of a packet from a server (RFC 5905, 7.3).

@@ -1,7 +1,7 @@
 //! What a client takes octets for.
 
 use crate::Sample;
-use ntp_request::Malformed;
+use ntp_packet::Malformed;
 
 /// What a client takes octets for that arrive.
 #[derive(Clone, Copy, Debug, PartialEq, Eq)]

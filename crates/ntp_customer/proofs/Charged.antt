@@ -1,7 +1,7 @@
 -- What is kept of counts, after one event more.
 use Rattle.std.proofs.Common.{◌≡◌, ℕ, List, [], ◌∷◌, ◌++◌, sym, subst}
-use Rattle.ntp_budget.specs.Tally.{Tally, IsTally, tally}
-use Rattle.ntp_budget.proofs.Tallies.{IsTally-tally}
+use Rattle.ntp_customer.specs.Tally.{Tally, IsTally, tally}
+use Rattle.ntp_customer.proofs.Tallies.{IsTally-tally}
 
 -- the tally of one event more is a tally
 pub IsTally-charged : (old new : Tally) (w : ℕ) → (windows : List ℕ) × (tally windows ≡ old)

@@ -1,8 +1,8 @@
 -- Pasts, and what is kept of them.
 use Rattle.std.proofs.Common.{◌≡◌, ℕ, List, [], ◌∷◌, ◌++◌, Some, None, refl, sym}
 use Rattle.std.specs.Option.{option_map_or}
-use Rattle.ntp_budget.specs.Tally.{Tally, tally}
-use Rattle.ntp_budget.proofs.Tallies.{tally-nil}
+use Rattle.ntp_customer.specs.Tally.{Tally, tally}
+use Rattle.ntp_customer.proofs.Tallies.{tally-nil}
 use Rattle.ntp_customer.specs.Customer.{AccountOf, CustomerState, changing, enrolment_at}
 use Rattle.ntp_customer.specs.Past.{Past, queries_in, with_query, short}
 use Rattle.ntp_customer.proofs.Customers.{by_customer, with_queries}

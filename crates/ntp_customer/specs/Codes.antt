@@ -1,15 +1,37 @@
 -- Not to be believed: for proofs. How the values of a customer's model are stored, as a model's value has to be.
-use Rattle.std.specs.Prelude.{◌≡◌, ℕ, Bool, true, false, List, Option, refl}
-use Rattle.std.specs.Coded.{Coded, code_by, coded×, coded_list, coded_option, coded_bool, coded_ℕ}
-use Rattle.ntp_budget.specs.Tally.{Tally}
-use Rattle.ntp_budget.specs.Codes.{coded_tally}
-use Rattle.ntp_slots.specs.declared.slot.Slot.{Slot}
-use Rattle.ntp_slots.specs.Codes.{coded_exchanges}
+use Rattle.std.specs.Prelude.{ℕ, refl, Bool, List, ◌≡◌, true, false, Option}
+use Rattle.std.specs.Coded.{Coded, code_by, coded×, coded_option, coded_ℕ, coded_list, coded_bool}
+use Rattle.ntp_customer.specs.Tally.{Tallied, Tally}
+use Rattle.ntp_time.specs.declared.stamp.Stamp.{Stamp}
+use Rattle.ntp_customer.specs.declared.slot.Slot.{Slot}
 use Rattle.ntp_mac.specs.Key.{SymmetricKey}
 use Rattle.ntp_mac.specs.declared.key.Algorithm.{Algorithm}
 use Rattle.ntp_mac.specs.declared.key.Algorithm.TheVariants.{Md5, Sha1}
 use Rattle.ntp_customer.specs.declared.numbered_key.NumberedKey.{NumberedKey}
 use Rattle.ntp_customer.specs.Customer.{Enrolment, Account, CustomerState}
+
+-- a window and its count as the two numbers
+abbrev pub coded_tallied : Coded Tallied
+coded_tallied =
+    code_by (ℕ × ℕ) (coded× coded_ℕ coded_ℕ) (λ t. (t.window, t.count)) (λ p. record { window = p.0; count = p.1 }) (λ _. refl)
+
+-- a tally as what it has, or nothing
+abbrev pub coded_tally : Coded Tally
+coded_tally = coded_option coded_tallied
+
+-- a stamp as its number
+abbrev coded_stamp : Coded Stamp
+coded_stamp = code_by ℕ coded_ℕ (λ s. s.0) (λ n. record { 0 = n }) (λ _. refl)
+
+-- an exchange as its two stamps and its mark
+abbrev coded_exchange : Coded Slot
+coded_exchange =
+    code_by ((Stamp × Stamp) × Bool) (coded× (coded× coded_stamp coded_stamp) coded_bool)
+    (λ x. ((x.receive, x.transmit), x.used)) (λ p. record { receive = p.0.0; transmit = p.0.1; used = p.1 }) (λ _. refl)
+
+-- exchanges as their list
+abbrev pub coded_exchanges : Coded (List Slot)
+coded_exchanges = coded_list coded_exchange
 
 -- an algorithm as whether it is SHA-1
 abbrev is_sha1 : Algorithm → Bool

@@ -2,9 +2,9 @@
 -- windows in what an address had.
 use Rattle.std.specs.Prelude.{◌≢◌, ℕ, ◌<◌, ◌≤◌, Bool, not, ◌==◌, Option, Some, None, is_some, option_map, IfSome, List, [], ◌∷◌, ◌++◌, length, map, filter, find, slice_get, AllPairs}
 use Rattle.std.specs.Option.{option_map_or}
-use Rattle.ntp_budget.specs.Tally.{Tally, IsTally, tally}
-use Rattle.ntp_slots.specs.declared.slot.Slot.{Slot}
-use Rattle.ntp_slots.specs.Exchanges.{AreSaved}
+use Rattle.ntp_customer.specs.Tally.{Tally, IsTally, tally}
+use Rattle.ntp_customer.specs.declared.slot.Slot.{Slot}
+use Rattle.ntp_customer.specs.Exchanges.{AreSaved}
 use Rattle.ntp_customer.specs.declared.numbered_key.NumberedKey.{NumberedKey}
 
 -- how many keys a customer can have (profile)

@@ -2,13 +2,11 @@
 ghost use Rattle.std.specs.Prelude.{◌≡◌, ◌↔◌, ◌<◌, ℕ, None, Some, IsSome, Contains, List, [], ◌∷◌, ◌++◌, length, nat_lt, option_copied, option_map, ◌==◌, not, filter};
 ghost use Rattle.std.specs.Borrow.{sem};
 ghost use Rattle.std.specs.Option.{option_to_list};
-ghost use Rattle.ntp_budget.specs.Tally.{capped_count, tally};
+ghost use Rattle.ntp_customer.specs.Tally.{capped_count, tally};
 ghost use Rattle.ntp_customer.specs.Customer.{most_keys, enrolment_of, numbers_in, older_in, held_in, IsAccount};
 
-use crate::NumberedKey;
-use ntp_budget::Window;
+use crate::{NumberedKey, Slots, Window};
 use ntp_mac::Key;
-use ntp_slots::Slots;
 use std::alloc::{Allocator, Global};
 use std::marker::Model;
 
@@ -28,7 +26,7 @@ pub(crate) struct Account<A: Allocator = Global> {
 impl<A: Allocator> Model for Account<A> {
     ghost use Rattle.std.specs.Prelude.{◌≢◌, ◌<◌, ◌∷◌, IfSome};
     ghost use Rattle.std.specs.Option.{option_to_list};
-    ghost use Rattle.ntp_budget.specs.Tally.{IsTally};
+    ghost use Rattle.ntp_customer.specs.Tally.{IsTally};
     ghost use Rattle.ntp_customer.specs.Customer.{Account};
     ghost use Rattle.ntp_customer.specs.Codes.{coded_account};
 

@@ -2,15 +2,15 @@
 use Rattle.std.proofs.Common.{◌≡◌, ℕ, ◌+◌, ◌<◌, List, [], ◌∷◌, ◌++◌, length, take, drop, get_or, arith, refl, sym, ap, ◌∙◌}
 use Rattle.std.specs.declared.alloc.Global.{Global}
 use Rattle.std.proofs.lemmas.List.{map-append, drop_more, take-append-drop, length-take-le}
-use Rattle.ntp_register.specs.Registry.{Registry}
-use Rattle.ntp_register.specs.declared.refusal.Refusal.{Refusal}
-use Rattle.ntp_events.specs.declared.command.Command.{Command}
-use Rattle.ntp_events.specs.declared.event.Event.{Event}
-use Rattle.ntp_events.specs.declared.event.Event.TheVariants as event
-use Rattle.ntp_events.specs.declared.outcome.Outcome.{Outcome}
-use Rattle.ntp_events.specs.declared.outcome.Outcome.TheVariants as outcome
-use Rattle.ntp_service_run.specs.Headline.{StandsFor, TellsOne, Tells, kept}
-use Rattle.ntp_service_run.proofs.Runs.{Tells-nil, Tells-push}
+use Rattle.ntp_service.specs.Registry.{Registry}
+use Rattle.ntp_service.specs.declared.refusal.Refusal.{Refusal}
+use Rattle.ntp_service.specs.declared.command.Command.{Command}
+use Rattle.ntp_service.specs.declared.event.Event.{Event}
+use Rattle.ntp_service.specs.declared.event.Event.TheVariants as event
+use Rattle.ntp_service.specs.declared.outcome.Outcome.{Outcome}
+use Rattle.ntp_service.specs.declared.outcome.Outcome.TheVariants as outcome
+use Rattle.ntp_service.specs.Headline.{StandsFor, TellsOne, Tells, kept}
+use Rattle.ntp_service.proofs.Runs.{Tells-nil, Tells-push}
 use Rattle.ntp_customer_files.specs.Loading.{orders, all_done, Enrols, IsRefused}
 
 -- a service was given commands and nothing before them, and each was done

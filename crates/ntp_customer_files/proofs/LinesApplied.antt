@@ -2,22 +2,22 @@
 use Rattle.std.proofs.Common.{◌≡◌, ℕ, ◌+◌, ◌<◌, ◌≤◌, ◌-◌, true, false, List, [], ◌∷◌, ◌++◌, length, drop, Option, Ok, Err, arith, refl, sym, ap, ◌∙◌, subst, append_assoc, append-nil}
 use Rattle.std.specs.Prelude.{Result}
 use Rattle.std.proofs.lemmas.List.{length-append, length-map, length-drop, drop-append-le, drop_all, map-append}
-use Rattle.ntp_register.specs.declared.refusal.Refusal.{Refusal}
-use Rattle.ntp_register.specs.Registry.{Registry}
+use Rattle.ntp_service.specs.declared.refusal.Refusal.{Refusal}
+use Rattle.ntp_service.specs.Registry.{Registry}
 use Rattle.ntp_admin.specs.Words.{words}
 use Rattle.ntp_admin.specs.Spells.{command_in, is_passed_over}
-use Rattle.ntp_events.specs.declared.command.Command.{Command}
-use Rattle.ntp_events.specs.declared.event.Event.{Event}
-use Rattle.ntp_events.specs.declared.event.Event.TheVariants as event
-use Rattle.ntp_events.specs.declared.line_fault.LineFault.{LineFault}
-use Rattle.ntp_events.specs.declared.observation.LineOutcome.{LineOutcome}
-use Rattle.ntp_events.specs.declared.observation.LineOutcome.TheVariants.{Faulty}
-use Rattle.ntp_events.specs.declared.observation.Observation.{Observation}
-use Rattle.ntp_events.specs.declared.observation.Observation.TheVariants as observation
-use Rattle.ntp_events.specs.Sees.{Sees}
-use Rattle.ntp_events.proofs.Seen.{Sees-nil, Sees-append}
-use Rattle.ntp_service_run.specs.Headline.{StandsFor, TellsOne, command_outcome}
-use Rattle.ntp_service_run.proofs.Runs.{Tells-nil, Tells-one}
+use Rattle.ntp_service.specs.declared.command.Command.{Command}
+use Rattle.ntp_service.specs.declared.event.Event.{Event}
+use Rattle.ntp_service.specs.declared.event.Event.TheVariants as event
+use Rattle.ntp_service.specs.declared.line_fault.LineFault.{LineFault}
+use Rattle.ntp_service.specs.declared.observation.LineOutcome.{LineOutcome}
+use Rattle.ntp_service.specs.declared.observation.LineOutcome.TheVariants.{Faulty}
+use Rattle.ntp_service.specs.declared.observation.Observation.{Observation}
+use Rattle.ntp_service.specs.declared.observation.Observation.TheVariants as observation
+use Rattle.ntp_service.specs.Sees.{Sees}
+use Rattle.ntp_service.proofs.Seen.{Sees-nil, Sees-append}
+use Rattle.ntp_service.specs.Headline.{StandsFor, TellsOne, command_outcome}
+use Rattle.ntp_service.proofs.Runs.{Tells-nil, Tells-one}
 use Rattle.ntp_customer_files.specs.FileText.{IsText}
 use Rattle.ntp_customer_files.specs.CommandsFile.{complete_lines, reading_of, TakenLine, carried_out, observed_read, CarriesOutDue}
 use Rattle.ntp_customer_files.specs.Applying.{told_before, ComesTo, AppliesLine, Applies}

@@ -1,13 +1,13 @@
 -- Lists of lines that were taken.
 use Rattle.std.proofs.Common.{◌≡◌, ℕ, ◌+◌, List, [], ◌∷◌, ◌++◌, length, Option, arith, sym, ap, ◌∙◌, subst, append_assoc, append-nil}
 use Rattle.std.proofs.lemmas.Grind.{flat_map-append}
-use Rattle.ntp_register.specs.Registry.{Registry}
-use Rattle.ntp_events.specs.declared.event.Event.{Event}
-use Rattle.ntp_events.specs.declared.observation.Observation.{Observation}
-use Rattle.ntp_events.specs.Sees.{Sees}
-use Rattle.ntp_events.proofs.Seen.{Sees-nil, Sees-append}
-use Rattle.ntp_service_run.specs.Headline.{StandsFor, Tells}
-use Rattle.ntp_service_run.proofs.Runs.{Tells-nil, Tells-append}
+use Rattle.ntp_service.specs.Registry.{Registry}
+use Rattle.ntp_service.specs.declared.event.Event.{Event}
+use Rattle.ntp_service.specs.declared.observation.Observation.{Observation}
+use Rattle.ntp_service.specs.Sees.{Sees}
+use Rattle.ntp_service.proofs.Seen.{Sees-nil, Sees-append}
+use Rattle.ntp_service.specs.Headline.{StandsFor, Tells}
+use Rattle.ntp_service.proofs.Runs.{Tells-nil, Tells-append}
 use Rattle.ntp_customer_files.specs.CommandsFile.{reading_of, TakenLine, happened_read, observed_read, happened_at_lines, line_observations, CarriesOut}
 
 -- ---- some lines and then others

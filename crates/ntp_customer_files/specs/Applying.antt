@@ -1,15 +1,15 @@
 -- Not to be believed: for proofs. What becomes of a text, of its lines, and of one of them.
 use Rattle.std.specs.Prelude.{◌≡◌, ℕ, max, List, [], ◌∷◌, ◌++◌, length, drop, Option, Some, Result, Ok, Err}
-use Rattle.ntp_register.specs.declared.refusal.Refusal.{Refusal}
-use Rattle.ntp_register.specs.Registry.{Registry}
-use Rattle.ntp_events.specs.declared.command.Command.{Command}
-use Rattle.ntp_events.specs.declared.event.Event.{Event}
-use Rattle.ntp_events.specs.declared.line_fault.LineFault.{LineFault}
-use Rattle.ntp_events.specs.declared.observation.LineOutcome.{LineOutcome}
-use Rattle.ntp_events.specs.declared.observation.Observation.{Observation}
-use Rattle.ntp_events.specs.declared.observation.Observation.TheVariants as observation
-use Rattle.ntp_events.specs.Sees.{Sees}
-use Rattle.ntp_service_run.specs.Headline.{StandsFor, Tells}
+use Rattle.ntp_service.specs.declared.refusal.Refusal.{Refusal}
+use Rattle.ntp_service.specs.Registry.{Registry}
+use Rattle.ntp_service.specs.declared.command.Command.{Command}
+use Rattle.ntp_service.specs.declared.event.Event.{Event}
+use Rattle.ntp_service.specs.declared.line_fault.LineFault.{LineFault}
+use Rattle.ntp_service.specs.declared.observation.LineOutcome.{LineOutcome}
+use Rattle.ntp_service.specs.declared.observation.Observation.{Observation}
+use Rattle.ntp_service.specs.declared.observation.Observation.TheVariants as observation
+use Rattle.ntp_service.specs.Sees.{Sees}
+use Rattle.ntp_service.specs.Headline.{StandsFor, Tells}
 use Rattle.ntp_customer_files.specs.CommandsFile.{complete_lines, reading_of, TakenLine, happened_read, observed_read, lines_taken, CarriesOut}
 
 -- what an observer is told of a line that is read so, before it is carried out

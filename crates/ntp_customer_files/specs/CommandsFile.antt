@@ -1,23 +1,23 @@
 -- What a commands file orders.
 use Rattle.std.specs.Prelude.{◌≡◌, ℕ, ◌+◌, ◌-◌, max, List, [], ◌∷◌, ◌++◌, length, map, flat_map, take, drop, if◌then◌else◌, Option, None, Some, Result, Ok, Err, codes}
 use Rattle.std.specs.Fmt.{decimal}
-use Rattle.ntp_register.specs.declared.refusal.Refusal.{Refusal}
-use Rattle.ntp_register.specs.Registry.{Registry}
+use Rattle.ntp_service.specs.declared.refusal.Refusal.{Refusal}
+use Rattle.ntp_service.specs.Registry.{Registry}
 use Rattle.ntp_admin.specs.Words.{words, parts}
 use Rattle.ntp_admin.specs.Spells.{command_in, is_passed_over}
 use Rattle.ntp_admin.specs.Answers.{refusal_text, line_feed}
-use Rattle.ntp_events.specs.declared.command.Command.{Command}
-use Rattle.ntp_events.specs.declared.event.Event.{Event}
-use Rattle.ntp_events.specs.declared.event.Event.TheVariants as event
-use Rattle.ntp_events.specs.declared.line_fault.LineFault.{LineFault}
-use Rattle.ntp_events.specs.declared.line_fault.LineFault.TheVariants as line_fault
-use Rattle.ntp_events.specs.declared.outcome.Outcome.{Outcome}
-use Rattle.ntp_events.specs.declared.observation.LineOutcome.{LineOutcome}
-use Rattle.ntp_events.specs.declared.observation.LineOutcome.TheVariants.{Done, Refused, Faulty}
-use Rattle.ntp_events.specs.declared.observation.Observation.{Observation}
-use Rattle.ntp_events.specs.declared.observation.Observation.TheVariants as observation
-use Rattle.ntp_events.specs.Sees.{Sees}
-use Rattle.ntp_service_run.specs.Headline.{StandsFor, Tells, command_outcome}
+use Rattle.ntp_service.specs.declared.command.Command.{Command}
+use Rattle.ntp_service.specs.declared.event.Event.{Event}
+use Rattle.ntp_service.specs.declared.event.Event.TheVariants as event
+use Rattle.ntp_service.specs.declared.line_fault.LineFault.{LineFault}
+use Rattle.ntp_service.specs.declared.line_fault.LineFault.TheVariants as line_fault
+use Rattle.ntp_service.specs.declared.outcome.Outcome.{Outcome}
+use Rattle.ntp_service.specs.declared.observation.LineOutcome.{LineOutcome}
+use Rattle.ntp_service.specs.declared.observation.LineOutcome.TheVariants.{Done, Refused, Faulty}
+use Rattle.ntp_service.specs.declared.observation.Observation.{Observation}
+use Rattle.ntp_service.specs.declared.observation.Observation.TheVariants as observation
+use Rattle.ntp_service.specs.Sees.{Sees}
+use Rattle.ntp_service.specs.Headline.{StandsFor, Tells, command_outcome}
 use Rattle.ntp_customer_files.specs.FileText.{IsText}
 
 -- all but the last

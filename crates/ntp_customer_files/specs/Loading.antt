@@ -1,18 +1,18 @@
 -- What a register file that is loaded gives, and why one gives nothing.
 use Rattle.std.specs.Prelude.{◌≡◌, ◌⊎◌, ℕ, List, [], ◌∷◌, ◌++◌, length, map, Ok, Err}
 use Rattle.std.specs.declared.alloc.Global.{Global}
-use Rattle.ntp_register.specs.Registry.{Registry}
-use Rattle.ntp_register.specs.declared.refusal.Refusal.{Refusal}
+use Rattle.ntp_service.specs.Registry.{Registry}
+use Rattle.ntp_service.specs.declared.refusal.Refusal.{Refusal}
 use Rattle.ntp_reply.specs.Reference.{ReferenceState}
-use Rattle.ntp_register_file.specs.RegisterFile.{state_in, register_in}
-use Rattle.ntp_register_file.specs.declared.fault.RegisterFault.{RegisterFault}
-use Rattle.ntp_register_file.specs.declared.fault.RegisterFault.TheVariants.{NoMemory}
-use Rattle.ntp_events.specs.declared.command.Command.{Command}
-use Rattle.ntp_events.specs.declared.event.Event.{Event}
-use Rattle.ntp_events.specs.declared.event.Event.TheVariants as event
-use Rattle.ntp_events.specs.declared.outcome.Outcome.{Outcome}
-use Rattle.ntp_events.specs.declared.outcome.Outcome.TheVariants as outcome
-use Rattle.ntp_service_run.specs.Headline.{Tells, TellsOne}
+use Rattle.ntp_admin.specs.RegisterFile.{state_in, register_in}
+use Rattle.ntp_admin.specs.declared.fault.RegisterFault.{RegisterFault}
+use Rattle.ntp_admin.specs.declared.fault.RegisterFault.TheVariants.{NoMemory}
+use Rattle.ntp_service.specs.declared.command.Command.{Command}
+use Rattle.ntp_service.specs.declared.event.Event.{Event}
+use Rattle.ntp_service.specs.declared.event.Event.TheVariants as event
+use Rattle.ntp_service.specs.declared.outcome.Outcome.{Outcome}
+use Rattle.ntp_service.specs.declared.outcome.Outcome.TheVariants as outcome
+use Rattle.ntp_service.specs.Headline.{Tells, TellsOne}
 use Rattle.ntp_customer_files.specs.declared.loading.LoadFault.{LoadFault}
 use Rattle.ntp_customer_files.specs.declared.loading.LoadFault.TheVariants as load_fault
 use Rattle.ntp_customer_files.specs.FileText.{IsText}

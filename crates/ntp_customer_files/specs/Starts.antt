@@ -1,10 +1,10 @@
 -- What a server ends with that could not begin.
 use Rattle.std.specs.Prelude.{ℕ}
-use Rattle.ntp_register.specs.declared.refusal.Refusal.{Refusal}
-use Rattle.ntp_register.specs.declared.refusal.Refusal.TheVariants as refusal
-use Rattle.ntp_events.specs.declared.line_fault.LineFault.TheVariants as line_fault
-use Rattle.ntp_register_file.specs.declared.fault.RegisterFault.{RegisterFault}
-use Rattle.ntp_register_file.specs.declared.fault.RegisterFault.TheVariants as register_fault
+use Rattle.ntp_service.specs.declared.refusal.Refusal.{Refusal}
+use Rattle.ntp_service.specs.declared.refusal.Refusal.TheVariants as refusal
+use Rattle.ntp_service.specs.declared.line_fault.LineFault.TheVariants as line_fault
+use Rattle.ntp_admin.specs.declared.fault.RegisterFault.{RegisterFault}
+use Rattle.ntp_admin.specs.declared.fault.RegisterFault.TheVariants as register_fault
 use Rattle.ntp_customer_files.specs.declared.loading.LoadFault.{LoadFault}
 use Rattle.ntp_customer_files.specs.declared.loading.LoadFault.TheVariants as load_fault
 

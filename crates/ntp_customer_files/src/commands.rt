@@ -5,14 +5,12 @@ ghost use Rattle.ntp_admin.specs.Spells.{command_in};
 ghost use Rattle.ntp_customer_files.specs.FileText.{IsText};
 ghost use Rattle.ntp_customer_files.specs.CommandsFile.{complete_lines, carried_out, CarriesOutDue};
 ghost use Rattle.ntp_customer_files.specs.Applying.{AppliesText, Applies, AppliesLine, ComesTo, told_before};
-ghost use Rattle.ntp_events.specs.Sees.{Sees};
+ghost use Rattle.ntp_service.specs.Sees.{Sees};
 
 use crate::fault_lines::FaultLines;
 use crate::file_text::text_of;
 use ntp_admin::{is_passed_over, parse_command};
-use ntp_events::{LineOutcome, Observer};
-use ntp_register::Refusal;
-use ntp_service_run::Service;
+use ntp_service::{LineOutcome, Observer, Refusal, Service};
 use std::alloc::Allocator;
 use std::io::Write;
 

@@ -6,7 +6,7 @@ ghost use Rattle.ntp_customer_files.specs.CommandsFile.{fault_line, line_text};
 
 use crate::fault_words::fault_word;
 use ntp_admin::refusal_word;
-use ntp_events::{Command, LineOutcome, Observer, TurnOutcome};
+use ntp_service::{Command, LineOutcome, Observer, TurnOutcome};
 use std::io::{self, Write};
 
 /// Writes a line for each line of commands that is no command, or whose command is refused: `commands: line N: WORD`,

@@ -2,7 +2,7 @@
 ghost use Rattle.std.specs.Prelude.{◌≡◌};
 ghost use Rattle.ntp_customer_files.specs.CommandsFile.{line_fault_text};
 
-use ntp_events::LineFault;
+use ntp_service::LineFault;
 
 /// The word for what is wrong with a line. It takes no memory.
 pub fn fault_word(fault: LineFault) -> &'static str

@@ -4,11 +4,9 @@ ghost use Rattle.ntp_customer_files.specs.FileText.{IsText};
 ghost use Rattle.ntp_customer_files.specs.Loading.{Loads, LoadFails, Enrols, IsRefusedAt};
 
 use crate::file_text::text_of;
-use ntp_events::Command;
-use ntp_register::Refusal;
-use ntp_register_file::{RegisterFault, read_reference, read_register};
+use ntp_admin::{RegisterFault, read_reference, read_register};
 use ntp_reply::Reference;
-use ntp_service_run::Service;
+use ntp_service::{Command, Refusal, Service};
 use std::alloc::Global;
 
 /// What a register file gives: the reference state, and a service with its customers enrolled.

@@ -5,10 +5,8 @@ ghost use Rattle.ntp_customer_files.specs.Starts.{load_status, register_status};
 use crate::fault_words::fault_word;
 use crate::loading::LoadFault;
 use crate::status::{IO_FAILED, MEMORY_OUT, TEXT_FAULTY, memory_status};
-use ntp_admin::refusal_word;
-use ntp_events::LineFault;
-use ntp_register::Refusal;
-use ntp_register_file::RegisterFault;
+use ntp_admin::{RegisterFault, refusal_word};
+use ntp_service::{LineFault, Refusal};
 use std::io::Write;
 
 /// Tells in one line why a register file gives no service, and gives the exit status: 3 where it could not be read, 4 for

@@ -1,6 +1,6 @@
 -- Datagrams that are dropped, and what is passed on in the end.
 use Rattle.std.proofs.Common.{◌≡◌, ℕ, ◌+◌, ◌-◌, ◌^◌, ◌<◌, ◌≤◌, true, false, List, [], ◌∷◌, ◌++◌, Option, None, Result, refl, subst, ◌∙◌, arith, length-append}
-use Rattle.ntp_events.specs.declared.observation.Arrival.{Arrival}
+use Rattle.ntp_service.specs.declared.observation.Arrival.{Arrival}
 use Rattle.ntp_service_serve.specs.declared.port.PortFault.{PortFault}
 use Rattle.ntp_service_serve.specs.Port.{Told, DropTells}
 use Rattle.ntp_freshness.specs.declared.queue_event.QueueEvent.{QueueEvent}

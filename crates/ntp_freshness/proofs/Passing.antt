@@ -1,7 +1,7 @@
 -- What is received behind the datagrams that are dropped.
 use Rattle.std.proofs.Common.{◌≡◌, ℕ, ◌+◌, List, Option, None, Some, Result, Err, true, false, inl, inr, refl, sym, subst, arith}
 use Rattle.std.specs.Prelude.{IfSome, IfNone}
-use Rattle.ntp_events.specs.declared.observation.Arrival.{Arrival}
+use Rattle.ntp_service.specs.declared.observation.Arrival.{Arrival}
 use Rattle.ntp_service_serve.specs.declared.port.PortFault.{PortFault}
 use Rattle.ntp_service_serve.specs.declared.port.PortFault.TheVariants.{Receive}
 use Rattle.ntp_service_serve.specs.Port.{Told, ReceiveTells, TellsOn, DropsTurns, CountsMore, DropsAny, Receives}

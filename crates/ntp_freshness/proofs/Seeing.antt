@@ -1,6 +1,6 @@
 -- What a port tells over several calls.
 use Rattle.std.proofs.Common.{◌≡◌, ℕ, ◌≤◌, max, Bool, true, false, List, [], ◌∷◌, ◌++◌, Option, None, Some, Result, Ok, Err, refl, sym, ap, subst, ◌∙◌, arith, append_assoc}
-use Rattle.ntp_events.specs.declared.observation.Arrival.{Arrival}
+use Rattle.ntp_service.specs.declared.observation.Arrival.{Arrival}
 use Rattle.ntp_service_serve.specs.declared.port.PortFault.{PortFault}
 use Rattle.ntp_freshness.specs.declared.queue_event.QueueEvent.{QueueEvent}
 use Rattle.ntp_freshness.specs.declared.queue_event.QueueEvent.TheVariants.{Read}

@@ -1,6 +1,6 @@
 -- Calls that pass on nothing, and then one more.
 use Rattle.std.proofs.Common.{◌≡◌, ℕ, ◌+◌, ◌<◌, ◌⊎◌, inl, inr, List, [], ◌∷◌, ◌++◌, length, Option, None, Some, Result, Ok, Err, refl, sym, ap, subst, ◌∙◌, arith, append_assoc, length-append}
-use Rattle.ntp_events.specs.declared.observation.Arrival.{Arrival}
+use Rattle.ntp_service.specs.declared.observation.Arrival.{Arrival}
 use Rattle.ntp_service_serve.specs.declared.port.PortFault.{PortFault}
 use Rattle.ntp_freshness.specs.declared.queue_event.QueueEvent.{QueueEvent}
 use Rattle.ntp_freshness.specs.declared.queue_event.QueueEvent.TheVariants.{Held, Looked, Taken, Read}

@@ -1,6 +1,6 @@
 -- What a port does that passes on only what may be answered.
 use Rattle.std.specs.Prelude.{◌≡◌, ℕ, ◌+◌, ◌-◌, ◌^◌, ◌≤◌, ◌⊎◌, min, Option, None, Some, Result, Ok, Err, List, [], ◌∷◌, ◌++◌, length, All}
-use Rattle.ntp_events.specs.declared.observation.Arrival.{Arrival}
+use Rattle.ntp_service.specs.declared.observation.Arrival.{Arrival}
 use Rattle.ntp_service_serve.specs.declared.port.PortFault.{PortFault}
 use Rattle.ntp_service_serve.specs.Port.{Told}
 use Rattle.ntp_freshness.specs.declared.queue_event.QueueEvent.{QueueEvent}

@@ -1,6 +1,6 @@
 -- What becomes of the turns that a port below tells: some are dropped, and then what it gives is handed on.
 use Rattle.std.specs.Prelude.{ℕ, Option, None, Some, Result, List}
-use Rattle.ntp_events.specs.declared.observation.Arrival.{Arrival}
+use Rattle.ntp_service.specs.declared.observation.Arrival.{Arrival}
 use Rattle.ntp_service_serve.specs.declared.port.PortFault.{PortFault}
 use Rattle.ntp_service_serve.specs.Port.{Told, ReceiveTells, TellsOn, DropsTurns}
 

@@ -11,7 +11,7 @@ ghost use Rattle.ntp_freshness.specs.Next.{TakesNext, Looks, Drops, failures_in}
 
 use crate::queue_watch::QueueWatch;
 use crate::queued_port::QueuedPort;
-use ntp_register::Address;
+use ntp_service::Address;
 use ntp_service_serve::{Arrival, DatagramRoom, Port, PortFault, TimedPort};
 use ntp_time::Moment;
 

@@ -4,8 +4,7 @@ ghost use Rattle.ntp_freshness.specs.Queue.{last_reading};
 
 use crate::queue_event::QueueEvent;
 use crate::queued_port::QueuedPort;
-use ntp_events::NoMemory;
-use ntp_register::Address;
+use ntp_service::{Address, NoMemory};
 use ntp_service_serve::{Arrival, DatagramRoom, MemoryPort, Port, PortFault, Sent, TimedPort};
 use ntp_time::Moment;
 use std::alloc::{Allocator, Global};

@@ -2,7 +2,7 @@
 ghost use Rattle.std.specs.Prelude.{◌≡◌};
 
 use crate::clock::moment_now;
-use ntp_register::Address;
+use ntp_service::Address;
 use ntp_service_serve::{Arrival, DatagramRoom, Port, PortFault, TimedPort};
 use ntp_time::Moment;
 use std::io::{self, ErrorKind};

@@ -7,8 +7,8 @@ use Rattle.ntp_mac.specs.declared.key.Algorithm.{Algorithm}
 use Rattle.ntp_mac.specs.declared.key.Algorithm.TheVariants.{Md5, Sha1}
 use Rattle.ntp_admin.specs.Words.{parts, algorithm_in}
 use Rattle.ntp_admin.specs.Spells.{command_in}
-use Rattle.ntp_events.specs.declared.command.Command.{Command}
-use Rattle.ntp_events.specs.declared.command.Command.TheVariants as command
+use Rattle.ntp_service.specs.declared.command.Command.{Command}
+use Rattle.ntp_service.specs.declared.command.Command.TheVariants as command
 use Rattle.ntp_keeping.specs.Orders.{algorithm_text, command_words, command_text, HasOctets, IsCommand, WritesCommand}
 use Rattle.ntp_keeping.proofs.Joined.{lacks, AllLack, parts-all, lacks-all, parts-line, lacks-by}
 use Rattle.ntp_keeping.proofs.Spelled.{reads-address, reads-number, reads-key, lacks-address, lacks-decimal, lacks-digits}

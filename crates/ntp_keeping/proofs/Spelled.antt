@@ -13,7 +13,7 @@ use Rattle.std.proofs.lemmas.Str.Parse.{IsNumeralModel, numerals_by_value}
 use Rattle.std.proofs.lemmas.List.Sums.{list_all-from_AllPass}
 use Rattle.hex.specs.Hex.{encode_lower, lower_digits, IsBytes, is_hex_digit}
 use Rattle.hex.proofs.HexLemmas.{decode_of-encode_lower, decode_of-ok, length-encode_with}
-use Rattle.ntp_register.specs.declared.address.Address.{Address}
+use Rattle.ntp_service.specs.declared.address.Address.{Address}
 use Rattle.ntp_admin.specs.Words.{is_decimal, decimal_in, number_in, key_in, hex_in, address_in, address_from, non_zero, ◌>>=◌}
 use Rattle.ntp_admin.proofs.Numbers.{new-non_zero}
 use Rattle.ntp_keeping.specs.declared.order.NewKey.{NewKey}

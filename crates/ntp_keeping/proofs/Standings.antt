@@ -8,20 +8,20 @@ use Rattle.std.proofs.lemmas.List.{map-append}
 use Rattle.std.proofs.lemmas.List.Elements.{All-nil, All-push}
 use Rattle.ntp_customer.specs.Customer.{Enrolment, CustomerState, enrolment_at, numbers_in, numbers_of}
 use Rattle.ntp_customer.specs.Past.{short}
-use Rattle.ntp_register.specs.declared.address.Address.{Address}
-use Rattle.ntp_register.specs.Registry.{Registry, Agrees, customer_at, holder_of, numbers_at}
-use Rattle.ntp_register.proofs.AddressLaws.{same_or_other_address}
-use Rattle.ntp_events.specs.declared.command.Command.{Command}
-use Rattle.ntp_events.specs.declared.event.Event.{Event}
-use Rattle.ntp_events.specs.declared.event.Event.TheVariants as event
-use Rattle.ntp_register.specs.declared.refusal.Refusal.TheVariants.{NoMemory}
-use Rattle.ntp_events.specs.declared.outcome.Outcome.{Outcome}
-use Rattle.ntp_events.specs.declared.outcome.Outcome.TheVariants as outcome
-use Rattle.ntp_service_run.specs.Events.{names, own}
-use Rattle.ntp_service_run.specs.Model.{life_of}
-use Rattle.ntp_service_run.specs.Headline.{StandsFor, TellsOne, is_struck, kept}
-use Rattle.ntp_service_run.proofs.Histories.{other-address}
-use Rattle.ntp_service_run.proofs.Runs.{Tells-nil, Tells-push}
+use Rattle.ntp_service.specs.declared.address.Address.{Address}
+use Rattle.ntp_service.specs.Registry.{Registry, Agrees, customer_at, holder_of, numbers_at}
+use Rattle.ntp_service.proofs.AddressLaws.{same_or_other_address}
+use Rattle.ntp_service.specs.declared.command.Command.{Command}
+use Rattle.ntp_service.specs.declared.event.Event.{Event}
+use Rattle.ntp_service.specs.declared.event.Event.TheVariants as event
+use Rattle.ntp_service.specs.declared.refusal.Refusal.TheVariants.{NoMemory}
+use Rattle.ntp_service.specs.declared.outcome.Outcome.{Outcome}
+use Rattle.ntp_service.specs.declared.outcome.Outcome.TheVariants as outcome
+use Rattle.ntp_service.specs.Events.{names, own}
+use Rattle.ntp_service.specs.Model.{life_of}
+use Rattle.ntp_service.specs.Headline.{StandsFor, TellsOne, is_struck, kept}
+use Rattle.ntp_service.proofs.Histories.{other-address}
+use Rattle.ntp_service.proofs.Runs.{Tells-nil, Tells-push}
 use Rattle.ntp_keeping.specs.Alike.{address_named, standing_at, ComesOf, LeaveTheSame}
 
 -- ---- what commands come to

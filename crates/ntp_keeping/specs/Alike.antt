@@ -2,15 +2,15 @@
 use Rattle.std.specs.Prelude.{◌≡◌, ◌≢◌, ◌⊎◌, ℕ, ◌<◌, IsSome, Option, Some, option_map, List, [], map, length}
 use Rattle.std.specs.declared.alloc.Global.{Global}
 use Rattle.ntp_customer.specs.Customer.{Enrolment, enrolment_at, older_in, held_in}
-use Rattle.ntp_register.specs.declared.address.Address.{Address}
-use Rattle.ntp_register.specs.Registry.{Registry, customer_at, holder_of}
-use Rattle.ntp_events.specs.declared.command.Command.{Command}
-use Rattle.ntp_events.specs.declared.event.Event.{Event}
-use Rattle.ntp_events.specs.declared.event.Event.TheVariants as event
-use Rattle.ntp_events.specs.declared.outcome.Outcome.{Outcome}
-use Rattle.ntp_service_run.specs.Events.{address_of}
-use Rattle.ntp_service_run.specs.Headline.{Tells}
-use Rattle.ntp_service_run.specs.Split.{HadMemory}
+use Rattle.ntp_service.specs.declared.address.Address.{Address}
+use Rattle.ntp_service.specs.Registry.{Registry, customer_at, holder_of}
+use Rattle.ntp_service.specs.declared.command.Command.{Command}
+use Rattle.ntp_service.specs.declared.event.Event.{Event}
+use Rattle.ntp_service.specs.declared.event.Event.TheVariants as event
+use Rattle.ntp_service.specs.declared.outcome.Outcome.{Outcome}
+use Rattle.ntp_service.specs.Events.{address_of}
+use Rattle.ntp_service.specs.Headline.{Tells}
+use Rattle.ntp_service.specs.Split.{HadMemory}
 
 -- what an address has: nothing where it was never enrolled, else its enrolment, and none where it is revoked (profile)
 abbrev pub standing_at : Registry → Address → Option (Option Enrolment)

@@ -8,11 +8,11 @@ use Rattle.hex.specs.Hex.{IsBytes}
 use Rattle.ntp_mac.specs.Key.{SymmetricKey, most_key_octets}
 use Rattle.ntp_mac.specs.declared.key.Algorithm.{Algorithm}
 use Rattle.ntp_mac.specs.declared.key.Algorithm.TheVariants.{Md5, Sha1}
-use Rattle.ntp_register.specs.declared.address.Address.{Address}
+use Rattle.ntp_service.specs.declared.address.Address.{Address}
 use Rattle.ntp_admin.specs.Words.{parts}
 use Rattle.ntp_admin.specs.Spells.{SpellsCommand}
-use Rattle.ntp_events.specs.declared.command.Command.{Command}
-use Rattle.ntp_events.specs.declared.command.Command.TheVariants as command
+use Rattle.ntp_service.specs.declared.command.Command.{Command}
+use Rattle.ntp_service.specs.declared.command.Command.TheVariants as command
 use Rattle.ntp_keeping.specs.declared.order.NewKey.{NewKey}
 use Rattle.ntp_keeping.specs.declared.order.Order.{Order}
 use Rattle.ntp_keeping.specs.declared.order.Order.TheVariants as order

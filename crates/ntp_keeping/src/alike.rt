@@ -3,14 +3,12 @@ ghost use Rattle.std.specs.Prelude.{◌≡◌, ◌≢◌, IfOk, IfSome, IsSome};
 ghost use Rattle.std.specs.Bool.{OnTrue};
 ghost use Rattle.std.specs.List.{All};
 ghost use Rattle.ntp_customer.specs.Customer.{enrolment_at, older_in, IsCustomer};
-ghost use Rattle.ntp_events.specs.declared.outcome.Outcome.TheVariants as outcome;
-ghost use Rattle.ntp_service_run.specs.Headline.{command_outcome};
+ghost use Rattle.ntp_service.specs.declared.outcome.Outcome.TheVariants as outcome;
+ghost use Rattle.ntp_service.specs.Headline.{command_outcome};
 ghost use Rattle.ntp_keeping.specs.Alike.{address_named, standing_at, ComesOf, LeaveTheSame, HaveOneNewer, HoldOne};
 
 use indexmap::IndexMap;
-use ntp_events::Command;
-use ntp_register::{Address, Customer, Refusal};
-use ntp_service_run::Service;
+use ntp_service::{Address, Command, Customer, Refusal, Service};
 use std::alloc::{AllocError, Global};
 use std::hash::{BuildHasherDefault, FoldHasher};
 

@@ -4,9 +4,8 @@ ghost use Rattle.std.specs.Bool.{OnTrue};
 ghost use Rattle.ntp_keeping.specs.Alike.{LeaveTheSame};
 
 use crate::alike::leave_the_same;
-use ntp_events::Command;
 use ntp_mac::Key;
-use ntp_register::Address;
+use ntp_service::{Address, Command};
 use std::alloc::{AllocError, Global};
 use std::num::NonZero;
 

@@ -1,7 +1,7 @@
 //! What a clerk orders.
 
 use ntp_mac::Algorithm;
-use ntp_register::Address;
+use ntp_service::Address;
 use std::num::NonZero;
 
 /// How many octets a key has that is made here (profile).

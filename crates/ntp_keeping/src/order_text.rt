@@ -6,9 +6,8 @@ ghost use Rattle.ntp_admin.specs.Answers.{line_feed};
 ghost use Rattle.ntp_keeping.specs.Orders.{address_text, algorithm_text, command_of, command_text, hidden_key, key_of, number_text, octets_in, AreKeyOctets, HasOctets, IsAddress, IsCommand, IsNumber, WritesCommand};
 
 use crate::{NewKey, Order};
-use ntp_events::Command;
 use ntp_mac::{Algorithm, Key};
-use ntp_register::Address;
+use ntp_service::{Address, Command};
 use std::alloc::{AllocError, Global};
 use std::num::NonZero;
 

@@ -1,13 +1,13 @@
 -- What octets are read as.
 use Rattle.std.proofs.Common.{◌≡◌, ℕ, suc, ◌%◌, List, [], ◌∷◌, Result, Ok, Err, ◌⊎◌, inl, inr, refl, sym, ap, subst, ◌∙◌, arith}
-use Rattle.ntp_request.specs.Request.{RequestValue, IsRequest}
-use Rattle.ntp_request.specs.Faults.{Fails}
-use Rattle.ntp_request.specs.OneAnswer.{HasOneReading, HasOneFault}
-use Rattle.ntp_request.specs.declared.malformed.Malformed.{Malformed}
-use Rattle.ntp_request.proofs.Octets.{AreOctets}
-use Rattle.ntp_request.proofs.Answered.{one-answer}
+use Rattle.ntp_packet.specs.Request.{RequestValue, IsRequest}
+use Rattle.ntp_packet.specs.Faults.{Fails}
+use Rattle.ntp_packet.specs.OneAnswer.{HasOneReading, HasOneFault}
+use Rattle.ntp_packet.specs.declared.malformed.Malformed.{Malformed}
+use Rattle.ntp_packet.proofs.Octets.{AreOctets}
+use Rattle.ntp_packet.proofs.Answered.{one-answer}
 use Rattle.ntp_mac.specs.Reading.{Reads, reading_of}
-use Rattle.ntp_request.proofs.TheReading.{low, AreOctets-low, the_one}
+use Rattle.ntp_packet.proofs.TheReading.{low, AreOctets-low, the_one}
 
 -- octets are their own low bits
 low-same : (octets : List ℕ) → AreOctets octets → low octets ≡ octets

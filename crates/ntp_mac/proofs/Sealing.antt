@@ -1,8 +1,8 @@
 -- A reply and the MAC behind it.
 use Rattle.std.proofs.Common.{◌≡◌, ℕ, List, ◌++◌, append_assoc, refl}
 use Rattle.std.specs.Int.{w32, to_be_bytes}
-use Rattle.ntp_request.specs.declared.digests.Digest.{Digest}
-use Rattle.ntp_request.specs.Tail.{digest_octets}
+use Rattle.ntp_packet.specs.declared.digests.Digest.{Digest}
+use Rattle.ntp_packet.specs.Tail.{digest_octets}
 use Rattle.ntp_mac.specs.Key.{SymmetricKey}
 use Rattle.ntp_mac.specs.Digest.{digest_of}
 use Rattle.ntp_mac.specs.Mac.{mac_of}

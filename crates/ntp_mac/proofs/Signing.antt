@@ -2,11 +2,11 @@
 use Rattle.std.proofs.Common.{◌≡◌, ℕ, List, Bool, true, false, ◌==◌, ◌&&◌, ap, sym, ◌∙◌, refl, nat_eq, eqb-true, eq-eqb}
 use Rattle.std.specs.Prelude.{◌↔◌, IsTrue}
 use Rattle.std.specs.Cmp.Lexicographic.{pointwise, bytes_decides}
-use Rattle.ntp_request.specs.Tail.{TailValue}
-use Rattle.ntp_request.specs.Tail.TailValue.{NoTail, BareTail, MacTail}
-use Rattle.ntp_request.specs.Request.{RequestValue}
-use Rattle.ntp_request.specs.declared.digests.Digest.{Digest}
-use Rattle.ntp_request.specs.declared.digests.Digest.TheVariants.{Md5, Sha1}
+use Rattle.ntp_packet.specs.Tail.{TailValue}
+use Rattle.ntp_packet.specs.Tail.TailValue.{NoTail, BareTail, MacTail}
+use Rattle.ntp_packet.specs.Request.{RequestValue}
+use Rattle.ntp_packet.specs.declared.digests.Digest.{Digest}
+use Rattle.ntp_packet.specs.declared.digests.Digest.TheVariants.{Md5, Sha1}
 use Rattle.ntp_mac.specs.Key.{SymmetricKey}
 use Rattle.ntp_mac.specs.Digest.{digest_of}
 use Rattle.ntp_mac.specs.Signed.{IsSigned, is_mac, is_signed}

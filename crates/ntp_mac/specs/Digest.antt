@@ -5,8 +5,8 @@ use Rattle.sha1.specs.Sha1.{sha1}
 use Rattle.ntp_mac.specs.Key.{SymmetricKey}
 use Rattle.ntp_mac.specs.declared.key.Algorithm.{Algorithm}
 use Rattle.ntp_mac.specs.declared.key.Algorithm.TheVariants as algorithm
-use Rattle.ntp_request.specs.declared.digests.Digest.{Digest}
-use Rattle.ntp_request.specs.declared.digests.Digest.TheVariants.{Md5, Sha1}
+use Rattle.ntp_packet.specs.declared.digests.Digest.{Digest}
+use Rattle.ntp_packet.specs.declared.digests.Digest.TheVariants.{Md5, Sha1}
 
 -- the hash of a message (MD5: RFC 1321; SHA-1: FIPS 180-4)
 abbrev pub hash : Algorithm → List ℕ → Digest

@@ -1,7 +1,7 @@
 -- What may stand behind the header of a reply.
 use Rattle.std.specs.Prelude.{ℕ, List, [], ◌∷◌, ◌++◌}
 use Rattle.std.specs.Int.{w32, to_be_bytes}
-use Rattle.ntp_request.specs.Tail.{digest_octets}
+use Rattle.ntp_packet.specs.Tail.{digest_octets}
 use Rattle.ntp_mac.specs.Key.{SymmetricKey}
 use Rattle.ntp_mac.specs.Digest.{digest_of}
 

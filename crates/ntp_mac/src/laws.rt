@@ -1,8 +1,8 @@
 //! What holds of the definitions, whatever code meets them. Each function is a law: a call of it does
 //! nothing.
 ghost use Rattle.std.specs.Prelude.{◌≡◌, ℕ, ◌<◌, List, All, Result};
-ghost use Rattle.ntp_request.specs.Request.{RequestValue};
-ghost use Rattle.ntp_request.specs.declared.malformed.Malformed.{Malformed};
+ghost use Rattle.ntp_packet.specs.Request.{RequestValue};
+ghost use Rattle.ntp_packet.specs.declared.malformed.Malformed.{Malformed};
 ghost use Rattle.ntp_mac.specs.Reading.{Reads, reading_of};
 
 /// Octets are what they are read as, and nothing else.

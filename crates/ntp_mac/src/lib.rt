@@ -11,6 +11,6 @@ mod verifying;
 pub use hashing::digest;
 pub use key::{Algorithm, Key, KeyFault, MOST_KEY_OCTETS};
 pub use laws::octets_are_what_they_are_read_as;
-pub use ntp_request::Digest;
+pub use ntp_packet::Digest;
 pub use reply::{Reply, add_nak, seal};
 pub use verifying::verifies;

@@ -2,12 +2,12 @@
 ghost use Rattle.std.specs.Prelude.{◌≡◌, ◌↔◌, IsTrue, nat_eq};
 ghost use Rattle.std.specs.Cmp.Lexicographic.{pointwise};
 ghost use Rattle.ntp_mac.specs.Digest.{digest_of};
-ghost use Rattle.ntp_request.specs.Tail.{tail_value};
+ghost use Rattle.ntp_packet.specs.Tail.{tail_value};
 ghost use Rattle.ntp_mac.specs.Signed.{IsSigned, is_mac, is_signed};
 
 use crate::hashing::{md5_of_two, sha1_of_two};
 use crate::{Algorithm, Key};
-use ntp_request::{Request, Tail};
+use ntp_packet::{Request, Tail};
 
 /// Whether a request is signed under a key with this key number: its tail is of the key's algorithm and has
 /// the number, and its digest is that of the header and the fields under the key (RFC 5905, 7.3; with

@@ -5,9 +5,9 @@ use Rattle.std.proofs.lemmas.Option.{none-some}
 use Rattle.ntp_time.specs.declared.stamp.Stamp.{Stamp}
 use Rattle.ntp_time.specs.declared.moment.Moment.{Moment}
 use Rattle.ntp_time.specs.Fresh.{fresh}
-use Rattle.ntp_slots.specs.declared.slot.Slot.{Slot}
-use Rattle.ntp_slots.specs.Exchanges.{recent, receives, is_unused_at, unused_at, with_unused, with_departure}
-use Rattle.ntp_slots.proofs.Recents.{recent-departed}
+use Rattle.ntp_customer.specs.declared.slot.Slot.{Slot}
+use Rattle.ntp_customer.specs.Exchanges.{recent, receives, is_unused_at, unused_at, with_unused, with_departure}
+use Rattle.ntp_customer.proofs.Recents.{recent-departed}
 use Rattle.ntp_reply.specs.Life.{recent_of}
 use Rattle.ntp_customer.specs.Past.{Past}
 use Rattle.ntp_customer.proofs.Pasts.{by_past}

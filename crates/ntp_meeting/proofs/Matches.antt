@@ -5,10 +5,10 @@ use Rattle.std.specs.Option.{option_and_then}
 use Rattle.std.proofs.lemmas.Bool.{cases_Bool, ne_eqb, eqb-true, eqb-false, and_parts}
 use Rattle.ntp_time.specs.declared.stamp.Stamp.{Stamp}
 use Rattle.ntp_packet.specs.Header.{HeaderFields, no_stamp}
-use Rattle.ntp_slots.specs.declared.slot.Slot.{Slot}
-use Rattle.ntp_slots.specs.Exchanges.{AreSaved, unused_at, is_unused_at, is_received_at}
-use Rattle.ntp_slots.proofs.Changes.{find-member}
-use Rattle.ntp_slots.proofs.Saved.{stamps-apart}
+use Rattle.ntp_customer.specs.declared.slot.Slot.{Slot}
+use Rattle.ntp_customer.specs.Exchanges.{AreSaved, unused_at, is_unused_at, is_received_at}
+use Rattle.ntp_customer.proofs.Changes.{find-member}
+use Rattle.ntp_customer.proofs.Saved.{stamps-apart}
 use Rattle.ntp_client.specs.declared.exchange.Exchange.{Exchange}
 use Rattle.ntp_client.specs.declared.exchange.Outstanding.{Outstanding}
 use Rattle.ntp_client.specs.State.{IsOutstanding}

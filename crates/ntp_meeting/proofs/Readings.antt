@@ -3,10 +3,10 @@ use Rattle.std.proofs.Common.{◌≡◌, ℕ, ◌^◌, ◌<◌, List, [], ◌++�
 use Rattle.std.proofs.lemmas.List.Elements.{All-append}
 use Rattle.ntp_packet.specs.Header.{HeaderFields, IsHeader, header_octets}
 use Rattle.ntp_packet.proofs.Readings.{length-header_octets}
-use Rattle.ntp_request.specs.Tail.{TailValue, NoTail, BareTail, MacTail, tail_octets, IsTail}
-use Rattle.ntp_request.specs.Request.{RequestValue, IsRequest, signed_octets}
-use Rattle.ntp_request.proofs.Octets.{AreOctets-all}
-use Rattle.ntp_request.proofs.Tails.{length-tail}
+use Rattle.ntp_packet.specs.Tail.{TailValue, NoTail, BareTail, MacTail, tail_octets, IsTail}
+use Rattle.ntp_packet.specs.Request.{RequestValue, IsRequest, signed_octets}
+use Rattle.ntp_packet.proofs.Octets.{AreOctets-all}
+use Rattle.ntp_packet.proofs.Tails.{length-tail}
 use Rattle.ntp_mac.specs.Key.{SymmetricKey}
 use Rattle.ntp_mac.specs.Digest.{hash, digest_of}
 use Rattle.ntp_mac.specs.Mac.{mac_of, nak_octets}

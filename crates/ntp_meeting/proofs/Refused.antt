@@ -3,7 +3,7 @@ use Rattle.std.proofs.Common.{◌≡◌, ℕ, Bool, true, false, ◌==◌, nat_l
 use Rattle.std.specs.Prelude.{if◌then◌else◌}
 use Rattle.ntp_packet.specs.Header.{HeaderFields, header_octets}
 use Rattle.ntp_mac.specs.Mac.{nak_octets}
-use Rattle.ntp_request.specs.Request.{RequestValue}
+use Rattle.ntp_packet.specs.Request.{RequestValue}
 use Rattle.ntp_mac.specs.Key.{SymmetricKey}
 use Rattle.ntp_mac.specs.Reading.{reading_of}
 use Rattle.ntp_customer.specs.Customer.{budget_of}

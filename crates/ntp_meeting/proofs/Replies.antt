@@ -5,9 +5,9 @@ use Rattle.ntp_time.specs.declared.stamp.Stamp.{Stamp}
 use Rattle.ntp_time.specs.declared.moment.Moment.{Moment}
 use Rattle.ntp_packet.specs.Header.{HeaderFields, IsHeader, header_octets}
 use Rattle.ntp_mac.specs.Mac.{nak_octets}
-use Rattle.ntp_request.specs.FirstCase.{decided}
-use Rattle.ntp_request.specs.Tail.{NoTail, BareTail}
-use Rattle.ntp_request.specs.Request.{RequestValue}
+use Rattle.ntp_packet.specs.FirstCase.{decided}
+use Rattle.ntp_packet.specs.Tail.{NoTail, BareTail}
+use Rattle.ntp_packet.specs.Request.{RequestValue}
 use Rattle.ntp_mac.specs.Reading.{reading_of}
 use Rattle.ntp_client.specs.declared.exchange.Outstanding.{Outstanding}
 use Rattle.ntp_client.specs.declared.pairing.Pairing.{Pairing}

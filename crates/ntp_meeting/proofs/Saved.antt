@@ -1,6 +1,5 @@
 -- The exchange that a time reply leaves at the server.
-use Rattle.std.proofs.Common.{◌≡◌, ◌≢◌, ℕ, ◌-◌, ◌≤◌, Bool, true, false, Some, None, Option, refl, sym, ap, subst, ◌∙◌, arith}
-use Rattle.std.proofs.Common.{List, [], ◌∷◌, ◌++◌, length, take, drop}
+use Rattle.std.proofs.Common.{◌≡◌, ◌≢◌, ℕ, ◌-◌, ◌≤◌, Bool, true, false, Some, None, Option, refl, sym, ap, subst, ◌∙◌, arith, List, [], ◌∷◌, ◌++◌, length, take, drop}
 use Rattle.std.specs.Prelude.{Contains, is_some, if◌then◌else◌}
 use Rattle.std.proofs.lemmas.Bool.{eq-eqb}
 use Rattle.std.proofs.lemmas.Option.{none-some}
@@ -10,10 +9,10 @@ use Rattle.std.proofs.lemmas.List.Folds.{find-append}
 use Rattle.ntp_time.specs.declared.stamp.Stamp.{Stamp}
 use Rattle.ntp_time.proofs.Freshness.{fresh-apart}
 use Rattle.ntp_packet.specs.Header.{HeaderFields}
-use Rattle.ntp_slots.specs.declared.slot.Slot.{Slot}
-use Rattle.ntp_slots.specs.Exchanges.{most_slots, recent, new_exchange, receives, transmits, all_stamps, is_unused_at, unused_at, spent}
-use Rattle.ntp_slots.proofs.Changes.{receives-spent}
-use Rattle.ntp_slots.proofs.Saved.{Contains-map}
+use Rattle.ntp_customer.specs.declared.slot.Slot.{Slot}
+use Rattle.ntp_customer.specs.Exchanges.{most_slots, recent, new_exchange, receives, transmits, all_stamps, is_unused_at, unused_at, spent}
+use Rattle.ntp_customer.proofs.Changes.{receives-spent}
+use Rattle.ntp_customer.proofs.Saved.{Contains-map}
 use Rattle.ntp_customer.specs.Customer.{Enrolment, enrolment_at}
 use Rattle.ntp_customer.specs.Past.{Past, with_query}
 use Rattle.ntp_customer.proofs.Pasts.{by_past}

@@ -1,7 +1,7 @@
 -- Which header the kind of a datagram speaks of.
 use Rattle.std.proofs.Common.{◌≡◌, ℕ, List, Option, Ok, arith}
 use Rattle.ntp_packet.specs.Header.{HeaderFields}
-use Rattle.ntp_request.specs.Request.{RequestValue}
+use Rattle.ntp_packet.specs.Request.{RequestValue}
 use Rattle.ntp_mac.specs.Reading.{reading_of}
 use Rattle.ntp_customer.specs.Customer.{Enrolment, enrolment_at}
 use Rattle.ntp_customer.specs.Past.{Past}

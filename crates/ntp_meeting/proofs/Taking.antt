@@ -7,9 +7,9 @@ use Rattle.ntp_time.specs.declared.stamp.Stamp.{Stamp}
 use Rattle.ntp_time.specs.declared.moment.Moment.{Moment}
 use Rattle.ntp_time.specs.Fresh.{fresh}
 use Rattle.ntp_packet.specs.Header.{header_octets}
-use Rattle.ntp_slots.specs.declared.slot.Slot.{Slot}
-use Rattle.ntp_slots.specs.Exchanges.{AreSaved, unused_at}
-use Rattle.ntp_slots.proofs.Saved.{stamps-apart}
+use Rattle.ntp_customer.specs.declared.slot.Slot.{Slot}
+use Rattle.ntp_customer.specs.Exchanges.{AreSaved, unused_at}
+use Rattle.ntp_customer.proofs.Saved.{stamps-apart}
 use Rattle.ntp_client.specs.declared.exchange.Exchange.{Exchange}
 use Rattle.ntp_client.specs.declared.exchange.Outstanding.{Outstanding}
 use Rattle.ntp_client.specs.declared.pairing.Pairing.TheVariants.{Basic, Interleaved}

@@ -3,12 +3,10 @@ ghost use Rattle.std.specs.Prelude.{◌≡◌, ◌+◌, ◌-◌, ◌≤◌, ◌<
 ghost use Rattle.ntp_host.specs.Failures.{udp_failures};
 
 use ntp_client::{Client, Taken};
-use ntp_events::{Command, Sending, TurnOutcome};
 use ntp_host::{UdpPort, moment_now};
 use ntp_mac::{Algorithm, Key};
-use ntp_register::Address;
 use ntp_reply::Reference;
-use ntp_service_run::Service;
+use ntp_service::{Address, Command, Sending, Service, TurnOutcome};
 use ntp_service_serve::{MOST_RECEIVED_OCTETS, TimedPort, answer_received};
 use ntp_time::Short;
 use std::alloc::Allocator;

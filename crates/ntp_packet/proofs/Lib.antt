@@ -1,2 +1,17 @@
 pub mod Parts
 pub mod Readings
+pub mod Octets
+pub mod Spelling
+pub mod Spelled
+pub mod Headers
+pub mod RestFaults
+pub mod Places
+pub mod Tails
+pub mod Ends
+pub mod Unique
+pub mod Found
+pub mod Padding
+pub mod Composed
+pub mod Answered
+pub mod TheReading
+pub mod FirstCase

@@ -2,7 +2,7 @@
 use Rattle.std.proofs.Common.{◌≡◌, ℕ, false, List, Option, Some, None, Ok, sym, refl}
 use Rattle.std.specs.Prelude.{nat_eq}
 use Rattle.std.specs.Option.{ok_or, option_map}
-use Rattle.ntp_request.specs.FirstCase.{◌>>=◌}
+use Rattle.ntp_packet.specs.FirstCase.{◌>>=◌}
 use Rattle.ntp_mac.specs.Key.{SymmetricKey}
 use Rattle.ntp_mac.specs.declared.key.Algorithm.{Algorithm}
 use Rattle.ntp_query.specs.declared.key_file.KeyLineFault.TheVariants as line_fault

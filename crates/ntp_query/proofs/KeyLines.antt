@@ -4,7 +4,7 @@ use Rattle.std.specs.Prelude.{filter, nat_lt, if◌then◌else◌}
 use Rattle.std.specs.List.{find, enumerate_from}
 use Rattle.std.specs.Option.{ok_or}
 use Rattle.std.proofs.lemmas.Str.Pattern.{IsSplitOnceResult, split_parts}
-use Rattle.ntp_request.specs.FirstCase.{◌>>=◌}
+use Rattle.ntp_packet.specs.FirstCase.{◌>>=◌}
 use Rattle.ntp_mac.specs.Key.{SymmetricKey}
 use Rattle.ntp_admin.specs.Words.{parts}
 use Rattle.ntp_admin.proofs.Cuts.{parts-split}

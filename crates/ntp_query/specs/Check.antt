@@ -2,7 +2,7 @@
 use Rattle.std.specs.Prelude.{ℕ, Bool, false, ◌==◌, nat_lt, if◌then◌else◌, unsigned_abs, Option, Some, None, ok_or, Result, Ok, Err, List, ◌++◌, codes, []}
 use Rattle.std.specs.Option.{option_map_or}
 use Rattle.std.specs.Fmt.{decimal}
-use Rattle.ntp_request.specs.FirstCase.{◌>>=◌, ◌>>◌, provided, decided}
+use Rattle.ntp_packet.specs.FirstCase.{◌>>=◌, ◌>>◌, provided, decided}
 use Rattle.ntp_query.specs.declared.answer.Answer.{Answer}
 use Rattle.ntp_query.specs.declared.outcome.Outcome.{Outcome}
 use Rattle.ntp_query.specs.declared.check.Limits.{Limits}

@@ -4,7 +4,7 @@ use Rattle.std.specs.Option.{option_map_or, ok_or}
 use Rattle.std.specs.List.{find, enumerate_from, starts_with}
 use Rattle.std.specs.Str.{bytes_eq}
 use Rattle.std.specs.Int.NonZero.{non_zero_u16_get}
-use Rattle.ntp_request.specs.FirstCase.{◌>>=◌, map_err}
+use Rattle.ntp_packet.specs.FirstCase.{◌>>=◌, map_err}
 use Rattle.ntp_mac.specs.Key.{most_key_octets, SymmetricKey}
 use Rattle.ntp_mac.specs.declared.key.Algorithm.{Algorithm}
 use Rattle.ntp_mac.specs.declared.key.Algorithm.TheVariants.{Md5, Sha1}

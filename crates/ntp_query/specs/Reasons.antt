@@ -1,8 +1,8 @@
 -- Why octets were not taken for a reply, in words.
 use Rattle.std.specs.Prelude.{ℕ, List, ◌++◌, codes}
 use Rattle.std.specs.Fmt.{decimal}
-use Rattle.ntp_request.specs.declared.malformed.Malformed.{Malformed}
-use Rattle.ntp_request.specs.declared.malformed.Malformed.TheVariants as malformed
+use Rattle.ntp_packet.specs.declared.malformed.Malformed.{Malformed}
+use Rattle.ntp_packet.specs.declared.malformed.Malformed.TheVariants as malformed
 use Rattle.ntp_client.specs.declared.taken.Distrust.{Distrust}
 use Rattle.ntp_client.specs.declared.taken.Distrust.TheVariants as distrust
 

@@ -4,7 +4,7 @@ ghost use Rattle.ntp_query.specs.Exchange.{Incoming, Comes, IsOver, Sends, outco
 
 use crate::{Outcome, hear};
 use ntp_client::Client;
-use ntp_request::MOST_DATAGRAM_OCTETS;
+use ntp_packet::MOST_DATAGRAM_OCTETS;
 use ntp_time::Moment;
 use std::io;
 

@@ -4,7 +4,7 @@ ghost use Rattle.ntp_query.specs.Outcome.{heard, answer_in, ends};
 
 use crate::Answer;
 use ntp_client::{Client, Distrust, Taken};
-use ntp_request::read_request;
+use ntp_packet::read_request;
 use ntp_time::Moment;
 
 /// What came of a query.

@@ -3,7 +3,7 @@ ghost use Rattle.std.specs.Prelude.{◌≡◌};
 ghost use Rattle.ntp_query.specs.Reasons.{reason_word, malformed_word};
 
 use ntp_client::Distrust;
-use ntp_request::Malformed;
+use ntp_packet::Malformed;
 use std::fmt;
 
 /// A word for why octets were not taken for a reply.

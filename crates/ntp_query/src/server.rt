@@ -3,7 +3,7 @@ ghost use Rattle.std.specs.Prelude.{◌≡◌};
 ghost use Rattle.ntp_query.specs.Server.{server_in};
 
 use ntp_admin::words;
-use ntp_register::Address;
+use ntp_service::Address;
 use std::num::NonZero;
 
 /// The UDP port of NTP (RFC 5905, 16).

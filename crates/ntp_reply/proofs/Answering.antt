@@ -1,7 +1,7 @@
 -- From what a datagram is to how it is answered.
 use Rattle.std.proofs.Common.{◌≡◌, ℕ, ◌==◌, ◌||◌, ◌≤◌, Bool, true, Some, None, IsSome, IfSome, Option, Ok, arith}
 use Rattle.std.specs.Prelude.{if◌then◌else◌}
-use Rattle.ntp_request.specs.Request.{RequestValue}
+use Rattle.ntp_packet.specs.Request.{RequestValue}
 use Rattle.ntp_mac.specs.Signed.{is_signed}
 use Rattle.ntp_customer.specs.declared.numbered_key.NumberedKey.{NumberedKey}
 use Rattle.ntp_customer.specs.Customer.{CustomerState, Enrolment, held_in}

@@ -4,11 +4,11 @@ use Rattle.std.specs.Prelude.{if◌then◌else◌, is_some, nat_lt, ◌==◌}
 use Rattle.ntp_time.specs.declared.stamp.Stamp.{Stamp}
 use Rattle.ntp_time.specs.declared.moment.Moment.{Moment}
 use Rattle.ntp_packet.specs.Header.{HeaderFields}
-use Rattle.ntp_slots.specs.declared.slot.Slot.{Slot}
-use Rattle.ntp_slots.specs.Exchanges.{AreSaved, recent, new_exchange, unused_at, is_unused_at, spent}
-use Rattle.ntp_slots.proofs.Changes.{find-member, receives-spent, all_stamps-spent}
-use Rattle.ntp_slots.proofs.Recents.{recent-departed}
-use Rattle.ntp_slots.proofs.Saved.{AreSaved-nil, AreSaved-push, AreSaved-spent, AreSaved-departed}
+use Rattle.ntp_customer.specs.declared.slot.Slot.{Slot}
+use Rattle.ntp_customer.specs.Exchanges.{AreSaved, recent, new_exchange, unused_at, is_unused_at, spent}
+use Rattle.ntp_customer.proofs.Changes.{find-member, receives-spent, all_stamps-spent}
+use Rattle.ntp_customer.proofs.Recents.{recent-departed}
+use Rattle.ntp_customer.proofs.Saved.{AreSaved-nil, AreSaved-push, AreSaved-spent, AreSaved-departed}
 use Rattle.ntp_reply.specs.declared.occasion.Occasion.{Occasion}
 use Rattle.ntp_reply.specs.Replies.{new_stamps}
 use Rattle.ntp_reply.proofs.DistinctStamps.{receive-free, transmit-free}

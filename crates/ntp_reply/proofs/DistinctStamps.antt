@@ -6,9 +6,9 @@ use Rattle.std.proofs.lemmas.List.Elements.{Contains-append_right}
 use Rattle.ntp_time.specs.Fresh.{is_free}
 use Rattle.ntp_time.proofs.Freshness.{free-nonzero, free-apart, IsFresh-fresh}
 use Rattle.ntp_packet.specs.Header.{HeaderFields}
-use Rattle.ntp_slots.specs.declared.slot.Slot.{Slot}
-use Rattle.ntp_slots.specs.Exchanges.{AreSaved, receives, transmits, all_stamps}
-use Rattle.ntp_slots.proofs.Saved.{Contains-map, stamps-apart}
+use Rattle.ntp_customer.specs.declared.slot.Slot.{Slot}
+use Rattle.ntp_customer.specs.Exchanges.{AreSaved, receives, transmits, all_stamps}
+use Rattle.ntp_customer.proofs.Saved.{Contains-map, stamps-apart}
 use Rattle.ntp_reply.specs.declared.occasion.Occasion.{Occasion}
 use Rattle.ntp_reply.specs.Replies.{HasDistinctStamps, new_stamps, basic_fields, time_fields}
 

@@ -4,9 +4,9 @@ use Rattle.std.specs.Prelude.{if◌then◌else◌}
 use Rattle.ntp_time.specs.declared.stamp.Stamp.{Stamp}
 use Rattle.ntp_time.specs.declared.moment.Moment.{Moment}
 use Rattle.ntp_packet.specs.Header.{HeaderFields}
-use Rattle.ntp_slots.specs.declared.slot.Slot.{Slot}
-use Rattle.ntp_slots.specs.Exchanges.{recent, with_recent, new_exchange, unused_at, spent, with_departure}
-use Rattle.ntp_slots.proofs.Recents.{recent-all, recent-append, recent-with_recent, recent-departed, length-spent}
+use Rattle.ntp_customer.specs.declared.slot.Slot.{Slot}
+use Rattle.ntp_customer.specs.Exchanges.{recent, with_recent, new_exchange, unused_at, spent, with_departure}
+use Rattle.ntp_customer.proofs.Recents.{recent-all, recent-append, recent-with_recent, recent-departed, length-spent}
 use Rattle.ntp_customer.specs.Customer.{Enrolment, CustomerState, new_customer, customer_from, enrolment_at, is_enrolled, exchanges_of, with_saved}
 use Rattle.ntp_customer.specs.Past.{Past, with_query, short}
 use Rattle.ntp_customer.proofs.Customers.{by_customer, revoked-absent}

@@ -1,9 +1,9 @@
 -- How many octets requests and replies have.
 use Rattle.std.proofs.Common.{◌≡◌, ℕ, ◌+◌, ◌≤◌, List, length, Ok, ap, ◌∙◌, subst, arith}
-use Rattle.ntp_request.specs.Tail.{TailValue, NoTail, BareTail, MacTail, tail_octets, IsTail}
-use Rattle.ntp_request.specs.Request.{RequestValue, IsReading}
-use Rattle.ntp_request.specs.declared.digests.Digest.TheVariants as digest
-use Rattle.ntp_request.proofs.Headers.{length-signed}
+use Rattle.ntp_packet.specs.Tail.{TailValue, NoTail, BareTail, MacTail, tail_octets, IsTail}
+use Rattle.ntp_packet.specs.Request.{RequestValue, IsReading}
+use Rattle.ntp_packet.specs.declared.digests.Digest.TheVariants as digest
+use Rattle.ntp_packet.proofs.Headers.{length-signed}
 use Rattle.ntp_mac.specs.Key.{SymmetricKey}
 use Rattle.ntp_mac.specs.Digest.{digest_length, hash}
 use Rattle.ntp_mac.specs.Signed.{IsSigned}

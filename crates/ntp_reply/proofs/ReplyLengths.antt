@@ -6,11 +6,11 @@ use Rattle.md5.proofs.StandardFacts.{length-md5}
 use Rattle.sha1.specs.Sha1.{sha1, digest_bytes as sha1_octets}
 use Rattle.ntp_packet.specs.Header.{HeaderFields, header_octets}
 use Rattle.ntp_packet.proofs.Parts.{four-cells}
-use Rattle.ntp_slots.specs.declared.slot.Slot.{Slot}
-use Rattle.ntp_request.specs.FirstCase.{◌>>=◌, ◌>>◌, provided, decided}
-use Rattle.ntp_request.specs.Tail.{TailValue, NoTail, BareTail, MacTail, digest_octets, tail_octets}
-use Rattle.ntp_request.specs.Request.{RequestValue, IsReading}
-use Rattle.ntp_request.specs.declared.malformed.Malformed.{Malformed}
+use Rattle.ntp_customer.specs.declared.slot.Slot.{Slot}
+use Rattle.ntp_packet.specs.FirstCase.{◌>>=◌, ◌>>◌, provided, decided}
+use Rattle.ntp_packet.specs.Tail.{TailValue, NoTail, BareTail, MacTail, digest_octets, tail_octets}
+use Rattle.ntp_packet.specs.Request.{RequestValue, IsReading}
+use Rattle.ntp_packet.specs.declared.malformed.Malformed.{Malformed}
 use Rattle.ntp_mac.specs.Key.{SymmetricKey}
 use Rattle.ntp_mac.specs.Digest.{digest_length, hash, digest_of}
 use Rattle.ntp_mac.specs.Mac.{mac_of, nak_octets}

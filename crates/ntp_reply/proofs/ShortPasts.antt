@@ -3,8 +3,8 @@ use Rattle.std.proofs.Common.{◌≡◌, ℕ, ◌<◌, ◌==◌, min, nat_lt, Bo
 use Rattle.std.specs.Prelude.{if◌then◌else◌}
 use Rattle.std.specs.Option.{option_map_or}
 use Rattle.std.proofs.lemmas.Bool.Decides.{nat_tests}
-use Rattle.ntp_budget.specs.Tally.{tally, count_in, most_counted}
-use Rattle.ntp_budget.proofs.Tallies.{tally-tells_all}
+use Rattle.ntp_customer.specs.Tally.{tally, count_in, most_counted}
+use Rattle.ntp_customer.proofs.Tallies.{tally-tells_all}
 use Rattle.ntp_packet.specs.Header.{HeaderFields, header_octets}
 use Rattle.ntp_mac.specs.Mac.{nak_octets}
 use Rattle.ntp_mac.specs.Reading.{reading_of}

@@ -3,8 +3,8 @@ use Rattle.std.specs.Prelude.{Bool, List, [], ◌∷◌, ◌++◌, ◌==◌, if�
 use Rattle.ntp_time.specs.declared.stamp.Stamp.{Stamp}
 use Rattle.ntp_time.specs.declared.moment.Moment.{Moment}
 use Rattle.ntp_packet.specs.Header.{HeaderFields}
-use Rattle.ntp_slots.specs.declared.slot.Slot.{Slot}
-use Rattle.ntp_slots.specs.Exchanges.{with_recent, new_exchange, unused_at, spent, with_departure}
+use Rattle.ntp_customer.specs.declared.slot.Slot.{Slot}
+use Rattle.ntp_customer.specs.Exchanges.{with_recent, new_exchange, unused_at, spent, with_departure}
 use Rattle.ntp_reply.specs.declared.occasion.Occasion.{Occasion}
 use Rattle.ntp_reply.specs.declared.occasion.NewStamps.{NewStamps}
 use Rattle.ntp_reply.specs.Replies.{new_stamps}

@@ -1,10 +1,10 @@
 -- What a datagram is to the address from which it came.
 use Rattle.std.specs.Prelude.{ℕ, List, ◌==◌, ◌||◌, Option, ok_or, Result, Ok, Err}
 use Rattle.ntp_packet.specs.Header.{HeaderFields}
-use Rattle.ntp_request.specs.FirstCase.{◌>>=◌, ◌>>◌, provided, decided}
-use Rattle.ntp_request.specs.Tail.{TailValue, NoTail, BareTail, MacTail}
-use Rattle.ntp_request.specs.Request.{RequestValue}
-use Rattle.ntp_request.specs.declared.malformed.Malformed.{Malformed}
+use Rattle.ntp_packet.specs.FirstCase.{◌>>=◌, ◌>>◌, provided, decided}
+use Rattle.ntp_packet.specs.Tail.{TailValue, NoTail, BareTail, MacTail}
+use Rattle.ntp_packet.specs.Request.{RequestValue}
+use Rattle.ntp_packet.specs.declared.malformed.Malformed.{Malformed}
 use Rattle.ntp_mac.specs.Key.{SymmetricKey}
 use Rattle.ntp_mac.specs.Reading.{reading_of}
 use Rattle.ntp_mac.specs.Signed.{is_signed}

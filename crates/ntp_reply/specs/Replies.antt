@@ -3,8 +3,8 @@ use Rattle.std.specs.Prelude.{◌≢◌, ℕ, List, [], ◌∷◌, ◌++◌, ◌
 use Rattle.ntp_time.specs.declared.stamp.Stamp.{Stamp}
 use Rattle.ntp_time.specs.declared.moment.Moment.{Moment}
 use Rattle.ntp_time.specs.Fresh.{fresh}
-use Rattle.ntp_slots.specs.declared.slot.Slot.{Slot}
-use Rattle.ntp_slots.specs.Exchanges.{receives, all_stamps}
+use Rattle.ntp_customer.specs.declared.slot.Slot.{Slot}
+use Rattle.ntp_customer.specs.Exchanges.{receives, all_stamps}
 use Rattle.ntp_packet.specs.Header.{HeaderFields, blank_header, header_octets}
 use Rattle.ntp_packet.specs.Kiss.{rate_code, deny_code}
 use Rattle.ntp_mac.specs.Key.{SymmetricKey}

@@ -1,13 +1,13 @@
 -- What a datagram is answered, and what it leaves of the life of the address from which it came.
 use Rattle.std.specs.Prelude.{ℕ, List, ◌++◌, Some, None, option_map, length, ◌+◌, ◌==◌, nat_lt, if◌then◌else◌}
 use Rattle.ntp_time.specs.Moment.{window_of}
-use Rattle.ntp_budget.specs.Tally.{count_in}
+use Rattle.ntp_customer.specs.Tally.{count_in}
 use Rattle.ntp_packet.specs.Header.{HeaderFields, header_octets}
-use Rattle.ntp_request.specs.Tail.{tail_octets}
-use Rattle.ntp_request.specs.Request.{RequestValue}
+use Rattle.ntp_packet.specs.Tail.{tail_octets}
+use Rattle.ntp_packet.specs.Request.{RequestValue}
 use Rattle.ntp_mac.specs.Key.{SymmetricKey}
 use Rattle.ntp_mac.specs.Mac.{nak_octets}
-use Rattle.ntp_slots.specs.declared.slot.Slot.{Slot}
+use Rattle.ntp_customer.specs.declared.slot.Slot.{Slot}
 use Rattle.ntp_customer.specs.Customer.{budget_of}
 use Rattle.ntp_customer.specs.Past.{Past, queries_in, with_refusal, with_query}
 use Rattle.ntp_reply.specs.Life.{Life, recent_of}

@@ -1,7 +1,7 @@
 //! What a datagram is answered.
 
 use ntp_mac::Reply;
-use ntp_request::Malformed;
+use ntp_packet::Malformed;
 use ntp_time::Stamp;
 
 /// Why a datagram gets no reply (profile).

@@ -13,7 +13,7 @@ use crate::signed_queries::serve_signed;
 use crate::{Answer, Reason, Reference};
 use ntp_customer::Customer;
 use ntp_mac::verifies;
-use ntp_request::{Request, Tail, read_request};
+use ntp_packet::{Request, Tail, read_request};
 use ntp_time::Moment;
 use std::alloc::Allocator;
 

@@ -1,13 +1,13 @@
 //! The exchanges of a customer: which one a request asks about, and what a reply saves of itself.
 ghost use Rattle.std.specs.Prelude.{◌≡◌, [], ◌∷◌, ◌++◌, IsTrue};
 ghost use Rattle.ntp_time.specs.Fresh.{is_free};
-ghost use Rattle.ntp_slots.specs.Exchanges.{recent, new_exchange, receives, all_stamps};
+ghost use Rattle.ntp_customer.specs.Exchanges.{recent, new_exchange, receives, all_stamps};
 ghost use Rattle.ntp_reply.specs.Replies.{new_stamps};
 ghost use Rattle.ntp_reply.specs.Exchanged.{matched, with_match_used};
 
 use crate::occasion::{NewStamps, Occasion};
+use ntp_customer::{Slot, Slots};
 use ntp_packet::Header;
-use ntp_slots::{Slot, Slots};
 use std::alloc::Allocator;
 
 // The new stamps on an occasion.

@@ -4,8 +4,8 @@ ghost use Rattle.ntp_reply.specs.Replies.{reply_fields, basic_fields, time_field
 
 use crate::occasion::{NewStamps, Occasion};
 use crate::{Kiss, Reference};
+use ntp_customer::Slot;
 use ntp_packet::{DENY_CODE, Header, RATE_CODE};
-use ntp_slots::Slot;
 use ntp_time::Stamp;
 
 /// The mode of a packet from a server (RFC 5905, 7.3).

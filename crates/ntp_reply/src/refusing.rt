@@ -1,6 +1,6 @@
 //! Refusals: each is counted, and few of a window are sent.
 ghost use Rattle.std.specs.Prelude.{◌≡◌, IsSome, nat_lt};
-ghost use Rattle.ntp_budget.specs.Tally.{count_in};
+ghost use Rattle.ntp_customer.specs.Tally.{count_in};
 ghost use Rattle.ntp_customer.specs.Customer.{enrolment_at};
 ghost use Rattle.ntp_customer.specs.Past.{Past, with_refusal, short};
 ghost use Rattle.ntp_reply.specs.Kind.{RefusedByDeny, RefusedByNak};

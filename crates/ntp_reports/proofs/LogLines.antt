@@ -8,7 +8,7 @@ use Rattle.std.specs.declared.num.NonZeroU16.{NonZeroU16}
 use Rattle.std.specs.Io.KnownBytes.{Appends}
 use Rattle.std.proofs.KnownBytes.{Appends-trans}
 use Rattle.ntp_reports.specs.declared.subject.Subject.{Subject}
-use Rattle.ntp_events.specs.declared.observation.LineOutcome.{LineOutcome}
+use Rattle.ntp_service.specs.declared.observation.LineOutcome.{LineOutcome}
 use Rattle.ntp_reports.specs.AnswerText.{outcome_text}
 use Rattle.ntp_reports.specs.Logging.{verb_text, address_text, subject_text, logged_line}
 

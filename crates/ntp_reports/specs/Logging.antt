@@ -4,11 +4,11 @@ use Rattle.std.specs.Option.{option_map_or}
 use Rattle.std.specs.Fmt.{decimal}
 use Rattle.std.specs.Int.NonZero.{non_zero_u16_get}
 use Rattle.std.specs.declared.num.NonZeroU16.{NonZeroU16}
-use Rattle.ntp_register.specs.declared.address.Address.{Address}
-use Rattle.ntp_events.specs.declared.command.Command.{Command}
-use Rattle.ntp_events.specs.declared.command.Command.TheVariants as command
-use Rattle.ntp_events.specs.declared.observation.LineOutcome.{LineOutcome}
-use Rattle.ntp_events.specs.declared.observation.LineOutcome.TheVariants.{Done}
+use Rattle.ntp_service.specs.declared.address.Address.{Address}
+use Rattle.ntp_service.specs.declared.command.Command.{Command}
+use Rattle.ntp_service.specs.declared.command.Command.TheVariants as command
+use Rattle.ntp_service.specs.declared.observation.LineOutcome.{LineOutcome}
+use Rattle.ntp_service.specs.declared.observation.LineOutcome.TheVariants.{Done}
 use Rattle.ntp_reports.specs.declared.subject.Subject.{Subject}
 use Rattle.ntp_reports.specs.declared.subject.Verb.{Verb}
 use Rattle.ntp_reports.specs.declared.subject.Verb.TheVariants as verb

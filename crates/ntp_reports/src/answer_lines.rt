@@ -5,7 +5,7 @@ ghost use Rattle.ntp_reports.specs.AnswerText.{answer_line};
 
 use ntp_admin::refusal_word;
 use ntp_customer_files::fault_word;
-use ntp_events::{Command, LineOutcome, Observer, TurnOutcome};
+use ntp_service::{Command, LineOutcome, Observer, TurnOutcome};
 use std::io::{self, Write};
 
 /// Writes a line for each line of commands: `N done`, `N refused WORD` or `N faulty WORD`, where N counts the file's lines

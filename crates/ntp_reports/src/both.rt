@@ -1,9 +1,9 @@
 //! Two observers as one.
 ghost use Rattle.std.specs.Prelude.{[], ◌∷◌};
-ghost use Rattle.ntp_events.specs.Sees.{Sees};
-ghost use Rattle.ntp_events.specs.declared.observation.Observation.{Observation};
+ghost use Rattle.ntp_service.specs.Sees.{Sees};
+ghost use Rattle.ntp_service.specs.declared.observation.Observation.{Observation};
 
-use ntp_events::{Command, LineOutcome, Observer, TurnOutcome};
+use ntp_service::{Command, LineOutcome, Observer, TurnOutcome};
 
 /// Two observers, which are told one after the other. What they have seen is told by the first.
 #[derive(Drop)]

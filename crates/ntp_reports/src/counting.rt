@@ -1,11 +1,11 @@
 //! An observer that counts.
 ghost use Rattle.std.specs.Prelude.{◌≡◌, [], ◌∷◌};
-ghost use Rattle.ntp_events.specs.Sees.{Sees};
-ghost use Rattle.ntp_events.specs.declared.observation.Observation.{Observation};
+ghost use Rattle.ntp_service.specs.Sees.{Sees};
+ghost use Rattle.ntp_service.specs.declared.observation.Observation.{Observation};
 ghost use Rattle.ntp_reports.specs.Counted.{CountsMore};
 
 use crate::counts::Counts;
-use ntp_events::{Command, LineOutcome, Observer, TurnOutcome};
+use ntp_service::{Command, LineOutcome, Observer, TurnOutcome};
 
 /// An observer that counts what it hears, and tells another one of it.
 #[derive(Drop)]

@@ -1,12 +1,12 @@
 //! How many turns and lines of commands of each kind there were.
 ghost use Rattle.std.specs.Prelude.{◌≡◌, ℕ, List, [], ◌∷◌};
-ghost use Rattle.ntp_events.specs.declared.observation.Observation.{Observation};
+ghost use Rattle.ntp_service.specs.declared.observation.Observation.{Observation};
 ghost use Rattle.ntp_reports.specs.Kinds.{sending_kinds, turn_kinds};
 ghost use Rattle.ntp_reports.specs.Counted.{count_at, nothing_counted, AreCounts, CountsMore, Adds};
 
 use crate::kind::{KINDS, Kind};
 use crate::kinds::{answer_kind, line_kind};
-use ntp_events::{LineOutcome, Sending, TurnOutcome};
+use ntp_service::{LineOutcome, Sending, TurnOutcome};
 
 /// How many turns and lines there were of each kind. A count that has come to 2^64 - 1 stays there; no server makes so
 /// many turns. It takes no memory.

@@ -2,14 +2,13 @@
 ghost use Rattle.std.specs.Prelude.{◌≡◌, ℕ, false, Some, None, is_some, option_copied, option_map, OnOk, OnErr, List, [], ◌∷◌, ◌++◌, length, slice_get};
 ghost use Rattle.std.specs.Map.Iter.{deref_pair};
 ghost use Rattle.std.specs.Bool.{OnFalse};
-ghost use Rattle.ntp_register.specs.declared.address.Address.{Address};
-ghost use Rattle.ntp_events.specs.declared.observation.Observation.{Observation};
+ghost use Rattle.ntp_service.specs.declared.address.Address.{Address};
+ghost use Rattle.ntp_service.specs.declared.observation.Observation.{Observation};
 ghost use Rattle.ntp_reports.specs.Reported.{report_at, address_in, done_in, AreSame, HasReport, CarriedOut, IsTold, CarriedOutOrMissed, IsToldOrMissed, TakesTurn, CountsOf, SignsAs};
 
 use crate::customer_report::{CustomerReport, report_after};
 use indexmap::IndexMap;
-use ntp_events::{Command, LineOutcome, Observer, TurnOutcome};
-use ntp_register::Address;
+use ntp_service::{Address, Command, LineOutcome, Observer, TurnOutcome};
 use std::alloc::{AllocError, Allocator, Global};
 use std::hash::{BuildHasherDefault, FoldHasher};
 

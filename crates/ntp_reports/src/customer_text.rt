@@ -5,7 +5,7 @@ use crate::counts::Counts;
 use crate::customer_report::CustomerReport;
 use crate::kind::Kind;
 use ntp_mac::Algorithm;
-use ntp_register::{Address, Customer};
+use ntp_service::{Address, Customer};
 use ntp_time::Moment;
 use serde::{Described, Serialize, Serializer};
 use std::alloc::{AllocError, Allocator, Global};

@@ -4,10 +4,9 @@ ghost use Rattle.ntp_reports.specs.Kinds.{answer_kind, silence_kind, malformed_k
 
 use crate::kind::Kind;
 use crate::stamps::tells_departure;
-use ntp_events::LineOutcome;
-use ntp_register::Refusal;
+use ntp_packet::Malformed;
 use ntp_reply::{Answer, Reason};
-use ntp_request::Malformed;
+use ntp_service::{LineOutcome, Refusal};
 
 // What an answer is counted as.
 pub(crate) fn answer_kind(answer: &Answer) -> Kind

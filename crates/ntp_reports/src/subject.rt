@@ -6,8 +6,7 @@ ghost use Rattle.ntp_reports.specs.Logging.{subject_of, verb_text, number_text, 
 
 use ntp_admin::refusal_word;
 use ntp_customer_files::fault_word;
-use ntp_events::{Command, LineOutcome};
-use ntp_register::Address;
+use ntp_service::{Address, Command, LineOutcome};
 use std::io::{self, Write};
 use std::num::NonZero;
 

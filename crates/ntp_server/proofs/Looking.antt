@@ -5,10 +5,10 @@ use Rattle.std.proofs.lemmas.List.Elements.{All-push}
 use Rattle.std.proofs.lemmas.Grind.{flat_map-append}
 use Rattle.ntp_time.specs.declared.moment.Moment.{Moment}
 use Rattle.ntp_reply.specs.Reference.{ReferenceState}
-use Rattle.ntp_events.specs.Sees.{Sees}
-use Rattle.ntp_events.proofs.Seen.{Sees-nil, Sees-append}
-use Rattle.ntp_service_run.specs.Headline.{Tells}
-use Rattle.ntp_service_run.proofs.Runs.{Tells-nil, Tells-append}
+use Rattle.ntp_service.specs.Sees.{Sees}
+use Rattle.ntp_service.proofs.Seen.{Sees-nil, Sees-append}
+use Rattle.ntp_service.specs.Headline.{Tells}
+use Rattle.ntp_service.proofs.Runs.{Tells-nil, Tells-append}
 use Rattle.ntp_service_serve.specs.Port.{Told}
 use Rattle.ntp_customer_files.specs.CommandsFile.{TakenLine, CarriesOut, CarriesOutDue, lines_taken, happened_at_lines, line_observations}
 use Rattle.ntp_service_serve.specs.Sources.{Coming, Gives, CountsOn}

@@ -1,22 +1,21 @@
 -- One round after another.
 use Rattle.std.proofs.Common.{◌≡◌, ℕ, ◌+◌, ◌≤◌, Bool, true, false, Option, None, Some, Result, List, [], ◌∷◌, ◌++◌, length, refl, sym, ap, ◌∙◌, subst, append-nil, length-append, arith}
-use Rattle.std.specs.Prelude.{if◌then◌else◌, option_map, is_err}
+use Rattle.std.specs.Prelude.{if◌then◌else◌, option_map, is_err, flat_map}
 use Rattle.std.specs.Result.{result_ok}
 use Rattle.std.proofs.lemmas.List.{map-append, length-map}
 use Rattle.std.proofs.lemmas.List.Elements.{All-push}
-use Rattle.std.specs.Prelude.{flat_map}
 use Rattle.std.proofs.lemmas.Grind.{flat_map-append}
 use Rattle.std.proofs.lemmas.List.Sums.{length-filter, count_by-le-length}
 use Rattle.ntp_time.specs.declared.moment.Moment.{Moment}
 use Rattle.ntp_reply.specs.Reference.{ReferenceState}
-use Rattle.ntp_events.specs.declared.observation.Arrival.{Arrival}
-use Rattle.ntp_events.specs.declared.observation.Observation.TheVariants.{Turn}
-use Rattle.ntp_events.specs.declared.observation.TurnOutcome.{TurnOutcome}
-use Rattle.ntp_events.specs.declared.observation.TurnOutcome.TheVariants.{NothingReceived, Answered}
-use Rattle.ntp_events.specs.Sees.{Sees}
-use Rattle.ntp_events.proofs.Seen.{Sees-nil, Sees-append}
-use Rattle.ntp_service_run.specs.Headline.{Tells}
-use Rattle.ntp_service_run.proofs.Runs.{Tells-nil, Tells-append}
+use Rattle.ntp_service.specs.declared.observation.Arrival.{Arrival}
+use Rattle.ntp_service.specs.declared.observation.Observation.TheVariants.{Turn}
+use Rattle.ntp_service.specs.declared.observation.TurnOutcome.{TurnOutcome}
+use Rattle.ntp_service.specs.declared.observation.TurnOutcome.TheVariants.{NothingReceived, Answered}
+use Rattle.ntp_service.specs.Sees.{Sees}
+use Rattle.ntp_service.proofs.Seen.{Sees-nil, Sees-append}
+use Rattle.ntp_service.specs.Headline.{Tells}
+use Rattle.ntp_service.proofs.Runs.{Tells-nil, Tells-append}
 use Rattle.ntp_service_serve.specs.declared.port.PortFault.{PortFault}
 use Rattle.ntp_service_serve.specs.Port.{IncomingValue}
 use Rattle.ntp_service_serve.specs.Made.{Made, Missed, Received, turn_of, arrival_of, happened_in_turn, sent_in, has_arrived, has_departed, is_failing, turn_outcome}

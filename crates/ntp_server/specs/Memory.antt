@@ -1,7 +1,7 @@
 -- What the parts of a server that are in memory tell.
 use Rattle.std.specs.Prelude.{ℕ, ◌<◌, Option, None, Some, option_map, List, length, map, drop, vec_len, vec_capacity, if◌then◌else◌}
 use Rattle.ntp_reply.specs.Reference.{ReferenceState}
-use Rattle.ntp_events.specs.declared.observation.Observation.{Observation}
+use Rattle.ntp_service.specs.declared.observation.Observation.{Observation}
 use Rattle.ntp_server.specs.declared.memory.MemoryCommands.{MemoryCommands}
 use Rattle.ntp_server.specs.declared.memory.MemoryStates.{MemoryStates}
 use Rattle.ntp_server.specs.declared.memory.MemoryObserver.{MemoryObserver}

@@ -2,13 +2,13 @@
 use Rattle.std.specs.Prelude.{◌≡◌, ℕ, ◌+◌, Bool, true, false, Option, None, List, [], ◌∷◌, length, map, flat_map, if◌then◌else◌, All}
 use Rattle.ntp_time.specs.declared.moment.Moment.{Moment}
 use Rattle.ntp_reply.specs.Reference.{ReferenceState}
-use Rattle.ntp_events.specs.declared.event.Event.{Event}
-use Rattle.ntp_events.specs.declared.outcome.Outcome.{Outcome}
-use Rattle.ntp_events.specs.declared.observation.Observation.{Observation}
-use Rattle.ntp_events.specs.declared.observation.TurnOutcome.{TurnOutcome}
-use Rattle.ntp_events.specs.declared.observation.TurnOutcome.TheVariants.{NothingReceived, Answered}
-use Rattle.ntp_events.specs.Sees.{Sees}
-use Rattle.ntp_service_run.specs.Headline.{StandsFor, Tells}
+use Rattle.ntp_service.specs.declared.event.Event.{Event}
+use Rattle.ntp_service.specs.declared.outcome.Outcome.{Outcome}
+use Rattle.ntp_service.specs.declared.observation.Observation.{Observation}
+use Rattle.ntp_service.specs.declared.observation.TurnOutcome.{TurnOutcome}
+use Rattle.ntp_service.specs.declared.observation.TurnOutcome.TheVariants.{NothingReceived, Answered}
+use Rattle.ntp_service.specs.Sees.{Sees}
+use Rattle.ntp_service.specs.Headline.{StandsFor, Tells}
 use Rattle.ntp_service_serve.specs.Made.{is_failing, turn_outcome}
 use Rattle.ntp_service_serve.specs.Serving.{Makes}
 use Rattle.ntp_service_serve.specs.Sending.{was_sent, was_noted}

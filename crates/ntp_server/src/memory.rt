@@ -1,9 +1,9 @@
 //! The parts of a server in memory.
 ghost use Rattle.std.specs.Prelude.{◌≡◌, ◌≤◌, ◌<◌, ◌++◌, Some, None, false, [], ◌∷◌, map, option_map, vec_len, vec_capacity, IfOk, if◌then◌else◌};
-ghost use Rattle.ntp_events.specs.declared.observation.Observation.{Observation};
+ghost use Rattle.ntp_service.specs.declared.observation.Observation.{Observation};
 
-use ntp_events::{Command, LineOutcome, NoMemory, Observation, Observer, TurnOutcome};
 use ntp_reply::Reference;
+use ntp_service::{Command, LineOutcome, NoMemory, Observation, Observer, TurnOutcome};
 use ntp_service_serve::{CommandsSource, ReferenceSource};
 use ntp_time::Moment;
 use std::alloc::{Allocator, Global};
@@ -96,7 +96,7 @@ pub struct MemoryObserver<A: Allocator = Global> {
 
 impl<A: Allocator> MemoryObserver<A> {
     ghost use Rattle.ntp_server.specs.Memory.{seen_by, HasRoom};
-    ghost use Rattle.ntp_events.specs.Sees.{Sees};
+    ghost use Rattle.ntp_service.specs.Sees.{Sees};
 
     /// One that has seen nothing. The room is taken from `alloc` here, so that no call of it takes memory: `NoMemory` only where
     /// it was refused.

@@ -1,7 +1,7 @@
 //! Who is shown a server while it serves.
 ghost use Rattle.std.specs.Prelude.{Option, None, List, [], ◌∷◌};
 ghost use Rattle.ntp_time.specs.declared.moment.Moment.{Moment};
-ghost use Rattle.ntp_events.specs.Sees.{Sees};
+ghost use Rattle.ntp_service.specs.Sees.{Sees};
 
 use ntp_time::Moment;
 

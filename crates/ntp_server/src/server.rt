@@ -6,8 +6,7 @@ ghost use Rattle.ntp_server.specs.Steps.{arrivals_in, replies_in, departures_in}
 
 use crate::reporter::{NoReports, Reporter};
 use ntp_customer_files::apply_commands;
-use ntp_events::{Arrival, Observer, Sending, TurnOutcome};
-use ntp_service_run::Service;
+use ntp_service::{Arrival, Observer, Sending, Service, TurnOutcome};
 use ntp_service_serve::{
     CommandsSource, DatagramRoom, MOST_RECEIVED_OCTETS, PortFault, ReferenceSource, TimedPort,
     answer_received,

@@ -4,19 +4,19 @@ use Rattle.std.specs.Prelude.{Bool, not, All, map, if◌then◌else◌}
 use Rattle.std.specs.List.{AllZip}
 use Rattle.std.proofs.lemmas.List.{flat_map_more, map-append}
 use Rattle.std.proofs.lemmas.List.Elements.{All-nil, All-cons, All-append, filter-append}
-use Rattle.ntp_register.specs.Registry.{Registry}
-use Rattle.ntp_events.specs.declared.event.Event.{Event}
-use Rattle.ntp_events.specs.declared.outcome.Outcome.{Outcome}
+use Rattle.ntp_service.specs.Registry.{Registry}
+use Rattle.ntp_service.specs.declared.event.Event.{Event}
+use Rattle.ntp_service.specs.declared.outcome.Outcome.{Outcome}
 use Rattle.ntp_admin.specs.Spells.{is_passed_over, Spells}
 use Rattle.ntp_admin.specs.Answers.{outcome_text}
 use Rattle.ntp_service_replay.specs.declared.faults.ReplayFaultKind.{ReplayFaultKind}
 use Rattle.ntp_service_replay.specs.declared.faults.ReplayFaultKind.TheVariants.{Line, Read, Write, NoMemory, LineLong, NotUtf8}
-use Rattle.ntp_service_run.specs.Headline.{StandsFor, TellsOne}
+use Rattle.ntp_service.specs.Headline.{StandsFor, TellsOne}
 use Rattle.ntp_service_replay.specs.Script.{IsReadable, event_lines}
 use Rattle.ntp_service_replay.specs.Replay.{Replays, Causes}
 use Rattle.ntp_service_replay.specs.Lines.{CutsShort}
 use Rattle.ntp_service_replay.specs.Engine.{Answers, Halts}
-use Rattle.ntp_service_run.proofs.Runs.{Tells-nil, Tells-push}
+use Rattle.ntp_service.proofs.Runs.{Tells-nil, Tells-push}
 
 -- two lists that agree place by place, each with one member more
 AllZip-more : {X Y : Type 0} (R : X → Y → Type 0) (xs : List X) (ys : List Y) (x : X) (y : Y) → AllZip R xs ys → R x y

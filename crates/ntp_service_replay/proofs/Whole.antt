@@ -1,7 +1,7 @@
 -- From the octets that an engine was fed to the whole text, where the reader tells it.
 use Rattle.std.proofs.Common.{◌≡◌, ℕ, ◌+◌, Option, Some, None, IfSome, List, [], ◌++◌, refl, sym, ap, ◌∙◌, subst, append-nil, arith}
 use Rattle.std.specs.Io.KnownBytes.{Consumes, IsAtEnd}
-use Rattle.ntp_register.specs.Registry.{Registry}
+use Rattle.ntp_service.specs.Registry.{Registry}
 use Rattle.ntp_service_replay.specs.declared.engine.Engine.{Engine}
 use Rattle.ntp_service_replay.specs.declared.faults.ReplayFaultKind.{ReplayFaultKind}
 use Rattle.ntp_service_replay.specs.declared.faults.ReplayFaultKind.TheVariants.{Read}

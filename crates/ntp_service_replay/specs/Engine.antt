@@ -1,9 +1,9 @@
 -- Not to be believed: for proofs. What an engine does with octets, in steps.
 use Rattle.std.specs.Prelude.{◌≡◌, ℕ, ◌+◌, List, [], ◌++◌, length}
-use Rattle.ntp_register.specs.Registry.{Registry}
+use Rattle.ntp_service.specs.Registry.{Registry}
 use Rattle.ntp_service_replay.specs.declared.engine.Engine.{Engine}
 use Rattle.ntp_service_replay.specs.declared.faults.ReplayFaultKind.{ReplayFaultKind}
-use Rattle.ntp_service_run.specs.Headline.{StandsFor}
+use Rattle.ntp_service.specs.Headline.{StandsFor}
 use Rattle.ntp_service_replay.specs.Script.{lines_of}
 use Rattle.ntp_service_replay.specs.Replay.{Replays, Causes}
 

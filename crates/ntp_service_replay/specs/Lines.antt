@@ -1,6 +1,6 @@
 -- Not to be believed: for proofs. What becomes of one line.
 use Rattle.std.specs.Prelude.{◌≡◌, ℕ, Bool, true, false, Option, Some, None, List, [], ◌++◌}
-use Rattle.ntp_events.specs.declared.event.Event.{Event}
+use Rattle.ntp_service.specs.declared.event.Event.{Event}
 use Rattle.ntp_admin.specs.Spells.{is_passed_over, Spells}
 use Rattle.ntp_service_replay.specs.declared.faults.ReplayFaultKind.{ReplayFaultKind}
 use Rattle.ntp_service_replay.specs.declared.faults.ReplayFaultKind.TheVariants.{Line, Read, Write, NoMemory, LineLong, NotUtf8}

@@ -1,16 +1,16 @@
 -- What a replay of a script's lines writes, and where it stops.
 use Rattle.std.specs.Prelude.{◌≡◌, ◌⊎◌, ℕ, ◌+◌, ◌-◌, ◌^◌, ◌≤◌, ◌<◌, false, List, [], ◌∷◌, ◌++◌, length, All, map, flat_map, IsUtf8}
 use Rattle.std.specs.List.{AllZip}
-use Rattle.ntp_register.specs.Registry.{Registry}
-use Rattle.ntp_events.specs.declared.event.Event.{Event}
-use Rattle.ntp_events.specs.declared.outcome.Outcome.{Outcome}
-use Rattle.ntp_events.specs.declared.line_fault.LineFault.TheVariants as line_fault
+use Rattle.ntp_service.specs.Registry.{Registry}
+use Rattle.ntp_service.specs.declared.event.Event.{Event}
+use Rattle.ntp_service.specs.declared.outcome.Outcome.{Outcome}
+use Rattle.ntp_service.specs.declared.line_fault.LineFault.TheVariants as line_fault
 use Rattle.ntp_admin.specs.Spells.{is_passed_over, Spells, HasLineFault}
 use Rattle.ntp_admin.specs.Answers.{outcome_text}
 use Rattle.ntp_service_replay.specs.declared.faults.ReplayFault.{ReplayFault}
 use Rattle.ntp_service_replay.specs.declared.faults.ReplayFaultKind.{ReplayFaultKind}
 use Rattle.ntp_service_replay.specs.declared.faults.ReplayFaultKind.TheVariants.{Line, Read, Write, NoMemory, LineLong, NotUtf8}
-use Rattle.ntp_service_run.specs.Headline.{Tells}
+use Rattle.ntp_service.specs.Headline.{Tells}
 use Rattle.ntp_service_replay.specs.Script.{most_line_octets, IsReadable, event_lines}
 
 -- how many reads of a text there are at most (profile)

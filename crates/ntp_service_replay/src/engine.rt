@@ -7,7 +7,7 @@ ghost use Rattle.ntp_service_replay.specs.Watched.{has_failed, Wrote};
 use crate::faults::{ReplayFault, ReplayFaultKind};
 use crate::lines::{judge, write_answer};
 use crate::watch::Watched;
-use ntp_service_run::Service;
+use ntp_service::Service;
 use std::alloc::Allocator;
 use std::io::Write;
 

@@ -1,6 +1,6 @@
 //! What stops a replay.
 
-use ntp_events::LineFault;
+use ntp_service::LineFault;
 
 /// Why a replay stopped (profile). Of what is wrong with one line, `LineLong` is found first, then `NotUtf8`, and
 /// then `Line`.

@@ -1,5 +1,5 @@
 //! The replay of a script: its lines are applied to a service, and each answer is written before the next line
-//! is applied. It is a layer of `ntp_service`, which passes its calls on.
+//! is applied.
 #![tactic(auto)]
 
 mod engine;

@@ -1,6 +1,6 @@
 //! One line of a script, and one answer line.
 ghost use Rattle.std.specs.Prelude.{◌≡◌, ℕ, ◌≤◌, Bool, List, [], ◌∷◌, length, OnOk, IfOk, IfErr};
-ghost use Rattle.ntp_events.specs.declared.event.Event.{Event};
+ghost use Rattle.ntp_service.specs.declared.event.Event.{Event};
 ghost use Rattle.ntp_admin.specs.Answers.{outcome_text};
 ghost use Rattle.ntp_service_replay.specs.Script.{most_line_octets};
 ghost use Rattle.ntp_service_replay.specs.Replay.{Causes};
@@ -10,7 +10,7 @@ ghost use Rattle.ntp_service_replay.specs.Watched.{has_failed, Wrote};
 use crate::faults::ReplayFaultKind;
 use crate::watch::Watched;
 use ntp_admin::{is_passed_over, parse_event, print_answer};
-use ntp_events::{Event, Outcome};
+use ntp_service::{Event, Outcome};
 use std::alloc::Allocator;
 use std::io::Write;
 

@@ -1,7 +1,7 @@
 //! The replay of a script.
 ghost use Rattle.std.specs.Prelude.{◌≡◌, ◌⊎◌, ℕ, ◌+◌, ◌-◌, ◌≤◌, ◌<◌, ◌^◌, List, [], true, false, OnOk, IfErr, IfSome};
 ghost use Rattle.std.specs.Io.KnownBytes.{IsAtEnd};
-ghost use Rattle.ntp_register.specs.Registry.{Registry};
+ghost use Rattle.ntp_service.specs.Registry.{Registry};
 ghost use Rattle.ntp_service_replay.specs.Script.{lines_of};
 ghost use Rattle.ntp_service_replay.specs.Replay.{most_reads, Replays, StopsAt};
 ghost use Rattle.ntp_service_replay.specs.Watched.{inner_of, has_failed, read_count, Wrote};

@@ -2,15 +2,15 @@
 use Rattle.std.proofs.Common.{◌≡◌, ℕ, ◌+◌, ◌≤◌, Bool, true, false, Option, List, [], ◌∷◌, ◌++◌, length, refl, sym, ap, ◌∙◌, subst, append-nil, length-append, arith}
 use Rattle.std.proofs.lemmas.Grind.{flat_map-append}
 use Rattle.std.specs.Prelude.{Result, is_err, flat_map, if◌then◌else◌}
-use Rattle.ntp_register.specs.Registry.{Registry}
+use Rattle.ntp_service.specs.Registry.{Registry}
 use Rattle.ntp_reply.specs.Reference.{ReferenceState}
 use Rattle.ntp_reply.specs.declared.answers.Answer.{Answer}
 use Rattle.ntp_reply.specs.declared.answers.Answer.TheVariants as answer
-use Rattle.ntp_events.specs.declared.observation.Arrival.{Arrival}
-use Rattle.ntp_events.specs.declared.observation.TurnOutcome.{TurnOutcome}
-use Rattle.ntp_events.specs.declared.observation.TurnOutcome.TheVariants.{NothingReceived, Answered}
-use Rattle.ntp_service_run.specs.Headline.{Tells}
-use Rattle.ntp_service_run.proofs.Runs.{Tells-nil, Tells-append}
+use Rattle.ntp_service.specs.declared.observation.Arrival.{Arrival}
+use Rattle.ntp_service.specs.declared.observation.TurnOutcome.{TurnOutcome}
+use Rattle.ntp_service.specs.declared.observation.TurnOutcome.TheVariants.{NothingReceived, Answered}
+use Rattle.ntp_service.specs.Headline.{Tells}
+use Rattle.ntp_service.proofs.Runs.{Tells-nil, Tells-append}
 use Rattle.ntp_service_serve.specs.declared.port.PortFault.{PortFault}
 use Rattle.ntp_service_serve.specs.declared.serving.Served.{Served}
 use Rattle.ntp_service_serve.specs.Port.{IncomingValue, Readings, Told}

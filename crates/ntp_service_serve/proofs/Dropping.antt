@@ -1,6 +1,6 @@
 -- Datagrams that a port drops, one after another.
 use Rattle.std.proofs.Common.{◌≡◌, ℕ, zero, suc, ◌+◌, Bool, true, false, List, Option, None, Some, Result, Ok, refl, sym, subst, ◌∙◌, arith}
-use Rattle.ntp_events.specs.declared.observation.Arrival.{Arrival}
+use Rattle.ntp_service.specs.declared.observation.Arrival.{Arrival}
 use Rattle.ntp_service_serve.specs.declared.port.PortFault.{PortFault}
 use Rattle.ntp_service_serve.specs.Port.{Told, ReceiveTells, TellsOn, DropTells, DropsTurns, CountsMore, DropsAny, Receives}
 

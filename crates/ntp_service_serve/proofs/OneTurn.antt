@@ -4,16 +4,16 @@ use Rattle.std.specs.Prelude.{nat_le, not, is_err, option_to_list, map, if◌the
 use Rattle.ntp_time.specs.declared.moment.Moment.{Moment}
 use Rattle.ntp_time.specs.declared.stamp.Stamp.{Stamp}
 use Rattle.ntp_mac.specs.Mac.{most_reply_octets}
-use Rattle.ntp_register.specs.declared.address.Address.{Address}
-use Rattle.ntp_register.specs.Registry.{Registry}
+use Rattle.ntp_service.specs.declared.address.Address.{Address}
+use Rattle.ntp_service.specs.Registry.{Registry}
 use Rattle.ntp_reply.specs.declared.answers.Answer.{Answer}
 use Rattle.ntp_reply.specs.declared.answers.Answer.TheVariants as answer
-use Rattle.ntp_events.specs.declared.observation.Sending.TheVariants.{NoReply, NotSent, Sent as WasSent, Noted, NotNoted}
-use Rattle.ntp_events.specs.declared.event.Event.{Event}
-use Rattle.ntp_events.specs.declared.event.Event.TheVariants as event
-use Rattle.ntp_service_run.specs.Model.{departure_outcome}
-use Rattle.ntp_service_run.specs.Headline.{StandsFor, TellsOne}
-use Rattle.ntp_service_run.proofs.Runs.{Tells-nil, Tells-one}
+use Rattle.ntp_service.specs.declared.observation.Sending.TheVariants.{NoReply, NotSent, Sent as WasSent, Noted, NotNoted}
+use Rattle.ntp_service.specs.declared.event.Event.{Event}
+use Rattle.ntp_service.specs.declared.event.Event.TheVariants as event
+use Rattle.ntp_service.specs.Model.{departure_outcome}
+use Rattle.ntp_service.specs.Headline.{StandsFor, TellsOne}
+use Rattle.ntp_service.proofs.Runs.{Tells-nil, Tells-one}
 use Rattle.ntp_service_serve.specs.declared.memory_port.Sent.{Sent}
 use Rattle.ntp_service_serve.specs.declared.port.PortFault.{PortFault}
 use Rattle.ntp_service_serve.specs.declared.port.PortFault.TheVariants.{Send}

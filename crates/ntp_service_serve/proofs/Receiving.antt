@@ -6,7 +6,7 @@ use Rattle.std.proofs.lemmas.Option.{slice_get_read}
 use Rattle.std.specs.Prelude.{false, true, is_none, option_map, slice_get}
 use Rattle.std.specs.Option.{option_map_or}
 use Rattle.ntp_service_serve.specs.declared.turn.Turn.{Turn}
-use Rattle.ntp_events.specs.declared.observation.Arrival.{Arrival}
+use Rattle.ntp_service.specs.declared.observation.Arrival.{Arrival}
 use Rattle.ntp_service_serve.specs.declared.port.PortFault.{PortFault}
 use Rattle.ntp_service_serve.specs.Port.{TurnValue, no_turn, Told, received, Arrives, Begins, BeginsDropped}
 use Rattle.ntp_service_serve.specs.Made.{arrival_of}

@@ -3,10 +3,10 @@ use Rattle.std.proofs.Common.{inl, inr, ◌⊎◌, ◌≡◌, ℕ, zero, suc, Bo
 use Rattle.std.specs.Prelude.{IfErr, flat_map, option_map}
 use Rattle.std.specs.Result.{result_ok}
 use Rattle.std.proofs.lemmas.Grind.{flat_map-append}
-use Rattle.ntp_register.specs.Registry.{Registry}
+use Rattle.ntp_service.specs.Registry.{Registry}
 use Rattle.ntp_reply.specs.Reference.{ReferenceState}
-use Rattle.ntp_events.specs.declared.observation.Arrival.{Arrival}
-use Rattle.ntp_events.specs.declared.observation.TurnOutcome.{TurnOutcome}
+use Rattle.ntp_service.specs.declared.observation.Arrival.{Arrival}
+use Rattle.ntp_service.specs.declared.observation.TurnOutcome.{TurnOutcome}
 use Rattle.ntp_service_serve.specs.declared.port.PortFault.{PortFault}
 use Rattle.ntp_service_serve.specs.Sequence.{firsts}
 use Rattle.ntp_service_serve.specs.Port.{IncomingValue, Readings, TurnValue, no_turn, Told, Arrives, Begins, ReceiveTells, DropTells, TellsOn, DropsTurns, CountsMore, Receives, GivesUp}

@@ -2,9 +2,9 @@
 use Rattle.std.specs.Prelude.{◌≡◌, ℕ, zero, suc, ◌+◌, ◌^◌, ◌<◌, ◌⊎◌, Bool, false, true, not, ◌&&◌, Option, None, Some, IfSome, IsSomeAnd, Result, Ok, Err, List, [], ◌∷◌, ◌++◌, length, get_or, take, drop, nat_le, if◌then◌else◌}
 use Rattle.ntp_time.specs.declared.moment.Moment.{Moment}
 use Rattle.ntp_mac.specs.Mac.{most_reply_octets}
-use Rattle.ntp_register.specs.declared.address.Address.{Address}
+use Rattle.ntp_service.specs.declared.address.Address.{Address}
 use Rattle.ntp_service_serve.specs.declared.memory_port.Sent.{Sent}
-use Rattle.ntp_events.specs.declared.observation.Arrival.{Arrival}
+use Rattle.ntp_service.specs.declared.observation.Arrival.{Arrival}
 use Rattle.ntp_service_serve.specs.declared.port.PortFault.{PortFault}
 use Rattle.ntp_service_serve.specs.declared.port.PortFault.TheVariants.{Receive, Send}
 

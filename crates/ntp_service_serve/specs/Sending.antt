@@ -2,17 +2,17 @@
 use Rattle.std.specs.Prelude.{◌≡◌, ℕ, ◌+◌, Bool, false, true, Option, None, Some, IfSome, IsSomeAnd, List, ◌∷◌, [], map, if◌then◌else◌}
 use Rattle.ntp_time.specs.declared.moment.Moment.{Moment}
 use Rattle.ntp_time.specs.declared.stamp.Stamp.{Stamp}
-use Rattle.ntp_register.specs.Registry.{Registry}
+use Rattle.ntp_service.specs.Registry.{Registry}
 use Rattle.ntp_reply.specs.declared.answers.Answer.{Answer}
 use Rattle.ntp_reply.specs.declared.answers.Answer.TheVariants as answer
-use Rattle.ntp_events.specs.declared.observation.Sending.{Sending}
-use Rattle.ntp_events.specs.declared.observation.Sending.TheVariants.{NoReply, NotSent, Noted}
-use Rattle.ntp_events.specs.declared.observation.TurnOutcome.{TurnOutcome}
-use Rattle.ntp_events.specs.declared.observation.TurnOutcome.TheVariants.{NothingReceived, Answered}
-use Rattle.ntp_events.specs.declared.event.Event.{Event}
-use Rattle.ntp_events.specs.declared.event.Event.TheVariants as event
-use Rattle.ntp_service_run.specs.Model.{departure_outcome}
-use Rattle.ntp_service_run.specs.Headline.{StandsFor, Tells}
+use Rattle.ntp_service.specs.declared.observation.Sending.{Sending}
+use Rattle.ntp_service.specs.declared.observation.Sending.TheVariants.{NoReply, NotSent, Noted}
+use Rattle.ntp_service.specs.declared.observation.TurnOutcome.{TurnOutcome}
+use Rattle.ntp_service.specs.declared.observation.TurnOutcome.TheVariants.{NothingReceived, Answered}
+use Rattle.ntp_service.specs.declared.event.Event.{Event}
+use Rattle.ntp_service.specs.declared.event.Event.TheVariants as event
+use Rattle.ntp_service.specs.Model.{departure_outcome}
+use Rattle.ntp_service.specs.Headline.{StandsFor, Tells}
 use Rattle.ntp_service_serve.specs.declared.serving.Served.{Served}
 use Rattle.ntp_service_serve.specs.Port.{IncomingValue, Readings, later, TurnValue, Told}
 use Rattle.ntp_service_serve.specs.Made.{Received, departing, sending_of, is_failing}

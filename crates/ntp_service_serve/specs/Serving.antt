@@ -1,12 +1,12 @@
 -- What a server does at a port.
 use Rattle.std.specs.Prelude.{◌≡◌, ℕ, ◌+◌, Bool, false, true, Option, Some, IfSome, IsSomeAnd, option_map, Result, is_err, List, [], ◌∷◌, ◌++◌, length, take, drop, map, filter, flat_map, if◌then◌else◌}
 use Rattle.std.specs.Result.{result_ok}
-use Rattle.ntp_register.specs.Registry.{Registry}
+use Rattle.ntp_service.specs.Registry.{Registry}
 use Rattle.ntp_reply.specs.Reference.{ReferenceState}
-use Rattle.ntp_events.specs.declared.observation.Arrival.{Arrival}
-use Rattle.ntp_events.specs.declared.observation.TurnOutcome.{TurnOutcome}
-use Rattle.ntp_events.specs.declared.event.Event.{Event}
-use Rattle.ntp_service_run.specs.Headline.{StandsFor, Tells}
+use Rattle.ntp_service.specs.declared.observation.Arrival.{Arrival}
+use Rattle.ntp_service.specs.declared.observation.TurnOutcome.{TurnOutcome}
+use Rattle.ntp_service.specs.declared.event.Event.{Event}
+use Rattle.ntp_service.specs.Headline.{StandsFor, Tells}
 use Rattle.ntp_service_serve.specs.declared.port.PortFault.{PortFault}
 use Rattle.ntp_service_serve.specs.declared.serving.Served.{Served}
 use Rattle.ntp_service_serve.specs.Sequence.{firsts}

@@ -1,5 +1,4 @@
 //! A server over any port, a port in memory, and what a server with commands asks of their source and of its clock's state.
-//! It is a layer of `ntp_service`, which passes its calls on.
 #![tactic(auto)]
 
 mod memory_port;
@@ -9,7 +8,7 @@ mod sources;
 mod turn;
 
 pub use memory_port::{MemoryPort, Sent};
-pub use ntp_events::Arrival;
+pub use ntp_service::Arrival;
 pub use port::{DatagramRoom, MOST_RECEIVED_OCTETS, Port, PortFault, TimedPort};
 pub use serving::{Served, answer_received, serve};
 pub use sources::{CommandsSource, FixedReference, ReferenceSource};

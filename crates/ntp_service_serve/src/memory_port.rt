@@ -3,9 +3,8 @@ ghost use Rattle.std.specs.Prelude.{◌≡◌, ◌+◌, ◌≤◌, ◌<◌, true
 
 use crate::port::{DatagramRoom, MOST_RECEIVED_OCTETS, Port, PortFault, TimedPort};
 use crate::turn::Turn;
-use ntp_events::{Arrival, NoMemory};
 use ntp_mac::Reply;
-use ntp_register::Address;
+use ntp_service::{Address, Arrival, NoMemory};
 use ntp_time::{Moment, Stamp};
 use std::alloc::{Allocator, Global};
 

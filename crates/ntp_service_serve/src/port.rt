@@ -3,8 +3,7 @@ ghost use Rattle.std.specs.Prelude.{◌≡◌, ℕ, ◌+◌, ◌-◌, ◌≤◌,
 ghost use Rattle.std.specs.Option.{option_map_or};
 ghost use Rattle.ntp_service_serve.specs.Port.{Told, most_received_octets, Receives, DropsAny, NowTells, SendTells};
 
-use ntp_events::Arrival;
-use ntp_register::Address;
+use ntp_service::{Address, Arrival};
 use ntp_time::Moment;
 
 /// How many octets of a datagram are taken at most: one more than a packet may have, so that a longer one is

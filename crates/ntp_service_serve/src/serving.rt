@@ -7,10 +7,9 @@ ghost use Rattle.ntp_service_serve.specs.Serving.{ServeMakes, TurnMakes};
 ghost use Rattle.ntp_service_serve.specs.Sending.{IsInTurn, SendingMakes, counted, saved_in};
 
 use crate::port::{DatagramRoom, MOST_RECEIVED_OCTETS, Port, PortFault};
-use ntp_events::{Arrival, Sending, TurnOutcome};
 use ntp_mac::Reply;
 use ntp_reply::{Answer, Reference};
-use ntp_service_run::Service;
+use ntp_service::{Arrival, Sending, Service, TurnOutcome};
 use ntp_time::Stamp;
 use std::alloc::Allocator;
 

@@ -1,7 +1,6 @@
 //! What a port in memory is told.
 
-use ntp_events::Octets;
-use ntp_register::Address;
+use ntp_service::{Address, Octets};
 use ntp_time::Moment;
 use std::alloc::{Allocator, Global};
 

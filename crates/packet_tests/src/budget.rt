@@ -1,6 +1,6 @@
 //! Values from the rule in words: the count before an event is that of the newest events in its window.
 
-use ntp_budget::Window;
+use ntp_customer::Window;
 
 #[test]
 fn first_event_of_a_window_has_none_before_it(rt: HostRuntime) {

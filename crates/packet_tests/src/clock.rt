@@ -1,10 +1,9 @@
 //! Answers of a real daemon, and rows at the limits that were worked out by hand.
 
 use crate::packets::{moment, packet};
-use ntp_client::{Distrust, Taken};
-use ntp_clock::{
-    ClockAnswer, ClockLimits, Follower, Reading, reference_unsynchronised, reference_where_read,
-    state_in_force,
+use ntp_client::{
+    ClockAnswer, ClockLimits, Distrust, Follower, Reading, Taken, reference_unsynchronised,
+    reference_where_read, state_in_force,
 };
 use ntp_mac::{Algorithm, Key, Reply, seal};
 use ntp_packet::{Header, read_header};

@@ -1,8 +1,7 @@
 //! Vectors from outside, and what no clause says.
 
 use ntp_mac::{Algorithm, Digest, Key, KeyFault, Reply, add_nak, digest, seal, verifies};
-use ntp_packet::read_header;
-use ntp_request::read_request;
+use ntp_packet::{read_header, read_request};
 use std::test::Fail;
 
 // The header of a time reply.

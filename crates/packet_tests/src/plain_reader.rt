@@ -1,7 +1,7 @@
 //! A plain reader of datagrams. It is slow, and takes the definitions by their words: which places
 //! whole fields lead to, and what stands at the last of them.
 use arrayvec::ArrayVec;
-use ntp_request::{Fields, Malformed, Tail, read_request};
+use ntp_packet::{Fields, Malformed, Tail, read_request};
 
 /// How many octets the longest generated datagram has.
 const MOST_OCTETS: usize = 130;

@@ -2,7 +2,7 @@
 
 use crate::plain_reader::{LENGTHS, WHOLE_LENGTHS, agrees_on, spelled};
 use arrayvec::ArrayVec;
-use ntp_request::{FieldFault, Malformed, Tail, read_request, write_field};
+use ntp_packet::{FieldFault, Malformed, Tail, read_request, write_field};
 use std::process::Abort;
 use std::test::Fail;
 

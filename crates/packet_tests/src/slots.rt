@@ -2,7 +2,7 @@
 //! transmit stamp.
 
 use crate::packets::moment;
-use ntp_slots::{Slot, Slots};
+use ntp_customer::{Slot, Slots};
 use ntp_time::Stamp;
 use std::alloc::Global;
 use std::test::Fail;

@@ -1,10 +1,11 @@
 //! The calls that read a register file, and what they have to answer to three texts.
 
 use crate::judging::Judged;
-use ntp_admin::{Command, LineFault, parse_command, words};
+use ntp_admin::{
+    Command, LineFault, RegisterFault, parse_command, read_reference, read_register, words,
+};
 use ntp_customer_files::{LoadFault, Loaded, load_register};
-use ntp_register::Refusal;
-use ntp_register_file::{RegisterFault, read_reference, read_register};
+use ntp_service::Refusal;
 use std::alloc::Global;
 
 /// A register file, and the fault that the readers have to find in it, if any.

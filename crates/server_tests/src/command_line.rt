@@ -1,18 +1,17 @@
 //! The lines that tell faults, which no clause says; that each job is found at all; and replays that are refused memory.
 
 use labntp_command_line::{Job, job, replay_status};
+use ntp_admin::RegisterFault;
 use ntp_customer_files::{
     DONE, IO_FAILED, LoadFault, MEMORY_OUT, USAGE_REFUSED, load_status, unread_status, usage_status,
 };
-use ntp_events::LineFault;
-use ntp_register::Refusal;
-use ntp_register_file::RegisterFault;
+use ntp_service::{LineFault, Refusal};
 use ntp_service_replay::Watched;
-use refusing::{Broken, Refusing};
 use std::alloc::{Allocator, Global};
 use std::io::{self, ErrorKind, Read, Write};
 use std::process::Abort;
 use std::test::Fail;
+use test_support::{Broken, Refusing};
 
 // The status that a replay ends with.
 fn status<A: Allocator + Copy, R: Read + Drop, W: Write + Drop, F: Write>(

@@ -1,18 +1,17 @@
 //! What is reported of customers, and the line that is written of one.
 
 use ntp_admin::parse_command;
-use ntp_events::{Arrival, Command, LineOutcome, Observer, Sending, TurnOutcome};
 use ntp_mac::Reply;
-use ntp_register::Address;
 use ntp_reply::{Answer, Reason};
 use ntp_reports::{CustomerCounts, Kind, customer_line};
-use ntp_service_run::Service;
+use ntp_service::{
+    Address, Arrival, Command, LineOutcome, Observer, Sending, Service, TurnOutcome,
+};
 use ntp_time::{Moment, Stamp};
-use refusing::Refusing;
 use std::alloc::{Allocator, Global};
 use std::process::Abort;
 use std::test::Fail;
-use worked_data::{CUSTOMER, moment, ordered};
+use test_support::{CUSTOMER, Refusing, moment, ordered};
 
 // An address that was never enrolled.
 const STRANGER: Address = Address([192, 0, 2, 99]);

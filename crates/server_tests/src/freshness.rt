@@ -8,7 +8,7 @@ use ntp_service_serve::{
 };
 use std::alloc::{AllocError, Global};
 use std::test::Fail;
-use worked_data::{
+use test_support::{
     CUSTOMER, FIRST_QUERY, SECOND_QUERY, SECOND_REPLY, enrolled_service, reference, turn,
 };
 

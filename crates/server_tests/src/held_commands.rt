@@ -5,10 +5,10 @@ use crate::looks::commands;
 use ntp_customer_files::AdmitFault;
 use ntp_server::{AdmittedCommands, MemoryCommands};
 use ntp_service_serve::CommandsSource;
-use refusing::Refusing;
 use std::alloc::{Allocator, Global};
 use std::process::Abort;
 use std::test::Fail;
+use test_support::Refusing;
 
 /// A commands file, with a line more, and with another beginning.
 const FIRST: &[u8] = b"# one\nrevoke 192.0.2.10\n";

@@ -1,21 +1,21 @@
 //! What is written, and each call once with its answer.
 
-use ntp_events::{Arrival, Command, LineFault, LineOutcome, Observer, Sending, TurnOutcome};
 use ntp_mac::Reply;
-use ntp_register::Refusal;
+use ntp_packet::Malformed;
 use ntp_reply::{Answer, Reason};
 use ntp_reports::{
     AnswerLines, Ask, Belief, Both, ClockGauges, Counting, Counts, FileGauges, Gauges, Kind,
     LineAllowance, write_statistics,
 };
-use ntp_request::Malformed;
+use ntp_service::{
+    Arrival, Command, LineFault, LineOutcome, Observer, Refusal, Sending, TurnOutcome,
+};
 use ntp_time::{Short, Stamp};
-use refusing::{Broken, Refusing};
 use std::alloc::Global;
 use std::io::Write;
 use std::process::Abort;
 use std::test::Fail;
-use worked_data::{CUSTOMER, moment};
+use test_support::{Broken, CUSTOMER, Refusing, moment};
 
 // What is written of counts in which each metric has a number of its own.
 const STATISTICS: &str = r#"# HELP labntp_answers_total Answers to datagrams.

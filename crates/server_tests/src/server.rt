@@ -6,23 +6,22 @@ ghost use Rattle.std.specs.Prelude.{◌≡◌};
 
 use crate::looks::commands;
 use ntp_admin::parse_command;
-use ntp_events::{Arrival, LineOutcome, Observation, Sending, TurnOutcome};
 use ntp_mac::Reply;
-use ntp_register::Address;
 use ntp_reply::{Answer, Reason, Reference};
 use ntp_server::{
     MemoryCommands, MemoryObserver, MemoryStates, NoReports, Reporter, Server, Totals,
 };
-use ntp_service_run::Service;
+use ntp_service::{Address, Arrival, LineOutcome, Observation, Sending, Service, TurnOutcome};
 use ntp_service_serve::{
     DatagramRoom, FixedReference, MemoryPort, Port, PortFault, ReferenceSource, TimedPort,
 };
 use ntp_time::{Moment, Stamp};
-use refusing::Refusing;
 use std::alloc::{Allocator, Global};
 use std::process::Abort;
 use std::test::Fail;
-use worked_data::{CUSTOMER, FIRST_QUERY, FIRST_REPLY, SECOND_QUERY, moment, reference, turn};
+use test_support::{
+    CUSTOMER, FIRST_QUERY, FIRST_REPLY, Refusing, SECOND_QUERY, moment, reference, turn,
+};
 
 /// A commands file, and the same with a line more.
 const ENROLMENT: &[u8] = b"enrol 192.0.2.10 7 md5 6b6579 10\n";

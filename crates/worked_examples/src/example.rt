@@ -1,7 +1,7 @@
 //! A worked example: the lines of a script, and the answer lines.
 
 use ntp_admin::{Event, Outcome, is_passed_over, parse_event, print_answer};
-use ntp_service_run::Service;
+use ntp_service::Service;
 use std::alloc::{Allocator, Global};
 use std::rt::Files;
 use std::{fs, io};

@@ -2,9 +2,9 @@
 
 use crate::example::Example;
 use ntp_admin::{Command, Event, Outcome};
-use ntp_service_run::Service;
-use refusing::Refusing;
+use ntp_service::Service;
 use std::alloc::{Allocator, Global};
+use test_support::Refusing;
 
 /// Whether the events are told as they are worked, where those alone have memory that may ask for it.
 pub(crate) fn is_told_without(alloc: Global, example: &Example) -> Option<bool> {

@@ -4,7 +4,7 @@ use crate::host::moment_at;
 use crate::script::Script;
 use ntp_client::Client;
 use ntp_mac::{Algorithm, Key};
-use ntp_register::Address;
+use ntp_service::Address;
 use std::test::Fail;
 
 /// A client at an address, which asks under a key.

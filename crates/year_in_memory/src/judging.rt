@@ -3,17 +3,17 @@
 use crate::script::{Happening, Script};
 use ntp_admin::refusal_word;
 use ntp_customer_files::fault_word;
-use ntp_events::{Arrival, LineFault, LineOutcome, Outcome, Sending, TurnOutcome};
 use ntp_mac::Reply;
-use ntp_register::Address;
 use ntp_reply::Answer;
 use ntp_reports::Counts;
-use ntp_service_run::Service;
+use ntp_service::{
+    Address, Arrival, LineFault, LineOutcome, Outcome, Sending, Service, TurnOutcome,
+};
 use ntp_service_serve::Sent;
 use std::alloc::Global;
 use std::io::Write;
 use std::test::Fail;
-use worked_data::run;
+use test_support::run;
 
 /// A reply that is to be sent.
 #[derive(Drop)]

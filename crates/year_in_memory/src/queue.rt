@@ -8,7 +8,7 @@ use crate::script::DueLine;
 use labntpd_assembly::DaemonPort;
 use labntpd_host::HostClocks;
 use ntp_freshness::{MemoryQueue, QueuedPort};
-use ntp_register::Address;
+use ntp_service::Address;
 use ntp_service_serve::{Arrival, DatagramRoom, Port, PortFault, Sent, TimedPort};
 use ntp_time::Moment;
 use std::io;

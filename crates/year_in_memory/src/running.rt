@@ -16,7 +16,7 @@ use ntp_freshness::{FreshPort, MemoryQueue, QueueWatch};
 use ntp_reply::Reference;
 use ntp_reports::{AnswerLines, Counts, CustomerCounts};
 use ntp_server::{HeldCommands, begin_commands};
-use ntp_service_run::Service;
+use ntp_service::Service;
 use ntp_service_serve::{MemoryPort, Port};
 use std::alloc::Global;
 use std::cell::Cell;

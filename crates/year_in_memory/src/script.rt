@@ -2,11 +2,9 @@
 
 use crate::host::{SECOND, moment_at};
 use ntp_admin::{is_passed_over, parse_command};
-use ntp_events::{Arrival, Event, LineFault, Octets};
 use ntp_mac::Reply;
-use ntp_register::Address;
 use ntp_reply::{Answer, Reference};
-use ntp_service_run::Service;
+use ntp_service::{Address, Arrival, Event, LineFault, Octets, Service};
 use ntp_service_serve::{Incoming, MOST_RECEIVED_OCTETS, Turn};
 use ntp_time::{Moment, Stamp};
 use std::alloc::Global;

@@ -5,10 +5,10 @@ use crate::commands::LINES;
 use crate::host::SECOND;
 use crate::script::{Script, time};
 use ntp_mac::Algorithm;
-use ntp_register::Address;
+use ntp_service::Address;
 use std::alloc::Global;
 use std::test::Fail;
-use worked_data::reference;
+use test_support::reference;
 
 /// How many days it has.
 const DAYS: u16 = 365;

@@ -1,6 +1,6 @@
 use Rattle.std.proofs.Common.{◌+◌, arith, take, ◌∷◌, [], ◌++◌, ◌≡◌, ◌∙◌, sym, ap}
 use Rattle.std.proofs.lemmas.List.{take_more, take_all}
-use Rattle.ntp_service_run.specs.Headline.{command_outcome}
+use Rattle.ntp_service.specs.Headline.{command_outcome}
 use Rattle.ntp_keeping.proofs.Standings.{comes-none, comes-more}
 use Rattle.ntp_keeping.proofs.alike.after.Goals as goal
 

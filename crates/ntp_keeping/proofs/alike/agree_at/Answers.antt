@@ -3,7 +3,7 @@ use Rattle.std.specs.List.{All}
 use Rattle.std.proofs.lemmas.Bool.{OnTrue_at}
 use Rattle.std.proofs.lemmas.List.{take_all}
 use Rattle.std.proofs.lemmas.List.Elements.{All-more}
-use Rattle.ntp_events.specs.declared.command.Command.{Command}
+use Rattle.ntp_service.specs.declared.command.Command.{Command}
 use Rattle.ntp_keeping.specs.Alike.{address_named, standing_at}
 use Rattle.ntp_keeping.proofs.alike.agree_at.Goals as goal
 

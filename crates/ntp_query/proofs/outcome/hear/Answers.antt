@@ -1,5 +1,5 @@
 use Rattle.std.proofs.Common.{Ok, Err, sym, ap, ◌∙◌, arith}
-use Rattle.ntp_request.proofs.Octets.{AreOctets}
+use Rattle.ntp_packet.proofs.Octets.{AreOctets}
 use Rattle.ntp_mac.specs.Reading.{reading_of}
 use Rattle.ntp_mac.proofs.ReadAs.{only-reading_of}
 use Rattle.ntp_client.specs.declared.taken.Taken.TheVariants as taken

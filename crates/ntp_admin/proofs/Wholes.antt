@@ -1,0 +1,23 @@
+-- Whole numbers of a file, as `try_from` and `NonZero::new` take them.
+use Rattle.std.proofs.Common.{◌≡◌, ℕ, ℤ, pos, negsuc, ◌<◌, ◌^◌, Option, Some, Result, Ok, Err, arith}
+use Rattle.std.specs.Prelude.{MatchOption}
+use Rattle.std.specs.Int.{FitsUnsignedBits}
+use Rattle.std.specs.Result.{OkIff, result_ok}
+use Rattle.std.proofs.Math.IntN.{nat_abs}
+use Rattle.std.proofs.lemmas.Bool.Decides.{nat_tests}
+use Rattle.std.specs.declared.num.NonZeroU16.{NonZeroU16}
+use Rattle.ntp_admin.specs.Words.{non_zero}
+use Rattle.ntp_admin.proofs.Numbers.{new-non_zero}
+use Rattle.ntp_admin.specs.Enrolment.{non_zero_whole}
+
+-- a number that fits is looked at by itself alone
+within : (n : ℕ) (o : Option NonZeroU16) → n < 2 ^ 16 → o ≡ non_zero n → o ≡ non_zero_whole (pos n)
+within n o fits e = grind (arith, nat_tests)
+
+-- what both give
+pub non_zero_whole-read : {E : Type 0} (z : ℤ) (n : ℕ) (r : Result ℕ E) (o : Option NonZeroU16) → OkIff r (FitsUnsignedBits 16 z) (nat_abs z)
+    → Some n ≡ result_ok r → MatchOption o (n ≡ 0) (λ x. x.value ≡ n) → o ≡ non_zero_whole z
+non_zero_whole-read (pos m) n (Ok k) o h e s =
+    let same : n ≡ m = cc in within m o h.0 (rw same at (new-non_zero n o s))
+non_zero_whole-read (negsuc m) n (Ok k) o h e s = absurd h.0
+non_zero_whole-read z n (Err x) o h e s = cc

@@ -1,0 +1,51 @@
+-- What a register file says, or the first fault in it: each step gives a part of it, or the file's fault.
+use Rattle.std.specs.Prelude.{ℕ, suc, List, [], ◌∷◌, Result, Ok, Err}
+use Rattle.std.specs.Option.{ok_or}
+use Rattle.toml.specs.Data.{Data, Items, no_items, item}
+use Rattle.toml.specs.Parse.{parse_document}
+use Rattle.ntp_packet.specs.FirstCase.{◌>>=◌}
+use Rattle.ntp_admin.specs.Words.{reference_in}
+use Rattle.ntp_service.specs.declared.command.Command.{Command}
+use Rattle.ntp_service.specs.declared.line_fault.LineFault.{LineFault}
+use Rattle.ntp_reply.specs.Reference.{ReferenceState}
+use Rattle.ntp_admin.specs.Form.{Top, top_of, entry_of}
+use Rattle.ntp_admin.specs.Enrolment.{enrolment_command}
+use Rattle.ntp_admin.specs.declared.fault.RegisterFault.{RegisterFault}
+use Rattle.ntp_admin.specs.declared.fault.RegisterFault.TheVariants as fault
+
+-- the top level of the document that a text is (TOML 1.1; profile)
+abbrev pub top_in : List ℕ → Result Top RegisterFault
+top_in text = do
+  document ← ok_or (parse_document text) fault.Toml
+  ok_or (top_of document) fault.Shape
+
+-- the fault of a line, at a customer's place
+abbrev pub at_place : ℕ → Result Command LineFault → Result Command RegisterFault
+at_place place (Ok command) = Ok command
+at_place place (Err why) = Err (fault.Entry place why)
+
+-- the customer at a place, counted from 0: its form comes before its values (profile)
+abbrev pub customer_in : ℕ → Data → Result Command RegisterFault
+customer_in place customer = do
+  entry ← ok_or (entry_of customer) fault.Shape
+  at_place place (enrolment_command entry)
+
+-- the customers from a place on, in file order (profile)
+abbrev pub customers_in : ℕ → Items → Result (List Command) RegisterFault
+customers_in place no_items = Ok []
+customers_in place (item customer others) = do
+  first ← customer_in place customer
+  rest ← customers_in (suc place) others
+  Ok (first ∷ rest)
+
+-- the commands of a register file: an enrolment for each customer (profile)
+abbrev pub register_in : List ℕ → Result (List Command) RegisterFault
+register_in text = do
+  top ← top_in text
+  customers_in 0 top.customers
+
+-- the reference state of a register file (profile)
+abbrev pub state_in : List ℕ → Result ReferenceState RegisterFault
+state_in text = do
+  top ← top_in text
+  ok_or (reference_in top.reference) fault.Reference

@@ -1,5 +1,0 @@
-use Rattle.ntp_budget.proofs.Tallies.{tally-tells_all}
-use Rattle.ntp_budget.proofs.laws.a_tally_tells_all.Goals as goal
-
-pub returns : goal.returns
-returns c = tally-tells_all

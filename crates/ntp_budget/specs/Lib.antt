@@ -1,3 +1,0 @@
-pub mod Tally
-pub mod Codes
-pub mod Kept

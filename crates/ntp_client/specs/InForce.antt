@@ -1,0 +1,117 @@
+-- The reference state that replies tell, by the last answer of the host's clock daemon.
+use Rattle.std.specs.Prelude.{ℕ, ℤ, pos, neg_ℤ, ◌+◌, ◌-◌, ◌*◌, ◌^◌, ◌*ℤ◌, min, unsigned_abs, Bool, false, not, ◌&&◌, ◌==◌, nat_lt, nat_le, int_le, if◌then◌else◌, Option, Some, None, [], ◌∷◌}
+use Rattle.std.specs.Int.{div_ceil}
+use Rattle.ntp_time.specs.declared.moment.Moment.{Moment}
+use Rattle.ntp_time.specs.Moment.{units}
+use Rattle.ntp_time.specs.Difference.{difference}
+use Rattle.ntp_packet.specs.Header.{no_short, no_stamp}
+use Rattle.ntp_reply.specs.Reference.{ReferenceState, reference_of}
+use Rattle.ntp_client.specs.declared.answer.ClockAnswer.{ClockAnswer}
+use Rattle.ntp_client.specs.declared.doubt.Doubt.{Doubt}
+use Rattle.ntp_client.specs.declared.doubt.Doubt.TheVariants.{Old, Unsynchronised, ReferenceOld, ReferenceAhead, Far, Set}
+use Rattle.ntp_client.specs.declared.limits.ClockLimits.{ClockLimits}
+use Rattle.ntp_client.specs.declared.reading.Reading.{Reading}
+use Rattle.ntp_client.specs.Reading.{apart}
+
+-- the state of an unsynchronised clock: leap 3, stratum 16 and the greatest dispersion, 16 seconds (RFC 5905, 7.2, 7.3; its precision
+-- of 2^-20 seconds: profile)
+abbrev pub unsynchronised : ReferenceState
+unsynchronised =
+    reference_of 3 16 (neg_ℤ (pos 20)) no_short (record { 0 = 16 * 2 ^ 16 }) (0 ∷ 0 ∷ 0 ∷ 0 ∷ []) no_stamp
+
+-- a moment is one that the host's clock showed: the first one of era 0 stands for a clock that could not be read (profile)
+abbrev pub is_read : Moment → Bool
+is_read clock = not (units clock == 0)
+
+-- the state that is told in a turn whose clock showed a moment: unsynchronised, where it could not be read (profile)
+abbrev pub where_read : Moment → ReferenceState → ReferenceState
+where_read clock state = if is_read clock then state else unsynchronised
+
+-- how long ago the question of an answer left, in nanoseconds (profile)
+abbrev pub age : ClockAnswer → ℕ → ℕ
+age a ticks = ticks - a.ticks
+
+-- the size of an answer's offset, in units of 2^-16 seconds and rounded up (profile)
+abbrev pub offset_size : ClockAnswer → ℕ
+offset_size a = div_ceil (unsigned_abs a.offset_twice) (2 ^ 17)
+
+-- how far a clock may drift in so many nanoseconds: 15 parts in a million of them, in units of 2^-16 seconds and rounded up
+-- (RFC 5905, 7.2; rounded up: profile)
+unfoldable pub drift : ℕ → ℕ
+drift nanos = div_ceil (nanos * 15 * 2 ^ 16) (10 ^ 15)
+
+-- how far the host's clock was set since the daemon last showed an update, in units of 2^-16 seconds and rounded up (profile)
+abbrev pub set_by : ClockAnswer → Reading → ℕ
+set_by a now = div_ceil (apart a.base now) (2 ^ 16 * 10 ^ 9)
+
+-- the root dispersion some time after an answer: that of the answer has grown by the size of the offset, by the drift and by how far the
+-- clock was set, to the most that a packet can tell (RFC 5905, 11.2; set, to the most: profile)
+abbrev pub dispersion : ClockAnswer → Reading → ℕ
+dispersion a now = min (2 ^ 32 - 1) (a.state.root_dispersion.0 + offset_size a + drift (age a now.ticks) + set_by a now)
+
+-- the precision that is told of the host's clock is never better than 2^-16 seconds (profile)
+unfoldable pub precision_told : ℤ → ℤ
+precision_told p = if int_le p (neg_ℤ (pos 16)) then neg_ℤ (pos 16) else p
+
+-- the state of an answer with that dispersion and precision (profile)
+abbrev pub grown : ClockAnswer → Reading → ReferenceState
+grown a now = reference_of a.state.leap a.state.stratum (precision_told a.state.precision) a.state.root_delay
+    (record { 0 = dispersion a now }) a.state.id a.state.reference
+
+-- twice the root distance, which is half the root delay and the root dispersion, in units of 2^-16 seconds (RFC 5905, 11.2)
+abbrev pub root_distance_twice : ClockAnswer → Reading → ℕ
+root_distance_twice a now = a.state.root_delay.0 + 2 * dispersion a now
+
+-- an answer is young (profile)
+abbrev pub is_young : ClockLimits → ClockAnswer → Reading → Bool
+is_young limits a now = nat_lt (age a now.ticks) limits.valid_for
+
+-- its clock is synchronised (RFC 5905, 7.3)
+abbrev pub is_synchronised : ReferenceState → Bool
+is_synchronised s = not (s.leap == 3) && nat_le 1 s.stratum && nat_le s.stratum 15
+
+-- its clock was set, and not long ago by the host's clock (profile)
+abbrev pub was_set_lately : ClockLimits → ClockAnswer → Reading → Bool
+was_set_lately limits a now =
+    not (a.state.reference.0 == 0)
+    && int_le (difference now.clock.stamp a.state.reference) (pos (limits.most_reference_age * 2 ^ 32))
+
+-- it does not say that its clock was set after it left: not by more than a step may be (RFC 5905, A.5.1.1; than a step: profile). Either
+-- side counts in units of 2^-32 nanoseconds
+abbrev pub is_past : ClockLimits → ClockAnswer → Bool
+is_past limits a = int_le (difference a.state.reference a.sent *ℤ pos (10 ^ 9)) (pos (limits.most_step * 2 ^ 32))
+
+-- its root distance by now is within the limit (profile)
+abbrev pub is_near : ClockLimits → ClockAnswer → Reading → Bool
+is_near limits a now = nat_le (root_distance_twice a now) (2 * limits.most_root_distance.0)
+
+-- the host's clock was not set by more than a step may be, since the daemon last showed an update (profile). Either side counts in units
+-- of 2^-32 nanoseconds
+abbrev pub went_on : ClockLimits → ClockAnswer → Reading → Bool
+went_on limits a now = nat_le (apart a.base now) (limits.most_step * 2 ^ 32)
+
+-- an answer is believed, by a reading of the host's clocks (profile)
+abbrev pub is_believed : ClockLimits → ClockAnswer → Reading → Bool
+is_believed limits a now =
+    is_young limits a now && is_synchronised a.state && was_set_lately limits a now && is_past limits a && is_near limits a now
+    && went_on limits a now
+
+-- why an answer is not believed, by a reading of the host's clocks, if it is not: the first reason that applies, in this order (profile)
+abbrev pub doubt_of : ClockLimits → ClockAnswer → Reading → Option Doubt
+doubt_of limits a now =
+    if not (is_young limits a now) then Some Old
+    else (if not (is_synchronised a.state) then Some Unsynchronised
+    else (if not (was_set_lately limits a now) then Some ReferenceOld
+    else (if not (is_past limits a) then Some ReferenceAhead
+    else (if not (is_near limits a now) then Some Far
+    else (if not (went_on limits a now) then Some Set else None)))))
+
+-- an answer was learned, and is believed (profile)
+abbrev pub is_followed : ClockLimits → Option ClockAnswer → Reading → Bool
+is_followed limits None now = false
+is_followed limits (Some a) now = is_believed limits a now
+
+-- the state that replies tell: the grown one of an answer that is believed, or unsynchronised (profile)
+abbrev pub in_force : ClockLimits → Option ClockAnswer → Reading → ReferenceState
+in_force limits None now = unsynchronised
+in_force limits (Some a) now = if is_believed limits a now then grown a now else unsynchronised

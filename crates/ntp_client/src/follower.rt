@@ -1,0 +1,282 @@
+//! A follower of the host's clock daemon.
+ghost use Rattle.std.specs.Prelude.{◌≡◌, ◌<◌, Some, option_and_then, option_copied, option_map};
+ghost use Rattle.ntp_packet.specs.Request.{RequestValue, IsRequest};
+ghost use Rattle.ntp_mac.specs.Reading.{reading_of};
+ghost use Rattle.ntp_mac.specs.Signed.{IsSigned};
+ghost use Rattle.ntp_client.specs.Query.{query_octets};
+ghost use Rattle.ntp_client.specs.Sample.{IsTimeReply};
+ghost use Rattle.ntp_client.specs.Taking.{taken_for, after_taken};
+ghost use Rattle.ntp_client.specs.InForce.{age, is_followed, doubt_of, in_force};
+ghost use Rattle.ntp_client.specs.Watching.{is_set_since};
+ghost use Rattle.ntp_client.specs.Learning.{new_follower, looked, question, asked, root_delay_by, base_of, learned_of, learned_after, told_after, slowed_after, period};
+
+use crate::believing::is_believed;
+use crate::doubt::doubt_of;
+use crate::growing::age;
+use crate::pacing::period;
+use crate::{
+    Client, ClockAnswer, ClockLimits, ClockWatch, Distrust, Doubt, Outgoing, Reading, Sample,
+    Taken, state_in_force,
+};
+use ntp_mac::Key;
+use ntp_packet::{Header, read_request};
+use ntp_reply::Reference;
+use ntp_time::{Short, Stamp};
+use std::marker::Model;
+
+/// How many units of 2^-32 seconds a unit of 2^-16 seconds has.
+const SHORT_UNITS: u128 = 1 << 16;
+
+/// A follower of the host's clock daemon. Contracts see what it knows: the client that asks the daemon, the
+/// limits, how the host's clock was set, the last answer, and when the daemon last asked for fewer questions.
+#[derive(Debug, Drop)]
+pub struct Follower {
+    key: Key,
+    number: u16,
+    client: Client,
+    limits: ClockLimits,
+    watch: ClockWatch,
+    learned: Option<ClockAnswer>,
+    slowed: Option<u64>,
+}
+
+impl Model for Follower {
+    ghost use Rattle.std.specs.Prelude.{◌≡◌, ◌<◌};
+    ghost use Rattle.ntp_client.specs.Learning.{FollowerState};
+
+    ghost Value = { FollowerState };
+
+    ghost view = { λ f. record { client = f.client; limits = f.limits; watch = f.watch; learned = f.learned; slowed = f.slowed } };
+
+    ghost invariant = { λ f. (f.client.key ≡ f.key) × (f.client.number ≡ f.number) × (0 < f.number) };
+}
+
+impl Follower {
+    /// A follower with the daemon's key and the key's number, 1 to 65,535, that has asked nothing.
+    pub fn new(key: Key, number: u16, limits: ClockLimits) -> Follower
+        requires number_given { 0 < number }
+        ensures { result ≡ new_follower key number limits }
+    {
+        Follower {
+            key,
+            number,
+            client: Client::new(key, number),
+            limits,
+            watch: ClockWatch::new(),
+            learned: None,
+            slowed: None,
+        }
+    }
+
+    /// Whether a reading of the host's clocks shows that the host's was set since the last question left, or since it was seen
+    /// to be set after that: by more than a thousandth of a second (profile).
+    pub fn is_set_since(&self, now: Reading) -> bool
+        ensures { result ≡ is_set_since self.now.watch.seen now }
+    {
+        self.watch.is_set_since(now)
+    }
+
+    /// Looks whether the host's clock was set, and says it. Where it was, no question waits any longer, and the daemon has to show
+    /// an update that lies behind the setting before an answer rests on a new reading (profile).
+    pub fn look(&mut self, now: Reading) -> bool
+        ensures said { result ≡ is_set_since self.old.watch.seen now }
+        ensures looked { self.new ≡ looked self.old now }
+        ensures key { self.new.client.key ≡ self.old.client.key }
+        ensures number { self.new.client.number ≡ self.old.client.number }
+        ensures limits { self.new.limits ≡ self.old.limits }
+        ensures learned { self.new.learned ≡ self.old.learned }
+        ensures slowed { self.new.slowed ≡ self.old.slowed }
+    {
+        let is_set = self.watch.is_set_since(now);
+        if is_set {
+            self.client = Client::new(self.key, self.number);
+            self.watch = ClockWatch::after_set(now);
+        }
+        is_set
+    }
+
+    /// The question to the daemon that departs at a reading of the host's clocks, after a look at them: a basic request, so that
+    /// its answer gives a sample of this exchange. It takes the place of one that still waits for its answer (profile).
+    #[must_use]
+    pub fn request(&mut self, now: Reading) -> Outgoing
+        ensures octets { result ≡ query_octets self.old.client.key self.old.client.number (question self.old now) }
+        ensures asked { self.new ≡ asked self.old now }
+    {
+        let _was_set = self.look(now);
+        let mut client = Client::new(self.key, self.number);
+        let outgoing = client.request(now.clock);
+        self.client = client;
+        self.watch.seen = Some(now);
+        outgoing
+    }
+
+    /// What octets are taken for that came at a reading of the host's clocks, as by `Client::take` after a look at these clocks: so
+    /// an answer is refused where the host's clock was set since its question left. A sample is learned, with the state that the same
+    /// octets tell; an authentic reply of an unsynchronised clock leaves nothing learned; all else changes nothing that is learned
+    /// (profile).
+    pub fn take(&mut self, octets: &[u8], now: Reading) -> Taken
+        ensures taken { result ≡ taken_for (looked self.old now).client octets.now now.clock }
+        ensures client { self.new.client ≡ after_taken (looked self.old now).client octets.now now.clock result }
+        ensures limits { self.new.limits ≡ self.old.limits }
+        ensures seen { self.new.watch.seen ≡ (looked self.old now).watch.seen }
+        ensures set { self.new.watch.set ≡ (looked self.old now).watch.set }
+        ensures told { self.new.watch.told ≡ told_after (looked self.old now).watch.told (reading_of octets.now) result }
+        ensures learned { self.new.learned ≡ learned_after (looked self.old now).watch self.old.learned (reading_of octets.now) result }
+        ensures slowed { self.new.slowed ≡ slowed_after self.old.slowed now.ticks result }
+        ensures forged { ((reply : RequestValue) → IsRequest octets.now reply → ¬ IsSigned self.old.client.key self.old.client.number reply)
+            → self.new.learned ≡ self.old.learned }
+    {
+        let _is_set = self.look(now);
+        self.take_seen(octets, now)
+    }
+
+    // The same, once the clocks were looked at.
+    fn take_seen(&mut self, octets: &[u8], now: Reading) -> Taken
+        ensures taken { result ≡ taken_for self.old.client octets.now now.clock }
+        ensures client { self.new.client ≡ after_taken self.old.client octets.now now.clock result }
+        ensures limits { self.new.limits ≡ self.old.limits }
+        ensures seen { self.new.watch.seen ≡ self.old.watch.seen }
+        ensures set { self.new.watch.set ≡ self.old.watch.set }
+        ensures told { self.new.watch.told ≡ told_after self.old.watch.told (reading_of octets.now) result }
+        ensures learned { self.new.learned ≡ learned_after self.old.watch self.old.learned (reading_of octets.now) result }
+        ensures slowed { self.new.slowed ≡ slowed_after self.old.slowed now.ticks result }
+        ensures forged { ((reply : RequestValue) → IsRequest octets.now reply → ¬ IsSigned self.old.client.key self.old.client.number reply)
+            → self.new.learned ≡ self.old.learned }
+    {
+        let taken = self.client.take(octets, now.clock);
+        match taken {
+            Taken::Sample(sample) => self.learn(octets, sample),
+            Taken::Refused(Distrust::Unsynchronised) => {
+                self.learned = None;
+                self.watch.told = Some(Stamp(0));
+            }
+            Taken::Rate => self.slowed = Some(now.ticks),
+            Taken::Deny | Taken::Nak | Taken::Refused(_) => {}
+        }
+        taken
+    }
+
+    // Learns of octets that gave a sample.
+    fn learn(&mut self, octets: &[u8], sample: Sample)
+        ensures client { self.new.client ≡ self.old.client }
+        ensures limits { self.new.limits ≡ self.old.limits }
+        ensures seen { self.new.watch.seen ≡ self.old.watch.seen }
+        ensures set { self.new.watch.set ≡ self.old.watch.set }
+        ensures told { (reply : RequestValue) → IsRequest octets.now reply → IsTimeReply reply.header
+            → self.new.watch.told ≡ Some reply.header.reference }
+        ensures learned { (reply : RequestValue) → IsRequest octets.now reply → IsTimeReply reply.header
+            → self.new.learned ≡ learned_of self.old.watch self.old.learned reply.header sample }
+        ensures slowed { self.new.slowed ≡ self.old.slowed }
+    {
+        let Ok(reply) = read_request(octets) else {
+            return;
+        };
+        let header = &reply.header;
+        self.learned = learned_of(&self.watch, self.learned.as_ref(), header, sample);
+        self.watch.told = Some(header.reference());
+    }
+
+    /// How long after a question the next one is due, at so many ticks of the monotonic clock, in nanoseconds: a second, and eight for an
+    /// hour after a RATE (RFC 5905, 7.4; profile).
+    pub fn period(&self, ticks: u64) -> u64
+        ensures { result ≡ period self.now.slowed ticks }
+    {
+        period(self.slowed, ticks)
+    }
+
+    /// The reference state that replies tell, as `state_in_force` says.
+    #[must_use]
+    pub fn in_force(&self, now: Reading) -> Reference
+        ensures { result ≡ in_force self.now.limits self.now.learned now }
+    {
+        state_in_force(&self.limits, self.learned.as_ref(), now)
+    }
+
+    /// Whether an answer was learned and is believed, so that the state in force is that answer's.
+    pub fn is_followed(&self, now: Reading) -> bool
+        ensures { result ≡ is_followed self.now.limits self.now.learned now }
+    {
+        let limits = &self.limits;
+        self.learned
+            .as_ref()
+            .is_some_and(|answer| is_believed(limits, answer, now))
+    }
+
+    /// Why the last answer is not believed, if there is one and it is not: the first reason that applies.
+    pub fn doubt(&self, now: Reading) -> Option<Doubt>
+        ensures { result ≡ option_and_then (λ answer. doubt_of self.now.limits answer now) self.now.learned }
+    {
+        let limits = &self.limits;
+        self.learned
+            .as_ref()
+            .and_then(|answer| doubt_of(limits, answer, now))
+    }
+
+    /// The last answer that was learned.
+    pub fn learned(&self) -> Option<&ClockAnswer>
+        ensures { option_copied result ≡ self.now.learned }
+    {
+        self.learned.as_ref()
+    }
+
+    /// How long ago the question of that answer left, in nanoseconds.
+    pub fn age(&self, ticks: u64) -> Option<u64>
+        ensures { result ≡ option_map (λ answer. age answer ticks) self.now.learned }
+    {
+        self.learned.as_ref().map(|answer| age(answer, ticks))
+    }
+}
+
+// What is learned of a time reply to the last question, with this header.
+fn learned_of(
+    watch: &ClockWatch,
+    learned: Option<&ClockAnswer>,
+    header: &Header,
+    sample: Sample,
+) -> Option<ClockAnswer>
+    ensures { IsTimeReply header.now → result ≡ learned_of watch.now (option_copied learned.entry) header.now sample }
+{
+    let question = watch.seen?;
+    let base = base_of(watch, learned, header, question)?;
+    let state = Reference::new(
+        header.leap(),
+        header.stratum(),
+        header.precision(),
+        root_delay_by(header, sample),
+        header.root_dispersion(),
+        header.reference_id(),
+        header.reference(),
+    )
+    .ok()?;
+    Some(ClockAnswer {
+        state,
+        offset_twice: sample.offset_twice(),
+        sent: header.transmit(),
+        ticks: question.ticks,
+        base,
+    })
+}
+
+// The root delay by way of a time reply: the one that it tells, and the delay of the exchange.
+fn root_delay_by(header: &Header, sample: Sample) -> Short
+    ensures { result ≡ root_delay_by header.now sample }
+{
+    let delay = sample.delay().unsigned_abs().div_ceil(SHORT_UNITS);
+    let sum = u128::from(header.root_delay().0) + delay;
+    Short(sum.min(u128::from(u32::MAX)) as u32)
+}
+
+// What a time reply to the question of a reading rests on.
+fn base_of(
+    watch: &ClockWatch,
+    learned: Option<&ClockAnswer>,
+    header: &Header,
+    question: Reading,
+) -> Option<Reading>
+    ensures { result ≡ base_of watch.now (option_copied learned.entry) header.now question }
+{
+    if watch.shows_update(header.reference(), header.transmit()) {
+        return Some(question);
+    }
+    learned.map(|answer| answer.base)
+}

@@ -1,8 +1,0 @@
-use Rattle.std.proofs.Common.{arith}
-use Rattle.ntp_clock.specs.InForce.{drift}
-use Rattle.ntp_clock.proofs.growing.drift.Goals as goal
-
--- rounding up, as whole and rest are in one quotient
-pub returns-clause-value : goal.returns-clause-value
-unfolding drift
-returns-clause-value c = omega (arith, c.div_ceil.ensures)

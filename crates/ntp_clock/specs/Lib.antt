@@ -1,4 +1,0 @@
-pub mod Reading
-pub mod Watching
-pub mod InForce
-pub mod Learning

@@ -1,0 +1,57 @@
+use Rattle.std.proofs.Common.{◌≡◌, Some, true, List, sym, ap, ◌∙◌}
+use Rattle.std.specs.Prelude.{find, position, slice_get}
+use Rattle.std.specs.Option.{option_copied_mut}
+use Rattle.ntp_customer.specs.declared.slot.Slot.{Slot}
+use Rattle.ntp_customer.specs.Exchanges.{AreSaved, is_unused_at, spent}
+use Rattle.ntp_customer.proofs.Changes.{find-at_position, find-from_no_position, written-at_place, unchanged-from_none}
+use Rattle.ntp_customer.proofs.Places.{lent-at_place}
+use Rattle.ntp_customer.proofs.Saved.{AreSaved-spent}
+use Rattle.ntp_customer.proofs.slots.Slots.spend_unused.Goals as goal
+
+pub unwrap-exchange-requires : goal.unwrap-exchange-requires
+unwrap-exchange-requires g c =
+    let at : position (is_unused_at c.args.receive) c.self.inside.exchanges.items ≡ Some c.in_ok-place.place =
+    ap (position (is_unused_at c.args.receive)) c.self.view_is ∙ sym c.unused_place.ensures ∙ c.in_ok-place.was in
+    lent-at_place (is_unused_at c.args.receive) c.self.inside.exchanges.items c.in_ok-place.place (λ m. m.now) c.get_mut.result at
+    c.get_mut.follows
+
+pub returns-clause-spent : goal.returns-clause-spent
+unfolding spent
+returns-clause-spent g c =
+    let xs : List Slot = c.self.inside.exchanges.items in
+    let at : position (is_unused_at c.args.receive) xs ≡ Some c.in_ok-place.place =
+    ap (position (is_unused_at c.args.receive)) c.self.view_is ∙ sym c.unused_place.ensures ∙ c.in_ok-place.was in
+    let there : slice_get xs c.in_ok-place.place ≡ Some c.unwrap-exchange.result.now =
+    sym c.get_mut.follows ∙ ap option_copied_mut c.unwrap-exchange.ensures in
+    written-at_place c.args.receive (λ x. record x { used = true }) xs c.in_ok-place.place c.unwrap-exchange.result.now
+    c.self.invariant.1.distinct at there
+    ∙ ap (λ ys. spent ys c.args.receive) c.self.view_is
+
+pub invariant_of-self : goal.invariant_of-self
+invariant_of-self g c =
+    let were : AreSaved c.args.self.now = rw (← c.self.view_is) c.self.invariant.1 in
+    (c.self.invariant.0, rw (returns-clause-spent g c) (AreSaved-spent c.args.self.now c.args.receive were))
+
+pub returns-clause-saved : goal.returns-clause-saved
+returns-clause-saved g c = (invariant_of-self g c).1
+
+pub returns-clause-found : goal.returns-clause-found
+returns-clause-found g c =
+    let xs : List Slot = c.self.inside.exchanges.items in
+    let at : position (is_unused_at c.args.receive) xs ≡ Some c.in_ok-place.place =
+    ap (position (is_unused_at c.args.receive)) c.self.view_is ∙ sym c.unused_place.ensures ∙ c.in_ok-place.was in
+    let there : slice_get xs c.in_ok-place.place ≡ Some c.unwrap-exchange.result.now =
+    sym c.get_mut.follows ∙ ap option_copied_mut c.unwrap-exchange.ensures in
+    sym (ap (find (is_unused_at c.args.receive)) (sym c.self.view_is)
+    ∙ find-at_position (is_unused_at c.args.receive) xs c.in_ok-place.place c.unwrap-exchange.result.now at there)
+
+pub returns-in_err-place-clause-found : goal.returns-in_err-place-clause-found
+returns-in_err-place-clause-found g c =
+    c.from_residual.ensures
+    ∙ sym (find-from_no_position (is_unused_at c.args.receive) c.args.self.now (sym c.unused_place.ensures ∙ c.in_err-place.was))
+
+pub returns-in_err-place-clause-spent : goal.returns-in_err-place-clause-spent
+unfolding spent
+returns-in_err-place-clause-spent g c =
+    sym (unchanged-from_none c.args.receive (λ x. record x { used = true }) c.args.self.now
+    (find-from_no_position (is_unused_at c.args.receive) c.args.self.now (sym c.unused_place.ensures ∙ c.in_err-place.was)))

@@ -1,0 +1,149 @@
+-- Octets have a reading or a fault.
+use Rattle.std.proofs.Common.{◌≡◌, ℕ, zero, suc, ◌+◌, ◌%◌, ◌^◌, ◌<◌, ◌≤◌, ◌⊎◌, List, ◌++◌, length, take, drop, refl, sym, ap, subst, arith, inl, inr}
+use Rattle.std.specs.Int.{w32, to_be_bytes, from_be_bytes}
+use Rattle.std.proofs.lemmas.Bool.{cases_lt, cases_eq}
+use Rattle.std.proofs.lemmas.Nat.{be_bytes_4}
+use Rattle.std.proofs.lemmas.List.{length-append, length-take, length-drop, nil_from_length}
+use Rattle.ntp_packet.specs.Field.{written_length}
+use Rattle.ntp_packet.specs.declared.digests.Digest.TheVariants.{Md5, Sha1}
+use Rattle.ntp_packet.specs.Tail.{TailValue, NoTail, BareTail, MacTail, tail_octets, IsTail}
+use Rattle.ntp_packet.specs.Request.{RequestValue, IsRequest, request_of, signed_octets}
+use Rattle.ntp_packet.specs.Faults.{Stands, Fails}
+use Rattle.ntp_packet.proofs.RestFaults.{IsFieldShort, IsFieldUnaligned, IsFieldPastEnd, IsNoTail}
+use Rattle.ntp_packet.specs.OneAnswer.{HasOneReading, HasOneFault}
+use Rattle.ntp_packet.specs.declared.malformed.Malformed.{Malformed}
+use Rattle.ntp_packet.specs.declared.malformed.Malformed.TheVariants.{Short, Long, FieldShort, FieldUnaligned, FieldPastEnd, Rest}
+use Rattle.ntp_packet.proofs.Octets.{AreOctets, AreOctets-take}
+use Rattle.ntp_packet.proofs.Headers.{header-there}
+use Rattle.ntp_packet.proofs.Places.{Stands-first, Stands-next, Stands-octets, fails_at}
+use Rattle.ntp_packet.proofs.Tails.{number-alone, number-and-digest}
+use Rattle.ntp_packet.proofs.Composed.{composed}
+use Rattle.ntp_packet.proofs.Unique.{one-reading, one-fault, no-fault}
+
+-- the tail that a rest of octets is
+record TailThere (rest : List ℕ) : Type 0 where
+  pub tail : TailValue
+  pub is : IsTail tail
+  pub spelled : tail_octets tail ≡ rest
+
+module _ (rest : List ℕ) (are : AreOctets rest) where
+  number : ℕ
+  number = from_be_bytes w32 (take 4 rest)
+
+  number-fits : number < 2 ^ 32
+  unfolding number
+  number-fits = let h = AreOctets-take 4 rest are in omega (arith, h 0, h 1, h 2, h 3)
+
+  number-octets : 4 ≤ length rest → to_be_bytes w32 number ≡ take 4 rest
+  unfolding number
+  number-octets long = be_bytes_4 (take 4 rest) _ (omega (arith, length-take 4 rest)) (AreOctets-take 4 rest are) refl
+
+  none-there : length rest ≡ 0 → TailThere rest
+  unfolding tail_octets
+  none-there e = record { tail = NoTail; is = tt; spelled = sym (nil_from_length rest e) }
+
+  bare-there : length rest ≡ 4 → TailThere rest
+  unfolding tail_octets
+  bare-there e = record {
+    tail = BareTail number;
+    is = number-fits;
+    spelled = number-alone rest (to_be_bytes w32 number) e (number-octets (omega arith));
+  }
+
+  md5-there : length rest ≡ 20 → TailThere rest
+  unfolding tail_octets
+  md5-there e = record {
+    tail = MacTail number (Md5 (drop 4 rest));
+    is = (number-fits, omega (arith, length-drop 4 rest));
+    spelled = number-and-digest rest (to_be_bytes w32 number) (drop 4 rest) (number-octets (omega arith)) refl;
+  }
+
+  sha1-there : length rest ≡ 24 → TailThere rest
+  unfolding tail_octets
+  sha1-there e = record {
+    tail = MacTail number (Sha1 (drop 4 rest));
+    is = (number-fits, omega (arith, length-drop 4 rest));
+    spelled = number-and-digest rest (to_be_bytes w32 number) (drop 4 rest) (number-octets (omega arith)) refl;
+  }
+
+abbrev Answered : List ℕ → Type 0
+Answered octets = ((r : RequestValue) × IsRequest octets r) ⊎ ((fault : Malformed) × Fails octets fault)
+
+module _ (octets : List ℕ) (are : AreOctets octets) (fits : length octets ≤ 1024) where
+  with-tail : (place : ℕ) (rest : List ℕ) → Stands octets place rest → TailThere rest → Answered octets
+  with-tail place rest s t =
+      let whole : octets ≡ signed_octets s.header s.fields ++ tail_octets t.tail = rw t.spelled s.spelled in
+      let room : length (signed_octets s.header s.fields) + length (tail_octets t.tail) ≤ 1024 =
+      omega (arith, ap length whole, length-append (signed_octets s.header s.fields) (tail_octets t.tail)) in
+      inl (
+        request_of s.header s.fields t.tail,
+        subst (λ o. IsRequest o (request_of s.header s.fields t.tail)) (sym whole)
+            (composed s.header s.fields t.tail s.is_header (rw t.spelled s.are_fields) t.is room),
+      )
+
+  at-end : (place : ℕ) (rest : List ℕ) → Stands octets place rest → length rest ≤ 24 → Answered octets
+  at-end place rest s end =
+      let mine = Stands-octets octets place rest s are in
+      elim (cases_eq (length rest) 0) [
+        | inl e ↦ with-tail place rest s (none-there rest mine e)
+        | inr a ↦ elim (cases_eq (length rest) 4) [
+          | inl e ↦ with-tail place rest s (bare-there rest mine e)
+          | inr b ↦ elim (cases_eq (length rest) 20) [
+            | inl e ↦ with-tail place rest s (md5-there rest mine e)
+            | inr c ↦ elim (cases_eq (length rest) 24) [
+              | inl e ↦ with-tail place rest s (sha1-there rest mine e)
+              | inr d ↦ inr (Rest place, fails_at IsNoTail octets place rest fits s (end, a, b, c, d))
+            ]
+          ]
+        ]
+      ]
+
+  from-place : (fuel : ℕ) (place : ℕ) (rest : List ℕ) → Stands octets place rest → length rest ≤ fuel → Answered octets
+  from-place zero place rest s room = at-end place rest s (omega arith)
+  from-place (suc fuel) place rest s room =
+      elim (cases_lt 24 (length rest)) [
+        | inr end ↦ at-end place rest s end
+        | inl more ↦ elim (cases_lt (written_length rest) 16) [
+          | inl least ↦ inr (FieldShort place, fails_at IsFieldShort octets place rest fits s (more, least))
+          | inr least ↦ elim (cases_eq (written_length rest % 4) 0) [
+            | inr odd ↦ inr (FieldUnaligned place, fails_at IsFieldUnaligned octets place rest fits s (more, (least, odd)))
+            | inl aligned ↦ elim (cases_lt (length rest) (written_length rest)) [
+              | inl past ↦ inr (FieldPastEnd place, fails_at IsFieldPastEnd octets place rest fits s (more, (least, aligned, past)))
+              | inr whole ↦ from-place fuel (place + written_length rest) (drop (written_length rest) rest)
+                  (Stands-next octets place rest s are more (record { least = least; aligned = aligned; whole = whole }))
+                  (omega (arith, length-drop (written_length rest) rest))
+            ]
+          ]
+        ]
+      ]
+
+answered : (octets : List ℕ) → AreOctets octets → Answered octets
+answered octets are =
+    elim (cases_lt (length octets) 48) [
+      | inl fewer ↦ inr (Short, fewer)
+      | inr least ↦ elim (cases_lt 1024 (length octets)) [
+        | inl long ↦ inr (Long, long)
+        | inr most ↦
+            let h = header-there octets are least in
+            from-place octets are most (length (drop 48 octets)) 48 (drop 48 octets)
+            (Stands-first octets h.header h.is h.spelled least) (omega arith)
+      ]
+    ]
+
+-- and only one
+pub one-answer : (octets : List ℕ) → AreOctets octets → HasOneReading octets ⊎ HasOneFault octets
+one-answer octets are =
+    elim (answered octets are) [
+      | inl a ↦ inl (record {
+        request = a.0;
+        is_request = a.1;
+        only = λ other is. one-reading octets other a.0 is a.1;
+        sound = λ fault f. no-fault octets a.0 fault a.1 f;
+      })
+      | inr a ↦ inr (record {
+        fault = a.0;
+        fails = a.1;
+        only = λ other f. one-fault octets other a.0 f a.1;
+        unread = λ r is. no-fault octets r a.0 is a.1;
+      })
+    ]

@@ -1,6 +1,0 @@
-use Rattle.std.proofs.Common.{sym, ◌∙◌}
-use Rattle.ntp_register.proofs.Tables.{get-customers}
-use Rattle.ntp_register.proofs.store.Register.customer.Goals as goal
-
-pub returns : goal.returns
-returns g c = rw (← c.self.view_is) (c.get.ensures.value ∙ sym (get-customers c.self.inside.customers.entries c.args.address))

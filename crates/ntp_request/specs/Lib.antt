@@ -1,7 +1,0 @@
-pub mod FirstCase
-pub mod Field
-pub mod Tail
-pub mod Request
-pub mod Faults
-pub mod Fields
-pub mod OneAnswer

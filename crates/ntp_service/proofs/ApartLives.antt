@@ -1,0 +1,51 @@
+-- The exchanges of an address are apart, whatever events it had.
+use Rattle.std.proofs.Common.{◌≡◌, Bool, true, false, List, [], ◌∷◌, Some, None, is_some, option_map, refl, sym, subst}
+use Rattle.std.specs.Prelude.{if◌then◌else◌}
+use Rattle.std.specs.Int.NonZero.{non_zero_u16_get}
+use Rattle.ntp_customer.specs.Exchanges.{AreSaved}
+use Rattle.ntp_customer.proofs.Saved.{AreSaved-nil}
+use Rattle.ntp_customer.specs.Customer.{Enrolment, with_terms}
+use Rattle.ntp_customer.proofs.Customers.{with_key, without_key}
+use Rattle.ntp_reply.specs.Life.{Life, enrolment_in, recent_in}
+use Rattle.ntp_reply.specs.Kind.{kind_of}
+use Rattle.ntp_reply.specs.Replies.{occasion_of}
+use Rattle.ntp_reply.proofs.ApartExchanges.{AreSaved-none, AreSaved-after_kind, AreSaved-after_departure}
+use Rattle.ntp_service.specs.declared.command.Command.{Command}
+use Rattle.ntp_service.specs.declared.command.Command.TheVariants.{Enrol, Revoke, Budget, Rollover, Retire}
+use Rattle.ntp_service.specs.declared.event.Event.{Event}
+use Rattle.ntp_service.specs.declared.event.Event.TheVariants as event
+use Rattle.ntp_service.specs.Model.{numbered, refusal_of, after_done, after, life_after, life_of}
+use Rattle.ntp_service.proofs.Lives.{by_life}
+
+-- a change of terms leaves the exchanges
+changed : (change : Enrolment → Enrolment) (life : Life) → recent_in (option_map (with_terms change) life) ≡ recent_in life
+changed change = by_life _ refl (λ refusals. refl) (λ a refusals. refl)
+
+AreSaved-done : (life : Life) (c : Command) → AreSaved (recent_in life) → AreSaved (recent_in (after_done life c))
+AreSaved-done life (Enrol address number key budget) are = AreSaved-none
+AreSaved-done None (Revoke address) are = are
+AreSaved-done (Some past) (Revoke address) are = AreSaved-none
+AreSaved-done life (Budget address budget) are =
+    subst AreSaved (sym (changed (λ e. record e { budget = non_zero_u16_get budget }) life)) are
+AreSaved-done life (Rollover address number key) are = subst AreSaved (sym (changed (λ e. with_key e (numbered number key)) life)) are
+AreSaved-done life (Retire address number) are = subst AreSaved (sym (changed (λ e. without_key e (non_zero_u16_get number)) life)) are
+
+AreSaved-command : (life : Life) (c : Command) (b : Bool) → AreSaved (recent_in life)
+    → AreSaved (recent_in (if b then life else after_done life c))
+AreSaved-command life c true are = are
+AreSaved-command life c false are = AreSaved-done life c are
+
+module _ {A : Type 0} where
+  AreSaved-after : (life : Life) (e : Event A) → AreSaved (recent_in life) → AreSaved (recent_in (after life e))
+  AreSaved-after life (event.Command c) are = AreSaved-command life c (is_some (refusal_of (enrolment_in life) c)) are
+  AreSaved-after None other are = are
+  AreSaved-after (Some past) (event.Datagram address receipt transmit reference octets) are =
+      AreSaved-after_kind past (occasion_of receipt transmit reference) (kind_of past octets) are
+  AreSaved-after (Some past) (event.Departed address receive m) are = AreSaved-after_departure past receive m are
+
+  AreSaved-life_after : (life : Life) (events : List (Event A)) → AreSaved (recent_in life) → AreSaved (recent_in (life_after life events))
+  AreSaved-life_after life [] are = are
+  AreSaved-life_after life (e ∷ events) are = AreSaved-life_after (after life e) events (AreSaved-after life e are)
+
+  pub AreSaved-life_of : (events : List (Event A)) → AreSaved (recent_in (life_of events))
+  AreSaved-life_of events = AreSaved-life_after None events AreSaved-nil

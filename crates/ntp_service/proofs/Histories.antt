@@ -1,0 +1,95 @@
+-- What one more event does to a history.
+use Rattle.std.proofs.Common.{◌≡◌, ◌≢◌, Bool, true, false, None, option_map, List, [], ◌∷◌, ◌++◌, map, refl, sym, ap, ◌∙◌, subst, append-nil, ⊎_elim, true≢false}
+use Rattle.std.specs.Prelude.{if◌then◌else◌}
+use Rattle.std.specs.Ordering.{is_eq}
+use Rattle.std.specs.declared.cmp.Ordering.{Ordering}
+use Rattle.std.specs.declared.cmp.Ordering.TheVariants.{Less, Equal, Greater}
+use Rattle.std.specs.FinMap.{get-empty}
+use Rattle.std.proofs.lemmas.List.Elements.{filter-append}
+use Rattle.ntp_service.specs.declared.address.Address.{Address}
+use Rattle.ntp_service.specs.Address.{address_eq, address_cmp}
+use Rattle.ntp_service.specs.Registry.{Registry, Agrees, customer_at, empty_registry}
+use Rattle.ntp_service.proofs.AddressLaws.{address_eq_equiv, address_eq-ties, address_cmp-IsAntisymmetric, same_or_other_address}
+use Rattle.ntp_service.proofs.Agreement.{agrees-empty}
+use Rattle.ntp_customer.specs.Past.{short}
+use Rattle.ntp_reply.specs.Life.{Life}
+use Rattle.ntp_service.specs.declared.event.Event.{Event}
+use Rattle.ntp_service.specs.declared.outcome.Outcome.{Outcome}
+use Rattle.ntp_service.specs.Events.{address_of, names, own}
+use Rattle.ntp_service.specs.Model.{answer_to, after, life_after, life_of}
+use Rattle.ntp_service.specs.Headline.{StandsFor, TellsOne, IsTaken, is_struck}
+
+tie : (o : Ordering) → is_eq o ≡ true → o ≡ Equal
+tie Less e = absurd (true≢false (sym e))
+tie Equal e = refl
+tie Greater e = absurd (true≢false (sym e))
+
+-- a test of addresses says no where they differ
+pub other-address : (a b : Address) → a ≢ b → address_eq a b ≡ false
+other-address a b ne = decided (address_eq a b) refl
+  where
+    decided : (t : Bool) → address_eq a b ≡ t → address_eq a b ≡ false
+    decided false e = e
+    decided true e = absurd (ne (address_cmp-IsAntisymmetric a b (tie (address_cmp a b) (sym (address_eq-ties a b) ∙ e))))
+
+module _ {A : Type 0} where
+  -- the events of what happened
+  abbrev pub events_of : List (Event A × Outcome) → List (Event A)
+  events_of happened = map (λ p. p.0) happened
+
+  pub own-append : (a : Address) (xs ys : List (Event A)) → own a (xs ++ ys) ≡ own a xs ++ own a ys
+  own-append a xs ys = filter-append (names a) xs ys
+
+  pub life_after-append : (life : Life) (xs ys : List (Event A)) → life_after life (xs ++ ys) ≡ life_after (life_after life xs) ys
+  life_after-append life [] ys = refl
+  life_after-append life (x ∷ xs) ys = life_after-append (after life x) xs ys
+
+  -- the life of the address that the next event names
+  pub life-here : (history : List (Event A)) (e : Event A)
+      → life_of (own (address_of e) (history ++ e ∷ [])) ≡ after (life_of (own (address_of e) history)) e
+  life-here history e =
+      ap life_of (own-append (address_of e) history (e ∷ [])
+      ∙ ap (λ (t : Bool). own (address_of e) history ++ (if t then e ∷ [] else [])) (address_eq_equiv.refl (address_of e)))
+      ∙ life_after-append None (own (address_of e) history) (e ∷ [])
+
+  -- the life of any other
+  pub life-there : (a : Address) (history : List (Event A)) (e : Event A) → a ≢ address_of e → own a (history ++ e ∷ []) ≡ own a history
+  life-there a history e ne =
+      own-append a history (e ∷ []) ∙ ap (λ (t : Bool). own a history ++ (if t then e ∷ [] else [])) (other-address a (address_of e) ne)
+      ∙ append-nil (own a history)
+
+  -- a service that did with the event's address what the event does, and with no other address anything
+  pub stands-step : (r s : Registry) (history : List (Event A)) (e : Event A) → StandsFor r history
+      → customer_at s (address_of e) ≡ option_map short (after (life_of (own (address_of e) history)) e)
+      → ((a : Address) → a ≢ address_of e → customer_at s a ≡ customer_at r a) → Agrees s → StandsFor s (history ++ e ∷ [])
+  stands-step r s history e stands here there agrees = record {
+    entries = λ a. ⊎_elim
+        (λ same. subst (λ b. customer_at s b ≡ option_map short (life_of (own b (history ++ e ∷ [])))) (sym same) (here
+        ∙ ap (option_map short) (sym (life-here history e))))
+        (λ other. there a other ∙ stands.entries a ∙ ap (λ h. option_map short (life_of h)) (sym (life-there a history e other)))
+        (same_or_other_address a (address_of e));
+    agrees = agrees;
+  }
+
+  -- an event that changes no life
+  pub stands-same : (r : Registry) (history : List (Event A)) (e : Event A) → StandsFor r history
+      → after (life_of (own (address_of e) history)) e ≡ life_of (own (address_of e) history) → StandsFor r (history ++ e ∷ [])
+  stands-same r history e stands same =
+      stands-step r r history e stands (stands.entries (address_of e) ∙ ap (option_map short) (sym same)) (λ a ne. refl) stands.agrees
+
+  -- an outcome that is not struck out is that of the model, and then the service stands for one event more
+  pub tells-one : (history : List (Event A)) (e : Event A) (o : Outcome) (s : Registry) → is_struck o ≡ false
+      → o ≡ answer_to (life_of (own (address_of e) history)) e → (IsTaken history e → ⊥) → StandsFor s (history ++ e ∷ [])
+      → TellsOne history e o s
+  tells-one history e o s plain is free stands = record {
+    as_model = λ h. is;
+    cause = record {
+      taken = (λ h. absurd (true≢false (ap is_struck (sym h) ∙ plain)), λ h. absurd (free h));
+      memory = λ h. absurd (true≢false (ap is_struck (sym h) ∙ plain));
+    };
+    stands = subst (λ (b : Bool). StandsFor s (if b then history else history ++ e ∷ [])) (sym plain) stands;
+  }
+
+-- a service with no customers
+pub stands-empty : {A : Type 0} → StandsFor {A = A} empty_registry []
+stands-empty = record { entries = λ a. get-empty address_cmp a; agrees = agrees-empty }

@@ -1,0 +1,85 @@
+-- Who holds a number.
+use Rattle.std.proofs.Common.{◌≡◌, ◌≢◌, ℕ, zero, suc, ◌==◌, Option, Some, None, IsSome, Contains, is_some, option_map, List, [], ◌∷◌, map, find, refl, sym, ap, ◌∙◌, subst, true, true≢false, arith}
+use Rattle.std.specs.Prelude.{◌↔◌}
+use Rattle.std.specs.Option.{option_map_or}
+use Rattle.std.proofs.lemmas.Bool.Decides.{nat_tests}
+use Rattle.ntp_customer.specs.declared.numbered_key.NumberedKey.{NumberedKey}
+use Rattle.ntp_customer.specs.Customer.{Enrolment, enrolment_at, numbers_in}
+use Rattle.ntp_customer.specs.Past.{short}
+use Rattle.ntp_service.specs.declared.address.Address.{Address}
+use Rattle.ntp_service.specs.Registry.{Registry, terms_at, numbers_at, holder_of}
+use Rattle.ntp_service.proofs.Agreement.{one-holder}
+use Rattle.ntp_service.proofs.Lookups.{numbers_held}
+use Rattle.ntp_reply.specs.Life.{Life, enrolment_in}
+use Rattle.ntp_service.specs.declared.command.Command.{Command}
+use Rattle.ntp_service.specs.declared.command.Command.TheVariants.{Enrol, Rollover}
+use Rattle.ntp_service.specs.declared.event.Event.{Event}
+use Rattle.ntp_service.specs.declared.event.Event.TheVariants as event
+use Rattle.ntp_service.specs.declared.outcome.Outcome.TheVariants.{Done, Refused}
+use Rattle.ntp_service.specs.Events.{address_of, own}
+use Rattle.ntp_service.specs.Model.{refusal_of, life_of}
+use Rattle.ntp_service.specs.Headline.{StandsFor, IsEnrolledWith, IsTaken, number_asked}
+use Rattle.ntp_service.proofs.Lives.{by_life, enrolment-kept, number_of_command, number-is}
+
+-- the numbers are kept
+numbers-kept : (life : Life) → numbers_held (option_map short life) ≡ option_map_or numbers_in (enrolment_in life) []
+numbers-kept = by_life _ refl (λ refusals. refl) (λ a refusals. refl)
+
+the-some : {X : Type 0} (o : Option X) → IsSome o → (x : X) × (o ≡ Some x)
+the-some None h = absurd (true≢false (sym h))
+the-some (Some x) h = (x, refl)
+
+-- a number that is held is found
+pub held-number : (keys : List NumberedKey) (n : ℕ) → Contains (map (λ k. k.number) keys) n → is_some (find (λ k. k.number == n) keys) ≡ true
+held-number [] n is = absurd (omega (arith, is.1))
+held-number (k ∷ keys) n (zero, within, is) = grind (arith, nat_tests)
+held-number (k ∷ keys) n (suc i, within, is) = let later = held-number keys n (i, omega arith, is) in grind (arith, nat_tests)
+
+-- who asks for a number, and is not refused, does not hold it
+asked-free : (c : Command) (terms : Option Enrolment) (n : ℕ) → number_of_command c ≡ Some n → refusal_of terms c ≡ None
+    → Contains (option_map_or numbers_in terms []) n → ⊥
+asked-free (Enrol address number key budget) None n asked plain is = omega (arith, is.1)
+asked-free (Enrol address number key budget) (Some e) n asked plain is = cc
+asked-free (Rollover address number key) None n asked plain is = cc
+asked-free (Rollover address number key) (Some e) n asked plain is = let held = held-number e.keys n is in grind arith
+asked-free other terms n asked plain is = cc
+
+module _ {A : Type 0} (r : Registry) (history : List (Event A)) (stands : StandsFor r history) where
+  -- the register has the terms and the numbers of each life
+  pub terms-are : (a : Address) → terms_at r a ≡ enrolment_in (life_of (own a history))
+  terms-are a = ap (λ o. option_map_or enrolment_at o None) (stands.entries a) ∙ enrolment-kept (life_of (own a history))
+
+  numbers-are : (a : Address) → numbers_at r a ≡ option_map_or numbers_in (enrolment_in (life_of (own a history))) []
+  numbers-are a = ap numbers_held (stands.entries a) ∙ numbers-kept (life_of (own a history))
+
+  holds : (a : Address) (number : ℕ) → IsEnrolledWith history a number → Contains (numbers_at r a) number
+  holds a number is = subst (λ l. Contains l number) (sym (numbers-are a)) is
+
+  -- no two addresses are enrolled with one number
+  pub one-enrolled : (one two : Address) (number : ℕ) → IsEnrolledWith history one number → IsEnrolledWith history two number → one ≡ two
+  one-enrolled one two number first second = one-holder r one two number stands.agrees (holds one number first) (holds two number second)
+
+  -- the register has a holder of the number that a command asks for exactly where another address is enrolled with it
+  pub taken-so : (c : Command) (n : ℕ) → number_asked {A = A} (event.Command c) ≡ Some n
+      → refusal_of (enrolment_in (life_of (own (address_of {A = A} (event.Command c)) history))) c ≡ None
+      → IsSome (holder_of r n) ↔ IsTaken history (event.Command c)
+  taken-so c n asked plain = (there, back)
+    where
+      address : Address
+      address = address_of {A = A} (event.Command c)
+
+      there : IsSome (holder_of r n) → IsTaken history (event.Command c)
+      there h =
+          let holder = the-some (holder_of r n) h in
+          let held : IsEnrolledWith history holder.0 n =
+          subst (λ l. Contains l n) (numbers-are holder.0) (stands.agrees.enrolled holder.0 n holder.1) in
+          let other : holder.0 ≢ address = λ same.
+          asked-free c (enrolment_in (life_of (own address history))) n (sym (number-is A c) ∙ asked) plain
+          (subst (λ a. IsEnrolledWith history a n) same held) in
+          (n, (asked, ap (λ o. option_map_or Refused o Done) plain), holder.0, other, held)
+
+      back : IsTaken history (event.Command c) → IsSome (holder_of r n)
+      back h =
+          let other_asked = h.1.0 in
+          let same : h.0 ≡ n = cc in
+          subst (λ m. IsSome (holder_of r m)) same (subst IsSome (sym (stands.agrees.held h.2 h.0 (holds h.2 h.0 h.4))) refl)

@@ -1,0 +1,152 @@
+-- A list of events, one after another.
+use Rattle.std.proofs.Common.{◌≡◌, None, Bool, true, false, not, List, [], ◌∷◌, ◌++◌, map, filter, zip, cond, length, refl, sym, ap, ap₂, ◌∙◌, subst, append_assoc, append-nil, arith, ⊎_elim}
+use Rattle.std.specs.Prelude.{◌&&◌, if◌then◌else◌}
+use Rattle.std.proofs.lemmas.List.{map-append}
+use Rattle.std.proofs.lemmas.List.Elements.{filter-append}
+use Rattle.ntp_service.specs.declared.address.Address.{Address}
+use Rattle.ntp_service.specs.Address.{address_eq}
+use Rattle.ntp_service.specs.Registry.{Registry}
+use Rattle.ntp_service.proofs.AddressLaws.{address_eq_equiv, same_or_other_address}
+use Rattle.ntp_reply.specs.Life.{Life}
+use Rattle.ntp_service.specs.declared.event.Event.{Event}
+use Rattle.ntp_service.specs.declared.outcome.Outcome.{Outcome}
+use Rattle.ntp_service.specs.Events.{address_of, names, own}
+use Rattle.ntp_service.specs.Model.{answer_to, after, life_after, life_of, says_after, FollowsModel}
+use Rattle.ntp_service.specs.Headline.{StandsFor, HasCause, TellsOne, Tells, is_struck, kept, happened_to}
+use Rattle.ntp_service.proofs.Histories.{events_of, own-append, life_after-append, other-address}
+
+module _ {A : Type 0} where
+  -- ---- what happened, and then more
+  kept-append : (xs ys : List (Event A × Outcome)) → kept (xs ++ ys) ≡ kept xs ++ kept ys
+  kept-append xs ys = ap events_of (filter-append (λ p. not (is_struck p.1)) xs ys)
+      ∙ map-append (λ p. p.0) (filter (λ p. not (is_struck p.1)) xs) (filter (λ p. not (is_struck p.1)) ys)
+
+  -- of the events that are kept, an address's own are those that happened to it
+  own-kept : (a : Address) (xs : List (Event A × Outcome)) → own a (kept xs) ≡ events_of (happened_to a xs)
+  own-kept a [] = refl
+  own-kept a (x ∷ xs) = grind (arith, own-kept a xs)
+
+  -- the life that an address has behind what happened
+  pub life-behind : (a : Address) (history : List (Event A)) (xs : List (Event A × Outcome))
+      → life_of (own a (history ++ kept xs)) ≡ life_after (life_of (own a history)) (events_of (happened_to a xs))
+  life-behind a history xs =
+      ap life_of (own-append a history (kept xs) ∙ ap (λ l. own a history ++ l) (own-kept a xs))
+      ∙ life_after-append None (own a history) (events_of (happened_to a xs))
+
+  FollowsModel-append : (life : Life) (xs ys : List (Event A × Outcome)) → FollowsModel life xs
+      → FollowsModel (life_after life (events_of xs)) ys → FollowsModel life (xs ++ ys)
+  FollowsModel-append life [] ys first others = others
+  FollowsModel-append life (x ∷ xs) ys first others =
+      let here : x.1 ≡ answer_to life x.0 = cc in
+      let rest : FollowsModel (after life x.0) xs = cc in
+      ap₂ (λ o os. o ∷ os) here (FollowsModel-append (after life x.0) xs ys rest others)
+
+  -- events and outcomes, and one more of each
+  pub zip-push : (events : List (Event A)) (outcomes : List Outcome) (e : Event A) (o : Outcome) → length outcomes ≡ length events
+      → zip (events ++ e ∷ []) (outcomes ++ o ∷ []) ≡ zip events outcomes ++ (e, o) ∷ []
+  zip-push [] [] e o each = refl
+  zip-push [] (p ∷ outcomes) e o each = absurd (omega arith)
+  zip-push (x ∷ events) [] e o each = absurd (omega arith)
+  zip-push (x ∷ events) (p ∷ outcomes) e o each = ap (λ l. (x, p) ∷ l) (zip-push events outcomes e o (omega arith))
+
+  -- ---- each command that is struck out has its cause, after those events before it that are not
+  abbrev pub AreCaused : List (Event A) → List (Event A × Outcome) → Type 0
+  AreCaused history happened = (before behind : List (Event A × Outcome)) (e : Event A) (o : Outcome)
+      → happened ≡ before ++ (e, o) ∷ behind → HasCause (history ++ kept before) e o
+
+  -- nothing happened
+  nothing-there : (before behind : List (Event A × Outcome)) (p : Event A × Outcome) → [] ≡ before ++ p ∷ behind → ⊥
+  nothing-there [] behind p is = cc
+  nothing-there (q ∷ before) behind p is = cc
+
+  -- the first event joins the history
+  pub regrouped : (history : List (Event A)) (p : Event A × Outcome) (rest : List (Event A × Outcome))
+      → history ++ kept (p ∷ rest) ≡ (history ++ kept (p ∷ [])) ++ kept rest
+  regrouped history p rest = ap (λ l. history ++ l) (kept-append (p ∷ []) rest) ∙ sym (append_assoc history (kept (p ∷ [])) (kept rest))
+
+  AreCaused-one : (history : List (Event A)) (e : Event A) (o : Outcome) → HasCause history e o → AreCaused history ((e, o) ∷ [])
+  AreCaused-one history e o has [] behind f p is =
+      let one : Event A × Outcome = (e, o) in
+      let same : one ≡ (f, p) = cc in
+      subst (λ q. HasCause (history ++ []) q.0 q.1) same (subst (λ h. HasCause h e o) (sym (append-nil history)) has)
+  AreCaused-one history e o has (q ∷ before) behind f p is =
+      let none : [] ≡ before ++ (f, p) ∷ behind = cc in absurd (nothing-there before behind (f, p) none)
+
+  AreCaused-append : (history : List (Event A)) (xs ys : List (Event A × Outcome)) → AreCaused history xs
+      → AreCaused (history ++ kept xs) ys → AreCaused history (xs ++ ys)
+  AreCaused-append history [] ys first others before behind e o is =
+      subst (λ h. AreCaused h ys) (append-nil history) others before behind e o is
+  AreCaused-append history (x ∷ xs) ys first others [] behind e o is =
+      let same : x ≡ (e, o) = cc in first [] xs e o (ap (λ p. p ∷ xs) same)
+  AreCaused-append history (x ∷ xs) ys first others (q ∷ before) behind e o is =
+      let same : x ≡ q = cc in
+      let rest : xs ++ ys ≡ before ++ (e, o) ∷ behind = cc in
+      let later = history ++ kept (x ∷ []) in
+      let ours : AreCaused later xs = λ b d f p there.
+      subst (λ h. HasCause h f p) (regrouped history x b) (first (x ∷ b) d f p (ap (λ l. x ∷ l) there)) in
+      let theirs : AreCaused (later ++ kept xs) ys = subst (λ h. AreCaused h ys) (regrouped history x xs) others in
+      subst (λ h. HasCause h e o) (sym (regrouped history x before) ∙ ap (λ y. history ++ kept (y ∷ before)) same)
+      (AreCaused-append later xs ys ours theirs before behind e o rest)
+
+  -- ---- one event alone
+  module _ (history : List (Event A)) (e : Event A) (o : Outcome) (s : Registry) (t : TellsOne history e o s) where
+    one-stands : StandsFor s (history ++ kept ((e, o) ∷ []))
+    one-stands = chosen (is_struck o) t.stands
+      where
+        chosen : (b : Bool) → StandsFor s (if b then history else history ++ e ∷ [])
+            → StandsFor s (history ++ map (λ (p : Event A × Outcome). p.0) (cond (not b) ((e, o) ∷ []) []))
+        chosen true h = subst (λ l. StandsFor s l) (sym (append-nil history)) h
+        chosen false h = h
+
+    one-told : (a : Address) → FollowsModel (life_of (own a history)) (happened_to a ((e, o) ∷ []))
+    one-told a = ⊎_elim
+        (λ same.
+        let named : names a e ≡ true = ap (λ x. address_eq a x) (sym same) ∙ address_eq_equiv.refl a in
+        let model : is_struck o ≡ false → o ≡ answer_to (life_of (own a history)) e =
+        λ plain. t.as_model plain ∙ ap (λ x. answer_to (life_of (own x history)) e) (sym same) in
+        grind (arith, named, model))
+        (λ other. let unnamed : names a e ≡ false = other-address a (address_of e) other in grind (arith, unnamed))
+        (same_or_other_address a (address_of e))
+
+  -- ---- what a service tells
+  pub Tells-nil : (history : List (Event A)) (s : Registry) → StandsFor s history → Tells history [] s
+  Tells-nil history s stands = record {
+    told = λ a. refl;
+    causes = λ before behind e o is. absurd (nothing-there before behind (e, o) is);
+    stands = subst (λ l. StandsFor s l) (sym (append-nil history)) stands;
+  }
+
+  pub Tells-one : (history : List (Event A)) (e : Event A) (o : Outcome) (s : Registry) → TellsOne history e o s
+      → Tells history ((e, o) ∷ []) s
+  Tells-one history e o s one =
+      record { told = one-told history e o s one; causes = AreCaused-one history e o one.cause; stands = one-stands history e o s one }
+
+  pub Tells-append : (history : List (Event A)) (xs ys : List (Event A × Outcome)) (r s : Registry) → Tells history xs r
+      → (StandsFor r (history ++ kept xs) → Tells (history ++ kept xs) ys s) → Tells history (xs ++ ys) s
+  Tells-append history xs ys r s t more =
+      let u = more t.stands in
+      record {
+        told = λ a.
+            let life = life_of (own a history) in
+            let on = life-behind a history xs in
+            subst (FollowsModel life) (sym (filter-append (λ p. not (is_struck p.1) && names a p.0) xs ys))
+            (FollowsModel-append life (happened_to a xs) (happened_to a ys) (t.told a)
+            (subst (λ l. FollowsModel l (happened_to a ys)) on (u.told a)));
+        causes = AreCaused-append history xs ys t.causes u.causes;
+        stands = subst (λ l. StandsFor s l) (append_assoc history (kept xs) (kept ys) ∙ ap (λ l. history ++ l) (sym (kept-append xs ys))) u.stands;
+      }
+
+  -- one event more
+  pub Tells-push : (history : List (Event A)) (happened : List (Event A × Outcome)) (r s : Registry) (e : Event A) (o : Outcome)
+      → Tells history happened r → (StandsFor r (history ++ kept happened) → TellsOne (history ++ kept happened) e o s)
+      → Tells history (happened ++ (e, o) ∷ []) s
+  Tells-push history happened r s e o t step = Tells-append history happened ((e, o) ∷ []) r s t
+      (λ stands. Tells-one (history ++ kept happened) e o s (step stands))
+
+  -- two services that were told the same of an address tell it the same
+  pub alike : (a : Address) (h h' : List (Event A)) (xs ys : List (Event A × Outcome)) (r s : Registry) → Tells h xs r → Tells h' ys s
+      → own a h ≡ own a h' → events_of (happened_to a xs) ≡ events_of (happened_to a ys)
+      → map (λ p. p.1) (happened_to a xs) ≡ map (λ p. p.1) (happened_to a ys)
+  alike a h h' xs ys r s t u before now =
+      t.told a ∙ ap (λ past. says_after (life_of past) (events_of (happened_to a xs))) before
+      ∙ ap (says_after (life_of (own a h'))) now ∙ sym (u.told a)

@@ -1,0 +1,138 @@
+-- Customers split over services.
+use Rattle.std.proofs.Common.{◌≡◌, ◌≢◌, ◌⊎◌, inl, inr, ℕ, Bool, true, false, None, List, [], ◌∷◌, filter, Contains, refl, sym, ap, ◌∙◌, subst, ⊎_elim, true≢false, arith}
+use Rattle.std.specs.Option.{option_map_or}
+use Rattle.std.proofs.lemmas.Bool.{cases_Bool}
+use Rattle.std.proofs.lemmas.Option.{none-some}
+use Rattle.ntp_customer.specs.Customer.{numbers_in}
+use Rattle.ntp_service.specs.declared.address.Address.{Address}
+use Rattle.ntp_service.specs.declared.refusal.Refusal.TheVariants.{KeyTaken, NoMemory}
+use Rattle.ntp_service.specs.Registry.{Registry}
+use Rattle.ntp_service.proofs.AddressLaws.{same_or_other_address}
+use Rattle.ntp_reply.specs.Life.{Life, enrolment_in}
+use Rattle.ntp_service.specs.declared.event.Event.{Event}
+use Rattle.ntp_service.specs.declared.event.Event.TheVariants as event
+use Rattle.ntp_service.specs.declared.outcome.Outcome.{Outcome}
+use Rattle.ntp_service.specs.declared.outcome.Outcome.TheVariants as outcome
+use Rattle.ntp_service.specs.Events.{address_of, names, own}
+use Rattle.ntp_service.specs.Model.{answer_to, after, life_after, life_of}
+use Rattle.ntp_service.specs.Headline.{IsEnrolledWith, IsTaken, Tells, is_struck}
+use Rattle.ntp_service.specs.Split.{is_command, names_any, comes_to, HadMemory, NoneStruck}
+use Rattle.ntp_service.proofs.Histories.{events_of, other-address}
+use Rattle.ntp_service.proofs.Enrolments.{asks-nothing, enrolment-other, enrolment-alike, taken-over, command-alike}
+use Rattle.ntp_service.proofs.Parts.{IsTold, tell-alike}
+
+-- an outcome that is not for want of memory is that a number is taken, or it is not struck out
+abbrev Had : Outcome → Type 0
+Had o = o ≢ outcome.Refused NoMemory
+
+taken-or-plain : (o : Outcome) → Had o → (o ≡ outcome.Refused KeyTaken) ⊎ (is_struck o ≡ false)
+taken-or-plain (outcome.Refused KeyTaken) had = inl refl
+taken-or-plain (outcome.Refused NoMemory) had = absurd (had refl)
+taken-or-plain (outcome.Refused refusal) had = inr refl
+taken-or-plain other had = inr refl
+
+module _ {A : Type 0} where
+  -- an event names its own address alone
+  named-address : (a : Address) (e : Event A) → names a e ≡ true → a ≡ address_of e
+  named-address a e named =
+      ⊎_elim (λ same. same) (λ other. absurd (true≢false (sym named ∙ other-address a (address_of e) other))) (same_or_other_address a (address_of e))
+
+  -- ---- a service that is told each command, and all else of the addresses that it has
+  module _ (has : Address → Bool) where
+    -- an address has one enrolment in both
+    enrolments-alike : (a : Address) (one other : Life) (events : List (Event A)) → enrolment_in one ≡ enrolment_in other
+        → enrolment_in (life_after one (own a (filter (comes_to has) events))) ≡ enrolment_in (life_after other (own a events))
+    enrolments-alike a one other [] same = same
+    enrolments-alike a one other (e ∷ events) same =
+        let both = enrolments-alike a (after one e) (after other e) events (enrolment-alike one other e same) in
+        let neither = enrolments-alike a one other events same in
+        let here : is_command e ≡ false
+        → enrolment_in (life_after one (own a (filter (comes_to has) events))) ≡ enrolment_in (life_after (after other e) (own a events)) =
+        λ plain. enrolments-alike a one (after other e) events (same ∙ sym (enrolment-other other e plain)) in
+        grind (arith, same, both, neither, here)
+
+    lives-alike : (a : Address) (history : List (Event A))
+        → enrolment_in (life_of (own a (filter (comes_to has) history))) ≡ enrolment_in (life_of (own a history))
+    lives-alike a history = enrolments-alike a None None history refl
+
+    -- one that it has, all its events
+    own-there : (a : Address) → has a ≡ true → (events : List (Event A)) → own a (filter (comes_to has) events) ≡ own a events
+    own-there a is [] = refl
+    own-there a is (e ∷ events) =
+        let comes : names a e ≡ true → comes_to has e ≡ true = λ named. grind (arith, ap has (named-address a e named), is) in
+        grind (arith, own-there a is events, comes)
+
+    -- by the model what comes is answered alike
+    answers-alike : (history : List (Event A)) (e : Event A) → comes_to has e ≡ true
+        → answer_to (life_of (own (address_of e) (filter (comes_to has) history))) e ≡ answer_to (life_of (own (address_of e) history)) e
+    answers-alike history (event.Command c) comes =
+        let address = address_of {A = A} (event.Command c) in
+        command-alike c (life_of (own address (filter (comes_to has) history))) (life_of (own address history)) (lives-alike address history)
+    answers-alike history e comes = ap (λ l. answer_to (life_of l) e) (own-there (address_of e) comes history)
+
+    come-alike : (history : List (Event A)) (e : Event A) (o p : Outcome) → comes_to has e ≡ true
+        → IsTold history e o → IsTold (filter (comes_to has) history) e p → Had o → Had p → p ≡ o
+    come-alike history e o p comes here there had had_there =
+        let past = filter (comes_to has) history in
+        let answers = answers-alike history e comes in
+        let over : IsTaken history e → IsTaken past e = taken-over history past e (sym answers) (λ a. sym (lives-alike a history)) in
+        let back : IsTaken past e → IsTaken history e = taken-over past history e answers (λ a. lives-alike a history) in
+        ⊎_elim (λ taken. there.cause.taken.1 (over (here.cause.taken.0 taken)) ∙ sym taken)
+        (λ plain. ⊎_elim (λ taken. taken ∙ sym (here.cause.taken.1 (back (there.cause.taken.0 taken))))
+        (λ plain_there. there.as_model plain_there ∙ answers ∙ sym (here.as_model plain)) (taken-or-plain p had_there))
+        (taken-or-plain o had)
+
+    away-unstruck : (history : List (Event A)) (e : Event A) (o : Outcome) → comes_to has e ≡ false → IsTold history e o → Had o
+        → is_struck o ≡ false
+    away-unstruck history e o away here had =
+        let plain : is_command e ≡ false = grind (arith, away) in
+        ⊎_elim (λ taken. let asks = here.cause.taken.0 taken in absurd (none-some asks.0 (sym (asks-nothing e plain) ∙ asks.1.0)))
+        (λ unstruck. unstruck) (taken-or-plain o had)
+
+    pub split-not-felt : (history : List (Event A)) (happened happened_there : List (Event A × Outcome)) (service service_there : Registry)
+        → Tells history happened service → Tells (filter (comes_to has) history) happened_there service_there
+        → HadMemory happened → HadMemory happened_there → events_of happened_there ≡ filter (comes_to has) (events_of happened)
+        → happened_there ≡ filter (λ p. comes_to has p.0) happened
+    split-not-felt = tell-alike (comes_to has) Had Had come-alike away-unstruck
+
+  -- ---- a service that is told what names its own addresses, and nothing else
+  module _ (has : Address → Bool) where
+    -- an address that it has, with all its events
+    own-has : (a : Address) → has a ≡ true → (events : List (Event A)) → own a (filter (names_any has) events) ≡ own a events
+    own-has a is [] = refl
+    own-has a is (e ∷ events) =
+        let mine : names a e ≡ true → names_any has e ≡ true = λ named. sym (ap has (named-address a e named)) ∙ is in
+        grind (arith, own-has a is events, mine)
+
+    -- and one that it has not, with none
+    own-has_not : (a : Address) → has a ≡ false → (events : List (Event A)) → own a (filter (names_any has) events) ≡ []
+    own-has_not a is [] = refl
+    own-has_not a is (e ∷ events) =
+        let others : names a e ≡ true → names_any has e ≡ false = λ named. sym (ap has (named-address a e named)) ∙ is in
+        grind (arith, own-has_not a is events, others)
+
+    -- who is enrolled there is enrolled here
+    enrolled-here : (a : Address) (history : List (Event A)) (number : ℕ) → IsEnrolledWith (filter (names_any has) history) a number
+        → IsEnrolledWith history a number
+    enrolled-here a history number enrolled =
+        ⊎_elim (λ is. subst (λ l. Contains (option_map_or numbers_in (enrolment_in (life_of l)) []) number) (own-has a is history) enrolled)
+        (λ is. let none = subst (λ l. Contains (option_map_or numbers_in (enrolment_in (life_of l)) []) number) (own-has_not a is history) enrolled in
+        absurd (omega (arith, none.1))) (cases_Bool (has a))
+
+    mine-alike : (history : List (Event A)) (e : Event A) (o p : Outcome) → names_any has e ≡ true → IsTold history e o
+        → IsTold (filter (names_any has) history) e p → is_struck o ≡ false → Had p → p ≡ o
+    mine-alike history e o p is here there plain had =
+        let past = filter (names_any has) history in
+        let answers : answer_to (life_of (own (address_of e) past)) e ≡ answer_to (life_of (own (address_of e) history)) e =
+        ap (λ l. answer_to (life_of l) e) (own-has (address_of e) is history) in
+        let back : IsTaken past e → IsTaken history e =
+        λ taken. (taken.0, (taken.1.0, sym answers ∙ taken.1.1), taken.2, taken.3, enrolled-here taken.2 history taken.0 taken.4) in
+        ⊎_elim (λ taken. absurd (true≢false (ap is_struck (sym (here.cause.taken.1 (back (there.cause.taken.0 taken)))) ∙ plain)))
+        (λ plain_there. there.as_model plain_there ∙ answers ∙ sym (here.as_model plain)) (taken-or-plain p had)
+
+    pub split-commands-not-felt : (history : List (Event A)) (happened happened_there : List (Event A × Outcome)) (service service_there : Registry)
+        → Tells history happened service → Tells (filter (names_any has) history) happened_there service_there
+        → NoneStruck happened → HadMemory happened_there
+        → events_of happened_there ≡ filter (names_any has) (events_of happened)
+        → happened_there ≡ filter (λ p. names_any has p.0) happened
+    split-commands-not-felt = tell-alike (names_any has) (λ o. is_struck o ≡ false) Had mine-alike (λ history e o away here plain. plain)

@@ -1,0 +1,14 @@
+-- Addresses: their order, by which a finite map tells them apart.
+use Rattle.std.specs.Prelude.{Bool, nat_eq}
+use Rattle.std.specs.declared.cmp.Ordering.{Ordering}
+use Rattle.std.specs.Ordering.{nat_cmp}
+use Rattle.std.specs.Cmp.Lexicographic.{slice_cmp, pointwise}
+use Rattle.ntp_service.specs.declared.address.Address.{Address}
+
+-- by the octets, the first one first (profile)
+abbrev pub address_cmp : Address → Address → Ordering
+address_cmp a b = slice_cmp nat_cmp a.0 b.0
+
+-- whether the octets are the same
+abbrev pub address_eq : Address → Address → Bool
+address_eq a b = pointwise nat_eq a.0 b.0

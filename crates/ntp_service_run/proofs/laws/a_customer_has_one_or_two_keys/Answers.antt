@@ -1,5 +1,0 @@
-use Rattle.ntp_service_run.proofs.KeysOfLives.{HasKeys-life_of}
-use Rattle.ntp_service_run.proofs.laws.a_customer_has_one_or_two_keys.Goals as goal
-
-pub returns : goal.returns
-returns g c = HasKeys-life_of

@@ -1,5 +1,0 @@
-use Rattle.ntp_service_run.proofs.Holders.{one-enrolled}
-use Rattle.ntp_service_run.proofs.laws.a_number_has_one_holder.Goals as goal
-
-pub returns : goal.returns
-returns g c = λ service history one two number stands. one-enrolled service history stands one two number

@@ -1,5 +1,0 @@
-use Rattle.ntp_service_run.proofs.Splits.{split-not-felt}
-use Rattle.ntp_service_run.proofs.laws.a_split_is_not_felt.Goals as goal
-
-pub returns : goal.returns
-returns g c = split-not-felt

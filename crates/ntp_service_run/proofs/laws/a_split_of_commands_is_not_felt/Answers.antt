@@ -1,5 +1,0 @@
-use Rattle.ntp_service_run.proofs.Splits.{split-commands-not-felt}
-use Rattle.ntp_service_run.proofs.laws.a_split_of_commands_is_not_felt.Goals as goal
-
-pub returns : goal.returns
-returns g c = split-commands-not-felt

@@ -1,5 +1,0 @@
-use Rattle.ntp_service_run.proofs.Stretches.{tells-few}
-use Rattle.ntp_service_run.proofs.laws.few_replies_are_told.Goals as goal
-
-pub returns : goal.returns
-returns g c = tells-few

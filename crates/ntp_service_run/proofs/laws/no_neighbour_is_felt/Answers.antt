@@ -1,5 +1,0 @@
-use Rattle.ntp_service_run.proofs.Runs.{alike}
-use Rattle.ntp_service_run.proofs.laws.no_neighbour_is_felt.Goals as goal
-
-pub returns : goal.returns
-returns g c = alike

@@ -1,5 +1,0 @@
-use Rattle.ntp_service_run.proofs.Histories.{stands-empty}
-use Rattle.ntp_service_run.proofs.service.Service.new.Goals as goal
-
-pub returns : goal.returns
-returns g c = rw c.new.ensures.empty stands-empty

@@ -1,6 +1,0 @@
-pub mod Recents
-pub mod Changes
-pub mod Saved
-mod NewStamps
-mod Places
-mod Listed

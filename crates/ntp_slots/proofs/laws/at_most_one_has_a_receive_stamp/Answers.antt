@@ -1,5 +1,0 @@
-use Rattle.ntp_slots.proofs.Saved.{one-at_most}
-use Rattle.ntp_slots.proofs.laws.at_most_one_has_a_receive_stamp.Goals as goal
-
-pub returns : goal.returns
-returns c = one-at_most

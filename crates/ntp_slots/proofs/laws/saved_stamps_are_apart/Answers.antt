@@ -1,5 +1,0 @@
-use Rattle.ntp_slots.proofs.Saved.{stamps-apart}
-use Rattle.ntp_slots.proofs.laws.saved_stamps_are_apart.Goals as goal
-
-pub returns : goal.returns
-returns c = stamps-apart

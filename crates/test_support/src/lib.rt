@@ -1,0 +1,26 @@
+//! What several test crates share: an allocator that refuses, a stream whose every call fails, and data.
+//!
+//! The data are one customer and the state of a clock, an exchange of the customer as lines of a script, and the packets of
+//! three turns of a server. Nothing here was taken from what the program answered: packets and lines are written out from the
+//! definitions of both. The digests in them are those of Python's `hashlib.md5` over the key `key` and the octets before the
+//! key number. Beside them stand calls without their clauses, of which tests need none.
+#![tactic(auto)]
+
+mod agreeing;
+mod broken;
+mod customer_and_clock;
+mod exchange_lines;
+mod plain_calls;
+mod refusing;
+mod turn_packets;
+
+pub use agreeing::Agreeing;
+pub use broken::Broken;
+pub use customer_and_clock::{CUSTOMER, enrolled_service, moment, reference};
+pub use exchange_lines::{ANSWERS, SCRIPT, events, printed};
+pub use plain_calls::{answered, ordered, run};
+pub use refusing::Refusing;
+pub use turn_packets::{
+    FIRST_QUERY, FIRST_REPLY, PLANNED_REPLY, SECOND_QUERY, SECOND_REPLY, THIRD_QUERY, THIRD_REPLY,
+    turn,
+};

@@ -72,12 +72,12 @@ fn is_due(who: Who, answer: &Answer) -> bool {
     }
 }
 
-// The address that comes so many behind another.
+// The address `place` places behind `first`.
 fn address(first: u32, place: u32) -> Address {
     Address(first.wrapping_add(place).to_be_bytes())
 }
 
-// Enrols and revokes so many addresses, then enrols the customers; whether all of it was done.
+// Enrols and revokes `revoked` addresses, then enrols `customers` customers. Gives whether all of it was done.
 fn fill_register(service: &mut Service, key: Key, customers: u16, revoked: u32) -> bool {
     for place in 0..revoked {
         let address = address(REVOKED, place);

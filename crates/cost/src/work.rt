@@ -191,7 +191,7 @@ fn digests(algorithm: Algorithm, count: u64) -> u64 {
     computed
 }
 
-// Requests that were read: a header, so many fields of 16 octets, and 20 zero octets of a MAC.
+// Requests that were read: a header, `many` fields of 16 octets (58 at most), and 20 zero octets of a MAC.
 fn fields(many: u64, count: u64) -> u64 {
     let many = (many as usize).min(58);
     let length = 48 + 16 * many + 20;

@@ -44,7 +44,7 @@ fn ordered<M: Allocator + Copy>(
     Some(service.command(&command))
 }
 
-// How many lines are applied once those that are due in a commands file were, of which so many had been before.
+// Applies the due lines of a commands file, with `applied` lines applied before. Gives how many are applied then.
 fn step<M: Allocator + Copy, F: Write>(
     service: &mut Service<M>,
     octets: &[u8],
@@ -98,7 +98,7 @@ fn padded(alloc: Global, text: &[u8], length: usize) -> Result<Vec<u8>, Fail> {
     Ok(octets)
 }
 
-// A file of which five lines were applied gives nothing more: nothing is told, and A can still be enrolled.
+// A file with five applied lines gives nothing more: nothing is told, and A can still be enrolled.
 fn gives_nothing(rt: &impl Abort, alloc: Global, octets: &[u8]) {
     let mut service = Service::new(alloc);
     let mut faults = Vec::new(alloc);

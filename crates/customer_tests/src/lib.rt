@@ -1,6 +1,6 @@
-//! Tests of the crates that say who is a customer, one module for each: `ntp_service`, `ntp_admin`, `ntp_customer_files`;
-//! of `ntp_meeting`, in which a customer's client meets the server; and of `refusing`, the allocator with which tests refuse
-//! memory. They stand here since a crate with tests is proved twice.
+//! Tests of the crates that say who is a customer: `ntp_service`, `ntp_admin` and `ntp_customer_files`; of a customer's client
+//! (`ntp_client`) that meets the server; and of `Refusing`, the allocator of `test_support` with which tests refuse memory.
+//! They stand here since a crate with tests is proved twice.
 #![tactic(auto)]
 
 #[cfg(test)]

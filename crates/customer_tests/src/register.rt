@@ -179,7 +179,7 @@ fn held_by_a(register: &Agreeing, number: u32) -> Option<NumberedKey> {
     held(register.customer(A), number)
 }
 
-// Two keys of A, of which the newer one stays.
+// Two keys of A. The newer one stays.
 fn roll_over(rt: &impl Abort, it: &mut Agreeing, key: Key, newer: Key) {
     is_answered(rt, it, key, (Order::Enrol, A, 7, Ok(()), Some(A)));
     is_answered(rt, it, newer, (Order::Rollover, A, 9, Ok(()), Some(A)));

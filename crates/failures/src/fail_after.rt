@@ -1,9 +1,9 @@
-//! A reader or a writer that fails behind so many octets.
+//! A reader or a writer that fails behind a number of octets.
 ghost use Rattle.std.specs.Prelude.{◌≡◌, ◌≤◌, IfOk};
 
 use std::io::{self, ErrorKind, Read, Write};
 
-/// Passes so many octets on, from a reader or to a writer, and then fails.
+/// Passes a number of octets on, from a reader or to a writer, and then fails.
 #[derive(Drop)]
 pub(crate) struct FailAfter<T> {
     inner: T,
@@ -25,7 +25,7 @@ impl<T> FailAfter<T> {
         inner
     }
 
-    // How many of so many octets it passes on at this call.
+    // How many of `octets` octets it passes on at this call.
     fn passes(&self, octets: usize) -> io::Result<usize>
         ensures asked { IfOk result (λ count. count ≤ octets) }
         ensures left { IfOk result (λ count. count ≤ self.now.left) }

@@ -8,7 +8,7 @@ use std::alloc::{AllocError, Global};
 use std::test::Fail;
 use test_support::{ANSWERS, SCRIPT};
 
-// What a replay of a text writes where the reader fails behind so many octets, and the writer too, and how it ends.
+// What a replay of a text writes where the reader fails behind `read` octets and the writer behind `written`, and how it ends.
 fn replayed(
     alloc: Global,
     text: &[u8],

@@ -20,7 +20,7 @@ pub(crate) fn ended_lines(text: &[u8]) -> u64
     text.iter().filter(|octet| **octet == b'\n').count() as u64
 }
 
-/// Octets are the first lines of the exchange's answers, so many of them.
+/// Asserts that `written` is the first `lines` lines of the exchange's answers.
 pub(crate) fn are_first_answers(rt: &impl Abort, written: &[u8], lines: u64) {
     assert!(rt; ANSWERS.as_bytes().starts_with(written));
     assert!(rt; written.is_empty() || written.ends_with(b"\n"));

@@ -33,7 +33,7 @@ pub(crate) enum Call {
     Again,
     Next { count: u8 },
     Revoked,
-    /// A rollover among so many customers, and one of a commands file.
+    /// A rollover among `count` customers, and one of a commands file.
     Rollover { count: u16 },
     RolloverLine { count: u16 },
 }

@@ -27,7 +27,7 @@ fn are_told<A: Allocator + Copy>(twin: &Twin<A>, count: u16) -> bool {
     twin.are_first_told(count) && (0..=NEW).all(|number| is_told_of(twin, count, number))
 }
 
-/// Rolls the first of so many customers over. Where that was refused, nothing changed, and the same rollover succeeds.
+/// Rolls the first of `count` customers over. Where that was refused, nothing changed, and the same rollover succeeds.
 pub(crate) fn rollover_refused(
     rt: &impl Abort,
     alloc: Global,
@@ -62,7 +62,7 @@ fn roll_first(
 // A commands file that rolls the first customer over.
 const ROLLOVER: &[u8] = b"rollover 10.0.0.1 100 md5 6b6579\n";
 
-/// Applies a commands file with a rollover of the first of so many customers, twice. Where that was refused, it is told
+/// Applies a commands file with a rollover of the first of `count` customers, twice. Where that was refused, it is told
 /// once, and not tried again.
 pub(crate) fn rollover_line_refused(
     rt: &impl Abort,
@@ -77,7 +77,7 @@ pub(crate) fn rollover_line_refused(
     apply_rollover(rt, &memory, &mut service, &mut told, n)
 }
 
-// Enrols so many customers.
+// Enrols `count` customers.
 fn enrol_first<A: Allocator + Copy>(service: &mut Service<A>, count: u16) -> Result<(), Fail> {
     for place in 0..count {
         enrol(service, address_at(place), place.saturating_add(1))?;
@@ -127,7 +127,7 @@ fn a_refused_rollover_changes_nothing(rt: HostRuntime) -> Result<(), Fail> {
     Ok(())
 }
 
-// Takes a number of the first of so many customers, which has two.
+// Retires `number` of the first customer, which has two, while memory is refused.
 fn retire_without_memory(
     rt: &impl Abort,
     memory: &Refusing<Global>,

@@ -80,7 +80,7 @@ fn place_refused(
     Ok(refused)
 }
 
-/// Enrols a customer behind so many others.
+/// Enrols a customer behind `count` others.
 pub(crate) fn next_refused(
     rt: &impl Abort,
     alloc: Global,

@@ -1,5 +1,5 @@
 //! What no contract says of a server: the replies of its turns to the octet, where a turn has no datagram or a send fails; that
-//! serving takes no memory; and a port of which nothing is known.
+//! serving takes no memory; and a port about which nothing is known.
 ghost use Rattle.std.specs.Prelude.{◌≡◌};
 
 use ntp_reply::Reference;
@@ -47,7 +47,7 @@ fn empty_turn() -> Turn {
     }
 }
 
-// The arrivals, the replies sent and the departures noted in so many turns of a port of which no call has failed.
+// The arrivals, the replies sent and the departures noted in `turns` turns of a port with no failed call.
 fn served<P: Port, A: Allocator + Copy>(
     rt: &impl Abort,
     port: &mut P,
@@ -121,7 +121,7 @@ fn serving_takes_no_memory(rt: HostRuntime) -> Result<(), Fail> {
     Ok(())
 }
 
-// A port of which nothing is known but that each call fails.
+// A port about which only this is known: each call fails.
 #[derive(Drop)]
 struct Broken {
     failed: u64,

@@ -79,7 +79,7 @@ impl<A: Allocator + Copy> Twin<A> {
         })
     }
 
-    /// One with the first customers, so many of them, each with its place and one as its number.
+    /// One with the first `count` customers. The number of each is its place and one.
     pub(crate) fn with_first(alloc: A, plain: Global, count: u16) -> Result<Twin<A>, Fail> {
         let mut twin = Twin::new(alloc, plain)?;
         twin.enrol_first(count)?;

@@ -9,7 +9,7 @@ use std::io::Write;
 use std::net::Net;
 use std::time::Clock;
 
-/// Lets a server and a client meet so many times, and writes a word to `out` for what the client took each time.
+/// Lets a server and a client meet `turns` times, and writes a word to `out` for what the client took each time.
 /// Gives the exit status; a fault is told in one line to `faults`, where a failed write is passed over.
 pub fn loopback_status<R: Net + Clock, A: Allocator + Copy, W: Write, F: Write>(
     rt: &R,
@@ -26,7 +26,7 @@ pub fn loopback_status<R: Net + Clock, A: Allocator + Copy, W: Write, F: Write>(
     }
 }
 
-// Tells why they met no longer, and gives the exit status.
+// Tells why the meeting ended early, and gives the exit status.
 fn fault_status<F: Write>(fault: LoopbackFault, faults: &mut F) -> u8
     ensures memory { fault ≡ LoopbackFault.NoMemory → result ≡ 4 }
     ensures fails { result ≢ DONE }

@@ -17,11 +17,11 @@ use std::io::{self, ErrorKind, Write};
 use std::net::{Ipv4Addr, Net, SocketAddrV4, UdpSocket};
 use std::time::{Clock, Duration};
 
-/// How long one wait for a datagram lasts at most, in thousandths of a second: so soon is a command carried out that is
-/// written while nobody asks (profile).
+/// Longest wait for a datagram, in thousandths of a second: a command that is written while nobody asks is carried out
+/// that soon (profile).
 const LONGEST_WAIT: u64 = 100;
 
-/// Serves the customers of a register file over UDP port `port` of 127.0.0.1, for so many turns. In each turn the
+/// Serves the customers of a register file over UDP port `port` of 127.0.0.1, for `turns` turns. In each turn the
 /// commands file is looked at, once its datagram has come and before it is answered: what was appended to it by then is
 /// in force.
 ///
@@ -78,7 +78,7 @@ fn bound<R: Net>(net: &R, port: u16) -> io::Result<UdpSocket> {
     Ok(socket)
 }
 
-// A server at a socket, with a register that was loaded and a commands file of which nothing was read.
+// A server at a socket, with a register that was loaded and a commands file before its first read.
 fn server<'a, R: Files + Clock, F: Write>(
     rt: &'a R,
     socket: UdpSocket,

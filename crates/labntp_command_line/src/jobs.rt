@@ -9,7 +9,7 @@ pub enum Job<'a> {
     Replay,
     /// Customers are served over a socket.
     Serve(Serving<'a>),
-    /// A server and a client meet in this process, so many times.
+    /// A server and a client meet in this process `turns` times.
     Loopback { turns: u32 },
 }
 

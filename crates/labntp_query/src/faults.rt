@@ -12,8 +12,8 @@ const NOT_ASKED: u8 = 3;
 /// Memory ran out.
 const MEMORY_OUT: u8 = 4;
 
-/// Tells what hinders a query: a person in a line on standard error, and monitoring, where a check is asked for, in one on standard output. A
-/// failed write is passed over.
+/// Tells what hinders a query: a person in a line on standard error, and monitoring, where a check is asked for, in one on standard
+/// output. A failed write is passed over.
 #[derive(Clone, Copy)]
 pub struct Faults {
     is_check: bool,
@@ -54,8 +54,8 @@ impl Faults {
         NOT_ASKED
     }
 
-    /// Tells why the command line could not be read, and gives the exit status: that of a check too, since nobody knows whether one is asked
-    /// for. A word that is no text is `usage`.
+    /// Tells why the command line could not be read, and gives the exit status: that of a check too, since nobody knows whether one is
+    /// asked for. A word that is no text is `usage`.
     pub fn unread(self, rt: &HostRuntime, error: &io::Error) -> u8 {
         let what = match error.kind() {
             ErrorKind::OutOfMemory => "memory",

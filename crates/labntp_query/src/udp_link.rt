@@ -49,7 +49,7 @@ impl<'a, R: Clock> UdpLink<'a, R> {
         }
     }
 
-    // Receives for so long from now on.
+    // Receives for `time` from now on.
     fn begin(&mut self, time: Duration) {
         self.left = u64::MAX;
         self.end = match Instant::now(self.clock) {
@@ -66,7 +66,7 @@ impl<'a, R: Clock> UdpLink<'a, R> {
             .filter(|left| !left.is_zero())
     }
 
-    // Receives as long as that.
+    // Receives for `left` at most.
     fn receive_within(&self, room: &mut Room, left: Duration) -> io::Result<usize>
         ensures { IfOk result (λ length. length ≤ 1025) }
     {

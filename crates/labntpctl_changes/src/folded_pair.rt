@@ -20,8 +20,8 @@ pub struct FoldedPair {
     pub between: String,
 }
 
-/// The pair for commands that are folded, with this reference state in the register, and with the octets of their keys. Where those of a key
-/// are missing, the customers would be others.
+/// The pair for commands that are folded, with this reference state in the register, and with the octets of their keys. Where those of a
+/// key are missing, the customers would be others.
 pub fn folded_pair(
     alloc: Global,
     reference: &str,

@@ -38,7 +38,7 @@ pub enum Change {
     },
     /// It is enrolled no longer.
     Revoke,
-    /// It may ask so many signed queries a window.
+    /// It may ask this number of signed queries a window.
     Budget(NonZero<u16>),
     /// It gets a new key beside the one that it has.
     Rollover(Algorithm),

@@ -19,8 +19,8 @@ use std::alloc::Global;
 use std::fmt::Display;
 use std::io::Write;
 
-/// Tells every fault of the commands file at a path, as its lines are carried out over customers, and gives those that it leaves. The error
-/// is the exit status for want of memory.
+/// Tells every fault of the commands file at a path, as its lines are carried out over customers, and gives those that it leaves. The
+/// error is the exit status for want of memory.
 pub fn check_commands(
     rt: &HostRuntime,
     path: &str,

@@ -21,7 +21,8 @@ pub struct Configured {
     pub commands: Option<String>,
 }
 
-/// Tells every fault of the configuration file at a path, and names the files of customers. The error is the exit status for want of memory.
+/// Tells every fault of the configuration file at a path, and names the files of customers. The error is the exit status for want of
+/// memory.
 pub fn check_configuration(
     rt: &HostRuntime,
     path: &str,

@@ -38,8 +38,8 @@ flush chain inet labntpd queries
 flush map inet labntpd customers
 ";
 
-/// What goes beyond the limit of all strangers together. They get no answer; but who was enrolled since the rules were loaded is one of them.
-/// A hundred datagrams a second cost the server less than a thousandth of a processor.
+/// What goes beyond the limit of all strangers together. They get no answer; but who was enrolled since the rules were loaded is one of
+/// them. A hundred datagrams a second cost the server less than a thousandth of a processor.
 const STRANGERS: &str = "limit rate over 100/second burst 100 packets";
 
 /// An address whose datagrams are limited.

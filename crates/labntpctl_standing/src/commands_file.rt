@@ -20,8 +20,8 @@ pub struct HeldFile {
 }
 
 impl HeldFile {
-    /// Holds the regular file at a path, once nobody else does. The error is the system's, `WouldBlock` where somebody else holds it for ten
-    /// seconds, or that a regular file is wanted.
+    /// Holds the regular file at a path, once nobody else does. The error is the system's, `WouldBlock` where somebody else holds it for
+    /// ten seconds, or that a regular file is wanted.
     pub fn hold(rt: &HostRuntime, path: &str) -> io::Result<HeldFile> {
         for _ in 0..MOST_ASKED {
             // A pipe that is opened for reading and writing is opened at once, whoever holds its other end (fifo(7)).
@@ -38,8 +38,8 @@ impl HeldFile {
         Err(io::Error::from(ErrorKind::WouldBlock))
     }
 
-    /// Appends a line to the file, which had this number of octets when it was read. Where that fails, the file is cut to what it was: what
-    /// stands there is no line yet, so the daemon has not carried it out.
+    /// Appends a line to the file, which had this number of octets when it was read. Where that fails, the file is cut to what it was:
+    /// what stands there is no line yet, so the daemon has not carried it out.
     pub fn append(&mut self, octets: usize, line: &str) -> io::Result<()> {
         if let Err(error) = self.file.write_all(line.as_bytes()) {
             self.file.set_len(octets as u64)?;

@@ -1,5 +1,5 @@
-//! What the files of a daemon have come to, as a clerk sees it: its customers, what the daemon reports of them, how the two differ, and the
-//! files that are made for a customer.
+//! What the files of a daemon have come to, as a clerk sees it: its customers, what the daemon reports of them, how the two differ, and
+//! the files that are made for a customer.
 #![tactic(auto)]
 
 mod commands_file;

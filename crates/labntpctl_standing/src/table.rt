@@ -25,8 +25,8 @@ impl From<AllocError> for NoRow {
     }
 }
 
-/// Writes a table of the customers that these lines tell, with a row for each key. Where a line is none of a customer, that is told and gives
-/// the exit status.
+/// Writes a table of the customers that these lines tell, with a row for each key. Where a line is none of a customer, that is told and
+/// gives the exit status.
 pub fn write_table(rt: &HostRuntime, text: &str) -> Result<io::Result<()>, u8> {
     let mut table = Vec::new(rt.alloc());
     if add_head(&mut table).is_err() {

@@ -67,7 +67,7 @@ fn check_status(rt: &HostRuntime, configuration: &Configuration) -> u8 {
     DONE
 }
 
-// The words of the command line, of which the first is the program's name.
+// The words of the command line. The first is the program's name.
 fn command_line(rt: &HostRuntime) -> io::Result<Vec<String>> {
     Ok(env::args(rt)?.collect(rt.alloc())?)
 }

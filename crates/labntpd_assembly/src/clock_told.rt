@@ -51,7 +51,7 @@ impl<'a, C: Clock + Copy + Drop> DaemonClock for ClockSource<'a, C> {
     }
 }
 
-// What is told of a clock whose state replies tell, where so much is known of its daemon.
+// What is told of a clock whose state replies tell, with the `age`, `offset` and `belief` that are known of its daemon.
 fn gauges_of(
     state: &Reference,
     age: Option<u64>,

@@ -22,7 +22,7 @@ pub struct CommandLog<'a, W: Write + Drop> {
 }
 
 impl<'a, W: Write + Drop> CommandLog<'a, W> {
-    /// Logs to `log`, where so many customers are enrolled by now.
+    /// Logs to `log`, with `customers` customers enrolled by now.
     pub fn new(log: Log<W>, clocks: &'a HostClocks, customers: u64) -> CommandLog<'a, W>
         ensures log { result.log ≡ log }
         ensures customers { result.customers ≡ customers }

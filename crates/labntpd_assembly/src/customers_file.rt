@@ -58,8 +58,8 @@ impl<'a, R: Files> CustomersFile<'a, R> {
         })
     }
 
-    /// Begins to write it where that is due after so many seconds, or where another number of commands was carried out. Gives what is wrong
-    /// with it by now, if anything.
+    /// Begins to write the file where it is due after `seconds` seconds, or where `done`, the count of commands carried out, has changed.
+    /// Gives what is wrong with it by now, if anything.
     pub fn begin_in_time(&mut self, seconds: u64, done: u64) -> Option<FileFault> {
         if self.writing.is_some() || (seconds < self.due && done == self.done) {
             return self.fault;
@@ -78,7 +78,7 @@ impl<'a, R: Files> CustomersFile<'a, R> {
         self.fault
     }
 
-    /// Writes the next piece, of so many customers, where it was begun.
+    /// Writes the next piece, of `piece` customers, where writing has begun.
     pub fn go_on(&mut self, counts: &CustomerCounts, service: &Service, piece: usize) {
         let Some(mut writing) = self.writing.take() else {
             return;

@@ -76,8 +76,8 @@ struct Written<'a, R: Files> {
 struct Times {
     // When it began, in nanoseconds since 1970.
     began: u64,
-    // What the monotonic clock showed first, and what it shows when something is to be done next, in nanoseconds; and when the next piece of
-    // the customers file may be written beside datagrams.
+    // What the monotonic clock showed first, and what it shows when something is to be done next, in nanoseconds; and when the next piece
+    // of the customers file may be written beside datagrams.
     first: Option<u64>,
     next: u64,
     piece: u64,
@@ -165,7 +165,7 @@ impl<'a, R: Files + Clock, L: Write + Drop> Housekeeping<'a, R, L> {
         })
     }
 
-    /// Logs with what the daemon begins.
+    /// Logs the start lines.
     pub fn begin(&mut self) {
         self.news.begin(&self.begun);
     }

@@ -1,5 +1,5 @@
-//! What the log tells of a daemon: what is so from now on, where something else was told last. Of each kind so many lines a minute are
-//! written at most.
+//! What the log tells of a daemon: what is so from now on, where something else was told last. A `LineAllowance` bounds the lines of each
+//! kind a minute.
 
 use crate::clock_told::is_synchronised;
 use crate::files::{FileFault, are_told_alike};
@@ -78,7 +78,7 @@ impl<L: Write + Drop> News<L> {
         })
     }
 
-    /// So many seconds have passed.
+    /// Notes that `seconds` seconds have passed.
     pub(crate) fn at(&mut self, seconds: u64) {
         self.seconds = seconds;
     }
@@ -88,7 +88,7 @@ impl<L: Write + Drop> News<L> {
         self.log.take_dropped()
     }
 
-    /// Logs with what the daemon begins.
+    /// Logs the start lines.
     pub(crate) fn begin(&mut self, begun: &Begun) {
         let Begun {
             bound: BoundAt { local, buffer },
@@ -114,8 +114,8 @@ impl<L: Write + Drop> News<L> {
         self.log.end();
     }
 
-    /// Logs that the clock is synchronised, or is not, where that was not told last; and of one that is, its stratum, its reference, and the
-    /// leap second that it announces, where one of them is another.
+    /// Logs that the clock is synchronised, or is not, where that was not told last; and of one that is, its stratum, its reference, and
+    /// the leap second that it announces, where one of them is another.
     pub(crate) fn tell_clock(&mut self, state: &Reference) {
         if !is_synchronised(state) {
             self.tell_unsynchronised(state);
@@ -211,7 +211,7 @@ impl<L: Write + Drop> News<L> {
         self.log.end();
     }
 
-    /// Logs that the commands file, which has so many octets, is nearly full, where that was not told last.
+    /// Logs that the commands file at `path`, which has `octets` octets, is nearly full, where that was not told last.
     pub(crate) fn tell_nearly_full(&mut self, path: &str, octets: usize) {
         let is_nearly_full = is_nearly_full(octets);
         let seconds = self.seconds;
@@ -259,8 +259,8 @@ impl<L: Write + Drop> News<L> {
         self.log.end();
     }
 
-    /// Logs what was done in so many hours: how many replies with the time, how many RATE, how many datagrams were dropped as stale, and
-    /// how many by the kernel.
+    /// Logs the totals of `hours` hours: `time` replies with the time, `rate` with RATE, `stale` datagrams dropped as stale, and `drops`
+    /// dropped by the kernel.
     pub(crate) fn tell_totals(&mut self, hours: u64, time: u64, rate: u64, stale: u64, drops: u64) {
         let line = self.log.begin(Priority::Information);
         let _ = write!(

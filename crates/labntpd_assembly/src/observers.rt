@@ -83,8 +83,8 @@ impl<W: Write, G: LogObserver> DaemonObserver
     }
 }
 
-/// Who is told what a daemon does that has so many customers by now. Nothing is counted yet. Lines are answered by `answers` and customers
-/// reported of by `reports`, where these are there.
+/// The observer of a daemon that has `customers` customers by now. Nothing is counted yet. `answers` answers lines, and `reports` reports
+/// on customers, where these are given.
 pub fn observer<'a, L: Write + Drop, W: Write + Drop>(
     answers: Option<AnswerLines<W>>,
     log: Log<L>,

@@ -22,7 +22,8 @@ impl<'a, P: TimedPort, C: Clock + Copy + Drop, R: Files> DaemonPort for QueuedUd
     }
 }
 
-/// A server of a daemon: its port stands over `P` and its commands over `C`, its clock's state comes from `S`, and `O` is told what it does.
+/// A server of a daemon: its port stands over `P` and its commands over `C`, its clock's state comes from `S`, and `O` is told what it
+/// does.
 pub type Daemon<P, C, S, O> = Server<FreshPort<P>, EachMillisecond<C>, S, O, Global>;
 
 /// Where a daemon runs, and by which configuration: `rt` has its files and its clock.
@@ -58,7 +59,7 @@ pub struct Begun {
 pub struct Parts<P: DaemonPort, C, S, O, L> {
     /// Where its datagrams come from.
     pub port: FreshPort<P>,
-    /// Its commands, of which nothing is carried out yet.
+    /// Its commands, none carried out yet.
     pub commands: C,
     /// Where the state of the clock comes from.
     pub reference: S,

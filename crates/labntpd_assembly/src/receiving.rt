@@ -33,7 +33,7 @@ pub struct Patience<'a, R: Files + Clock, L: Write + Drop> {
 }
 
 impl<'a, R: Files + Clock, L: Write + Drop> Patience<'a, R, L> {
-    /// Beside a server of which no receive has failed.
+    /// Stands beside a server with no failed receive.
     pub fn new(housekeeping: Housekeeping<'a, R, L>) -> Patience<'a, R, L> {
         Patience {
             housekeeping,

@@ -44,8 +44,8 @@ where
     R: Files + Clock,
     L: Write + Drop,
 {
-    /// Puts a daemon together out of its parts, and says on `out` that it serves. No line of its commands is applied yet. It takes the room
-    /// for what is done beside it from the host's memory: `NoMemory` where that is refused.
+    /// Puts a daemon together out of its parts, and says on `out` that it serves. No line of its commands is applied yet. It takes the
+    /// room for what is done beside it from the host's memory: `NoMemory` where that is refused.
     pub fn begin<N: Write>(
         host: Host<'a, R>,
         parts: Parts<P, C, S, O, L>,
@@ -74,11 +74,11 @@ where
         })
     }
 
-    /// Serves for so many turns, with all that is done beside it, and cannot fail.
+    /// Serves for `turns` turns, with all that is done beside it. It cannot fail.
     ///
     /// It makes the rounds of `serve_reported`. Where the port below `FreshPort` tells its turns, the rounds have these, but those whose
-    /// datagrams were dropped and counted as stale, and what it sent is the replies; and so with the commands, as `EachMillisecond` asks for
-    /// them, with the states of the clock and with the observer: each as far as it tells.
+    /// datagrams were dropped and counted as stale, and what it sent is the replies; and so with the commands, as `EachMillisecond` asks
+    /// for them, with the states of the clock and with the observer: each as far as it tells.
     pub fn serve(&mut self, turns: u64) -> Totals
         requires failures { self.old.daemon.port.failures + turns < 2 ^ 64 }
         ensures serves { ServesRounds Global false true turns

@@ -58,7 +58,7 @@ algorithm_of value = as_str value >>= algorithm_in
 abbrev pub rounded : ℕ → Float → ℕ
 rounded units seconds = float_to_unsigned w64 (float_round binary64 (Ieee.mul binary64 seconds (Ieee.of_int binary64 (pos units))))
 
--- how many units a number of seconds has, where a second has so many
+-- how many units a number of seconds has, where a second has `units` units
 abbrev pub units_of : ℕ → Data → Option ℕ
 units_of units (integer (pos seconds)) = Some (seconds * units)
 units_of units (float seconds) = Some (rounded units seconds)

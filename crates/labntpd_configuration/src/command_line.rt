@@ -16,7 +16,7 @@ pub struct Asked<'a> {
     pub config: &'a str,
 }
 
-/// What the words ask for, of which the first is the program's name. Else the error that tells the user why: its kind may
+/// What the words ask for (the first is the program's name), else the error that tells the user why. Its kind may
 /// be a request for the help or the version, which go to standard output with status 0; a mistake goes to standard error
 /// with status 2; and memory may have run out.
 ///

@@ -74,7 +74,7 @@ pub fn algorithm_of(value: &Value) -> Option<Algorithm>
     words::algorithm(value.as_str()?)
 }
 
-/// A number of seconds, of which each has so many units, as a whole number of units from `least` to `most`.
+/// A number of seconds as a whole number of units, from `least` to `most`. A second has `units` units.
 pub(crate) fn seconds_of(value: &Value, units: u32, least: u64, most: u64) -> Option<u64>
     ensures value { result ≡ seconds_of units least most (view value.now) }
     ensures range { IfSome result (λ count. (least ≤ count) × (count ≤ most)) }
@@ -87,7 +87,7 @@ pub(crate) fn seconds_of(value: &Value, units: u32, least: u64, most: u64) -> Op
     }
 }
 
-// As many units as so many seconds have.
+// The units of a number of seconds. A second has `units` units.
 fn units_of(value: &Value, units: u32) -> Option<u128>
     ensures { result ≡ units_of units (view value.now) }
 {

@@ -168,7 +168,7 @@ impl<'a, C: Clock + Copy + Drop> FollowedClock<'a, C> {
         }
     }
 
-    // Takes what has come so long after the question, where an answer is waited for and it is time to look for it.
+    // Takes what has come `since` nanoseconds after the question, where an answer is waited for and it is time to look for it.
     fn look_for_answer(&mut self, ticks: u64, since: u64) {
         if !self.is_outstanding || !self.is_time_to_look(ticks, since) {
             return;
@@ -180,7 +180,7 @@ impl<'a, C: Clock + Copy + Drop> FollowedClock<'a, C> {
         }
     }
 
-    // Whether an answer is looked for, so long after the question.
+    // Whether it is time to look for an answer, `since` nanoseconds after the question.
     fn is_time_to_look(&self, ticks: u64, since: u64) -> bool {
         since < PATIENCE || ticks.saturating_sub(self.looked) >= LATER_PERIOD
     }

@@ -24,7 +24,7 @@ pub struct QueueState {
     pub drops: u64,
 }
 
-/// How many datagrams take so many octets of a receive buffer at most.
+/// How many datagrams `octets` octets of a receive buffer hold at most.
 pub(crate) fn most_datagrams(octets: u32) -> u64 {
     u64::from(octets / LEAST_QUEUED_OCTETS)
 }
@@ -49,7 +49,8 @@ pub fn queue_state<R: Files>(
 /// The kernel's lists of IPv4 sockets that receive datagrams and are none of UDP (proc(5)).
 const OTHER_LISTS: [&str; 3] = ["/proc/net/udplite", "/proc/net/raw", "/proc/net/icmp"];
 
-/// Whether the kernel lists a socket of this inode among those that receive datagrams and are none of UDP. `room` is for a part of a list.
+/// Whether the kernel lists a socket of this inode among those that receive datagrams and are none of UDP. `room` is for a part of a
+/// list.
 pub fn is_of_other_protocol<R: Files>(files: &R, inode: u64, room: &mut Vec<u8>) -> bool {
     OTHER_LISTS
         .iter()

@@ -89,7 +89,8 @@ impl<W: Write + Drop> Log<W> {
     }
 }
 
-/// What is told on standard error before the daemon serves, for which it waits: faults, and warnings. Each line begins as those of the log do.
+/// What is told on standard error before the daemon serves, for which it waits: faults, and warnings. Each line begins as those of the
+/// log do.
 #[derive(Drop)]
 pub struct StartLines<W: Write + Drop> {
     out: W,
@@ -175,7 +176,7 @@ fn is_open(descriptor: i32) -> bool {
     asked(descriptor, 0).revents & POLLNVAL == 0
 }
 
-/// Waits for so many thousandths of a second.
+/// Waits for `milliseconds` thousandths of a second.
 pub fn pause(milliseconds: i32) {
     poll(&mut [], milliseconds);
 }

@@ -59,12 +59,12 @@ fn is_tcp(socket: &UdpSocket) -> bool {
     status == 0
 }
 
-/// Asks for a receive buffer of so many octets.
+/// Asks for a receive buffer of `octets` octets.
 pub fn set_receive_buffer(socket: &UdpSocket, octets: u32) -> io::Result<()> {
     set_option(socket, SO_RCVBUF, octets)
 }
 
-/// Asks for a send buffer of so many octets.
+/// Asks for a send buffer of `octets` octets.
 pub fn set_send_buffer(socket: &UdpSocket, octets: u32) -> io::Result<()> {
     set_option(socket, SO_SNDBUF, octets)
 }

@@ -40,7 +40,7 @@ struct Place<'a> {
     name: Option<&'a str>,
 }
 
-/// The files that a configuration names, of which some may be left out.
+/// The files that a configuration names. Some may be left out.
 #[derive(Clone, Copy)]
 pub struct NamedFiles<'a> {
     pub register: Option<&'a str>,
@@ -83,8 +83,8 @@ pub fn judge_places<R: Files, F: Write>(
     }
 }
 
-/// Tells in a line each what is wrong with where these files stand, which the configuration at a path names: so many faults at most.
-/// Gives how many there were. The error is the exit status for want of memory.
+/// Tells in a line each what is wrong with where these files stand, at most `most` faults. The configuration at `path` names the files.
+/// Gives how many faults were told. The error is the exit status for want of memory.
 pub fn tell_places<R: Files, F: Write>(
     files: &R,
     alloc: Global,
@@ -104,7 +104,7 @@ pub fn tell_places<R: Files, F: Write>(
     }
 }
 
-// Tells what is wrong with where these files stand, so many faults at most, and gives how many there were.
+// Tells what is wrong with where these files stand, at most `most` faults. Gives how many were told.
 fn tell_named<R: Files, F: Write>(
     files: &R,
     path: &str,

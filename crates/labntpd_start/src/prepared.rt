@@ -93,7 +93,8 @@ pub fn prepare<R: Files, F: Write + Drop>(
     })
 }
 
-/// The configuration of the file at a path, and nothing that it names. A fault is told in one line to `faults`, and gives the exit status.
+/// The configuration of the file at a path, and nothing that it names. A fault is told in one line to `faults`, and gives the exit
+/// status.
 pub fn configuration_at<R: Files, F: Write>(
     files: &R,
     alloc: Global,

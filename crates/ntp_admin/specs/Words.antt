@@ -72,7 +72,7 @@ algorithm_in word = if bytes_eq word (codes "md5") then Some Md5 else if bytes_e
 abbrev pub hex_in : List ℕ → Option (List ℕ)
 hex_in word = result_ok (decode_of word)
 
--- the same, where there are just so many octets
+-- the same, of exactly `octets` octets
 abbrev pub sized_hex_in : ℕ → List ℕ → Option (List ℕ)
 sized_hex_in octets word = result_ok (decode_sized word octets)
 

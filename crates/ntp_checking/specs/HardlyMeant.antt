@@ -9,7 +9,7 @@ use Rattle.ntp_checking.specs.declared.hardly_meant.NoHost.TheVariants as host
 use Rattle.ntp_checking.specs.declared.hardly_meant.HardlyMeant.{HardlyMeant}
 use Rattle.ntp_checking.specs.declared.hardly_meant.HardlyMeant.TheVariants as meant
 
--- the addresses of which no host sends: 0.0.0.0/8 (RFC 1122, 3.2.1.3), 224.0.0.0/4 (RFC 5771), 240.0.0.0/4 (RFC 1112, 4), and in it
+-- the addresses that no host sends from: 0.0.0.0/8 (RFC 1122, 3.2.1.3), 224.0.0.0/4 (RFC 5771), 240.0.0.0/4 (RFC 1112, 4), and in it
 -- 255.255.255.255 (RFC 919, 7)
 abbrev pub hostless_octets : List ℕ → Option NoHost
 hostless_octets (a ∷ b ∷ c ∷ d ∷ []) =

@@ -9,11 +9,11 @@ use Rattle.ntp_checking.specs.declared.key_text.KeyWrong.TheVariants as wrong
 abbrev pub is_hexadecimal : ℕ → Bool
 is_hexadecimal octet = is_ascii_hexdigit octet
 
--- whether so many digits spell no key: 2 to 64 do, an even number (profile)
+-- whether `count` digits spell no key: an even number from 2 to 64 spells one (profile)
 abbrev pub is_wrong_count : ℕ → Bool
 is_wrong_count count = count == 0 || nat_lt 64 count || count % 2 == 1
 
--- what is wrong where the first octet that is no digit stands at a place, or where all of so many are digits
+-- what is wrong where the first octet that is no digit stands at `place`, or where all `count` octets are digits
 abbrev pub wrong_behind : Option ℕ → ℕ → Option KeyWrong
 wrong_behind (Some place) count = Some (wrong.NoDigit (suc place))
 wrong_behind None count = if is_wrong_count count then Some (wrong.Digits count) else None

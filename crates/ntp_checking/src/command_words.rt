@@ -11,7 +11,8 @@ pub struct PlacedWord<'a> {
     pub word: &'a str,
 }
 
-/// At which word, counted from 0, a line with this first word has a fault; none where the number of its words is the fault, or want of memory.
+/// At which word, counted from 0, a line with this first word has a fault; none where the number of its words is the fault, or want of
+/// memory.
 pub fn faulty_place(first: &str, fault: LineFault) -> Option<u64>
     ensures { result ≡ faulty_place first.now fault }
 {
@@ -27,7 +28,7 @@ pub fn faulty_place(first: &str, fault: LineFault) -> Option<u64>
     }
 }
 
-/// The word at a place of a line, counted from 0, if it has so many. One space stands between two words.
+/// The word at `place` of a line, counted from 0, if the line has one there. One space stands between two words.
 pub fn word_at(line: &str, place: u64) -> Option<PlacedWord<'_>> {
     let mut rest = line;
     let mut column = 1_u64;

@@ -13,7 +13,7 @@ const MOST_DIGITS: usize = 64;
 pub enum KeyWrong {
     /// The octet in this column, counted from 1, begins no hexadecimal digit.
     NoDigit { column: u64 },
-    /// So many digits are none at all, too many, or an odd number.
+    /// The number of digits, which is none at all, too many, or odd.
     Digits(u64),
 }
 
@@ -39,7 +39,7 @@ fn first_other(octets: &[u8]) -> Option<usize>
     octets.iter().position(|octet| !is_hexadecimal(*octet))
 }
 
-// Whether so many digits spell no key.
+// Whether `count` digits spell no key.
 fn is_wrong_count(count: usize) -> bool
     ensures { result ≡ is_wrong_count count }
 {

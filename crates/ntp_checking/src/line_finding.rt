@@ -14,7 +14,7 @@ pub struct TableLines {
 }
 
 impl TableLines {
-    // A table that begins in a line, of which no key is known yet.
+    // A table that begins in `line`, with no key known yet.
     fn new(alloc: Global, line: u64) -> TableLines {
         TableLines {
             line,
@@ -108,7 +108,7 @@ impl<'a> Walk<'a> {
         self.rest = rest;
     }
 
-    // Passes so many octets; the rest where no character begins there.
+    // Passes `octets` octets, or the whole rest where no character begins there.
     fn step(&mut self, octets: usize) {
         let rest = self.rest.get(octets..).unwrap_or("");
         self.pass(rest);

@@ -48,8 +48,8 @@ pub fn shown_value(value: &Value) -> Shown<'_> {
     }
 }
 
-/// Whether a word may be shown: one of at most 21 octets with three dots, as an address has; and one of at most 40 octets that has fewer than
-/// six hexadecimal digits, and something else or decimal digits alone. So no key of three octets or more is shown.
+/// Whether a word may be shown: one of at most 21 octets with three dots, as an address has; and one of at most 40 octets that has fewer
+/// than six hexadecimal digits, and something else or decimal digits alone. So no key of three octets or more is shown.
 pub fn is_plain(word: &str) -> bool
     ensures { result ≡ is_plain word.now }
 {

@@ -35,7 +35,7 @@ age a ticks = ticks - a.ticks
 abbrev pub offset_size : ClockAnswer → ℕ
 offset_size a = div_ceil (unsigned_abs a.offset_twice) (2 ^ 17)
 
--- how far a clock may drift in so many nanoseconds: 15 parts in a million of them, in units of 2^-16 seconds and rounded up
+-- how far a clock may drift in `nanos` nanoseconds: 15 parts in a million of them, in units of 2^-16 seconds and rounded up
 -- (RFC 5905, 7.2; rounded up: profile)
 unfoldable pub drift : ℕ → ℕ
 drift nanos = div_ceil (nanos * 15 * 2 ^ 16) (10 ^ 15)

@@ -176,7 +176,7 @@ impl Follower {
         self.watch.told = Some(header.reference());
     }
 
-    /// How long after a question the next one is due, at so many ticks of the monotonic clock, in nanoseconds: a second, and eight for an
+    /// How long after a question the next one is due when the monotonic clock shows `ticks`, in nanoseconds: a second, and eight for an
     /// hour after a RATE (RFC 5905, 7.4; profile).
     pub fn period(&self, ticks: u64) -> u64
         ensures { result ≡ period self.now.slowed ticks }

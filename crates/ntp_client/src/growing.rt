@@ -68,7 +68,7 @@ fn set_by(answer: &ClockAnswer, now: Reading) -> u128
     }
 }
 
-// How far a clock may drift in so many nanoseconds, in units of 2^-16 seconds and rounded up. Whole times of
+// How far a clock may drift in `nanos` nanoseconds, in units of 2^-16 seconds and rounded up. Whole times of
 // `DRIFT_NANOS` are counted apart, so that no product is too large for 64 bits.
 fn drift(nanos: u64) -> u64
     ensures value { result ≡ drift nanos }

@@ -25,8 +25,8 @@ pub struct Sample {
     pub t3: Stamp,
     /// Its arrival, by the client's clock.
     pub t4: Stamp,
-    /// Whether the stamps are those of the exchange before, of which the present reply tells the
-    /// departure (RFC 9769, 2).
+    /// Whether the stamps are those of the exchange before, whose departure the present reply tells
+    /// (RFC 9769, 2).
     pub interleaved: bool,
 }
 
@@ -59,7 +59,7 @@ impl fmt::Display for Sample {
     }
 }
 
-// Writes a time, of which so many units are a second, in seconds with nine decimals.
+// Writes a time of `units` units, each the `second`-th part of a second, in seconds with nine decimals.
 fn write_seconds<W: fmt::Write>(f: &mut fmt::Formatter<W>, units: i128, second: u128) -> fmt::Result
     requires few { unsigned_abs units ≤ 2 ^ 64 }
     requires second_given { 0 < second }

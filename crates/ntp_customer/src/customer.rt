@@ -165,7 +165,7 @@ impl<A: Allocator> Customer<A> {
         account.slots_mut()
     }
 
-    /// Gives the customer another budget, if it is enrolled; whether it is. All else stays.
+    /// Sets the budget of an enrolled customer, and returns whether it is enrolled. All else stays.
     pub fn set_budget(&mut self, budget: u16) -> bool
         requires { 0 < budget }
         ensures enrolled { result ≡ is_enrolled self.old }

@@ -21,8 +21,8 @@ pub fn every_tally_is_of_a_list()
     ensures { (t : Tally) → IsTally t → (windows : List ℕ) × (tally windows ≡ t) }
 {}
 
-/// Who keeps the recent exchanges alone goes on rightly: what is put behind them leaves the same recent
-/// ones as where all were kept, and where they are changed, they are the recent ones of the whole.
+/// Keeping the recent exchanges alone loses nothing: what is appended to them leaves the same recent ones
+/// as if all were kept, and a change of them is a change of the recent ones of the whole.
 pub fn recent_ones_suffice()
     ensures appended { (xs ys : List Slot) → recent (recent xs ++ ys) ≡ recent (xs ++ ys) }
     ensures changed { (xs ys : List Slot) → length ys ≡ length (recent xs) → recent (with_recent xs ys) ≡ ys }
@@ -32,8 +32,8 @@ pub fn recent_ones_suffice()
         recent (with_recent xs (with_departure (recent xs) s m)) ≡ with_departure (recent xs) s m }
 {}
 
-/// Exchanges that are saved stay so: none of them, after a new one whose stamps are free, where one is
-/// spent, and where one departs.
+/// `AreSaved` holds of the empty list. It is kept by a new exchange whose stamps are free, by one that is
+/// spent, and by one that departs.
 pub fn saved_ones_stay_saved()
     ensures none { AreSaved [] }
     ensures pushed { (xs : List Slot) (receive transmit : Stamp) → AreSaved xs

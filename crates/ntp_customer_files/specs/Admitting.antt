@@ -11,7 +11,8 @@ pub record Continues (applied : List (List ℕ)) (octets : List ℕ) : Type 0 wh
   pub more : List (List ℕ)
   pub begins : complete_lines octets ≡ applied ++ more
 
--- of the lines that were applied the one with this number, counted from 1, is the first in whose place another line stands, or none (profile)
+-- of the lines that were applied the one with this number, counted from 1, is the first in whose place another line stands, or none
+-- (profile)
 pub record IsFirstOther (applied lines : List (List ℕ)) (number : ℕ) : Type 0 where
   pub same : List (List ℕ)
   pub line : List ℕ

@@ -29,7 +29,7 @@ AppliesLine A number line old new seen told = (result : Result (Unit {0}) Refusa
     × Sees seen told (observed_read number (reading_of line) result)
     × ((history : List (Event A)) → StandsFor old history → Tells history (happened_read (reading_of line) result) new)
 
--- lines were taken, before which so many stand
+-- lines were taken, with `before` lines in front of them
 abbrev pub Applies :
     (A : Type 0) → ℕ → List (List ℕ) → Registry → Registry → Option (List Observation) → Option (List Observation) → Type 0
 Applies A before lines old new seen told = (taken : List TakenLine) × (lines_taken taken ≡ lines) × CarriesOut A before taken old new seen told

@@ -32,7 +32,7 @@ complete_lines text = all_but_last (parts 10 text)
 abbrev pub reading_of : List ℕ → Option (Result Command LineFault)
 reading_of line = if is_passed_over line then None else Some (command_in (words line))
 
--- the lines of a file that are due, where so many are applied, and how many are applied once they were taken: of a text, its complete
+-- the lines of a file that are due, where `applied` are applied, and how many are applied once they were taken: of a text, its complete
 -- lines behind those; of other octets none (profile)
 abbrev pub AreDue : ℕ → List ℕ → List (List ℕ) → ℕ → Type 0
 AreDue applied octets lines after =
@@ -64,7 +64,7 @@ observed_read number (Some (Err fault)) result = observation.Line number (Faulty
 abbrev pub happened_at_lines : {A : Type 0} → List TakenLine → List (Event A × Outcome)
 happened_at_lines taken = flat_map (λ t. happened_read (reading_of t.line) t.result) taken
 
--- what an observer is told of them, where so many lines stand before the first (profile)
+-- what an observer is told of them, where `before` lines stand before the first (profile)
 abbrev pub line_observations : ℕ → List TakenLine → List Observation
 line_observations before [] = []
 line_observations before (t ∷ taken) = observed_read (before + 1) (reading_of t.line) t.result ++ line_observations (before + 1) taken

@@ -1,4 +1,4 @@
--- What a server ends with that could not begin.
+-- Exit statuses of a server that failed to start.
 use Rattle.std.specs.Prelude.{ℕ}
 use Rattle.ntp_service.specs.declared.refusal.Refusal.{Refusal}
 use Rattle.ntp_service.specs.declared.refusal.Refusal.TheVariants as refusal
@@ -19,7 +19,7 @@ abbrev pub refusal_status : Refusal → ℕ
 refusal_status refusal.NoMemory = 4
 refusal_status other = 1
 
--- the status for what stopped a server that could not begin: 3 where its register file could not be read (profile)
+-- the status for what stopped a server that failed to start: 3 where its register file could not be read (profile)
 abbrev pub load_status : LoadFault → ℕ
 load_status load_fault.Read = 3
 load_status (load_fault.Register fault) = register_status fault

@@ -25,7 +25,7 @@ pub enum AdmitFault {
 /// The lines of a commands file that were applied. Contracts see them as a list.
 #[derive(Drop)]
 pub struct AppliedLines<A: Allocator = Global> {
-    // The text of which they are the complete lines.
+    // The text that has them as its complete lines.
     text: String<A>,
 }
 

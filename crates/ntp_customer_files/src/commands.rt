@@ -107,7 +107,7 @@ fn apply_line<A: Allocator + Copy, O: Observer>(
     }
 }
 
-// Carries out the command that a line says, of which the observer hears before, and gives what became of the line.
+// Tells the observer the command that a line says, carries it out, and gives what became of the line.
 fn carry_out<A: Allocator + Copy, O: Observer>(
     service: &mut Service<A>,
     line: &str,

@@ -42,7 +42,7 @@ pub fn load_register(alloc: Global, octets: &[u8]) -> Result<Loaded, LoadFault>
     Ok(Loaded { reference, service })
 }
 
-// A service to which commands were given one after another, each of which was done.
+// A service to which commands were given one after another; each was done.
 fn enrolled(alloc: Global, commands: &[Command]) -> Result<Service, LoadFault>
     ensures done { IfOk result (λ service. Enrols commands.now service) }
     ensures fault { IfErr result (λ fault. IsRefusedAt commands.now fault) }

@@ -1,4 +1,4 @@
-//! What a server ends with that could not begin.
+//! Exit statuses of a server that failed to start.
 ghost use Rattle.std.specs.Prelude.{◌≡◌};
 ghost use Rattle.ntp_customer_files.specs.Starts.{load_status, register_status};
 

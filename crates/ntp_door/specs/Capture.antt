@@ -6,7 +6,8 @@ use Rattle.ntp_door.specs.declared.capture.Order.{Order}
 use Rattle.ntp_door.specs.declared.capture.Order.TheVariants.{BigEndian, LittleEndian}
 use Rattle.ntp_door.specs.declared.link.Link.{Link}
 
--- the order of the octets in a file's numbers, by its first four: a1b2c3d4, or a1b23c4d where stamps are in nanoseconds (pcap-savefile(5))
+-- the order of the octets in a file's numbers, by its first four: a1b2c3d4, or a1b23c4d where stamps are in nanoseconds
+-- (pcap-savefile(5))
 abbrev pub order_of : ℕ → Option Order
 order_of magic =
     if magic == 2712847316 then Some BigEndian

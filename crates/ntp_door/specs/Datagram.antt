@@ -13,7 +13,7 @@ pub record IsIpHead (ip : List ℕ) : Type 0 where
   pub no_fragment : (slice_index ip 6 % 64 ≡ 0) × (slice_index ip 7 ≡ 0)
   pub protocol : slice_index ip 9 ≡ 17
 
--- a header of UDP to a port, with a payload of so many octets (RFC 768)
+-- a header of UDP to a port, with a payload of `payload` octets (RFC 768)
 pub record IsUdpHead (udp : List ℕ) (port : ℕ) (payload : ℕ) : Type 0 where
   pub udp_length : length udp ≡ 8
   pub to_port : two_octets udp 2 ≡ port

@@ -11,19 +11,19 @@ use Rattle.ntp_door.specs.Bucket.{passing_limit, InOrder}
 abbrev pub window_nanos : ℕ
 window_nanos = window_seconds * 1000000000
 
--- how many datagrams of a window are answered at most, by a budget: so many get the time, one gets RATE, and the others are refused (profile)
+-- how many datagrams of a window are answered at most: `budget` get the time, one gets RATE, and the others are refused (profile)
 abbrev pub most_answered : ℕ → ℕ
 most_answered budget = budget + 1 + refusals_sent
 
--- whether a moment lies in a window, where windows begin so many nanoseconds before the kernel's first moment
+-- whether a moment lies in a window, where windows begin `before` nanoseconds before the kernel's first moment
 abbrev pub is_in_window : ℕ → ℕ → ℕ → Bool
 is_in_window before window moment = (moment + before) / window_nanos == window
 
--- at most so many of these moments lie in each window
+-- at most `most` of these moments lie in each window
 abbrev pub AtMostInEach : ℕ → ℕ → List ℕ → Type 0
 AtMostInEach before most moments = (window : ℕ) → count_by (is_in_window before window) moments ≤ most
 
--- who sends at most so many datagrams in each window has them all pass, wherever windows begin, and however he spreads them
+-- who sends at most `most` datagrams in each window has them all pass, wherever windows begin, and however he spreads them
 abbrev pub LetsPass : Limit → ℕ → Type 0
 LetsPass limit most = (begun before : ℕ) (moments : List ℕ) → InOrder begun moments → AtMostInEach before most moments
     → All (λ passed. passed ≡ true) (passing_limit limit begun moments)

@@ -4,7 +4,7 @@ use Rattle.ntp_door.specs.Wide.{two_octets}
 use Rattle.ntp_door.specs.declared.link.Link.{Link}
 use Rattle.ntp_door.specs.declared.link.Link.TheVariants.{Ethernet, Cooked, CookedSecond, Packet}
 
--- the type of link by its number, of which the lower 16 bits count (pcap-savefile(5), pcap-linktype(7))
+-- the type of link by its number, whose lower 16 bits count (pcap-savefile(5), pcap-linktype(7))
 abbrev pub link_of : ℕ → Option Link
 link_of number =
     let type = number % 65536 in

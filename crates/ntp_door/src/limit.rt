@@ -14,8 +14,8 @@ pub struct Limit {
     pub burst: u32,
 }
 
-/// The limit for a budget, and for each smaller one: all datagrams pass that the server would answer. A minute is no longer than a window,
-/// and two windows' datagrams may come back to back. It lets no more pass.
+/// The limit for a budget, and for each smaller one: all datagrams pass that the server would answer. A minute is no longer than a
+/// window, and two windows' datagrams may come back to back. It lets no more pass.
 pub fn limit_for(budget: u32) -> Limit
     requires { budget ≤ greatest_group }
     ensures enough { LetsEachPass result budget }

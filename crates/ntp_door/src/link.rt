@@ -21,7 +21,7 @@ pub enum Link {
     Packet,
 }
 
-/// The type of link with a number, of which the lower 16 bits count.
+/// The type of link with a number, whose lower 16 bits count.
 pub(crate) fn link_of(number: u64) -> Option<Link>
     ensures { result ≡ link_of number }
 {
@@ -46,7 +46,7 @@ pub fn packet_in(link: Link, frame: &[u8]) -> Option<&[u8]>
     }
 }
 
-// What stands behind a header of so many octets that has the type of protocol at a place, where that is IPv4.
+// What stands behind a header of `octets` octets that has the type of protocol at `at`, where that is IPv4.
 fn behind_head(frame: &[u8], octets: usize, at: usize) -> Option<&[u8]>
     requires { at + 2 ≤ octets }
     ensures { IfSome result (λ packet. (head : List ℕ) × (frame.now ≡ head ++ packet.now) × (length head ≡ octets) × (two_octets head at ≡ 2048)) }

@@ -32,7 +32,7 @@ pub(crate) fn four_turned(octets: &[u8], at: usize) -> u64
         + u64::from(octets[at + 3]) * 16_777_216
 }
 
-/// The first octets, so many, and what stands behind them; nothing where there are fewer.
+/// The first `count` octets, and what stands behind them; nothing where there are fewer.
 pub(crate) fn split(octets: &[u8], count: usize) -> Option<(&[u8], &[u8])>
     ensures parts { IfSome result (λ split. (octets.now ≡ split.0.now ++ split.1.now) × (length split.0.now ≡ count)) }
     ensures fewer { IfNone result (length octets.now < count) }

@@ -11,12 +11,12 @@ use Rattle.ntp_freshness.specs.Queue.{last_reading, SeesMore}
 use Rattle.ntp_freshness.specs.Watch.{Watches, Counts, longest_of}
 use Rattle.ntp_freshness.specs.Passing.{PassesTurns}
 
--- when it may be looked again at the queue: at once, or so soon after the last look that it is in time (profile)
+-- when the queue may be looked at again: at once (0), or at most `oldest_look longest` after the last look (profile)
 abbrev pub LooksAgain : ℕ → List QueueEvent → ℕ → Type 0
 LooksAgain longest history next = (next ≡ 0) ⊎ WasLookedAt (oldest_look longest) history next
 
--- what is kept, with the last reading of the clock and with when it may be looked again, is that of a history whose events are in order and
--- no later than that reading (profile)
+-- what is kept, with the last reading of the clock and with when the queue may be looked at again, is that of a history whose events are
+-- in order and no later than that reading (profile)
 pub record StandsFor (watch : QueueWatch) (reading next_look : ℕ) (history : List QueueEvent) : Type 0 where
   pub watches : Watches watch history
   pub counts : Counts watch history
@@ -24,8 +24,8 @@ pub record StandsFor (watch : QueueWatch) (reading next_look : ℕ) (history : L
   pub ordered : IsInOrder history
   pub past : All (λ event. moment_of event ≤ reading) history
 
--- a datagram that was taken: what was seen since the take before it, newest first, which is no take; from when on the call ran that took it;
--- and what the clock showed once it was in hand (profile)
+-- a datagram that was taken: what was seen since the take before it, newest first, which is no take; from when on the call ran that took
+-- it; and what the clock showed once it was in hand (profile)
 pub record Take : Type 0 where
   pub seen : List QueueEvent
   pub quiet : takes seen ≡ 0
@@ -50,8 +50,8 @@ abbrev pub history_dropped : Dropped → List QueueEvent → List QueueEvent
 history_dropped (InHand take) history = history_after take history
 history_dropped (Swept seen quiet at) history = Taken at ∷ (seen ++ history)
 
--- it may not be answered, once it is in hand, and the queue was looked at in time before it was taken; or already when the call begins that
--- sweeps it out, and it may be one of those that a look counted (profile)
+-- it may not be answered, once it is in hand, and the queue was looked at in time before it was taken; or already when the call begins
+-- that sweeps it out, and it may be one of those that a look counted (profile)
 abbrev pub IsStale : ℕ → List QueueEvent → Dropped → Type 0
 IsStale longest history (InHand take) =
     (MayBeAnswered longest (history_before take history) take.now → ⊥) × WasLookedAt (oldest_look longest) (history_before take history) take.at
@@ -84,7 +84,7 @@ PassesOn longest history (Some (Ok arrival)) after =
 PassesOn longest history (Some (Err fault)) after = NothingTaken history after
 PassesOn longest history None after = NothingTaken history after
 
--- a count after so many more, which stays at the most that it can be (profile)
+-- `count` plus `more`, up to the most that a count can be (profile)
 abbrev pub counted_on : ℕ → ℕ → ℕ
 counted_on count more = min (count + more) (2 ^ 64 - 1)
 
@@ -97,7 +97,7 @@ IsShown reading (Some told) = last_reading told ≡ reading
 abbrev pub IsSeen : Option (List QueueEvent) → Option (List QueueEvent) → List QueueEvent → List QueueEvent → Type 0
 IsSeen old new history after = (more : List QueueEvent) × (after ≡ more ++ history) × SeesMore old new more
 
--- so it is, and goes on to be, where the last reading was the last one that the port told
+-- `IsSeen`, given that `reading` is the last one that the port told; afterwards `now` is
 abbrev pub IsSeenFrom : ℕ → ℕ → Option (List QueueEvent) → Option (List QueueEvent) → List QueueEvent → List QueueEvent → Type 0
 IsSeenFrom reading now old new history after = IsShown reading old → IsShown now new × IsSeen old new history after
 
@@ -118,7 +118,7 @@ kept watch reading next_look stale told history =
 abbrev pub Stands : Kept → List QueueEvent → Type 0
 Stands k history = StandsFor k.watch k.reading k.next_look history
 
--- from the queue of the port below were taken so many datagrams that may not be answered, which are dropped, and then what is passed on:
+-- `count` datagrams that may not be answered were taken from the queue of the port below and dropped, and then `result` was passed on:
 -- nothing only where some were dropped, or the queue was found empty (profile)
 pub record ReceivesFresh (old new : Kept) (count : ℕ) (history after : List QueueEvent) (result : Option (Result Arrival PortFault)) : Type 0 where
   pub dropped : List Dropped
@@ -129,8 +129,8 @@ pub record ReceivesFresh (old new : Kept) (count : ℕ) (history after : List Qu
   pub as_many : length dropped ≡ count
   pub seen : IsSeenFrom old.reading new.reading old.history new.history history after
 
--- some datagrams were dropped and counted, and what is passed on is the next one, as the port below told it. So it is by whatever history
--- what is kept stood for: it goes on to stand for one more, with which as many were dropped (profile)
+-- some datagrams were dropped and counted, and what is passed on is the next one, as the port below told it. For each history that `old`
+-- stands for, `new` stands for one that goes on from it, with as many dropped (profile)
 pub record PassesOnFresh (old new : Kept) (result : Option (Result Arrival PortFault)) (datagram : List ℕ) : Type 0 where
   pub dropped : ℕ
   pub counted : new.stale ≡ counted_on old.stale dropped

@@ -1,4 +1,4 @@
--- Which datagrams may be answered, by what was seen of the queue out of which they were taken. A history is a list of events, newest first.
+-- The datagrams that may be answered, by what was seen of their queue. A history is a list of events, newest first.
 use Rattle.std.specs.Prelude.{◌≡◌, ℕ, suc, ◌+◌, ◌/◌, ◌<◌, ◌≤◌, Option, None, Some, IsSomeAnd, List, [], ◌∷◌, ◌++◌, All}
 use Rattle.ntp_freshness.specs.declared.queue_event.QueueEvent.{QueueEvent}
 use Rattle.ntp_freshness.specs.declared.queue_event.QueueEvent.TheVariants.{Held, Looked, Taken, Read}
@@ -11,13 +11,14 @@ takes (Held count at ∷ history) = takes history
 takes (Looked at ∷ history) = takes history
 takes (Read at ∷ history) = takes history
 
--- the datagram that is taken next after the history came after this moment: a call that began then or later saw at most so many in the
+-- the datagram that is taken next after the history came after `at`: a call that began then or later saw at most `count` in the
 -- queue, which is first in, first out, and at least as many were taken since (profile)
 abbrev pub CameAfter : List QueueEvent → ℕ → Type 0
 CameAfter history at =
     (since : List QueueEvent) × (before : List QueueEvent) × (count : ℕ) × (history ≡ since ++ Held count at ∷ before) × (count ≤ takes since)
 
--- the datagram that is taken next after the history, and is in hand at `now`, has waited for less than `longest`, in nanoseconds (profile)
+-- the datagram that is taken next after the history, and is in hand at `now`, has waited for less than `longest`, in nanoseconds
+-- (profile)
 abbrev pub MayBeAnswered : ℕ → List QueueEvent → ℕ → Type 0
 MayBeAnswered longest history now = (at : ℕ) × CameAfter history at × (now < at + longest)
 
@@ -29,12 +30,12 @@ last_look (Looked at ∷ history) = Some at
 last_look (Taken at ∷ history) = last_look history
 last_look (Read at ∷ history) = last_look history
 
--- it was looked at the queue no longer than this before `now` (profile)
+-- the last look at the queue was at most `before` before `now` (profile)
 abbrev pub WasLookedAt : ℕ → List QueueEvent → ℕ → Type 0
 WasLookedAt before history now = IsSomeAnd (last_look history) (λ at. now ≤ at + before)
 
--- how old the last look may be where a datagram is taken that is dropped, in nanoseconds: a tenth of the longest wait, and a ten-thousandth of
--- a second (profile)
+-- how old the last look may be where a datagram is taken that is dropped, in nanoseconds: a tenth of the longest wait, and a
+-- ten-thousandth of a second (profile)
 abbrev pub oldest_look : ℕ → ℕ
 oldest_look longest = longest / 10 + 100000
 

@@ -47,7 +47,7 @@ pub record TakesNext (old new : Kept) (next : Next) (datagram : List ℕ) : Type
   pub longest : longest_of new.watch ≡ longest_of old.watch
   pub each : (history : List QueueEvent) → Stands old history → TakesOn old new history next
 
--- it was looked at the queue so long before, if a time is given
+-- the last look at the queue was at most `before` before `now`, if a time is given
 abbrev pub WasSeen : Option ℕ → List QueueEvent → ℕ → Type 0
 WasSeen None history now = Unit {0}
 WasSeen (Some before) history now = WasLookedAt before history now
@@ -60,7 +60,7 @@ pub record LooksOn (old new : Kept) (before : Option ℕ) (history : List QueueE
   pub seen : IsSeenFrom old.reading new.reading old.history new.history history (events ++ history)
   pub looked : WasSeen before (events ++ history) old.reading
 
--- a look was made, or none, which takes no datagram and reads no clock; the last look is so old at most
+-- a look was made, or none, which takes no datagram and reads no clock; the last look is at most `before` old, if a time is given
 pub record Looks (old new : Kept) (before : Option ℕ) : Type 0 where
   pub reading : new.reading ≡ old.reading
   pub stale : new.stale ≡ old.stale
@@ -68,7 +68,7 @@ pub record Looks (old new : Kept) (before : Option ℕ) : Type 0 where
   pub longest : longest_of new.watch ≡ longest_of old.watch
   pub each : (history : List QueueEvent) → Stands old history → LooksOn old new before history
 
--- a history went on with so many datagrams that were dropped
+-- a history went on with `count` datagrams that were dropped
 pub record DropsOn (old new : Kept) (count : ℕ) (history : List QueueEvent) : Type 0 where
   pub after : List QueueEvent
   pub stands : Stands new after

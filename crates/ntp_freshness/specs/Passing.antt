@@ -9,6 +9,6 @@ abbrev pub HandsOn : Option Told → Option Told → Option (Result Arrival Port
 HandsOn old new None datagram = TellsOn old new
 HandsOn old new (Some received) datagram = ReceiveTells old new received datagram
 
--- so many datagrams were dropped, and then this was handed on (profile)
+-- `dropped` datagrams were dropped, and then `result` was handed on (profile)
 abbrev pub PassesTurns : ℕ → Option Told → Option Told → Option (Result Arrival PortFault) → List ℕ → Type 0
 PassesTurns dropped old new result datagram = (between : Option Told) × DropsTurns dropped old between × HandsOn between new result datagram

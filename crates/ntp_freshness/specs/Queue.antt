@@ -13,7 +13,8 @@ last_reading (Held count at ∷ history) = last_reading history
 last_reading (Looked at ∷ history) = last_reading history
 last_reading (Taken at ∷ history) = last_reading history
 
--- these events, newest first, were seen after what was seen before. A port that tells no longer, or never did, tells nothing of them (profile)
+-- these events, newest first, were seen after what was seen before. A port that tells no longer, or never did, tells nothing of them
+-- (profile)
 abbrev pub SeesMore : Option (List QueueEvent) → Option (List QueueEvent) → List QueueEvent → Type 0
 SeesMore old None more = Unit {0}
 SeesMore None (Some new) more = ⊥

@@ -13,16 +13,16 @@ longest_of watch = watch.longest
 abbrev pub IsWaiting : QueueWatch → Type 0
 IsWaiting watch = 0 < watch.waiting
 
--- it is known of what is taken next that it came no longer than this before `now`
+-- the next datagram is known to have come at most `longest` before `now`
 abbrev pub IsKnownWithin : ℕ → QueueWatch → ℕ → Type 0
 IsKnownWithin longest watch now = (at : ℕ) × (watch.known ≡ Some at) × (now ≤ at + longest)
 
--- the queue was counted where that had to be known: datagrams that were seen in it may still be in it, or it is known of what is taken next
--- that it came not long before `now` (profile)
+-- the queue was counted where that had to be known: datagrams that were seen in it may still be in it, or the next one is known to have
+-- come not long before `now` (profile)
 abbrev pub IsCounted : QueueWatch → ℕ → Type 0
 IsCounted watch now = IsWaiting watch ⊎ IsKnownWithin (longest_of watch / 10 * 3) watch now
 
--- the newest moment of which it is known, after so many more takes, that what is taken next came after it
+-- after `more` takes, the latest moment that the next datagram is known to postdate
 abbrev pub known_after : ℕ → List QueueEvent → Option ℕ
 known_after more [] = None
 known_after more (Held count at ∷ history) = if nat_le count more then Some at else known_after more history
@@ -30,7 +30,7 @@ known_after more (Looked at ∷ history) = known_after more history
 known_after more (Taken at ∷ history) = known_after (suc more) history
 known_after more (Read at ∷ history) = known_after more history
 
--- and by what is kept
+-- the same, by what is kept
 abbrev pub kept_after : QueueWatch → ℕ → Option ℕ
 kept_after watch more = if nat_le 1 watch.waiting && nat_le watch.waiting more then Some watch.seen else watch.known
 

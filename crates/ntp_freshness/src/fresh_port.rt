@@ -15,9 +15,9 @@ use ntp_service::Address;
 use ntp_service_serve::{Arrival, DatagramRoom, Port, PortFault, TimedPort};
 use ntp_time::Moment;
 
-/// How long it is not looked again at the queue, in nanoseconds: a ten-thousandth of a second. So looking costs little
-/// while it is never empty. It is looked again at once where a datagram was dropped, so that what comes after a stop is answered
-/// (profile).
+/// Least time between two looks at the queue, in nanoseconds: a ten-thousandth of a second. So looking costs little
+/// while it is never empty. The exception: a look comes at once where a datagram was dropped, so that what comes after a stop is
+/// answered (profile).
 const LOOK_PERIOD: u64 = 100_000;
 
 /// How many times the queue is swept in one call at most, so that there is time to look at something else (profile).
@@ -28,7 +28,8 @@ const MOST_SWEEPS: u32 = 4;
 ///
 /// Where one is too old, so are those behind it that were in the queue when it was looked at last: these are swept out, one
 /// after another, and neither the clock nor the queue is asked in between. So what came after that look is reached
-/// soonest. One is dropped from hand only where the queue was looked at in time before, and a sweep takes out no more than a look counted.
+/// soonest. One is dropped from hand only where the queue was looked at in time before, and a sweep takes out no more than a look
+/// counted.
 ///
 /// The other port's waits have to end well within that time: else a datagram that came during a long wait is dropped.
 #[derive(Drop)]
@@ -37,7 +38,7 @@ pub struct FreshPort<P: QueuedPort> {
     watch: QueueWatch,
     // What the clock showed last. It was shown before any call that is still to be made, so that call begins then or later.
     reading: u64,
-    // What it shows when it may be looked again at the queue.
+    // What it shows when the queue may be looked at again.
     next_look: u64,
     stale: u64,
     sweeps: u64,

@@ -55,7 +55,7 @@ impl<A: Allocator> MemoryQueue<A> {
     ghost use Rattle.ntp_freshness.specs.Memory.{history_in};
 
     /// A queue to which the datagrams of the port's turns come at these moments, and a clock that shows these readings, all in
-    /// nanoseconds. The room for so many events is taken from `alloc` here, so that no call of the port takes memory: `NoMemory` only
+    /// nanoseconds. The room for `room` events is taken from `alloc` here, so that no call of the port takes memory: `NoMemory` only
     /// where it was refused.
     pub fn new(
         alloc: A,

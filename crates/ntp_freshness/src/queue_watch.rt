@@ -4,25 +4,25 @@ ghost use Rattle.ntp_freshness.specs.declared.queue_event.QueueEvent.{QueueEvent
 ghost use Rattle.ntp_freshness.specs.Freshness.{MayBeAnswered, IsInOrder};
 ghost use Rattle.ntp_freshness.specs.Watch.{Watches, Counts, IsWaiting, IsKnownWithin, longest_of, kept_after};
 
-/// Into how many parts the longest time is divided that a datagram may wait: what is known of the queue is looked for anew
-/// where it is one part old by a look whether the queue is empty, and by a count where it is three parts old (profile).
+/// Parts of the longest time that a datagram may wait. What is known of the queue is renewed: at an age of one part by a look
+/// whether the queue is empty, and at three parts by a count (profile).
 const PARTS: u64 = 10;
 
 const PARTS_UNCOUNTED: u64 = 3;
 
-/// What is kept of the history of a queue: the last moment after which its next datagram is known to have come, and one
-/// more of which that will be known after so many takes (profile). Moments are in nanoseconds of a clock that never goes back.
+/// What is kept of the history of a queue (profile). `known`: the latest moment after which the next datagram is known to have come.
+/// `seen`: the one after `waiting` more takes came after this moment. Moments are in nanoseconds of a clock that never goes back.
 #[derive(Clone, Copy, Debug)]
 pub struct QueueWatch {
     known: Option<u64>,
-    // How many of the datagrams that were in the queue at the moment `seen` may still be in it; 0 where that is not waited for.
+    // How many of the datagrams that were in the queue at the moment `seen` may still be in it. 0: none is awaited.
     waiting: u64,
     seen: u64,
     longest: u64,
 }
 
 impl QueueWatch {
-    /// Watches a queue of which nothing was seen yet. A datagram that waited for `longest` nanoseconds, or for longer, may not
+    /// Watches a queue whose history is empty. A datagram that waited for `longest` nanoseconds, or for longer, may not
     /// be answered.
     pub fn new(longest: u64) -> QueueWatch
         ensures watches { Watches result [] }
@@ -37,8 +37,8 @@ impl QueueWatch {
         }
     }
 
-    /// The queue was seen by a call that began at this moment or later, and held at most so many datagrams. One such look is kept:
-    /// while it is waited for the datagrams of an earlier one, only an empty queue is watched.
+    /// A call that began at `at` or later saw the queue, which held at most `count` datagrams. One such look is kept:
+    /// while datagrams of an earlier one are awaited, only an empty queue is watched.
     pub fn saw(&mut self, count: u64, at: u64)
         ensures watches { (history : List QueueEvent) → (count ≡ 0) ⊎ (IsWaiting self.old → ⊥) → Watches self.old history
             → Watches self.new (QueueEvent.Held count at ∷ history) }
@@ -90,7 +90,7 @@ impl QueueWatch {
         self.known
     }
 
-    // How many datagrams that were in the queue when it was looked at may still be in it; 0 where that is not waited for.
+    // How many datagrams that were in the queue when it was looked at may still be in it. 0: none is awaited.
     pub(crate) fn waiting(&self) -> u64
         ensures { result ≡ self.now.waiting }
     {

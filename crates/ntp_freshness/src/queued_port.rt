@@ -1,4 +1,4 @@
-//! What a port tells of the queue out of which its datagrams come.
+//! What a port tells of the queue of its datagrams.
 ghost use Rattle.std.specs.Prelude.{◌≡◌, ◌+◌, ◌-◌, ◌≤◌, ◌<◌, ◌^◌, Option, None, List, IfOk, IfErr, IfSome, IfNone, false, is_err, if◌then◌else◌};
 ghost use Rattle.std.specs.Option.{option_map_or};
 ghost use Rattle.ntp_service_serve.specs.Port.{most_received_octets, ReceiveTells, DropTells};

@@ -7,7 +7,7 @@ use ntp_time::{Moment, Stamp};
 use std::io;
 use std::time::{Clock, SystemTime, UNIX_EPOCH};
 
-/// What a clock reads as that cannot be read, or shows no time that a moment can tell (profile).
+/// Stands in for a clock that fails or is out of range (profile).
 const UNREAD: Moment = Moment {
     era: 0,
     stamp: Stamp(0),

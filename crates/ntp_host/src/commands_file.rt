@@ -9,10 +9,10 @@ use std::alloc::Allocator;
 use std::fs::{self, Files, OpenFile};
 use std::io::{self, Read};
 
-/// How long the metadata of the open file is not asked for again (profile).
+/// Period after which the metadata of the open file is asked for again (profile).
 const METADATA_PERIOD: u64 = MILLISECOND;
 
-/// How long what stands at its path is not asked for again, in units of 2^-32 seconds: a tenth of a second (profile).
+/// Period after which what stands at its path is asked for again, in units of 2^-32 seconds: a tenth of a second (profile).
 const PATH_PERIOD: u64 = 429_496_729;
 
 /// The commands file of a server.
@@ -86,7 +86,7 @@ impl<F: OpenFile + Read + Drop> Given<F> {
 }
 
 impl<'a, R: Files> CommandsFile<'a, R> {
-    /// The file at a path, of which nothing was read yet, and of which at most `most` octets and one more will be given.
+    /// The file at `path`, before its first read. At most `most` octets and one more will be given.
     pub fn new(files: &'a R, path: &'a str, most: u32) -> CommandsFile<'a, R> {
         CommandsFile {
             files,
@@ -154,10 +154,10 @@ impl<'a, R: Files> CommandsFile<'a, R> {
 }
 
 impl<'a, R: Files, A: Allocator + Copy> CommandsSource<A> for CommandsFile<'a, R> {
-    /// The octets of the whole file where something about it changed since they were last given, cut to one more than
-    /// the most, and nothing where not, or where it cannot be read or is no regular file. It takes memory from `alloc`
-    /// only where something changed; want of it counts as a file that cannot be read. Such a one is tried again when
-    /// what stands at the path is next asked for.
+    /// The whole file if something about it changed since it was last given, cut to one octet more than the most;
+    /// `None` if nothing did, or it cannot be read or is no regular file. It takes memory from `alloc` only where
+    /// something changed; want of it counts as a file that cannot be read. Such a file is tried again when what stands
+    /// at the path is next asked for.
     fn look(&mut self, alloc: A, receipt: Option<Moment>) -> Option<Vec<u8, A>> {
         let has_changed = self.has_changed(receipt);
         if !has_changed && !is_due(self.asked, receipt, PATH_PERIOD) {

@@ -10,8 +10,8 @@ use std::alloc::Allocator;
 /// A thousandth of a second, in units of 2^-32 seconds.
 pub(crate) const MILLISECOND: u64 = 4_294_967;
 
-/// A source of commands that is asked at most once in a thousandth of a second, so that looks at it cost nothing in between
-/// (profile).
+/// A source of commands that is asked with a receipt at most once in a thousandth of a second, so that looks at it cost nothing
+/// in between (profile).
 ///
 /// Time is told by the receipts of the datagrams. The source is asked where a thousandth of a second or more has passed
 /// since the last receipt with which it was asked, where the clock was set back, and always where no datagram waits. In
@@ -44,7 +44,7 @@ impl<C> EachMillisecond<C> {
 }
 
 impl<C: CommandsSource<A>, A: Allocator> CommandsSource<A> for EachMillisecond<C> {
-    // It will give what its source will, to what is passed on to that.
+    // It will give what its source will, to the asks that are passed on.
     ghost coming = { λ e. option_map (each_millisecond e.asked) (C.coming e.source) };
 
     /// What the source gives, where it is asked, and else nothing. It takes memory only as the source does.

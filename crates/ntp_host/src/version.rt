@@ -3,8 +3,8 @@
 use std::fs::Metadata;
 use std::os::unix::fs::MetadataExt;
 
-/// Which file it is, how long, by how many names it goes, and when something about it last changed. A file that is
-/// replaced, written anew, appended to or moved has another one, but as `CommandsFile` says.
+/// Which file it is, how long, by how many names it goes, and when something about it last changed. Replacing,
+/// rewriting, appending to or moving the file changes it; exceptions: see `CommandsFile`.
 #[derive(Clone, Copy, PartialEq, Eq)]
 pub(crate) struct Version {
     device: u64,

@@ -16,7 +16,7 @@ pub fn read_file<R: Files, A: Allocator + Copy>(
     read_open(&mut file, alloc, most)
 }
 
-/// The same, of a file that is open and of which nothing was read.
+/// The same, of an open file before its first read.
 pub(crate) fn read_open<F: Read, A: Allocator + Copy>(
     file: &mut F,
     alloc: A,
@@ -27,7 +27,8 @@ pub(crate) fn read_open<F: Read, A: Allocator + Copy>(
     Ok(octets)
 }
 
-/// What `read_file` gives, of a regular file alone: to open a pipe might take for ever. The error may also say that such a file is wanted.
+/// What `read_file` gives, of a regular file alone: to open a pipe might take for ever. The error may also say that such a file is
+/// wanted.
 pub fn read_regular_file<R: Files, A: Allocator + Copy>(
     files: &R,
     alloc: A,

@@ -68,8 +68,8 @@ abbrev pub enrolled_with : List SeenKey → ℕ → Option Look
 enrolled_with [] budget = None
 enrolled_with (key ∷ keys) budget = Some (record { keys = key ∷ keys; budget = budget })
 
--- what can be had back of what the daemon has: those keys of the files that it has too, with its budget, and nothing where there is no such
--- key, or its enrolment is later than what the files have. An address of which it knows nothing stays as it is (profile)
+-- what can be had back of what the daemon has: those keys of the files that it has too, with its budget, and nothing where there is no
+-- such key, or its enrolment is later than what the files have. An address that is unknown to it stays as it is (profile)
 abbrev pub had_back : Seen → Seen → Bool → Option Look
 had_back files seen.Nothing is_later = look files
 had_back files seen.Revoked is_later = None

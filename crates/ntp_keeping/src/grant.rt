@@ -26,8 +26,8 @@ pub struct Grant<'a> {
     pub key: NewKey,
 }
 
-/// The text that a customer gets: a key file of chrony, from which the key is read under its number; and behind it, in comments, the lines
-/// of `chrony.conf`, and those of NTPsec's `ntp.keys` and `ntp.conf`. The memory for it is taken from `alloc`.
+/// The text that a customer gets: a key file of chrony, from which the key is read under its number; and behind it, in comments, the
+/// lines of `chrony.conf`, and those of NTPsec's `ntp.keys` and `ntp.conf`. The memory for it is taken from `alloc`.
 pub fn customer_text(alloc: Global, grant: &Grant<'_>) -> Result<String, AllocError>
     ensures { IfOk result (λ text. key_in_text grant.now.number.value (string_bytes text) ≡ Ok (key_of grant.now.key)) }
 {

@@ -1,6 +1,6 @@
-//! What is decided where customers are kept: which key number is the lowest that is free, how a command is written, what a customer is told
-//! of its key, what an answers file answers, into which fewer commands others are folded, and what is had back of lost commands. It reads no
-//! file, and writes none.
+//! What is decided where customers are kept: which key number is the lowest that is free, how a command is written, what a customer is
+//! told of its key, what an answers file answers, into which fewer commands others are folded, and what is had back of lost commands. It
+//! reads no file, and writes none.
 #![tactic(auto)]
 
 mod alike;

@@ -16,6 +16,6 @@ word_of (taken.Refused why) = codes "refused"
 abbrev pub line_of : Taken → List ℕ
 line_of what = word_of what ++ 10 ∷ []
 
--- so many lines were written, each with the word for something that a client takes (profile)
+-- `times` lines were written, each with the word for something that a client takes (profile)
 abbrev pub HasMet : ℕ → Option (List ℕ) → Option (List ℕ) → Type 0
 HasMet times old new = (taken : List Taken) × (length taken ≡ times) × Appends old new (flat_map line_of taken)

@@ -28,8 +28,8 @@ use ntp_reply::Answer;
 /// A client's request is a signed query to a server where its address is enrolled, and holds the client's key under the
 /// client's number.
 ///
-/// - `waits`: the request that a client makes waits for its reply, with all the widths of a packet. Asked is that the key
-///   number and the stamps that it sends of an earlier exchange have theirs, as those of each client of the code have.
+/// - `waits`: the request that a client makes waits for its reply, with all the widths of a packet. Assumes that the key
+///   number fits 32 bits and the earlier stamps 64, as those of each client of the code do.
 /// - `signed`: while a request waits, its octets are a signed query, with the header that the client made.
 /// - `served`: so it is answered with the time, while the budget has room.
 pub fn a_request_is_a_signed_query()
@@ -45,7 +45,7 @@ pub fn a_request_is_a_signed_query()
 /// A time reply to a client's request is a sample for that client, while the request waits, whenever the reply comes.
 ///
 /// - `asked`: the saved exchange that the server finds for a request is the unused one with the receive stamp of the
-///   exchange that the request carries. For a request that carries none it finds none. Asked is what holds of each
+///   exchange that the request carries. For a request that carries none it finds none. Assumes what holds of each
 ///   client's request, that its receive stamp is known where it carries an exchange and is not its transmit stamp, and
 ///   of the exchanges of each account.
 /// - `basic`: where the server finds none, the sample has the request's departure, its receipt and the reply's departure
@@ -89,7 +89,8 @@ pub fn a_time_reply_is_a_sample()
 /// `a_time_reply_is_a_sample` its time reply gives an interleaved sample, as long as the server saves the exchange.
 ///
 /// - `carried`: the client that took a time reply for a sample carries the exchange: the request's departure, its
-///   receipt, and the reply's arrival. Asked is what gives a sample there, but that the clock is synchronised.
+///   receipt, and the reply's arrival. Assumes what a sample needs there, except a synchronised clock and that the
+///   exchanges are an account's.
 /// - `saved`: the server finds the exchange by its receipt, unused, with the new transmit stamp.
 /// - `departed`: an exchange that it finds it also finds after a report of its departure, with the stamp of that.
 pub fn the_next_request_asks_about_the_exchange()
@@ -116,13 +117,13 @@ pub fn the_next_request_asks_about_the_exchange()
 ///
 /// - `rate`: a RATE, where the client's key is shared with the server.
 /// - `nak`: a crypto-NAK, which goes to a request that is signed under no key that its address holds with the request's
-///   number. Asked is that the server's reference state has the widths of a packet.
+///   number. Assumes that the server's reference state has the widths of a packet.
 /// - `deny`: a DENY to a request whose MAC was cut off.
 /// - `revoked`: a DENY to a whole request, which goes to an address that is revoked.
-/// - `unsynchronised`: a time reply of a server whose clock is not synchronised is refused for that. Asked is else what
-///   `a_time_reply_is_a_sample` asks.
+/// - `unsynchronised`: a time reply of a server whose clock is not synchronised is refused for that. Else assumes what
+///   `a_time_reply_is_a_sample` assumes.
 ///
-/// Nothing else is asked of the life of the address.
+/// Nothing else is assumed of the life of the address.
 pub fn other_replies_are_taken_for_what_they_are()
     ensures rate { (c : ClientState) (q : Outstanding) (past : Past) (o : Occasion) (reply : List ℕ) (at : Moment)
         → Waits c q → SharesKey past c → verdict (Some past) o (request_octets c q) ≡ Answer.Rate reply

@@ -9,7 +9,7 @@ use std::io::Write;
 use std::net::Net;
 use std::time::Clock;
 
-/// Why a server and a client met no longer.
+/// Why a meeting ended early.
 #[derive(Clone, Copy, Debug, PartialEq, Eq)]
 pub enum LoopbackFault {
     /// There was no memory.
@@ -20,7 +20,7 @@ pub enum LoopbackFault {
     Write,
 }
 
-/// Lets a server and a client meet over two sockets of 127.0.0.1, so many times, one step after the other. The server
+/// Lets a server and a client meet `turns` times over two sockets of 127.0.0.1, one step after the other. The server
 /// has one customer, 127.0.0.1, with key number 1, the SHA-1 key `loopback` and a budget of 65,535; its clock's state is
 /// stratum 1, precision -20, identifier `LOOP`, and it was set at the start (profile).
 ///

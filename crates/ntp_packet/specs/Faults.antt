@@ -28,7 +28,7 @@ FieldFails octets place fault =
     FailsAt octets place (λ rest. (most_tail_octets < length rest) × fault (written_length rest) (length rest))
 
 -- the octets have this fault: they are too few or too many; the length of a field is too small, else no multiple of 4, else more than what
--- is left; or no more octets are left than a tail can have, and no tail has so many. No octets have two (RFC 7822, 3; profile)
+-- is left; or what is left is no longer than a tail can be, and has no tail's length. No octets have two (RFC 7822, 3; profile)
 abbrev pub Fails : List ℕ → Malformed → Type 0
 Fails octets Short = length octets < header_length
 Fails octets Long = most_datagram_octets < length octets

@@ -20,7 +20,7 @@ pub record IsField (f : Field) : Type 0 where
   pub aligned : (4 + length f.value) % 4 ≡ 0
   pub least : 16 ≤ 4 + length f.value
 
--- fields before so many octets, each begun where more octets are left than any tail has (profile)
+-- fields that `after` octets follow: each begins where more octets are left than any tail has (profile)
 abbrev pub AreFields : List Field → ℕ → Type 0
 AreFields [] after = Unit {0}
 AreFields (f ∷ fs) after = IsField f × (most_tail_octets < length (flat_map field_octets (f ∷ fs)) + after) × AreFields fs after
@@ -33,7 +33,7 @@ written_kind octets = from_be_bytes w16 (take 2 octets)
 unfoldable pub written_length : List ℕ → ℕ
 written_length octets = from_be_bytes w16 (take 2 (drop 2 octets))
 
--- how many zeros follow a value of so many octets: up to a multiple of 4, and to at least 12 (RFC 7822, 3)
+-- how many zeros follow a value of n octets: up to a multiple of 4, and to at least 12 (RFC 7822, 3)
 abbrev pub padding : ℕ → ℕ
 padding n = max 12 ((n + 3) / 4 * 4) - n
 

@@ -8,7 +8,7 @@ use Rattle.ntp_packet.specs.Field.{Field, field_octets, IsField, written_kind, w
 abbrev pub first_field : List ℕ → Field
 first_field octets = record { kind = written_kind octets; value = take (written_length octets - 4) (drop 4 octets) }
 
--- the fields that the octets spell, at most so many
+-- the first fields that the octets spell, up to a number of them
 unfoldable pub first_fields : ℕ → List ℕ → List Field
 first_fields zero octets = []
 first_fields (suc n) [] = []

@@ -1,4 +1,4 @@
--- Cases in order, of which the first one that applies decides. A case is a step of a `do` block: it gives a value, with which the next one
+-- Cases in order: the first one that applies decides. A case is a step of a `do` block: it gives a value, with which the next one
 -- goes on, or what is decided.
 use Rattle.std.specs.Prelude.{Bool, true, false, Result, Ok, Err}
 

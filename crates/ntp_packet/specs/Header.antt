@@ -32,7 +32,7 @@ no_stamp = record { 0 = 0 }
 abbrev pub no_short : Short
 no_short = record { 0 = 0 }
 
--- the header of a version and a mode, of which all else is 0 (profile)
+-- the header of a version and a mode; all else in it is 0 (profile)
 abbrev pub blank_header : ℕ → ℕ → HeaderFields
 blank_header version mode = record {
   leap = 0;

@@ -42,7 +42,7 @@ pub fn write_field(
     Ok(())
 }
 
-// How many zeros follow a value of so many octets.
+// How many zeros follow a value of `length` octets.
 fn padding_of(length: usize) -> usize
     requires { length < 2 ^ 63 }
     ensures value { result ≡ padding length }

@@ -1,8 +1,8 @@
 //! Why octets are no request.
 
 /// Why a datagram is no request. `at` is the place, counted in octets from 0, at which the part with
-/// the fault begins. The two of its length are tried first; then the three of a field, in this order at
-/// each, from the first field on; and at last that of the rest (profile).
+/// the fault begins. They are checked in this order: the two faults of its length; then, field by field,
+/// the three of a field; then that of the rest (profile).
 #[derive(Clone, Copy, Debug, PartialEq, Eq)]
 pub enum Malformed {
     /// It has fewer than 48 octets.

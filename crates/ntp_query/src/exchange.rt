@@ -47,7 +47,8 @@ pub trait Link {
         ensures coming { coming self.new ≡ coming self.old }
         ensures sent { OnOk result (Sends (sent self.old) (sent self.new) request.now) };
 
-    /// Receives the next datagram into the front of `room`, cut to 1,025 octets; nothing where none came until the time limit, or the link failed.
+    /// Receives the next datagram into the front of `room`, cut to 1,025 octets; nothing where none came until the time limit, or the
+    /// link failed.
     fn receive(&mut self, room: &mut Room) -> Option<Received>
         ensures length { IfSome result (λ received. received.length ≤ 1025) }
         ensures came { IfSome result (λ received. Comes (coming self.old) (coming self.new) (take received.length room.new) received.at) }
@@ -56,9 +57,9 @@ pub trait Link {
         ensures fewer { OnSome result (most self.new < most self.old) };
 }
 
-/// Sends one request of a client, and waits for what comes of it. A sample and a `RATE` are authentic and end the query. What is not leaves
-/// it waiting until its time limit, so that nothing forged takes the place of the reply; then the last of that is told, or silence where
-/// nothing came (profile).
+/// Sends one request of a client, and waits for what comes of it. A sample and a `RATE` are authentic and end the query. What is not
+/// leaves it waiting until its time limit, so that nothing forged takes the place of the reply; then the last of that is told, or silence
+/// where nothing came (profile).
 ///
 /// # Errors
 ///

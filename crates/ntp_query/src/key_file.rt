@@ -28,8 +28,8 @@ pub enum KeyLineFault {
     Key,
 }
 
-/// The octets of a key file with spaces in the place of tabulators and carriage returns, which separate words as they do (profile). It takes
-/// memory from `alloc`.
+/// The octets of a key file with spaces in the place of tabulators and carriage returns, which separate words as they do (profile). It
+/// takes memory from `alloc`.
 pub fn spaced(alloc: Global, octets: &[u8]) -> Result<Vec<u8>, AllocError>
     ensures { IfOk result (λ made. made.items ≡ map space_for octets.now) }
 {

@@ -4,7 +4,8 @@ ghost use Rattle.ntp_query.specs.Answer.{delay_units_of};
 
 use crate::{Answer, Outcome};
 
-/// Of the samples that some queries gave one of least delay, which tells the offset best (RFC 5905, 10); nothing where none gave a sample.
+/// Of the samples that some queries gave one of least delay, which tells the offset best (RFC 5905, 10); nothing where none gave a
+/// sample.
 pub fn least_delay(outcomes: &[Outcome]) -> Option<Answer>
     ensures given { IfSome result (λ answer. Contains outcomes.now (Outcome.Answered answer)) }
     ensures least { IfSome result (λ answer. (other : Answer) → Contains outcomes.now (Outcome.Answered other)

@@ -12,8 +12,8 @@ const SECOND_NANOS: u128 = 1_000_000_000;
 pub struct Nanos(pub i64);
 
 impl Nanos {
-    /// A number of units, where a second has `second` units, to the nearest nanosecond; of two as near the one further from 0. They are an era
-    /// at most.
+    /// A number of units, where a second has `second` units, to the nearest nanosecond; of two as near the one further from 0. They are
+    /// an era at most.
     pub fn of_units(units: i128, second: u64) -> Nanos
         requires least { 0 < second }
         requires most { second ≤ 2 ^ 33 }

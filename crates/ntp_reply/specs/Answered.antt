@@ -7,8 +7,8 @@ use Rattle.ntp_reply.specs.Kind.{Kind}
 use Rattle.ntp_reply.specs.Verdict.{kind_answer, after_kind, reply_length}
 use Rattle.ntp_reply.specs.declared.answers.Answer.{Answer}
 
--- a customer is answered what a datagram of this kind is, with each past of which it is what is kept, and goes on as that past does; its
--- key numbers stay, and a reply has at most so many octets
+-- for each past that shortens to the stored customer, the answer is the model's to a datagram of this kind, and the new customer is the
+-- shortened new past; the key numbers stay, and a reply has at most `most` octets
 pub record Answers (o : Occasion) (kind : Kind) (most : ℕ) (old new : CustomerState) (reply : Answer) : Type 0 where
   pub answer : (past : Past) → short past ≡ old → reply ≡ kind_answer past o kind
   pub after : (past : Past) → short past ≡ old → new ≡ short (after_kind past o kind)

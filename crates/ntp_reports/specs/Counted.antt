@@ -6,7 +6,7 @@ use Rattle.ntp_reports.specs.declared.kind.Kind.{Kind}
 use Rattle.ntp_reports.specs.declared.counts.Counts.{Counts}
 use Rattle.ntp_reports.specs.Kinds.{is_kind, kinds_of, place_of}
 
--- the most that is counted: no server makes so many turns (profile)
+-- the most that is counted: no server makes as many turns (profile)
 abbrev pub most_in_count : ℕ
 most_in_count = 2 ^ 64 - 1
 
@@ -18,7 +18,7 @@ nothing_counted = record { by_kind = replicate 30 0 }
 abbrev pub count_at : Counts → Kind → ℕ
 count_at counts kind = slice_index counts.by_kind (place_of kind)
 
--- how many there are of a kind among what these observations are counted as, or `most_counted` where there are more (profile)
+-- how many there are of a kind among what these observations are counted as, or `most_in_count` where there are more (profile)
 abbrev pub count_in : Kind → List Observation → ℕ
 count_in kind seen = min (count_by (is_kind kind) (flat_map kinds_of seen)) most_in_count
 

@@ -21,7 +21,7 @@ abbrev pub unless_named : Option KeyUse → ℕ → Option KeyUse
 unless_named None number = None
 unless_named (Some key) number = if key.number == number then None else Some key
 
--- a report with these keys, of which the first is there where one is
+-- a report with these keys; a single key stands first
 abbrev pub with_keys : CustomerReport → Option KeyUse → Option KeyUse → CustomerReport
 with_keys report None second = record report { first = second; second = None }
 with_keys report (Some first) second = record report { first = Some first; second = second }

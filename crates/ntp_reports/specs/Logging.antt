@@ -50,7 +50,7 @@ abbrev pub logged_line : ℕ → Option Subject → LineOutcome → List ℕ
 logged_line number subject outcome =
     codes "commands: line " ++ decimal number ++ codes ": " ++ option_map_or subject_text subject [] ++ outcome_text outcome
 
--- how many customers are enrolled after a line of so many before it, up to 2^64 - 1 (profile)
+-- how many customers are enrolled after a line, with `customers` before it, up to 2^64 - 1 (profile)
 abbrev pub customers_after : ℕ → Option Verb → LineOutcome → ℕ
 customers_after customers (Some verb.Enrol) Done = min (customers + 1) (2 ^ 64 - 1)
 customers_after customers (Some verb.Revoke) Done = customers - 1

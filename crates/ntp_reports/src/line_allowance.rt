@@ -12,7 +12,7 @@ pub enum Ask {
     Say,
     /// It may not: enough were written in this minute.
     Hold,
-    /// It may, and so many were held in the last minute in which a line was asked for.
+    /// It may; the number counts the lines held in the last minute in which a line was asked for.
     SayWithMore(u64),
 }
 
@@ -26,7 +26,7 @@ pub struct LineAllowance {
 }
 
 impl LineAllowance {
-    /// The allowance of a kind of which no line was asked for.
+    /// An unused allowance.
     pub fn new() -> LineAllowance
         ensures { IsLeftBy [] result }
     {
@@ -66,7 +66,7 @@ impl LineAllowance {
     }
 }
 
-// What the first ask of a minute is answered, before which so many lines were held.
+// The answer to the first ask of a minute: `held` lines were held before it.
 fn first_answer(held: u64) -> Ask
     ensures { result ≡ first_answer held }
 {

@@ -87,8 +87,8 @@ pub struct Gauges<'a> {
     pub kernel_drops: u64,
     /// The socket's receive buffer, in octets as the kernel counts.
     pub receive_buffer: u64,
-    /// How long a datagram can have waited in the queue at most since the statistics were written last, in nanoseconds. `None` where that is
-    /// not known.
+    /// How long a datagram can have waited in the queue at most since the statistics were written last, in nanoseconds. `None` where that
+    /// is not known.
     pub queue_wait: Option<u64>,
     /// Replies that were not sent, since the socket would have waited. They count as failed sends too.
     pub send_would_wait: u64,
@@ -149,7 +149,7 @@ struct Metric<'a> {
 
 /// Writes the counts and gauges in the text form of Prometheus, each with its help and its type. It takes no memory.
 ///
-/// Seconds are decimals with nine places. The age of a clock of which nothing is known is `NaN`.
+/// Seconds are decimals with nine places. The age of a clock is `NaN` where nothing is known of the clock.
 ///
 /// # Errors
 ///
@@ -446,7 +446,7 @@ fn write_files<W: Write>(out: &mut W, name: &str, files: FileGauges) -> io::Resu
     Ok(())
 }
 
-// A time in the short format, of which 2^16 units are a second, in nanoseconds, rounded down.
+// A time in the short format (2^16 units are a second), in nanoseconds, rounded down.
 fn nanos_of(time: Short) -> u64 {
     u64::from(time.0) * SECOND_NANOS / 65_536
 }

@@ -123,7 +123,7 @@ fn write_outcome<W: Write>(out: &mut W, outcome: LineOutcome) -> io::Result<()>
     }
 }
 
-/// How many customers are enrolled after a line of commands, of which so many were before it.
+/// How many customers are enrolled after a line of commands; `customers` were before it.
 pub fn customers_after(customers: u64, subject: Option<Subject>, outcome: LineOutcome) -> u64
     ensures { result ≡ customers_after customers (option_map (λ s. s.verb) subject) outcome }
 {

@@ -8,8 +8,8 @@ use Rattle.ntp_service_serve.specs.Sources.{Coming}
 use Rattle.ntp_server.specs.Rounds.{Parts}
 use Rattle.ntp_server.specs.declared.server.Server.{Server}
 
--- those of a server, by what each tells: its port, how many calls of that failed and what it dropped, its commands, its states, how often their source was
--- given time, its observer; and what its reporter tells (profile)
+-- those of a server, by what each tells: its port, how many calls of that failed and what it dropped, its commands, its states, how often
+-- their source was given time, its observer; and what its reporter tells (profile)
 abbrev pub parts_of : {P C R O A : Type 0} → (P → Option Told) → (P → ℕ) → (P → ℕ) → (C → Option (Coming (Option (List ℕ))))
     → (R → Option (Coming ReferenceState)) → (R → Option ℕ) → (O → Option (List Observation)) → Option (List (Option Moment))
     → Server P C R O A → Parts

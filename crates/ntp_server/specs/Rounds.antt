@@ -87,7 +87,8 @@ pub record Parts : Type 0 where
   pub shown : Option (List (Option Moment))
   pub service : Registry
 
--- rounds were made at a port that is prompt or not, and may drop or not, by a server of which this was told before and this after (profile)
+-- `turns` rounds were made at a port that is prompt or not, and may drop or not; `before` was told of the server before, `after` after
+-- (profile)
 pub record ServesRounds (A : Type 0) (prompt may_drop : Bool) (turns : ℕ) (before after : Parts) (totals : Totals) : Type 0 where
   pub rounds : List Round
   pub each : length rounds ≡ turns

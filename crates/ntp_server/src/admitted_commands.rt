@@ -30,7 +30,7 @@ pub struct AdmittedCommands<C, A: Allocator = Global> {
 }
 
 impl<C: Drop, A: Allocator + Copy> AdmittedCommands<C, A> {
-    /// A source of which nothing was handed on yet. What it keeps is kept in `alloc`.
+    /// A source that has handed on nothing yet. What it keeps is kept in `alloc`.
     pub fn new(source: C, alloc: A) -> AdmittedCommands<C, A>
         ensures lines { result.lines ≡ [] }
         ensures source { result.source ≡ source }

@@ -15,7 +15,7 @@ const NEARLY_FULL_OCTETS: usize = 838_860;
 /// A commands file that is held to what was applied of it.
 pub type HeldCommands<'a, R> = AdmittedCommands<CommandsFile<'a, R>, Global>;
 
-/// Whether a commands file of so many octets is nearly full.
+/// Whether a commands file of `octets` octets is nearly full.
 pub fn is_nearly_full(octets: usize) -> bool {
     octets >= NEARLY_FULL_OCTETS
 }

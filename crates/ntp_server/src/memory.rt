@@ -86,7 +86,7 @@ impl<A: Allocator> ReferenceSource for MemoryStates<A> {
     fn tend(&mut self) {}
 }
 
-/// An observer in memory, with room for so many observations. It tells what it has seen as long as it had room for all (profile).
+/// An observer in memory, with limited room for observations. It tells what it has seen as long as it had room for all (profile).
 #[derive(Debug, Drop)]
 pub struct MemoryObserver<A: Allocator = Global> {
     seen: Vec<Observation, A>,

@@ -17,8 +17,8 @@ pub trait Reporter<S> {
     // That what it knows is of a server as it is, where it tells that.
     ghost knows: { Self → S → Type 0 } = { λ _ _. Unit {0} };
 
-    /// Shows the server: after each turn, with when its datagram came, and with nothing where none could be received; and
-    /// whenever a wait ended with none, with nothing.
+    /// Shows the server. Called after each turn (with the receipt, or `None` if receiving failed) and after each wait that
+    /// ended with nothing (with `None`).
     fn report(&mut self, server: &S, receipt: Option<Moment>)
         ensures shown { Sees (shown self.old) (shown self.new) (receipt ∷ []) }
         ensures known { knows self.new server.now };

@@ -23,8 +23,8 @@ ghost use Rattle.ntp_service.specs.Split.{names_any, comes_to, HadMemory, NoneSt
 
 use std::alloc::Allocator;
 
-/// What is kept of a life tells all of it: lives of which the same is kept answer each event alike, and the same
-/// is kept of them afterwards. Budgets are below where counting stops, as each command's is.
+/// What is kept of a life tells all of it: two lives with the same kept part answer each event alike, and keep the
+/// same part afterwards. Budgets are below where counting stops, as each command's is.
 pub fn what_is_kept_of_a_life_tells_all<A: Allocator>()
     ensures { (one other : Life) (e : Event A) → option_map short one ≡ option_map short other → budget_in one < most_counted
         → (answer_to one e ≡ answer_to other e) × (option_map short (after one e) ≡ option_map short (after other e)) }
@@ -98,9 +98,8 @@ pub fn forged_datagrams_change_nothing<A: Allocator>()
 
 /// Replies are few: in a stretch of the events of an address, in which no command is done and the windows of the receipts never
 /// fall, of the datagrams with their receipt in one window at most one more than the budget are answered with the time or `RATE`,
-/// and none where the address is not enrolled; and at most four with `DENY` or a crypto-NAK. So it is where all datagrams have
-/// their receipt in that window. Where receipts fall back into a window after another, or a command is done, a new count may
-/// begin.
+/// and none where the address is not enrolled; and at most four with `DENY` or a crypto-NAK. Where receipts fall back into a
+/// window after another, or a command is done, a new count may begin.
 pub fn replies_in_a_window_are_few<A: Allocator>()
     ensures { (life : Life) (happened : List (Event A × Outcome)) → FollowsModel life happened → RepliesAreFew life happened }
 {}

@@ -62,7 +62,7 @@ pub enum LineOutcome {
 /// What an observer is told of: a command, a line of commands, or a turn.
 #[derive(Clone, Debug, PartialEq, Eq, Drop)]
 pub enum Observation {
-    /// The command of the line of which it is told next; it is carried out in between.
+    /// The command of the next line; it is carried out before that line is told.
     Command(Command),
     /// The line with this number, counted from 1, and what became of it.
     Line {

@@ -12,7 +12,7 @@ pub trait Observer {
     // What it was told so far, where it tells that.
     ghost seen: { Self → Option (List Observation) } = { λ _. None };
 
-    /// Hears of a command, before it is carried out. It is that of the line of which it hears next.
+    /// Hears of a command before it is carried out: the command of the next line.
     fn command(&mut self, command: &Command)
         ensures { Sees (seen self.old) (seen self.new) (Observation.Command command.now ∷ []) };
 

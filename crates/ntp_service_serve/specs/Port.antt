@@ -96,7 +96,7 @@ BeginsDropped old new false = new ≡ Some old
 abbrev pub DropTells : Option Told → Option Told → Bool → Type 0
 DropTells old new dropped = IfSome old (λ told. BeginsDropped told new dropped)
 
--- so many turns began, one after another, whose datagrams were dropped (profile)
+-- `n` turns began, one after another, and their datagrams were dropped (profile)
 abbrev pub DropsTurns : ℕ → Option Told → Option Told → Type 0
 DropsTurns zero old new = TellsOn old new
 DropsTurns (suc n) old new = (next : Option Told) × DropTells old next true × DropsTurns n next new
@@ -114,8 +114,8 @@ DropsAny true count after old new = (dropped : ℕ) × CountsMore count after dr
 abbrev pub GivesUp : Option Told → Option Told → Result Arrival PortFault → Type 0
 GivesUp old new r = (r ≡ Err Receive) × TellsOn old new
 
--- what is received is that of the next turn; and of a port that may drop, that of the next one behind those that it drops and counts, or it
--- gives up (profile)
+-- what is received is that of the next turn; and of a port that may drop, that of the next one behind those that it drops and counts, or
+-- it gives up (profile)
 abbrev pub Receives : Bool → ℕ → ℕ → Option Told → Option Told → Result Arrival PortFault → List ℕ → Type 0
 Receives false count after old new r buffer = (after ≡ count) × ReceiveTells old new r buffer
 Receives true count after old new r buffer = (between : Option Told) × DropsAny true count after old between

@@ -44,8 +44,8 @@ abbrev pub IsInTurn : Option Told → Option Told → IncomingValue → Moment �
 IsInTurn t u from transmit = IfSome t (λ old. IsSomeAnd u (λ new. (clock : Readings) × (sends : Bool) × (rest : List TurnValue)
     × HasBegun old new from transmit clock sends rest))
 
--- the reply of an answer to this datagram was sent, or could not be, and its departure was reported where it was time; `t` is what the port
--- told before the turn
+-- the reply of an answer to this datagram was sent, or could not be, and its departure was reported where it was time; `t` is what the
+-- port told before the turn
 pub record SendingMakes (A : Type 0) (answer : Answer) (from : IncomingValue) (transmit : Moment) (t u : Option Told) (f g : ℕ)
     (service after : Registry) (sending : Sending) : Type 0 where
   pub clock : Readings

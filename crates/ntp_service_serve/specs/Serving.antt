@@ -61,9 +61,9 @@ abbrev pub Makes : Bool → List Made → ℕ → ℕ → Option Told → Option
 Makes false made count after t u = (after ≡ count) × Follows (map turn_of made) made t u
 Makes true made count after t u = PassesOver made count after t u
 
--- a server made so many turns, at a port that may drop or not, whose failures were `f` before and are `g`, which had dropped `c` datagrams
--- and has now `d`: whatever history the service stood for, it tells what happened in the turns, and goes on to stand for that history and
--- this (profile)
+-- a server made `turns` turns, at a port that may drop or not, whose failures were `f` before and are `g`, which had dropped `c`
+-- datagrams and has now `d`: whatever history the service stood for, it tells what happened in the turns, and goes on to stand for that
+-- history and this (profile)
 pub record ServeMakes (A : Type 0) (reference : ReferenceState) (may_drop : Bool) (turns : ℕ) (t u : Option Told) (f g c d : ℕ)
     (service after : Registry) (served : Served) : Type 0 where
   pub made : List Made

@@ -6,8 +6,8 @@ use Rattle.ntp_time.specs.declared.moment.Moment.{Moment}
 abbrev pub Coming : Type 0 → Type 0
 Coming X = List (Option Moment) → List X
 
--- a source was asked with these, and gave those. One that tells had told that it would: first those, then what it tells now, to whatever it
--- is asked with behind these (profile)
+-- a source was asked with these, and gave those. One that tells had told that it would: first those, then what it tells now, to whatever
+-- it is asked with behind these (profile)
 abbrev pub Gives : {X : Type 0} → Option (Coming X) → Option (Coming X) → List (Option Moment) → List X → Type 0
 Gives t u asked given = IfSome t (λ old. IsSomeAnd u (λ new. (later : List (Option Moment)) → old (asked ++ later) ≡ given ++ new later))
 

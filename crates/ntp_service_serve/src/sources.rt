@@ -14,9 +14,9 @@ pub trait CommandsSource<A: Allocator> {
     // What its looks will give from here on, where the source tells it.
     ghost coming: { Self → Option (Coming (Option (List ℕ))) } = { λ _. None };
 
-    /// The octets of the whole file where something changed since they were last given, and nothing where not, or where it
-    /// cannot be read. `receipt` is when the datagram came that waits for its answer, and nothing where none waits. It may
-    /// take memory from `alloc`, and gives nothing where there is none.
+    /// The whole file if it changed since it was last given; `None` if it did not or cannot be read. `receipt` is when the
+    /// datagram came that waits for its answer, and nothing where none waits. It may take memory from `alloc`, and gives
+    /// nothing where there is none.
     fn look(&mut self, alloc: A, receipt: Option<Moment>) -> Option<Vec<u8, A>>
         ensures { Gives (coming self.old) (coming self.new) (receipt ∷ []) (option_map (λ octets. octets.items) result ∷ []) };
 }

@@ -13,7 +13,7 @@ pub struct Incoming<A: Allocator = Global> {
     pub port: u16,
     /// When it comes.
     pub receipt: Moment,
-    /// Its octets, of which at most 1,025 are received.
+    /// Its octets; at most 1,025 are received.
     pub octets: Octets<A>,
 }
 

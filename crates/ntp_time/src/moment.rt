@@ -44,7 +44,7 @@ pub enum TimeFault {
 }
 
 impl Moment {
-    /// The moment that is so many seconds, and so many nanoseconds more, after 1970-01-01 at 00:00 UTC.
+    /// The moment `seconds` seconds and `nanos` nanoseconds after 1970-01-01 at 00:00 UTC.
     /// The nanoseconds are rounded down to units of 2^-32 seconds. Faults come in the order of
     /// `TimeFault`.
     pub fn from_unix(seconds: i128, nanos: u32) -> Result<Moment, TimeFault>
@@ -85,7 +85,7 @@ impl Moment {
     }
 }
 
-// The moment that is so many seconds after 1900, and so many units of 2^-32 seconds more.
+// The moment `seconds` seconds and `fraction` units of 2^-32 seconds after 1900.
 fn moment_at(seconds: u64, fraction: u64) -> Moment
     requires { fraction < 2 ^ 32 }
     ensures { units result ≡ seconds * 2 ^ 32 + fraction }

@@ -74,7 +74,7 @@ fn state_of_chronyd(dispersion: u32) -> Result<Reference, BadReference> {
     )
 }
 
-// What the clocks showed so many seconds after the request left, which was at one second of the ticks.
+// What the clocks showed `seconds` seconds after the request left, which was at one second of the ticks.
 fn seconds_later(seconds: u64) -> Reading {
     Reading {
         clock: moment(ASKED.wrapping_add(seconds.wrapping_mul(UNITS))),
@@ -111,7 +111,7 @@ fn following() -> Result<Follower, Fail> {
     }
 }
 
-// The state that is in force so many seconds after the request left.
+// The state that is in force `seconds` seconds after the request left.
 fn in_force(follower: &Follower, seconds: u64) -> Reference {
     follower.in_force(seconds_later(seconds))
 }
@@ -170,7 +170,7 @@ impl Host {
         })
     }
 
-    // What the clocks show so many seconds after the first question.
+    // What the clocks show `seconds` seconds after the first question.
     fn reading(&self, seconds: u64) -> Reading {
         let Reading { clock, ticks } = seconds_later(seconds);
         Reading {
@@ -191,7 +191,7 @@ impl Host {
         Ok(self.follower.take(answer.octets(), now))
     }
 
-    // The root dispersion that a reply tells so many seconds after the first question.
+    // The root dispersion that a reply tells `seconds` seconds after the first question.
     fn dispersion(&self, seconds: u64) -> u32 {
         let state = self.follower.in_force(self.reading(seconds));
         state.root_dispersion().0
@@ -223,7 +223,7 @@ enum Then {
     Answer(u64),
 }
 
-// How far the clock is set; so many seconds after the first question; what happens then; and the dispersion that replies tell behind it.
+// How far the clock is set; how many seconds after the first question; what happens then; and the dispersion that replies tell after it.
 type Step = (u64, u64, Then, u32);
 
 // A new host goes these steps.
@@ -391,7 +391,7 @@ fn answer(
     })
 }
 
-// The root dispersion that replies tell so long after an answer, in nanoseconds of the monotonic clock and units of the host's.
+// The root dispersion that replies tell `nanos` nanoseconds of the monotonic clock and `units` units of the host's after an answer.
 fn dispersion(answer: &ClockAnswer, nanos: u64, units: u64) -> u32 {
     let ticks = (100 * SECOND).wrapping_add(nanos);
     let clock = moment(CAME.wrapping_add(units));

@@ -1,5 +1,5 @@
-//! Tests of the crates from time up to a client and the clock that it follows, one module for each: `ntp_time`, `ntp_customer`,
-//! `ntp_customer`, `ntp_packet`, `ntp_mac`, `ntp_client` and `ntp_client`. They stand here since a crate with tests is proved twice.
+//! Tests of the crates from time up to a client and the clock that it follows: `ntp_time`, `ntp_customer`, `ntp_packet`, `ntp_mac`
+//! and `ntp_client`. They stand here since a crate with tests is proved twice.
 #![tactic(auto)]
 
 #[cfg(test)]

@@ -110,7 +110,7 @@ fn writes_a_field_only_where_it_fits(rt: HostRuntime) {
     assert!(rt; written_behind(&rt, &[0; 1012]) == (Err(FieldFault::Full), 1012));
 }
 
-// One to three fields, of which the last has any length, in datagrams of 48 to 130 octets.
+// One to three fields, the last of any length, in datagrams of 48 to 130 octets.
 #[test]
 fn reads_what_a_plain_reader_reads(rt: HostRuntime) {
     for last in LENGTHS {

@@ -162,7 +162,7 @@ fn words(alloc: Global, line: &str) -> Result<Vec<String>, Fail> {
     Ok(words)
 }
 
-// Whether words ask to serve with these files, at this port and for so many turns.
+// Whether words ask to serve with these files, at this port and for `turns` turns.
 fn asks_to_serve(words: &[String], register: &str, commands: &str, port: u16, turns: u32) -> bool {
     match job(words) {
         Some(Job::Serve(serving)) => {

@@ -132,7 +132,7 @@ fn a_customer_is_reported_of(rt: HostRuntime) -> Result<(), Fail> {
     reports(&rt, rt.alloc(), &memory, &mut service, &mut counts)
 }
 
-// Tells of four turns, of which the last is a stranger's.
+// Tells of four datagrams, the last a stranger's, and of a turn in which nothing could be received.
 fn hear<O: Observer>(counts: &mut O, first: Moment) -> Option<()> {
     counts.turn(&turn(CUSTOMER, moment(1), Answer::Rate(sealed(7)?)));
     counts.turn(&turn(CUSTOMER, first, time(7)?));

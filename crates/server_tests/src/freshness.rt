@@ -24,8 +24,8 @@ fn nanoseconds(alloc: Global, milliseconds: &[u32]) -> Result<Vec<u64>, AllocErr
     Ok(moments)
 }
 
-// A port over a queue to which the datagrams of these turns come, each after so many milliseconds, beside a clock that shows these
-// milliseconds.
+// A port over a queue. The datagrams of `turns` come to it, each after its milliseconds in `due`. The clock beside it shows the
+// milliseconds `readings`.
 fn fresh(
     alloc: Global,
     turns: Vec<Turn>,
@@ -42,7 +42,7 @@ fn fresh(
     Ok(FreshPort::new(queue, QueueWatch::new(LONGEST)))
 }
 
-// Turns with datagrams of 48 octets, so many of them, each from the UDP port of its place.
+// Turns with `count` datagrams of 48 octets, each from the UDP port of its place.
 fn datagrams(alloc: Global, count: usize) -> Result<Vec<Turn>, Fail> {
     let mut turns = Vec::new(alloc);
     let mut port = 0u16;
@@ -53,7 +53,7 @@ fn datagrams(alloc: Global, count: usize) -> Result<Vec<Turn>, Fail> {
     Ok(turns)
 }
 
-// A port to which such datagrams come, each after so many milliseconds.
+// A port to which such datagrams come, each after its milliseconds in `due`.
 fn port(alloc: Global, due: &[u32], readings: &[u32]) -> Result<FreshPort<MemoryQueue>, Fail> {
     fresh(alloc, datagrams(alloc, due.len())?, due, readings)
 }
@@ -87,7 +87,7 @@ fn what_waited_while_the_process_was_stopped_is_dropped(rt: HostRuntime) -> Resu
     Ok(())
 }
 
-// How many are passed on in so many calls, and how many are dropped.
+// How many are passed on in `calls` calls, and how many are dropped.
 fn passed_on(port: &mut FreshPort<MemoryQueue>, calls: u32) -> Result<(usize, u64), PortFault> {
     let mut passed_on = 0usize;
     for _ in 0..calls {
@@ -98,7 +98,7 @@ fn passed_on(port: &mut FreshPort<MemoryQueue>, calls: u32) -> Result<(usize, u6
     Ok((passed_on, port.stale()))
 }
 
-// A port to which two hundred datagrams come, one each 10 ms, of which so many always wait.
+// A port to which two hundred datagrams come, one each 10 ms; `waiting` of them always wait.
 fn overloaded(alloc: Global, waiting: u32) -> Result<FreshPort<MemoryQueue>, Fail> {
     let mut due = [0; 200];
     let mut readings = [0; 201];

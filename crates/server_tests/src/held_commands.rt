@@ -1,5 +1,5 @@
-//! What no contract says of commands that are held to what was applied: that octets for whose copy there is no memory are tried again, and
-//! that octets which are what is kept take none.
+//! What no contract says of commands that are held to what was applied: that octets for whose copy there is no memory are tried again,
+//! and that octets which are what is kept take none.
 
 use crate::looks::commands;
 use ntp_customer_files::AdmitFault;

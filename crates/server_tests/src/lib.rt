@@ -1,5 +1,5 @@
-//! Tests of the crates of which programs are made, one module for each: `ntp_service_replay`, `labntp_command_line`,
-//! `ntp_freshness`, `ntp_server` and `ntp_reports`. They stand here since a crate with tests is proved twice.
+//! Tests of the crates that programs are made of: `ntp_service_replay`, `labntp_command_line`, `ntp_freshness`, `ntp_server`
+//! and `ntp_reports`. They stand here since a crate with tests is proved twice.
 #![tactic(auto)]
 
 #[cfg(test)]

@@ -134,7 +134,7 @@ fn port<A: Allocator + Copy>(
     Ok(MemoryPort::new(alloc, turns)?)
 }
 
-// A server that knows nobody, whose observer has room for so many observations.
+// A server that knows nobody. Its observer has room for `room` observations.
 fn server<P: Drop, R: Drop, A: Allocator + Copy>(
     alloc: A,
     port: P,
@@ -152,7 +152,7 @@ fn server<P: Drop, R: Drop, A: Allocator + Copy>(
     })
 }
 
-// What a server does in so many turns, between which it is shown to a reporter.
+// What a server does in `turns` turns. It is shown to `reporter` between them.
 fn served<P: TimedPort, R: ReferenceSource, A: Allocator + Copy, Q>(
     rt: &impl Abort,
     server: &mut Server<P, MemoryCommands<A>, R, MemoryObserver<A>, A>,
@@ -258,7 +258,7 @@ fn serving_takes_no_memory_where_no_commands_change(rt: HostRuntime) -> Result<(
     Ok(())
 }
 
-// A port to which nothing comes: so many waits end with none, and then no datagram can be received.
+// A port to which nothing comes: `waits` waits end with none, and then no datagram can be received.
 #[derive(Drop)]
 struct Quiet {
     waits: u8,

@@ -3,7 +3,7 @@
 //! The data are one customer and the state of a clock, an exchange of the customer as lines of a script, and the packets of
 //! three turns of a server. Nothing here was taken from what the program answered: packets and lines are written out from the
 //! definitions of both. The digests in them are those of Python's `hashlib.md5` over the key `key` and the octets before the
-//! key number. Beside them stand calls without their clauses, of which tests need none.
+//! key number. Calls without their clauses stand beside them: tests need no clauses.
 #![tactic(auto)]
 
 mod agreeing;

@@ -1,4 +1,5 @@
-//! An allocator that passes each call on to another one, counts the allocations that it is asked for, and refuses those that it is told to refuse.
+//! An allocator that passes each call on to another one, counts the allocations that it is asked for, and refuses those that it is told
+//! to refuse.
 
 use std::alloc::{AllocError, Allocator};
 use std::cell::Cell;

@@ -15,13 +15,13 @@ pub const SECOND: u64 = 1_000_000_000;
 /// When the year begins, in seconds since 1970: 2026-01-01 at 00:00 UTC. Windows of 64 seconds begin with each day.
 const YEAR_BEGIN: u64 = 1_767_225_600;
 
-/// The moment that is so many nanoseconds behind the beginning of the year.
+/// The moment `nanos` nanoseconds after the beginning of the year.
 pub fn moment_at(nanos: u64) -> Result<Moment, Fail> {
     let seconds = i128::from(YEAR_BEGIN) + i128::from(nanos / SECOND);
     Ok(Moment::from_unix(seconds, (nanos % SECOND) as u32)?)
 }
 
-/// Files in memory, and clocks that show so many nanoseconds of the year.
+/// Files in memory, and clocks that show `nanos` nanoseconds of the year.
 #[derive(Drop)]
 pub struct MemoryHost<'a> {
     /// The files.

@@ -1,5 +1,5 @@
-//! The assembly of the daemon, run over parts that lie in memory for a year of events, and judged by what `Service::run` gives to the same
-//! events, of which it is proved that it is what the model says. It prints how many turns and replies there were, what lines of
+//! The assembly of the daemon, run over parts that lie in memory for a year of events, and judged by what `Service::run` gives to the
+//! same events. It is proved that this is what the model says. The program prints how many turns and replies there were, what lines of
 //! commands were answered, and that nothing differs; where something does, it says what, and ends with another status.
 //!
 //! What it has to print was reckoned by hand from `year.rt` and `commands.rt`.
@@ -46,8 +46,8 @@ fn main(rt: HostRuntime) -> Result<ExitCode, Fail> {
     Ok(ExitCode::SUCCESS)
 }
 
-// Prints how many lines of the log tell of commands and of stale datagrams, how many customers their file has, and how many lines of commands
-// are applied by the statistics.
+// Prints how many lines of the log tell of commands and of stale datagrams, how many customers their file has, and how many lines of
+// commands are applied by the statistics.
 fn show_files(rt: &HostRuntime, disk: &Disk) -> Result<(), Fail> {
     let log = disk.text(LOG)?;
     let of_commands = lines_from(log.as_str(), "commands: line ");

@@ -14,7 +14,7 @@ use ntp_time::Moment;
 use std::io;
 
 /// A queue in memory whose clock the clocks of its host show too. As time passes, lines are appended to the commands file, each once its
-/// moment has come. When so many readings were made, no wait ends any longer: what is left is received, and then nothing.
+/// moment has come. Once `readings` readings were made, no wait ends any longer: what is left is received, and then nothing.
 #[derive(Drop)]
 pub struct YearQueue<'a, 'd> {
     queue: MemoryQueue,
@@ -55,7 +55,7 @@ impl<'a> Appending<'a> {
 }
 
 impl<'a, 'd> YearQueue<'a, 'd> {
-    /// A queue with so many readings to come.
+    /// A queue with `readings` readings to come.
     pub fn new(
         queue: MemoryQueue,
         host: &'a MemoryHost<'d>,

@@ -119,8 +119,8 @@ fn judged<'a, 'd>(
     })
 }
 
-// The assembly of these parts, which has served for so many turns. It is generic in them, since the borrow checker does not follow the call
-// of parts that each have two lifetimes.
+// The assembly of these parts, which has served for `turns` turns. It is generic in them, since the borrow checker does not follow the
+// call of parts that each have two lifetimes.
 fn served<'a, P, S, O, R, L>(
     host: Host<'a, R>,
     parts: Parts<P, HeldCommands<'a, R>, S, O, L>,

@@ -10,7 +10,7 @@ use ntp_time::{Moment, Stamp};
 use std::alloc::Global;
 use std::test::Fail;
 
-/// A hundredth of a second, in nanoseconds: so long before a datagram a wait ends with none.
+/// How long before a datagram a wait ends with none: a hundredth of a second, in nanoseconds.
 const WAIT: u64 = 10_000_000;
 
 /// How long after a datagram came it is received, in nanoseconds; and how long after that its reply is to depart, departs, and the clock
@@ -263,7 +263,7 @@ const NO_MOMENT: Moment = Moment {
     stamp: Stamp(0),
 };
 
-/// So many milliseconds of a day of the year, in nanoseconds.
+/// The time in the year at `second` and `millisecond` of `day`, in nanoseconds.
 pub fn time(day: u16, second: u32, millisecond: u16) -> u64 {
     let seconds = u64::from(day)
         .saturating_mul(86_400)

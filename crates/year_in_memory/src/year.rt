@@ -74,7 +74,7 @@ fn steady_asks(script: &mut Script, day: u16) -> Result<(), Fail> {
     asker.ask(script, at, day % 50 != 49)
 }
 
-// Six queries each day at once, of which the budget allows fewer.
+// Six queries each day at once. The budget allows fewer.
 fn eager_asks(script: &mut Script, day: u16) -> Result<(), Fail> {
     let mut asker = Asker::new(EAGER, 8, Algorithm::Sha1, b"other")?;
     script.wait_before(time(day, 11 * HOUR, 0))?;
@@ -139,8 +139,8 @@ fn changing_asks(script: &mut Script, day: u16) -> Result<(), Fail> {
     Ok(())
 }
 
-// Each quarter of the year the process stands still for five seconds, in which three queries come: two are dropped from hand, before the
-// second of which the last one is counted, and that one is swept out.
+// Each quarter of the year the process stands still for five seconds, in which three queries come. Two are dropped from hand. The last
+// one is counted before the second one is dropped, and is swept out.
 fn stands_still(script: &mut Script, day: u16) -> Result<(), Fail> {
     if day % 90 != 45 {
         return Ok(());

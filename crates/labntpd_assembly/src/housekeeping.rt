@@ -1,5 +1,7 @@
 //! What the daemon does beside serving: statistics, the customers file and its log.
 ghost use Rattle.std.specs.Prelude.{◌≡◌};
+ghost use Rattle.ntp_reports.specs.declared.kind.Kind.TheVariants.{NothingReceived};
+ghost use Rattle.ntp_reports.specs.Counted.{count_at};
 
 use crate::clock_told::DaemonClock;
 use crate::customers_file::CustomersFile;
@@ -7,6 +9,7 @@ use crate::files::{DaemonCommands, FileFault};
 use crate::news::News;
 use crate::observers::DaemonObserver;
 use crate::parts::{Begun, Daemon, DaemonPort, Host};
+use crate::receiving::FailedReceives;
 use crate::watched::{Watched, WatchedFiles};
 use labntpd_configuration::command_line::VERSION;
 use labntpd_host::{SOCKETS_ROOM, queue_state, replace_file};
@@ -108,7 +111,7 @@ impl Times {
 #[derive(Clone, Copy)]
 struct Seen {
     files: WatchedFiles,
-    is_receiving: bool,
+    receives: FailedReceives,
     // How many datagrams the kernel dropped.
     drops: u64,
     // How many lines of its log were not written, by the last statistics.
@@ -126,7 +129,8 @@ pub struct Housekeeping<'a, R: Files + Clock, L: Write + Drop> {
     written: Written<'a, R>,
     times: Times,
     seen: Seen,
-    // How many stale datagrams had been dropped when it was shown the server last.
+    // How many receives had failed, and how many stale datagrams had been dropped, when it was shown the server last.
+    failed: u64,
     stale: u64,
 }
 
@@ -156,11 +160,12 @@ impl<'a, R: Files + Clock, L: Write + Drop> Housekeeping<'a, R, L> {
             },
             seen: Seen {
                 files: WatchedFiles::new(),
-                is_receiving: true,
+                receives: FailedReceives::new(),
                 drops: 0,
                 log_dropped: 0,
                 queue_wait: Some(0),
             },
+            failed: 0,
             stale: 0,
         })
     }
@@ -168,11 +173,6 @@ impl<'a, R: Files + Clock, L: Write + Drop> Housekeeping<'a, R, L> {
     /// Logs the start lines.
     pub fn begin(&mut self) {
         self.news.begin(&self.begun);
-    }
-
-    /// Whether datagrams can be received by now: not, where many receives have failed one after another.
-    pub fn see_receiving(&mut self, is_receiving: bool) {
-        self.seen.is_receiving = is_receiving;
     }
 
     // Does what is due: something in each turn, and the rest once a second.
@@ -212,7 +212,7 @@ impl<'a, R: Files + Clock, L: Write + Drop> Housekeeping<'a, R, L> {
             self.news.tell_clock(&state);
         }
         self.news.tell_stale(server.port.stale());
-        self.news.tell_receiving(self.seen.is_receiving);
+        self.news.tell_receiving(self.seen.receives.is_receiving());
         self.begin_customers(server);
         self.see_files(server);
         self.tell_files();
@@ -398,11 +398,15 @@ impl<
     R: Files + Clock,
     L: Write + Drop,
 > Reporter<Daemon<P, C, S, O>> for Housekeeping<'a, R, L> {
-    // It knows how many stale datagrams a server has dropped.
-    ghost knows = { λ h server. h.stale ≡ server.port.stale };
+    // It knows how many receives of a server have failed, and how many stale datagrams it has dropped.
+    ghost knows = { λ h server. (h.failed ≡ count_at (O.counted server.observer) NothingReceived) × (h.stale ≡ server.port.stale) };
 
     fn report(&mut self, server: &Daemon<P, C, S, O>, receipt: Option<Moment>) {
+        let failed = server.observer.counts().count(Kind::NothingReceived);
+        self.seen.receives.see(failed != self.failed);
         self.do_what_is_due(server, receipt);
+        self.seen.receives.pause();
+        self.failed = failed;
         self.stale = server.port.stale();
     }
 }

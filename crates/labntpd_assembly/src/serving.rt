@@ -10,7 +10,6 @@ use crate::files::DaemonCommands;
 use crate::housekeeping::Housekeeping;
 use crate::observers::DaemonObserver;
 use crate::parts::{Begun, Daemon, DaemonPort, Host, Parts};
-use crate::receiving::Patience;
 use ntp_host::EachMillisecond;
 use ntp_reports::Kind;
 use ntp_server::{Server, Totals};
@@ -32,7 +31,7 @@ pub enum ServeFault {
 pub struct Assembly<'a, P: DaemonPort, C, S, O, R: Files + Clock, L: Write + Drop> {
     /// The daemon.
     pub daemon: Daemon<P, C, S, O>,
-    beside: Patience<'a, R, L>,
+    beside: Housekeeping<'a, R, L>,
 }
 
 impl<'a, P, C, S, O, R, L> Assembly<'a, P, C, S, O, R, L>
@@ -60,7 +59,7 @@ where
         ensures observer { IfOk result (λ assembly. assembly.daemon.observer ≡ parts.observer) }
         ensures service { IfOk result (λ assembly. assembly.daemon.service ≡ parts.service) }
     {
-        let housekeeping = housekeeping_begun(host, parts.log, begun, out)?;
+        let beside = housekeeping_begun(host, parts.log, begun, out)?;
         Ok(Assembly {
             daemon: Server {
                 port: parts.port,
@@ -70,7 +69,7 @@ where
                 observer: parts.observer,
                 service: parts.service,
             },
-            beside: Patience::new(housekeeping),
+            beside,
         })
     }
 
@@ -86,7 +85,7 @@ where
             (daemon_told (λ p. P.told p.port) (λ p. p.failures) (λ p. p.stale) C.coming S.coming S.tended O.seen self.new.daemon) result }
         // Behind the last turn it is known how many receives have failed, and how many stale datagrams were dropped.
         ensures receives { 0 < turns → self.new.beside.failed ≡ count_at (O.counted self.new.daemon.observer) Kind.NothingReceived }
-        ensures stale { 0 < turns → self.new.beside.housekeeping.stale ≡ self.new.daemon.port.stale }
+        ensures stale { 0 < turns → self.new.beside.stale ≡ self.new.daemon.port.stale }
     {
         self.daemon.serve_reported(turns, &mut self.beside)
     }

@@ -4,8 +4,9 @@
     .ci/run              from the top or elsewhere
     .ci/run --whole      tries every wrong body
 
-1. What the pages say of the sources that is counted, drawn or named: `tools/belief --check`, `tools/crates --check` and `tests/pages --check`, a
-   case each; and `tools/layout`, since `rt ci` says only at the end of an hour that a file is not laid out.
+1. Whether `tools/belief` counts rightly, over a small repository; what the pages say of the sources that is counted, drawn or named:
+   `tools/belief --check`, `tools/crates --check` and `tests/pages --check`, a case each; and `tools/layout`, since `rt ci` says only at the
+   end of an hour that a file is not laid out.
 2. `rt ci`, the toolchain's gate, where all is laid out: every proof and test from nothing, the wrong bodies of must-fail/, and each program
    by two compilers.
 3. `tests/run`: the programs, as they were built, from outside. It waits for most of its time.
@@ -154,6 +155,7 @@ def gate(is_whole):
     """The whole gate, and its status."""
     it = Gate()
     with Ticker(SILENCE / 4, it.tell_how_far):
+        it.part("tools/belief --self-test", [f"{TOP}/tools/belief", "--self-test"])
         for name in COMPARED:
             it.part(f"{name} --check", [f"{TOP}/{name}", "--check"])
         is_proved = it.part("tools/layout", [f"{TOP}/tools/layout"]) and it.part("rt ci", ["rt", "ci"])

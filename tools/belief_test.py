@@ -12,7 +12,7 @@ import unittest
 sys.dont_write_bytecode = True
 HERE = os.path.dirname(os.path.realpath(__file__))
 FILES = {
-    "crates.txt": "# high stands on low\nlow:\nhigh: low\n",
+    "crates.txt": "# labntp stands on low\nlow:\nlabntp: low\n",
     "crates/low/specs/Lib.antt": "pub mod Sums\npub mod Codes\n",
     "crates/low/specs/Sums.antt": """-- Sums.
 use Rattle.std.specs.Prelude.{ℕ, ◌+◌, ◌*◌}
@@ -69,7 +69,7 @@ fn add_less(n: u8) -> u8
     n
 }
 """,
-    "crates/high/src/main.rt": "//! High.\n#![tactic(auto)]\n\nfn main() {}\n",
+    "crates/labntp/src/main.rt": "//! A program.\n#![tactic(auto)]\n\nfn main() {}\n",
     "tools/promises": """The headline
     low   add
 
@@ -107,8 +107,6 @@ class Belief(unittest.TestCase):
             self.write(path, text)
         for name in ("belief", "sources.py"):
             shutil.copy(f"{HERE}/{name}", f"{self.top}/tools/{name}")
-        # The program without the daemon is another one here.
-        self.replace("tools/belief", '"What `labntpd` has besides", "labntp"', '"What `labntpd` has besides", "high"')
 
     def write(self, path, text):
         os.makedirs(os.path.dirname(f"{self.top}/{path}"), exist_ok=True)

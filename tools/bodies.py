@@ -1,48 +1,60 @@
 """Edits of functions' bodies, and what a check says of those functions.
 
-A function is proved against its own body and the clauses of what it calls. So one check can judge an edit of each function at once: no
-edit of one body makes another's proof fail. Of a function whose callee is not proved a check says so ("it calls .."); what it says
-besides of the function's own goals still counts, and where it says nothing of them the function has to be tried again without that edit.
+A function is proved against its own body and the clauses of what it calls. So one check can judge many edits, each in a *twin*: a copy of
+its function, beside that, under another name. Nothing calls a twin, and unchanged it is proved, so what refuses it is its edit. A trait's
+method has no twin: it is edited in its place, once in a check. What is not refused with others is tried alone.
 """
 import functools
 import os
 import re
+import shutil
 import subprocess
 
 FUNCTION = re.compile(r"( *)(?:pub(?:\([^)]*\))? )?(?:final )?(const )?(?:unsafe )?fn (\w+)")
 BLOCK = re.compile(r"(?:unsafe )?(?:impl\b|(?:pub(?:\([^)]*\))? )?(?:unsafe )?trait ).*")
+TYPE = re.compile(r"^(?:pub(?:\([^)]*\))? )?(?:struct|enum|union) (\w+)", re.M)
 STATE = re.compile(r"fn (\S.*?): (proved|not proved|no proof|could not tell)(.*)")
 PLACE = re.compile(r"(?:note: )?(?:\./)?((?:src|specs|proofs)/\S+?):(\d+):\d+: (.*)")
-CALLS = re.compile(r"it calls `([^`]+)`")
 # What a proof file is told where it names what an edit took away, and what is told of all that cites such a proof.
 NAMES = re.compile(r"has no field|is not in scope|has no `|was not admitted|, which was rejected,")
 # What is told of a text that antt cannot read; where its error is about a named goal, only some words say so.
 UNREAD = re.compile(r"is not in scope|has no field|is no name|operand is missing|expected the end|cannot continue")
 
-REFUSED, PASSED, BY_NAMES, FAULTY, UNTOLD, WAITS = "refused", "passed", "by names", "faulty", "untold", "waits"
+REFUSED, PASSED, BY_NAMES, FAULTY, UNTOLD = "refused", "passed", "by names", "faulty", "untold"
+# How many edits a check has at most: it tells nothing of the first before it has tried the last, and takes memory for each.
+MOST = 72
 
 
 class Function:
-    """A function with a body, and the numbers of its first line, its body's first and its last, from 0."""
+    """A function with a body, and the numbers of lines, from 0: of its first comment or attribute, its name, its body's first and its last."""
 
-    def __init__(self, file, name, block, is_odd, first, body, last):
+    def __init__(self, file, name, block, is_odd, start, first, body, last):
         self.file, self.name, self.block, self.is_odd = file, name, block, is_odd
-        self.first, self.body, self.last = first, body, last
+        self.start, self.first, self.body, self.last = start, first, body, last
+        self.module = module_of(file)
+        self.owner, self.trait = owner_of(block) if block else ("", "")
+
+    def may_have_twins(self):
+        """Whether a copy under another name can stand beside it: no trait has a method of that name."""
+        return not self.is_odd and (not self.block or self.block.startswith("impl") and not self.trait)
 
     def printed(self, names):
         """The name that a check prints, or none where several could be meant."""
-        module = re.sub(r"(^|/)(lib|main|mod)$", "", self.file[len("src/") : -len(".rt")]).strip("/").replace("/", "::")
         found = []
         for name in names:
             crate, *parts = name.split("::")
-            inside = parts[len(module.split("::")) if module else 0 : -1]
-            if "fn" not in parts[:-1] and parts[-1] == self.name and "::".join(parts[: len(parts) - 1 - len(inside)]) == module:
+            inside = parts[len(self.module.split("::")) if self.module else 0 : -1]
+            if "fn" not in parts[:-1] and parts[-1] == self.name and "::".join(parts[: len(parts) - 1 - len(inside)]) == self.module:
                 found.append((name, "::".join(inside)))
-        owner, trait = owner_of(self.block) if self.block else ("", "")
-        found = [it for it in found if it[1].startswith(owner) and bool(it[1]) == bool(self.block)]
-        exact = [it for it in found if (it[1].startswith(owner + trait) if trait else it[1] == owner)]
+        found = [it for it in found if it[1].startswith(self.owner) and bool(it[1]) == bool(self.block)]
+        exact = [it for it in found if (it[1].startswith(self.owner + self.trait) if self.trait else it[1] == self.owner)]
         found = exact if len(found) > 1 else found
         return found[0][0] if len(found) == 1 else None
+
+
+def module_of(file):
+    """The path below its crate of the module that a file is."""
+    return re.sub(r"(^|/)(lib|main|mod)$", "", file[len("src/") : -len(".rt")]).strip("/").replace("/", "::")
 
 
 def owner_of(block):
@@ -77,7 +89,8 @@ def functions(file, text):
         last = next((it for it in range(body + 1, len(lines)) if lines[it] == indent + "}"), None)
         if last is not None:
             is_odd = bool(head[2]) or "#[cycle" in lines[first - 1]
-            found.append(Function(file, head[3], block if indent else "", is_odd, first, body, last))
+            start = next(it for it in range(first, -1, -1) if not it or not lines[it - 1].startswith((indent + "//", indent + "#[")))
+            found.append(Function(file, head[3], block if indent else "", is_odd, start, first, body, last))
     return found
 
 
@@ -86,7 +99,6 @@ class Edit:
 
     def __init__(self, label, lines, fault=""):
         self.label, self.lines, self.fault = label, lines, fault
-        self.function = None
 
 
 def edited(text, folder):
@@ -130,11 +142,47 @@ def read_edit(label, path, folder):
         return Edit(label, {}, getattr(error, "strerror", None) or str(error))
 
 
-class Said:
-    """What a check said."""
+def closures_of(name, function):
+    """What the printed names of the closures of a function begin with, whose own is this one."""
+    crate, *path = name.split("::")
+    modules = len(path) - (2 if function.block else 1)
+    return "::".join([crate, *path[:modules], "fn", *path[modules:]])
 
-    def __init__(self, text):
-        self.states, self.messages, self.last = {}, [], ""
+
+def proofs_of(name):
+    """The folder of the proofs of a function with this printed name."""
+    return "/".join(["proofs", *name.split("::")[1:]])
+
+
+class Trial:
+    """An edit as a check judges it: in its place; or in a twin, which is a copy of its one function, beside that, under a name of its own.
+    `name` is what a check prints for the function that it judges."""
+
+    def __init__(self, edit, function=None, name="", twin=""):
+        self.edit, self.function, self.name, self.twin = edit, function, name, twin
+
+    def files(self):
+        return {file for file, _ in self.edit.lines} | ({self.function.file} if self.function else set())
+
+    def put(self, file, lines):
+        """Puts this trial into a file. `lines` has for each line those that come in its place: of each the text, the trial that it belongs
+        to, or none, and the number of the line."""
+        it = self.function
+        numbers = range(it.start, it.last + 1) if it else [number for of, number in self.edit.lines if of == file]
+        new = {number: self.edit.lines.get((file, number), lines[number][0][0]) for number in numbers}
+        if self.twin:
+            new[it.first] = re.sub(rf"\bfn {it.name}\b", f"fn {self.twin}", new[it.first])
+            lines[it.last] += [(text, self, number) for number, text in new.items()]
+        else:
+            for number, text in new.items():
+                lines[number][0] = text, self, number
+
+
+class Said:
+    """What a check said. `lines` has those of each file that was changed, as `Trial.put` writes them."""
+
+    def __init__(self, text, lines):
+        self.states, self.messages, self.last, self.lines = {}, [], "", lines
         for line in text.split("\n"):
             state, place = STATE.fullmatch(line), PLACE.match(line)
             if state:
@@ -146,7 +194,14 @@ class Said:
                 self.messages[-1][3] += "\n" + line.strip()
             elif line.startswith(("logic=", "only=", "rattle: ")):
                 self.last = line
-        self.text = text
+
+    def is_proved(self):
+        return self.last.startswith("logic=proved")
+
+    def is_in(self, trial, file, number):
+        """Whether a line is one of the function that a trial judges."""
+        lines = self.lines.get(file, ())
+        return number < len(lines) and lines[number][1] is trial
 
     def faults(self):
         """What the front end says: of a text that it cannot compile."""
@@ -168,30 +223,32 @@ class Said:
             if is_own(file, number) and (message.startswith("error:") or is_note):
                 yield line, not is_note and file.startswith("proofs/") and bool(NAMES.search(message))
 
-    def of(self, name, function):
-        """What it says of a function with this printed name, and why: its closures are its own."""
-        crate, *path = name.split("::")
-        modules = len(path) - 1 if not function.block else len(path) - 2
-        closures = "::".join([crate, *path[:modules], "fn", *path[modules:]])
-        own = {it: state for it, state in self.states.items() if it == name or it.startswith(closures + "::")}
-        if name not in own:
+    def fault_of(self, trial):
+        """The first fault that stands in the function that a trial judges, told of the line that the edit changes in its place."""
+        for said, file, number, _ in self.faults():
+            if self.is_in(trial, file, number):
+                return said.replace(f":{number + 1}:", f":{self.lines[file][number][2] + 1}:", 1)
+        return ""
+
+    def of(self, trial):
+        """What it says of the function that a trial judges, and why: its closures are its own."""
+        closures = closures_of(trial.name, trial.function)
+        own = {it: state for it, state in self.states.items() if it == trial.name or it.startswith(closures + "::")}
+        if trial.name not in own:
             return UNTOLD, "the check says nothing of its function"
         if all(state == "proved" for state, _ in own.values()):
             return PASSED, ""
         for it, (state, rest) in own.items():
             if state == "could not tell":
                 return UNTOLD, f"the prover could not tell whether {it} is proved{rest}"
-        folders = tuple(f"proofs/{it.split('::', 1)[1].replace('::', '/')}/" for it in (name, closures))
-        is_own = lambda file, number: file.startswith(folders) or file == function.file and function.first <= number <= function.last
+        folders = (f"{proofs_of(trial.name)}/", f"{proofs_of(closures)}/")
+        is_own = lambda file, number: file.startswith(folders) or self.is_in(trial, file, number)
         told = list(self.refusals(is_own))
         refusal = next((line for line, is_of_names in told if not is_of_names), "")
         if self.unread((), is_own):
             return UNTOLD, self.unread((), is_own)
         if refusal or any(state == "no proof" and rest.startswith(": expected answers") for state, rest in own.values()):
             return REFUSED, refusal
-        callees = [callee for _, rest in own.values() for callee in CALLS.findall(rest) if callee not in own]
-        if callees:
-            return WAITS, callees
         return (BY_NAMES, told[0][0]) if told else (UNTOLD, "the check says nothing of its goals")
 
 
@@ -204,17 +261,24 @@ class Scratch:
 
     def __init__(self, folder, jobs, is_stopped, command=("rt", "check")):
         self.folder, self.jobs, self.is_stopped, self.command, self.texts = folder, jobs, is_stopped, command, {}
+        # The names of functions as a check prints them, and the functions whose twins are proved: `prove` finds both.
+        self.names, self.twinned = [], set()
         # How many checks there were, and how many seconds of a processor they took.
         self.checks, self.processor = 0, 0
 
     @functools.cached_property
+    def sources(self):
+        found = [f"{place}/{name}" for place, _, names in os.walk(f"{self.folder}/src") for name in sorted(names) if name.endswith(".rt")]
+        return [os.path.relpath(it, self.folder) for it in found]
+
+    @functools.cached_property
     def functions(self):
-        found = []
-        for place, _, names in os.walk(f"{self.folder}/src"):
-            for name in sorted(it for it in names if it.endswith(".rt")):
-                file = os.path.relpath(f"{place}/{name}", self.folder)
-                found += functions(file, self.text(file))
-        return found
+        return [function for file in self.sources for function in functions(file, self.text(file))]
+
+    @functools.cached_property
+    def homes(self):
+        """The module of each type, by its name: a method is printed below it, wherever its `impl` stands."""
+        return {name: module_of(file) for file in self.sources for name in TYPE.findall(self.text(file))}
 
     def text(self, file):
         """The text of a file before any edit."""
@@ -228,22 +292,65 @@ class Scratch:
         inside = lambda it: all(file == it.file and it.body <= number <= it.last for file, number in edit.lines)
         return next((it for it in self.functions if inside(it) and not it.is_odd), None)
 
-    def check(self, edits=(), names=()):
-        """What a check says once all these edits are made, of the functions with these printed names or of all."""
-        changes = {place: new for it in edits for place, new in it.lines.items()}
-        texts = {file: self.text(file) for file, _ in changes}
+    def prove(self, functions):
+        """Checks the crate as it stands, with an unchanged twin of each of these functions: where that is not proved, a refusal of another
+        would say nothing of its edit."""
+        alike = [self.twin(Edit("", {}), it, 0) for it in functions if it.may_have_twins()]
+        said = plain = self.check(alike)
+        if not said.is_proved():
+            plain = self.check()
+            if not plain.is_proved():
+                raise Stopped("it is not proved as it stands")
+        self.names, self.twinned = list(plain.states), {it.function for it in alike if said.of(it)[0] == PASSED}
+
+    def twin(self, edit, function, number):
+        """The trial of an edit in a twin of its function, in the one with this number."""
+        twin = f"{function.name}_twin_{number}"
+        return Trial(edit, function, self.path(function, twin), twin)
+
+    def path(self, function, name):
+        """What a check prints for a function with this name beside one that is no trait's."""
+        module = self.homes.get(function.owner, function.module)
+        return "::".join(filter(None, (os.path.basename(self.folder), module, function.owner, name)))
+
+    def check(self, trials=(), names=()):
+        """What a check says of all these trials at once: of the functions with these printed names, or of the whole crate."""
+        changed = {file: self.written(file, trials) for file in set().union(*(it.files() for it in trials))}
+        copies = [copy for it in trials if it.twin for copy in self.copy_proofs(it)]
         try:
-            for file, text in texts.items():
-                lines = text.split("\n")
-                for number, new in ((number, new) for (of, number), new in changes.items() if of == file):
-                    lines[number] = new
-                self.write(file, "\n".join(lines))
+            for file, lines in changed.items():
+                self.write(file, "\n".join(text for text, _, _ in lines))
             # 0 and 1 are verdicts, and 3 says that the prover could not tell.
-            said = Said(self.run([word for it in names for word in ("--only", it)], (0, 1, 3)))
+            return Said(self.run([word for it in names for word in ("--only", it)], (0, 1, 3)), changed)
         finally:
-            for file, text in texts.items():
-                self.write(file, text)
-        return said
+            for file in changed:
+                self.write(file, self.text(file))
+            for copy in copies:
+                shutil.rmtree(copy)
+
+    def written(self, file, trials):
+        """The lines of a file with these trials in it, as `Trial.put` writes them."""
+        lines = [[(text, None, number)] for number, text in enumerate(self.text(file).split("\n"))]
+        for it in trials:
+            if file in it.files():
+                it.put(file, lines)
+        return [line for some in lines for line in some]
+
+    def copy_proofs(self, trial):
+        """Copies the proofs of a function, and of its closures, for its twin. Returns the folders that are new."""
+        function, copies = trial.function, []
+        name = self.path(function, function.name)
+        for old, new in ((name, trial.name), (closures_of(name, function), closures_of(trial.name, function))):
+            folder, copy = f"{self.folder}/{proofs_of(old)}", f"{self.folder}/{proofs_of(new)}"
+            if os.path.isdir(folder):
+                copies.append(copy)
+                shutil.copytree(folder, copy, copy_function=functools.partial(self.copy_renamed, proofs_of(old), proofs_of(new)))
+        return copies
+
+    def copy_renamed(self, old, new, source, target):
+        """Copies a file of proofs, in which the goals of a function are named by the folder of its proofs."""
+        text = self.text(os.path.relpath(source, self.folder))
+        self.write(os.path.relpath(target, self.folder), text.replace(old.replace("/", ".") + ".", new.replace("/", ".") + "."))
 
     def write(self, file, text):
         with open(f"{self.folder}/{file}", "w", encoding="utf-8") as it:
@@ -272,13 +379,13 @@ class Scratch:
 
     def alone(self, edit):
         """What a check of the whole crate says of one edit, and why."""
-        said = self.check([edit])
+        said = self.check([Trial(edit)])
         unread = said.unread({file for file, _ in edit.lines})
         if said.faults():
             return FAULTY, said.faults()[0][0]
         if unread:
             return FAULTY, unread
-        if said.last.startswith("logic=proved"):
+        if said.is_proved():
             return PASSED, ""
         if not said.last.startswith("logic=not-proved"):
             return UNTOLD, said.last or "the check gave no verdict"
@@ -287,63 +394,56 @@ class Scratch:
         return (BY_NAMES, told[0][0]) if told and not refusal else (REFUSED, refusal)
 
 
-def chosen(left, waits):
-    """Edits that one check can judge: one of a function, and none of a function that another of them waits for."""
-
-    def below(name, seen):
-        for it in waits.get(name, ()):
-            if it not in seen:
-                seen.add(it)
-                below(it, seen)
-        return seen
-
-    batch = {}
-    for edit in left:
-        name = edit.name
-        if name not in batch and not below(name, set()) & batch.keys() and not any(name in below(it, set()) for it in batch):
-            batch[name] = edit
-    return list(batch.values())
+def trial_of(scratch, edit, number):
+    """The trial of an edit that one function's check can judge, or none: in the twin with this number where the function may have one."""
+    function = scratch.function_of(edit)
+    if function in scratch.twinned:
+        return scratch.twin(edit, function, number)
+    name = function and function.printed(scratch.names)
+    return Trial(edit, function, name) if name else None
 
 
-def tried(scratch, edits, names):
-    """Tries edits, as many as one check can judge at a time, and gives of each what came of it, and why. `names` are the names of functions
-    as a check of the crate prints them."""
-    left, alone, waits = [], [], {}
-    for edit in edits:
-        edit.function = None if edit.fault else scratch.function_of(edit)
-        edit.name = edit.function and edit.function.printed(names)
-        if edit.fault:
-            yield edit, FAULTY, edit.fault
-        else:
-            (left if edit.name else alone).append(edit)
-    while left:
-        batch = chosen(left, waits)
-        said = scratch.check(batch, sorted(it.name for it in batch))
-        decided = []
-        if not said.states:
-            # The front end stops at faults; they stand in the bodies that have them.
-            for edit in batch:
-                own = lambda it: it[1] == edit.function.file and edit.function.first <= it[2] <= edit.function.last
-                fault = next(filter(own, said.faults()), None)
-                if fault:
-                    decided.append(edit)
-                    yield edit, FAULTY, fault[0]
-        else:
-            for edit in batch:
-                verdict, why = said.of(edit.name, edit.function)
-                if verdict == WAITS:
-                    waits.setdefault(edit.name, set()).update(why)
-                    continue
-                decided.append(edit)
-                if verdict == REFUSED:
-                    yield edit, verdict, why
-                else:
-                    alone.append(edit)
-            for name, (_, rest) in said.states.items():
-                waits.setdefault(name, set()).update(CALLS.findall(rest))
-        if not decided:
-            decided = batch[:1] if said.states else batch
-            alone += decided
-        left = [it for it in left if it not in decided]
+def batches(trials):
+    """Trials in lists that a check can judge at once: one of each name, and so many at most."""
+    found = []
+    for trial in trials:
+        batch = next((some for some in found if len(some) < MOST and all(it.name != trial.name for it in some)), None)
+        if batch is None:
+            batch = []
+            found.append(batch)
+        batch.append(trial)
+    return found
+
+
+def judged(scratch, batch):
+    """Gives of each trial what a check of all of them says, and why."""
+    if not batch:
+        return
+    said = scratch.check(batch, sorted(it.name for it in batch))
+    faulty = [it for it in batch if said.fault_of(it)]
+    if said.states:
+        yield from ((it, *said.of(it)) for it in batch)
+    elif faulty:
+        # The front end stops at faults; they stand in the bodies that have them.
+        yield from ((it, FAULTY, said.fault_of(it)) for it in faulty)
+        yield from judged(scratch, [it for it in batch if it not in faulty])
+    elif len(batch) > 1:
+        yield from judged(scratch, batch[::2])
+        yield from judged(scratch, batch[1::2])
+    else:
+        yield batch[0], UNTOLD, said.last
+
+
+def tried(scratch, edits):
+    """Tries edits, as many in one check as it can judge, and gives of each what came of it, and why."""
+    found = {edit: trial_of(scratch, edit, number) for number, edit in enumerate(edits) if not edit.fault}
+    yield from ((it, FAULTY, it.fault) for it in edits if it.fault)
+    alone = [edit for edit, its in found.items() if not its]
+    for batch in batches([it for it in found.values() if it]):
+        for it, verdict, why in judged(scratch, batch):
+            if verdict in (REFUSED, FAULTY):
+                yield it.edit, verdict, why
+            else:
+                alone.append(it.edit)
     for edit in alone:
         yield (edit, *scratch.alone(edit))

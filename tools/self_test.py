@@ -49,6 +49,22 @@ pub fn little(x: u32) -> u32
 {
     x.min(9)
 }
+
+/// What is counted.
+pub trait Counted {
+    /// How many there are.
+    fn count(&self) -> u32
+        ensures { result ≤ 9 };
+}
+
+/// Any number.
+pub struct Number(pub u32);
+
+impl Counted for Number {
+    fn count(&self) -> u32 {
+        self.0.min(9)
+    }
+}
 """
 ANSWERS = """use Rattle.std.proofs.Common.{◌≡◌, ◌+◌, arith}
 use Rattle.numbers.proofs.two_more.Goals as goal
@@ -71,19 +87,21 @@ pub fn small(x: u32) -> u32
     x.min(7)
 }
 """
-# What is refused: in one body, in one that has a proof file, and by more than one body.
+# What is refused: in one body, in one that has a proof file, in one that is tried in its place, and by more than one body.
 REFUSED = {
     "numbers/none_more": [("    x + STEP", "    x")],
     "numbers/one_too_few": [("    more(one)", "    more(one) - 1")],
+    "numbers/ten_at_most": [("    x.min(9)", "    x.min(10)")],
+    "numbers/ten_are_counted": [("self.0.min(9)", "self.0.min(10)")],
     "numbers/steps_of_two": [("STEP: u32 = 1", "STEP: u32 = 2")],
     "small/as_large_as_it_is": [("    x.min(7)", "    x")],
 }
-# What is not, and what has to be said of it. The first of these calls what another edit makes wrong.
+# What is not, and what has to be said of it. The first of these calls what another edit makes wrong; three change what others change too.
 NOT_REFUSED = {
     "numbers/in_another_order": ([("    more(two_more(x))", "    two_more(more(x))")], "NOT REFUSED"),
     "numbers/eight_at_most": ([("    x.min(9)", "    x.min(8)")], "NOT REFUSED"),
     "numbers/under_another_name": ([("let one = more(x)", "let first = more(x)"), ("more(one)", "more(first)")], "refused only because a proof file names"),
-    "numbers/no_such_method": ([("    x.min(9)", "    x.mn(9)")], "it cannot be applied, or does not compile: src/lib.rt:"),
+    "numbers/no_such_method": ([("    x.min(9)", "    x.mn(9)")], "it cannot be applied, or does not compile: src/lib.rt:37:"),
     "numbers/no_such_line": ([("y.min(9)", "x")], "it cannot be applied, or does not compile: an `old:` text is in src/lib.rt 0 times"),
 }
 
@@ -126,6 +144,8 @@ def cases(top):
         crate, _, edit = name.partition("/")
         yield f"noticed/{edit}", "" if begins(lines, f"FAILED {crate}/wrong-bodies/{edit}.edit: {said}") == 1 else "\n".join(lines)
     yield "whole", "" if (lines[-1], status) == (f"{len(REFUSED)} passed, {len(NOT_REFUSED)} failed", 1) else f"{lines[-1]}, status {status}"
+    # The crate as it stands; all but two edits, twice, since one does not compile; and alone what changes no body and what is not refused.
+    yield "many_in_one_check", "" if begins(lines, "numbers: 5 of 10 refused, in 7 checks") == 1 else "\n".join(lines)
     for name in NOT_REFUSED:
         os.remove(edit_file(top, name))
     lines, status = ran(top, "--digests", digests, "--write-digests")

@@ -41,8 +41,8 @@ pub fn outcome_line(
         },
         offset: answer.map(|it| seconds(it.offset())),
         delay: answer.map(|it| seconds(it.delay())),
-        stratum: answer.map(|it| it.stratum),
-        leap: answer.map(|it| it.leap),
+        stratum: answer.map(|it| it.clock.stratum),
+        leap: answer.map(|it| it.clock.leap),
         reference_id: identifier(alloc, answer)?,
         root_distance: answer.map(|it| seconds(it.root_distance())),
         server: asked.server_word,
@@ -59,7 +59,7 @@ pub fn outcome_line(
 fn identifier(alloc: Global, answer: Option<Answer>) -> Result<Option<String>, AllocError> {
     match answer {
         Some(answer) => {
-            let identifier = Identifier(answer.reference_id);
+            let identifier = Identifier(answer.clock.reference_id);
             Ok(Some(format!(in alloc; "{identifier}")?))
         }
         None => Ok(None),

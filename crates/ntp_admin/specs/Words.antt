@@ -115,7 +115,7 @@ state_of octets = record {
   precision = cast_signed w8 (slice_index octets 2);
   root_delay = short_of (slice_range octets 3 7);
   root_dispersion = short_of (slice_range octets 7 11);
-  id = slice_range octets 11 15;
+  reference_id = slice_range octets 11 15;
   reference = stamp_of (slice_range octets 15 23);
 }
 

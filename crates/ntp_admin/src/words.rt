@@ -8,6 +8,7 @@ ghost use Rattle.ntp_admin.specs.Words.{is_decimal, decimal_in, address_in, numb
 use crate::parts::Parts;
 use hex::{FromHex, FromHexError};
 use ntp_mac::{Algorithm, Key, MOST_KEY_OCTETS};
+use ntp_packet::ClockFields;
 use ntp_reply::Reference;
 use ntp_service::{Address, LineFault, Octets};
 use ntp_time::{Moment, Short, Stamp};
@@ -133,15 +134,15 @@ pub fn reference(word: &str) -> Option<Reference>
     ensures { result ≡ reference_in word.now }
 {
     let octets = <[u8; REFERENCE_OCTETS]>::from_hex(word).ok()?;
-    Reference::new(
-        octets[0],
-        octets[1],
-        octets[2].cast_signed(),
-        short_at(&octets, 3),
-        short_at(&octets, 7),
-        four_at(&octets, 11),
-        stamp_at(&octets, 15),
-    )
+    Reference::of(ClockFields {
+        leap: octets[0],
+        stratum: octets[1],
+        precision: octets[2].cast_signed(),
+        root_delay: short_at(&octets, 3),
+        root_dispersion: short_at(&octets, 7),
+        reference_id: four_at(&octets, 11),
+        reference: stamp_at(&octets, 15),
+    })
     .ok()
 }
 

@@ -100,7 +100,7 @@ none-applies false false true x s is = absurd (cc)
 none-applies false false false x s is = (refl, refl, cc)
 
 -- a clock that is not unsynchronised
-synchronised : (h : HeaderFields) → is_unsynchronised h ≡ false → (h.leap ≢ 3) × (1 ≤ h.stratum) × (h.stratum ≤ 15)
+synchronised : (h : HeaderFields) → is_unsynchronised h ≡ false → (h.clock.leap ≢ 3) × (1 ≤ h.clock.stratum) × (h.clock.stratum ≤ 15)
 synchronised h is = (grind (arith, nat_tests), grind (arith, nat_tests), grind (arith, nat_tests))
 
 -- stamps of known time
@@ -131,9 +131,9 @@ pub time-taken : (p : Pairing) (h : HeaderFields) (x : Sample) → IsTimeReply h
 time-taken p h x is =
     let some = is.stratum_from in
     let most = is.stratum_to in
-    let a : (h.stratum == 0) ≡ false = grind (arith, nat_tests) in
-    let b : (h.leap == 3) ≡ false = ne_eqb h.leap 3 is.leap in
-    let c : nat_lt 15 h.stratum ≡ false = grind (arith, nat_tests) in
+    let a : (h.clock.stratum == 0) ≡ false = grind (arith, nat_tests) in
+    let b : (h.clock.leap == 3) ≡ false = ne_eqb h.clock.leap 3 is.leap in
+    let c : nat_lt 15 h.clock.stratum ≡ false = grind (arith, nat_tests) in
     let d : (h.receive.0 == 0) ≡ false = ne_eqb h.receive.0 0 is.receive in
     let e : (h.transmit.0 == 0) ≡ false = ne_eqb h.transmit.0 0 is.transmit in
     simp (a, b, c, d, e)

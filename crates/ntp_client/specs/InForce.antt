@@ -1,11 +1,11 @@
 -- The reference state that replies tell, by the last answer of the host's clock daemon.
-use Rattle.std.specs.Prelude.{ℕ, ℤ, pos, neg_ℤ, ◌+◌, ◌-◌, ◌*◌, ◌^◌, ◌*ℤ◌, min, unsigned_abs, Bool, false, not, ◌&&◌, ◌==◌, nat_lt, nat_le, int_le, if◌then◌else◌, Option, Some, None, [], ◌∷◌}
+use Rattle.std.specs.Prelude.{ℕ, ℤ, pos, neg_ℤ, ◌+◌, ◌-◌, ◌*◌, ◌^◌, ◌*ℤ◌, min, unsigned_abs, Bool, false, not, ◌&&◌, ◌==◌, nat_lt, nat_le, int_le, if◌then◌else◌, Option, Some, None}
 use Rattle.std.specs.Int.{div_ceil}
 use Rattle.ntp_time.specs.declared.moment.Moment.{Moment}
 use Rattle.ntp_time.specs.Moment.{units}
 use Rattle.ntp_time.specs.Difference.{difference}
-use Rattle.ntp_packet.specs.Header.{no_short, no_stamp}
-use Rattle.ntp_reply.specs.Reference.{ReferenceState, reference_of}
+use Rattle.ntp_packet.specs.Header.{blank_clock}
+use Rattle.ntp_reply.specs.Reference.{ReferenceState}
 use Rattle.ntp_client.specs.declared.answer.ClockAnswer.{ClockAnswer}
 use Rattle.ntp_client.specs.declared.doubt.Doubt.{Doubt}
 use Rattle.ntp_client.specs.declared.doubt.Doubt.TheVariants.{Old, Unsynchronised, ReferenceOld, ReferenceAhead, Far, Set}
@@ -16,8 +16,7 @@ use Rattle.ntp_client.specs.Reading.{apart}
 -- the state of an unsynchronised clock: leap 3, stratum 16 and the greatest dispersion, 16 seconds (RFC 5905, 7.2, 7.3; its precision
 -- of 2^-20 seconds: profile)
 abbrev pub unsynchronised : ReferenceState
-unsynchronised =
-    reference_of 3 16 (neg_ℤ (pos 20)) no_short (record { 0 = 16 * 2 ^ 16 }) (0 ∷ 0 ∷ 0 ∷ 0 ∷ []) no_stamp
+unsynchronised = record blank_clock { leap = 3; stratum = 16; precision = neg_ℤ (pos 20); root_dispersion = record { 0 = 16 * 2 ^ 16 } }
 
 -- a moment is one that the host's clock showed: the first one of era 0 stands for a clock that could not be read (profile)
 abbrev pub is_read : Moment → Bool
@@ -55,8 +54,7 @@ precision_told p = if int_le p (neg_ℤ (pos 16)) then neg_ℤ (pos 16) else p
 
 -- the state of an answer with that dispersion and precision (profile)
 abbrev pub grown : ClockAnswer → Reading → ReferenceState
-grown a now = reference_of a.state.leap a.state.stratum (precision_told a.state.precision) a.state.root_delay
-    (record { 0 = dispersion a now }) a.state.id a.state.reference
+grown a now = record a.state { precision = precision_told a.state.precision; root_dispersion = record { 0 = dispersion a now } }
 
 -- twice the root distance, which is half the root delay and the root dispersion, in units of 2^-16 seconds (RFC 5905, 11.2)
 abbrev pub root_distance_twice : ClockAnswer → Reading → ℕ

@@ -15,7 +15,7 @@ use Rattle.ntp_client.specs.declared.sample.Sample.{Sample}
 use Rattle.ntp_client.specs.declared.taken.Taken.{Taken}
 use Rattle.ntp_client.specs.declared.taken.Taken.TheVariants as taken
 use Rattle.ntp_client.specs.declared.taken.Distrust.TheVariants as distrust
-use Rattle.ntp_reply.specs.Reference.{ReferenceState, reference_of}
+use Rattle.ntp_reply.specs.Reference.{ReferenceState}
 use Rattle.ntp_client.specs.declared.answer.ClockAnswer.{ClockAnswer}
 use Rattle.ntp_client.specs.declared.limits.ClockLimits.{ClockLimits}
 use Rattle.ntp_client.specs.declared.reading.Reading.{Reading}
@@ -62,11 +62,11 @@ delay_size s = div_ceil (unsigned_abs (difference s.t4 s.t1 -ℤ difference s.t3
 -- the root delay by way of a time reply: the one that it tells, and the delay of the exchange, to the most that a packet can tell
 -- (RFC 5905, 11.2; to the most: profile)
 abbrev pub root_delay_by : HeaderFields → Sample → Short
-root_delay_by h s = record { 0 = min (2 ^ 32 - 1) (h.root_delay.0 + delay_size s) }
+root_delay_by h s = record { 0 = min (2 ^ 32 - 1) (h.clock.root_delay.0 + delay_size s) }
 
 -- the state of its clock that a time reply tells (RFC 5905, 7.3), with that root delay
 abbrev pub state_told : HeaderFields → Sample → ReferenceState
-state_told h s = reference_of h.leap h.stratum h.precision (root_delay_by h s) h.root_dispersion h.reference_id h.reference
+state_told h s = record h.clock { root_delay = root_delay_by h s }
 
 -- twice the offset of a sample, in units of 2^-32 seconds (RFC 5905, 8)
 abbrev pub offset_twice : Sample → ℤ
@@ -85,7 +85,7 @@ answer_of h sample question base = record {
 -- what a time reply to the question of a reading rests on: that reading, where it shows an update; else what the last answer does
 -- (profile)
 abbrev pub base_of : ClockWatch → Option ClockAnswer → HeaderFields → Reading → Option Reading
-base_of w learned h question = if shows_update w h.reference h.transmit then Some question else option_map (λ a. a.base) learned
+base_of w learned h question = if shows_update w h.clock.reference h.transmit then Some question else option_map (λ a. a.base) learned
 
 -- what is learned of a time reply to the last question: the answer that it is, where it rests on something (profile)
 abbrev pub learned_of : ClockWatch → Option ClockAnswer → HeaderFields → Sample → Option ClockAnswer
@@ -106,7 +106,7 @@ learned_after w learned reading _ = learned
 
 -- the reference time that octets tell which gave a sample, as they are read (profile)
 abbrev pub reference_read : Result RequestValue Malformed → Option Stamp
-reference_read (Ok reply) = Some reply.header.reference
+reference_read (Ok reply) = Some reply.header.clock.reference
 reference_read (Err fault) = None
 
 -- the reference time that the daemon told last: a clock that is unsynchronised has none (RFC 5905, 7.3; profile)

@@ -14,9 +14,9 @@ use Rattle.ntp_client.specs.State.{ClientState}
 pub record IsTimeReply (h : HeaderFields) : Type 0 where
   pub mode : h.mode ≡ 4
   pub version : h.version ≡ 4
-  pub leap : h.leap ≢ 3
-  pub stratum_from : 1 ≤ h.stratum
-  pub stratum_to : h.stratum ≤ 15
+  pub leap : h.clock.leap ≢ 3
+  pub stratum_from : 1 ≤ h.clock.stratum
+  pub stratum_to : h.clock.stratum ≤ 15
   pub receive : h.receive.0 ≢ 0
   pub transmit : h.transmit.0 ≢ 0
 

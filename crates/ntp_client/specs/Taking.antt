@@ -21,11 +21,11 @@ use Rattle.ntp_client.specs.Pairing.{pairing_of, is_basic, exchange_of, sample_o
 
 -- whether a reply is a kiss-o'-death of this code, to this request (RFC 5905, 7.4; to this request: profile)
 abbrev pub is_kiss : List ℕ → HeaderFields → Pairing → Bool
-is_kiss code h pairing = (h.stratum == 0) && pointwise nat_eq h.reference_id code && is_basic pairing
+is_kiss code h pairing = (h.clock.stratum == 0) && pointwise nat_eq h.clock.reference_id code && is_basic pairing
 
 -- whether a reply's clock is unsynchronised (RFC 5905, 7.3)
 abbrev pub is_unsynchronised : HeaderFields → Bool
-is_unsynchronised h = (h.leap == 3) || (h.stratum == 0) || nat_lt 15 h.stratum
+is_unsynchronised h = (h.clock.leap == 3) || (h.clock.stratum == 0) || nat_lt 15 h.clock.stratum
 
 -- whether a stamp of a reply is that of unknown time (RFC 5905, 6)
 abbrev pub lacks_stamp : HeaderFields → Bool

@@ -19,7 +19,7 @@ use crate::{
     Taken, state_in_force,
 };
 use ntp_mac::Key;
-use ntp_packet::{Header, read_request};
+use ntp_packet::{ClockFields, Header, read_request};
 use ntp_reply::Reference;
 use ntp_time::{Short, Stamp};
 use std::marker::Model;
@@ -163,7 +163,7 @@ impl Follower {
         ensures seen { self.new.watch.seen ≡ self.old.watch.seen }
         ensures set { self.new.watch.set ≡ self.old.watch.set }
         ensures told { (reply : RequestValue) → IsRequest octets.now reply → IsTimeReply reply.header
-            → self.new.watch.told ≡ Some reply.header.reference }
+            → self.new.watch.told ≡ Some reply.header.clock.reference }
         ensures learned { (reply : RequestValue) → IsRequest octets.now reply → IsTimeReply reply.header
             → self.new.learned ≡ learned_of self.old.watch self.old.learned reply.header sample }
         ensures slowed { self.new.slowed ≡ self.old.slowed }
@@ -238,16 +238,11 @@ fn learned_of(
 {
     let question = watch.seen?;
     let base = base_of(watch, learned, header, question)?;
-    let state = Reference::new(
-        header.leap(),
-        header.stratum(),
-        header.precision(),
-        root_delay_by(header, sample),
-        header.root_dispersion(),
-        header.reference_id(),
-        header.reference(),
-    )
-    .ok()?;
+    let fields = ClockFields {
+        root_delay: root_delay_by(header, sample),
+        ..header.clock()
+    };
+    let state = Reference::of(fields).ok()?;
     Some(ClockAnswer {
         state,
         offset_twice: sample.offset_twice(),

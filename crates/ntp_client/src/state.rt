@@ -1,11 +1,11 @@
 //! The state that replies tell.
 ghost use Rattle.std.specs.Prelude.{◌≡◌, true, option_copied};
-ghost use Rattle.ntp_reply.specs.Reference.{reference_of};
 ghost use Rattle.ntp_client.specs.InForce.{unsynchronised, is_read, where_read, is_synchronised, precision_told, grown, in_force};
 
 use crate::believing::is_believed;
 use crate::growing::dispersion;
 use crate::{ClockAnswer, ClockLimits, Reading};
+use ntp_packet::ClockFields;
 use ntp_reply::Reference;
 use ntp_time::{Moment, Short, Stamp};
 
@@ -30,15 +30,15 @@ const MOST_DISPERSION: Short = Short(16 << 16);
 pub fn reference_unsynchronised() -> Reference
     ensures { result ≡ unsynchronised }
 {
-    Reference::new(
-        UNSYNCHRONISED_LEAP,
-        UNSYNCHRONISED_STRATUM,
-        PRECISION,
-        Short(0),
-        MOST_DISPERSION,
-        [0; 4],
-        Stamp(0),
-    )
+    Reference::of(ClockFields {
+        leap: UNSYNCHRONISED_LEAP,
+        stratum: UNSYNCHRONISED_STRATUM,
+        precision: PRECISION,
+        root_delay: Short(0),
+        root_dispersion: MOST_DISPERSION,
+        reference_id: [0; 4],
+        reference: Stamp(0),
+    })
     .unwrap()
 }
 
@@ -83,25 +83,12 @@ fn grown(answer: &ClockAnswer, now: Reading) -> Reference
     requires { is_synchronised answer.now.state ≡ true }
     ensures { result ≡ grown answer.now now }
 {
-    let precision = precision_told(answer.state.precision());
-    with_quality(&answer.state, precision, Short(dispersion(answer, now)))
-}
-
-// A synchronised state with another precision and another root dispersion.
-fn with_quality(state: &Reference, precision: i8, root_dispersion: Short) -> Reference
-    requires { is_synchronised state.now ≡ true }
-    ensures { result ≡ reference_of state.now.leap state.now.stratum precision state.now.root_delay root_dispersion state.now.id state.now.reference }
-{
-    Reference::new(
-        state.leap(),
-        state.stratum(),
-        precision,
-        state.root_delay(),
-        root_dispersion,
-        state.id(),
-        state.reference(),
-    )
-    .unwrap()
+    let fields = ClockFields {
+        precision: precision_told(answer.state.precision()),
+        root_dispersion: Short(dispersion(answer, now)),
+        ..answer.state.fields()
+    };
+    Reference::of(fields).unwrap()
 }
 
 // The precision that is told of the host's clock.

@@ -39,7 +39,7 @@ IsHeader-reply r q origin receive transmit fits is origin_fits receive_fits tran
   precision = fits.precision;
   root_delay = fits.root_delay;
   root_dispersion = fits.root_dispersion;
-  reference_id = id-fits (r.stratum == 16) r.id fits.id;
+  reference_id = id-fits (r.stratum == 16) r.reference_id fits.reference_id;
   reference = fits.reference;
   origin = origin_fits;
   receive = receive_fits;

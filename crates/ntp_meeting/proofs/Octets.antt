@@ -57,17 +57,17 @@ Octets-first h is =
     let leap = is.leap in
     let version = is.version in
     let mode = is.mode in
-    four (h.leap * 64 + h.version * 8 + h.mode) h.stratum (cast_unsigned w8 h.poll) (cast_unsigned w8 h.precision) (omega arith)
+    four (h.clock.leap * 64 + h.version * 8 + h.mode) h.clock.stratum (cast_unsigned w8 h.poll) (cast_unsigned w8 h.clock.precision) (omega arith)
     is.stratum (Fits-of_z is.poll).fits (Fits-of_z is.precision).fits
 
 -- of a header
 pub Octets-header : (h : HeaderFields) → IsHeader h → Octets (header_octets h)
 unfolding header_octets
 Octets-header h is =
-    eight (first_octets h) (to_be_bytes w32 h.root_delay.0) (to_be_bytes w32 h.root_dispersion.0) h.reference_id
-    (to_be_bytes w64 h.reference.0) (to_be_bytes w64 h.origin.0) (to_be_bytes w64 h.receive.0) (to_be_bytes w64 h.transmit.0)
-    (Octets-first h is) (Octets-high 4 h.root_delay.0) (Octets-high 4 h.root_dispersion.0) is.reference_id.1
-    (Octets-high 8 h.reference.0) (Octets-high 8 h.origin.0) (Octets-high 8 h.receive.0) (Octets-high 8 h.transmit.0)
+    eight (first_octets h) (to_be_bytes w32 h.clock.root_delay.0) (to_be_bytes w32 h.clock.root_dispersion.0) h.clock.reference_id
+    (to_be_bytes w64 h.clock.reference.0) (to_be_bytes w64 h.origin.0) (to_be_bytes w64 h.receive.0) (to_be_bytes w64 h.transmit.0)
+    (Octets-first h is) (Octets-high 4 h.clock.root_delay.0) (Octets-high 4 h.clock.root_dispersion.0) is.reference_id.1
+    (Octets-high 8 h.clock.reference.0) (Octets-high 8 h.origin.0) (Octets-high 8 h.receive.0) (Octets-high 8 h.transmit.0)
 
 -- of four zeros
 pub Octets-zeros : Octets nak_octets

@@ -31,5 +31,5 @@ pub record FitsPacket (r : ReferenceState) : Type 0 where
   pub precision : FitsSigned w8 r.precision
   pub root_delay : r.root_delay.0 < 2 ^ 32
   pub root_dispersion : r.root_dispersion.0 < 2 ^ 32
-  pub id : (length r.id ≡ 4) × All (λ octet. octet < 256) r.id
+  pub reference_id : (length r.reference_id ≡ 4) × All (λ octet. octet < 256) r.reference_id
   pub reference : r.reference.0 < 2 ^ 64

@@ -16,9 +16,9 @@ put-parts p1 p2 p3 p4 p5 p6 p7 p8 o1 o2 o3 o4 o5 o6 o7 o8 e1 e2 e3 e4 e5 e6 e7 e
 
 -- the parts of a header, each put behind those before it
 pub put-header : (h : HeaderFields) (o1 o2 o3 o4 o5 o6 o7 o8 : List ℕ) → length o8 ≤ 48
-    → take 4 o1 ≡ first_octets h → take 8 o2 ≡ take 4 o1 ++ to_be_bytes w32 h.root_delay.0
-    → take 12 o3 ≡ take 8 o2 ++ to_be_bytes w32 h.root_dispersion.0 → take 16 o4 ≡ take 12 o3 ++ h.reference_id
-    → take 24 o5 ≡ take 16 o4 ++ to_be_bytes w64 h.reference.0 → take 32 o6 ≡ take 24 o5 ++ to_be_bytes w64 h.origin.0
+    → take 4 o1 ≡ first_octets h → take 8 o2 ≡ take 4 o1 ++ to_be_bytes w32 h.clock.root_delay.0
+    → take 12 o3 ≡ take 8 o2 ++ to_be_bytes w32 h.clock.root_dispersion.0 → take 16 o4 ≡ take 12 o3 ++ h.clock.reference_id
+    → take 24 o5 ≡ take 16 o4 ++ to_be_bytes w64 h.clock.reference.0 → take 32 o6 ≡ take 24 o5 ++ to_be_bytes w64 h.origin.0
     → take 40 o7 ≡ take 32 o6 ++ to_be_bytes w64 h.receive.0 → take 48 o8 ≡ take 40 o7 ++ to_be_bytes w64 h.transmit.0
     → o8 ≡ header_octets h
 unfolding header_octets
@@ -39,9 +39,9 @@ parts-48 b =
 
 -- a header whose parts are those of the octets
 pub read-parts : (h : HeaderFields) (b : List ℕ) → first_octets h ≡ take 4 b
-    → to_be_bytes w32 h.root_delay.0 ≡ take 4 (drop 4 b) → to_be_bytes w32 h.root_dispersion.0 ≡ take 4 (drop 8 b)
-    → h.reference_id ≡ take 4 (drop 12 b)
-    → to_be_bytes w64 h.reference.0 ≡ take 8 (drop 16 b) → to_be_bytes w64 h.origin.0 ≡ take 8 (drop 24 b)
+    → to_be_bytes w32 h.clock.root_delay.0 ≡ take 4 (drop 4 b) → to_be_bytes w32 h.clock.root_dispersion.0 ≡ take 4 (drop 8 b)
+    → h.clock.reference_id ≡ take 4 (drop 12 b)
+    → to_be_bytes w64 h.clock.reference.0 ≡ take 8 (drop 16 b) → to_be_bytes w64 h.origin.0 ≡ take 8 (drop 24 b)
     → to_be_bytes w64 h.receive.0 ≡ take 8 (drop 32 b) → to_be_bytes w64 h.transmit.0 ≡ take 8 (drop 40 b)
     → header_octets h ≡ take 48 b
 unfolding header_octets
@@ -68,8 +68,8 @@ four-cells (a ∷ b ∷ c ∷ d ∷ x ∷ xs) e = absurd (omega arith)
 
 -- the first four octets, as they are read
 pub first-fields : (h : HeaderFields) (four : List ℕ) → length four ≡ 4 → get_or four 0 0 < 256
-    → h.leap ≡ get_or four 0 0 / 64 → h.version ≡ get_or four 0 0 / 8 % 8 → h.mode ≡ get_or four 0 0 % 8
-    → h.stratum ≡ get_or four 1 0 → cast_unsigned w8 h.poll ≡ get_or four 2 0 → cast_unsigned w8 h.precision ≡ get_or four 3 0
+    → h.clock.leap ≡ get_or four 0 0 / 64 → h.version ≡ get_or four 0 0 / 8 % 8 → h.mode ≡ get_or four 0 0 % 8
+    → h.clock.stratum ≡ get_or four 1 0 → cast_unsigned w8 h.poll ≡ get_or four 2 0 → cast_unsigned w8 h.clock.precision ≡ get_or four 3 0
     → first_octets h ≡ four
 first-fields h four len octet e1 e2 e3 e4 e5 e6 = rw (e1, e2, e3, e4, e5, e6, first-octet (get_or four 0 0) octet) (four-cells four len)
 

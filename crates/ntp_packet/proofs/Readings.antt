@@ -22,16 +22,18 @@ stamp_in part = record { 0 = from_be_bytes w64 part }
 -- the header that 48 octets spell
 abbrev pub header_in : List ℕ → HeaderFields
 header_in b = record {
-  leap = get_or b 0 0 / 64;
   version = get_or b 0 0 / 8 % 8;
   mode = get_or b 0 0 % 8;
-  stratum = get_or b 1 0;
   poll = cast_signed w8 (get_or b 2 0);
-  precision = cast_signed w8 (get_or b 3 0);
-  root_delay = short_in (take 4 (drop 4 b));
-  root_dispersion = short_in (take 4 (drop 8 b));
-  reference_id = take 4 (drop 12 b);
-  reference = stamp_in (take 8 (drop 16 b));
+  clock = record {
+    leap = get_or b 0 0 / 64;
+    stratum = get_or b 1 0;
+    precision = cast_signed w8 (get_or b 3 0);
+    root_delay = short_in (take 4 (drop 4 b));
+    root_dispersion = short_in (take 4 (drop 8 b));
+    reference_id = take 4 (drop 12 b);
+    reference = stamp_in (take 8 (drop 16 b));
+  };
   origin = stamp_in (take 8 (drop 24 b));
   receive = stamp_in (take 8 (drop 32 b));
   transmit = stamp_in (take 8 (drop 40 b));
@@ -121,22 +123,27 @@ middle-bits l v m hl hv hm = omega arith
 low-bits : (l v m : ℕ) → l < 4 → v < 8 → m < 8 → (l * 64 + v * 8 + m) % 8 ≡ m
 low-bits l v m hl hv hm = omega arith
 
+-- a header with this identifier
+abbrev with_id : HeaderFields → List ℕ → HeaderFields
+with_id h id = record h { clock = record h.clock { reference_id = id } }
+
 -- a header is the one that its octets spell, where the identifier's four octets are given one by one
 cells-again : (h : HeaderFields) (a b c d : ℕ) → IsHeader h
-    → header_in (header_octets (record h { reference_id = a ∷ b ∷ c ∷ d ∷ [] }))
-    ≡ record h { reference_id = a ∷ b ∷ c ∷ d ∷ [] }
+    → header_in (header_octets (with_id h (a ∷ b ∷ c ∷ d ∷ []))) ≡ with_id h (a ∷ b ∷ c ∷ d ∷ [])
 unfolding header_octets
 cells-again h a b c d is = λ i. record {
-  leap = top-bits h.leap h.version h.mode is.leap is.version is.mode i;
-  version = middle-bits h.leap h.version h.mode is.leap is.version is.mode i;
-  mode = low-bits h.leap h.version h.mode is.leap is.version is.mode i;
-  stratum = h.stratum;
+  version = middle-bits h.clock.leap h.version h.mode is.leap is.version is.mode i;
+  mode = low-bits h.clock.leap h.version h.mode is.leap is.version is.mode i;
   poll = to_z-of_z w8 h.poll is.poll i;
-  precision = to_z-of_z w8 h.precision is.precision i;
-  root_delay = record { 0 = from_be_bytes-to_be_bytes_4 h.root_delay.0 is.root_delay i };
-  root_dispersion = record { 0 = from_be_bytes-to_be_bytes_4 h.root_dispersion.0 is.root_dispersion i };
-  reference_id = a ∷ b ∷ c ∷ d ∷ [];
-  reference = record { 0 = from_be_bytes-to_be_bytes_8 h.reference.0 is.reference i };
+  clock = record {
+    leap = top-bits h.clock.leap h.version h.mode is.leap is.version is.mode i;
+    stratum = h.clock.stratum;
+    precision = to_z-of_z w8 h.clock.precision is.precision i;
+    root_delay = record { 0 = from_be_bytes-to_be_bytes_4 h.clock.root_delay.0 is.root_delay i };
+    root_dispersion = record { 0 = from_be_bytes-to_be_bytes_4 h.clock.root_dispersion.0 is.root_dispersion i };
+    reference_id = a ∷ b ∷ c ∷ d ∷ [];
+    reference = record { 0 = from_be_bytes-to_be_bytes_8 h.clock.reference.0 is.reference i };
+  };
   origin = record { 0 = from_be_bytes-to_be_bytes_8 h.origin.0 is.origin i };
   receive = record { 0 = from_be_bytes-to_be_bytes_8 h.receive.0 is.receive i };
   transmit = record { 0 = from_be_bytes-to_be_bytes_8 h.transmit.0 is.transmit i };
@@ -146,8 +153,8 @@ cells-again h a b c d is = λ i. record {
 pub header-again : (h : HeaderFields) → IsHeader h → header_in (header_octets h) ≡ h
 header-again h is =
     let P : List ℕ → Type 0 =
-    λ id. header_in (header_octets (record h { reference_id = id })) ≡ record h { reference_id = id } in
-    subst P (four-cells h.reference_id is.reference_id.0) (cells-again h _ _ _ _ is)
+    λ id. header_in (header_octets (with_id h id)) ≡ with_id h id in
+    subst P (four-cells h.clock.reference_id is.reference_id.0) (cells-again h _ _ _ _ is)
 
 -- there is no other
 pub only-header : (h : HeaderFields) (b : List ℕ) → IsHeader h → header_octets h ≡ b → h ≡ header_in b
@@ -157,5 +164,5 @@ only-header h b is e = sym (header-again h is) ∙ ap header_in e
 pub length-header_octets : (h : HeaderFields) → IsHeader h → length (header_octets h) ≡ 48
 unfolding header_octets
 length-header_octets h is =
-    let P : List ℕ → Type 0 = λ id. length (header_octets (record h { reference_id = id })) ≡ 48 in
-    subst P (four-cells h.reference_id is.reference_id.0) refl
+    let P : List ℕ → Type 0 = λ id. length (header_octets (with_id h id)) ≡ 48 in
+    subst P (four-cells h.clock.reference_id is.reference_id.0) refl

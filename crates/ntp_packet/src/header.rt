@@ -2,65 +2,48 @@
 ghost use Rattle.std.specs.Prelude.{◌≡◌, ◌≤◌, length};
 ghost use Rattle.ntp_packet.specs.Header.{blank_header};
 
+use crate::ClockFields;
 use ntp_time::{Short, Stamp};
 use std::marker::Model;
 
 /// How many octets a header has (RFC 5905, 7.3).
 pub const HEADER_OCTETS: usize = 48;
 
-/// An NTP packet header (RFC 5905, 7.3), of any version. Contracts see its thirteen fields.
+/// An NTP packet header (RFC 5905, 7.3), of any version. Contracts see its fields, those of the clock as one record.
 #[derive(Clone, Copy, Debug, PartialEq, Eq)]
 pub struct Header {
-    leap: u8,
     version: u8,
     mode: u8,
-    stratum: u8,
     poll: i8,
-    precision: i8,
-    root_delay: Short,
-    root_dispersion: Short,
-    reference_id: [u8; 4],
-    reference: Stamp,
+    clock: ClockFields,
     origin: Stamp,
     receive: Stamp,
     transmit: Stamp,
 }
 
 impl Model for Header {
-    ghost use Rattle.std.specs.Prelude.{◌≤◌};
+    ghost use Rattle.std.specs.Prelude.{◌≡◌, ◌≤◌, length};
     ghost use Rattle.ntp_packet.specs.Header.{HeaderFields};
 
     ghost Value = { HeaderFields };
 
     ghost view = { λ h. record {
-      leap = h.leap;
       version = h.version;
       mode = h.mode;
-      stratum = h.stratum;
       poll = h.poll;
-      precision = h.precision;
-      root_delay = h.root_delay;
-      root_dispersion = h.root_dispersion;
-      reference_id = h.reference_id;
-      reference = h.reference;
+      clock = h.clock;
       origin = h.origin;
       receive = h.receive;
       transmit = h.transmit;
     } };
 
-    ghost invariant = { λ h. (h.leap ≤ 3) × (h.version ≤ 7) × (h.mode ≤ 7) };
+    ghost invariant = { λ h. (h.clock.leap ≤ 3) × (length h.clock.reference_id ≡ 4) × (h.version ≤ 7) × (h.mode ≤ 7) };
 
     ghost inverse = { λ h. record {
-      leap = h.leap;
       version = h.version;
       mode = h.mode;
-      stratum = h.stratum;
       poll = h.poll;
-      precision = h.precision;
-      root_delay = h.root_delay;
-      root_dispersion = h.root_dispersion;
-      reference_id = h.reference_id;
-      reference = h.reference;
+      clock = h.clock;
       origin = h.origin;
       receive = h.receive;
       transmit = h.transmit;
@@ -88,32 +71,36 @@ impl Header {
         requires version_fits { version ≤ 7 }
         requires mode_fits { mode ≤ 7 }
         ensures { result ≡ record {
-          leap = leap;
           version = version;
           mode = mode;
-          stratum = stratum;
           poll = poll;
-          precision = precision;
-          root_delay = root_delay;
-          root_dispersion = root_dispersion;
-          reference_id = reference_id;
-          reference = reference;
+          clock = record {
+            leap = leap;
+            stratum = stratum;
+            precision = precision;
+            root_delay = root_delay;
+            root_dispersion = root_dispersion;
+            reference_id = reference_id;
+            reference = reference;
+          };
           origin = origin;
           receive = receive;
           transmit = transmit;
         } }
     {
         Header {
-            leap,
             version,
             mode,
-            stratum,
             poll,
-            precision,
-            root_delay,
-            root_dispersion,
-            reference_id,
-            reference,
+            clock: ClockFields {
+                leap,
+                stratum,
+                precision,
+                root_delay,
+                root_dispersion,
+                reference_id,
+                reference,
+            },
             origin,
             receive,
             transmit,
@@ -128,29 +115,41 @@ impl Header {
         ensures { result ≡ blank_header version mode }
     {
         Header {
-            leap: 0,
             version,
             mode,
-            stratum: 0,
             poll: 0,
-            precision: 0,
-            root_delay: Short(0),
-            root_dispersion: Short(0),
-            reference_id: [0; 4],
-            reference: Stamp(0),
+            clock: ClockFields {
+                leap: 0,
+                stratum: 0,
+                precision: 0,
+                root_delay: Short(0),
+                root_dispersion: Short(0),
+                reference_id: [0; 4],
+                reference: Stamp(0),
+            },
             origin: Stamp(0),
             receive: Stamp(0),
             transmit: Stamp(0),
         }
     }
 
+    /// This header with other fields of the clock, a leap indicator of two bits among them (RFC 5905, 7.3).
+    #[must_use]
+    pub fn with_clock(self, clock: ClockFields) -> Header
+        requires leap_fits { clock.leap ≤ 3 }
+        ensures { result ≡ record self { clock = clock } }
+    {
+        Header { clock, ..self }
+    }
+
     /// This header with another leap indicator, of two bits: 3 is unsynchronised (RFC 5905, 7.3).
     #[must_use]
     pub fn with_leap(self, leap: u8) -> Header
         requires leap_fits { leap ≤ 3 }
-        ensures { result ≡ record self { leap = leap } }
+        ensures { result ≡ record self { clock = record self.clock { leap = leap } } }
     {
-        Header { leap, ..self }
+        let clock = ClockFields { leap, ..self.clock };
+        Header { clock, ..self }
     }
 
     /// This header with another longest time between messages, as the binary logarithm of seconds
@@ -165,12 +164,13 @@ impl Header {
     /// This header with another reference identifier, which in a kiss is its code (RFC 5905, 7.3 and 7.4).
     #[must_use]
     pub fn with_reference_id(self, reference_id: [u8; 4]) -> Header
-        ensures { result ≡ record self { reference_id = reference_id } }
+        ensures { result ≡ record self { clock = record self.clock { reference_id = reference_id } } }
     {
-        Header {
+        let clock = ClockFields {
             reference_id,
-            ..self
-        }
+            ..self.clock
+        };
+        Header { clock, ..self }
     }
 
     /// This header with another origin stamp, in units of 2^-32 seconds (RFC 5905, 6 and 7.3).
@@ -197,12 +197,20 @@ impl Header {
         Header { transmit, ..self }
     }
 
+    /// The fields that tell the state of the server's clock.
+    pub fn clock(&self) -> ClockFields
+        ensures value { result ≡ self.now.clock }
+        ensures leap_fits { result.leap ≤ 3 }
+    {
+        self.clock
+    }
+
     /// The leap indicator: 0 no warning, 1 the last minute has 61 seconds, 2 it has 59, 3 unsynchronised.
     pub fn leap(&self) -> u8
-        ensures value { result ≡ self.now.leap }
+        ensures value { result ≡ self.now.clock.leap }
         ensures fits { result ≤ 3 }
     {
-        self.leap
+        self.clock.leap
     }
 
     /// The version number.
@@ -223,9 +231,9 @@ impl Header {
 
     /// The stratum: 1 is primary, 2 to 15 secondary; a packet has 0 for unsynchronised, and in a kiss.
     pub fn stratum(&self) -> u8
-        ensures { result ≡ self.now.stratum }
+        ensures { result ≡ self.now.clock.stratum }
     {
-        self.stratum
+        self.clock.stratum
     }
 
     /// The longest time between messages, as the binary logarithm of seconds.
@@ -237,38 +245,38 @@ impl Header {
 
     /// The clock's precision, as the binary logarithm of seconds.
     pub fn precision(&self) -> i8
-        ensures { result ≡ self.now.precision }
+        ensures { result ≡ self.now.clock.precision }
     {
-        self.precision
+        self.clock.precision
     }
 
     /// The round trip delay to the reference clock.
     pub fn root_delay(&self) -> Short
-        ensures { result ≡ self.now.root_delay }
+        ensures { result ≡ self.now.clock.root_delay }
     {
-        self.root_delay
+        self.clock.root_delay
     }
 
     /// The dispersion to the reference clock.
     pub fn root_dispersion(&self) -> Short
-        ensures { result ≡ self.now.root_dispersion }
+        ensures { result ≡ self.now.clock.root_dispersion }
     {
-        self.root_dispersion
+        self.clock.root_dispersion
     }
 
     /// The reference identifier: of the server or the reference clock, or a kiss code.
     pub fn reference_id(&self) -> [u8; 4]
-        ensures value { result ≡ self.now.reference_id }
+        ensures value { result ≡ self.now.clock.reference_id }
         ensures four { length result ≡ 4 }
     {
-        self.reference_id
+        self.clock.reference_id
     }
 
     /// When the system clock was last set.
     pub fn reference(&self) -> Stamp
-        ensures { result ≡ self.now.reference }
+        ensures { result ≡ self.now.clock.reference }
     {
-        self.reference
+        self.clock.reference
     }
 
     /// In a reply, when the request departed, by the client's clock.

@@ -2,6 +2,7 @@
 //! fields (RFC 7822) and a MAC (RFC 5905, 7.3). A datagram is split into parts that are lent from it: nothing is copied.
 #![tactic(auto)]
 
+mod clock_fields;
 mod digests;
 mod field_writing;
 mod fields;
@@ -15,6 +16,7 @@ mod splitting;
 mod tail;
 mod writing;
 
+pub use clock_fields::ClockFields;
 pub use digests::Digest;
 pub use field_writing::{FieldFault, write_field};
 pub use fields::Fields;

@@ -24,19 +24,19 @@ nine a b c d e f g h i = simp append_assoc
 -- the figures of an answer, with these times
 abbrev pub figures_by : Answer → ℤ → ℤ → ℤ → List ℕ
 figures_by a o d r =
-    codes "offset " ++ (seconds_text o ++ (codes " s, delay " ++ (seconds_text d ++ (codes " s" ++ (codes ", stratum " ++ (decimal a.stratum
+    codes "offset " ++ (seconds_text o ++ (codes " s, delay " ++ (seconds_text d ++ (codes " s" ++ (codes ", stratum " ++ (decimal a.clock.stratum
     ++ (codes ", root distance " ++ (seconds_text r ++ codes " s"))))))))
 
 pub figures-written : (a : Answer) (o d r : ℤ) → o ≡ offset_of a → d ≡ delay_of a → r ≡ root_distance_of a → figures_by a o d r ≡ figures a
 figures-written a o d r first second third =
     ap (λ x. figures_by a x d r) first ∙ ap (λ x. figures_by a (offset_of a) x r) second ∙ ap (λ x. figures_by a (offset_of a) (delay_of a) x) third
     ∙ five-five (codes "offset ") (seconds_text (offset_of a)) (codes " s, delay ") (seconds_text (delay_of a)) (codes " s") (codes ", stratum ")
-    (decimal a.stratum) (codes ", root distance ") (seconds_text (root_distance_of a)) (codes " s")
+    (decimal a.clock.stratum) (codes ", root distance ") (seconds_text (root_distance_of a)) (codes " s")
 
 -- performance data, with these times
 abbrev pub performance_by : Answer → ℤ → ℤ → ℤ → List ℕ
 performance_by a o d r =
-    codes "offset=" ++ (seconds_text o ++ (codes "s delay=" ++ (seconds_text d ++ (codes "s stratum=" ++ (decimal a.stratum
+    codes "offset=" ++ (seconds_text o ++ (codes "s delay=" ++ (seconds_text d ++ (codes "s stratum=" ++ (decimal a.clock.stratum
     ++ (codes " root_distance=" ++ (seconds_text r ++ codes "s")))))))
 
 pub performance-written : (a : Answer) (o d r : ℤ) → o ≡ offset_of a → d ≡ delay_of a → r ≡ root_distance_of a
@@ -45,7 +45,7 @@ performance-written a o d r first second third =
     ap (λ x. performance_by a x d r) first ∙ ap (λ x. performance_by a (offset_of a) x r) second
     ∙ ap (λ x. performance_by a (offset_of a) (delay_of a) x) third
     ∙ nine (codes "offset=") (seconds_text (offset_of a)) (codes "s delay=") (seconds_text (delay_of a)) (codes "s stratum=")
-    (decimal a.stratum) (codes " root_distance=") (seconds_text (root_distance_of a)) (codes "s")
+    (decimal a.clock.stratum) (codes " root_distance=") (seconds_text (root_distance_of a)) (codes "s")
 
 -- the sample of least delay, with these times
 abbrev pub least_by : Least → ℤ → ℤ → List ℕ

@@ -8,14 +8,7 @@ use Rattle.ntp_query.specs.Nanos.{nanos_of}
 
 -- a sample, and what the header of the reply tells of the server's clock (RFC 5905, 7.3)
 abbrev pub answer_of : Sample → HeaderFields → Answer
-answer_of sample h = record {
-  sample = sample;
-  leap = h.leap;
-  stratum = h.stratum;
-  reference_id = h.reference_id;
-  root_delay = h.root_delay.0;
-  root_dispersion = h.root_dispersion.0;
-}
+answer_of sample h = record { sample = sample; clock = h.clock }
 
 -- twice the offset of the server's clock, in units of 2^-32 seconds (RFC 5905, 8)
 abbrev pub offset_twice_of : Sample → ℤ
@@ -35,4 +28,4 @@ delay_of a = nanos_of (delay_units_of a.sample) (2 ^ 32)
 
 -- the root distance, in nanoseconds: half the root delay, and the root dispersion (RFC 5905, 11.2)
 abbrev pub root_distance_of : Answer → ℤ
-root_distance_of a = nanos_of (pos (a.root_delay + 2 * a.root_dispersion)) (2 ^ 17)
+root_distance_of a = nanos_of (pos (a.clock.root_delay.0 + 2 * a.clock.root_dispersion.0)) (2 ^ 17)

@@ -24,7 +24,7 @@ is_above limit value = option_map_or (λ l. nat_lt l value) limit false
 abbrev pub passed_by : Limits → Answer → Option Measure
 passed_by limits a =
     if is_above limits.offset (unsigned_abs (offset_of a)) then Some Offset
-    else (if is_above limits.stratum a.stratum then Some Stratum
+    else (if is_above limits.stratum a.clock.stratum then Some Stratum
     else (if is_above limits.root_distance (unsigned_abs (root_distance_of a)) then Some RootDistance else None))
 
 -- goes on where no measure is above its limit; otherwise what is said of that is decided
@@ -74,7 +74,7 @@ why_text (Critical cause) = cause_text cause
 -- the figures of an answer as performance data (Monitoring Plugins)
 abbrev pub performance : Answer → List ℕ
 performance a =
-    codes "offset=" ++ seconds_text (offset_of a) ++ codes "s delay=" ++ seconds_text (delay_of a) ++ codes "s stratum=" ++ decimal a.stratum
+    codes "offset=" ++ seconds_text (offset_of a) ++ codes "s delay=" ++ seconds_text (delay_of a) ++ codes "s stratum=" ++ decimal a.clock.stratum
     ++ codes " root_distance=" ++ seconds_text (root_distance_of a) ++ codes "s"
 
 -- what there is to tell: of the sample of least delay, or else of the last query (profile)

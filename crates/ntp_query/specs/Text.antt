@@ -25,11 +25,11 @@ offset_text a = codes "offset " ++ seconds_text (offset_of a) ++ codes " s, dela
 
 -- the figures of an answer, all times in seconds (profile)
 abbrev pub figures : Answer → List ℕ
-figures a = offset_text a ++ codes ", stratum " ++ decimal a.stratum ++ codes ", root distance " ++ seconds_text (root_distance_of a) ++ codes " s"
+figures a = offset_text a ++ codes ", stratum " ++ decimal a.clock.stratum ++ codes ", root distance " ++ seconds_text (root_distance_of a) ++ codes " s"
 
 -- what an answer tells; the reference identifier is in hexadecimal digits (profile)
 unfoldable pub answer_text : Answer → List ℕ
-answer_text a = figures a ++ codes ", reference " ++ encode_lower a.reference_id ++ codes ", leap " ++ decimal a.leap
+answer_text a = figures a ++ codes ", reference " ++ encode_lower a.clock.reference_id ++ codes ", leap " ++ decimal a.clock.leap
 
 -- what it means (profile)
 abbrev pub meaning : Outcome → List ℕ

@@ -4,7 +4,7 @@ ghost use Rattle.ntp_query.specs.Answer.{answer_of, offset_of, delay_of, root_di
 
 use crate::Nanos;
 use ntp_client::Sample;
-use ntp_packet::Header;
+use ntp_packet::{ClockFields, Header};
 
 /// How many units of 2^-33 seconds a second has: those of twice an offset.
 const OFFSET_UNITS: u64 = 1 << 33;
@@ -20,16 +20,8 @@ const ROOT_UNITS: u64 = 1 << 17;
 pub struct Answer {
     /// The four stamps.
     pub sample: Sample,
-    /// The leap indicator: 0 no warning, 1 the last minute has 61 seconds, 2 it has 59 (RFC 5905, 7.3).
-    pub leap: u8,
-    /// The stratum: 1 primary, 2 to 15 secondary (RFC 5905, 7.3).
-    pub stratum: u8,
-    /// The reference identifier (RFC 5905, 7.3).
-    pub reference_id: [u8; 4],
-    /// The root delay, in units of 2^-16 seconds (RFC 5905, 7.3).
-    pub root_delay: u32,
-    /// The root dispersion, in units of 2^-16 seconds (RFC 5905, 7.3).
-    pub root_dispersion: u32,
+    /// The fields that the reply tells of the server's clock (RFC 5905, 7.3).
+    pub clock: ClockFields,
 }
 
 impl Answer {
@@ -39,11 +31,7 @@ impl Answer {
     {
         Answer {
             sample,
-            leap: header.leap(),
-            stratum: header.stratum(),
-            reference_id: header.reference_id(),
-            root_delay: header.root_delay().0,
-            root_dispersion: header.root_dispersion().0,
+            clock: header.clock(),
         }
     }
 
@@ -65,7 +53,8 @@ impl Answer {
     pub fn root_distance(&self) -> Nanos
         ensures { result.0 ≡ root_distance_of self.now }
     {
-        let units = i128::from(self.root_delay) + 2 * i128::from(self.root_dispersion);
+        let units = i128::from(self.clock.root_delay.0)
+            + 2 * i128::from(self.clock.root_dispersion.0);
         Nanos::of_units(units, ROOT_UNITS)
     }
 }

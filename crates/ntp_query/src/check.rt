@@ -70,7 +70,7 @@ fn passed_by(limits: &Limits, answer: &Answer) -> Option<Measure>
 {
     if is_above(limits.offset, answer.offset().0.unsigned_abs()) {
         Some(Measure::Offset)
-    } else if is_above(limits.stratum, u64::from(answer.stratum)) {
+    } else if is_above(limits.stratum, u64::from(answer.clock.stratum)) {
         Some(Measure::Stratum)
     } else if is_above(
         limits.root_distance,

@@ -118,7 +118,7 @@ impl fmt::Display for Performance {
     fn fmt<W: fmt::Write>(&self, f: &mut fmt::Formatter<W>) -> fmt::Result {
         let Performance(answer) = self;
         let (offset, delay) = (answer.offset(), answer.delay());
-        let (stratum, root_distance) = (answer.stratum, answer.root_distance());
+        let (stratum, root_distance) = (answer.clock.stratum, answer.root_distance());
         write!(
             f,
             "offset={offset}s delay={delay}s stratum={stratum} root_distance={root_distance}s"

@@ -47,8 +47,8 @@ impl fmt::Display for Answer {
     #[tactic(auto, unfolding(crate::specs::Text::answer_text))]
     fn fmt<W: fmt::Write>(&self, f: &mut fmt::Formatter<W>) -> fmt::Result {
         let figures = Figures(*self);
-        let identifier = Identifier(self.reference_id);
-        let leap = self.leap;
+        let identifier = Identifier(self.clock.reference_id);
+        let leap = self.clock.leap;
         write!(f, "{figures}, reference {identifier}, leap {leap}")
     }
 }
@@ -66,7 +66,7 @@ impl fmt::Display for Figures {
     fn fmt<W: fmt::Write>(&self, f: &mut fmt::Formatter<W>) -> fmt::Result {
         let Figures(answer) = self;
         let (offset, delay) = (answer.offset(), answer.delay());
-        let (stratum, root_distance) = (answer.stratum, answer.root_distance());
+        let (stratum, root_distance) = (answer.clock.stratum, answer.root_distance());
         write!(
             f,
             "offset {offset} s, delay {delay} s, stratum {stratum}, root distance {root_distance} s"

@@ -58,13 +58,13 @@ length-mac key number octets =
     length-append (to_be_bytes w32 number) (digest_octets (digest_of key octets))
     ∙ ap (λ n. 4 + n) (length-hash key.algorithm (key.octets ++ octets))
 
-length-header : (h : HeaderFields) → length h.reference_id ≡ 4 → length (header_octets h) ≡ 48
+length-header : (h : HeaderFields) → length h.clock.reference_id ≡ 4 → length (header_octets h) ≡ 48
 unfolding header_octets
 length-header h id =
-    let P : List ℕ → Type 0 = λ id. length (header_octets (record h { reference_id = id })) ≡ 48 in
-    subst P (four-cells h.reference_id id) refl
+    let P : List ℕ → Type 0 = λ id. length (header_octets (record h { clock = record h.clock { reference_id = id } })) ≡ 48 in
+    subst P (four-cells h.clock.reference_id id) refl
 
-length-sealed : (key : SymmetricKey) (number : ℕ) (h : HeaderFields) → length h.reference_id ≡ 4
+length-sealed : (key : SymmetricKey) (number : ℕ) (h : HeaderFields) → length h.clock.reference_id ≡ 4
     → length (sealed key number h) ≡ 52 + digest_length key.algorithm
 length-sealed key number h id =
     omega (
@@ -74,7 +74,7 @@ length-sealed key number h id =
       length-mac key number (header_octets h),
     )
 
-length-kiss : (k : Kiss) (request : HeaderFields) → length (kiss_fields k request).reference_id ≡ 4
+length-kiss : (k : Kiss) (request : HeaderFields) → length (kiss_fields k request).clock.reference_id ≡ 4
 length-kiss kiss.Rate request = refl
 length-kiss kiss.Deny request = refl
 
@@ -100,12 +100,12 @@ most_of (Signed key number request) = 52 + digest_length key.algorithm
 abbrev IsWithin : ℕ → Answer → Type 0
 IsWithin most a = (reply_length a ≤ most_octets a) × (reply_length a ≤ most)
 
-module _ (past : Past) (o : Occasion) (id : length o.reference.id ≡ 4) where
-  shown : (b : Bool) → length (if b then 0 ∷ 0 ∷ 0 ∷ 0 ∷ [] else o.reference.id) ≡ 4
+module _ (past : Past) (o : Occasion) (id : length o.reference.reference_id ≡ 4) where
+  shown : (b : Bool) → length (if b then 0 ∷ 0 ∷ 0 ∷ 0 ∷ [] else o.reference.reference_id) ≡ 4
   shown true = refl
   shown false = id
 
-  length-time : (request : HeaderFields) (found : Option Slot) (stamps : NewStamps) → length (time_fields o request found stamps).reference_id ≡ 4
+  length-time : (request : HeaderFields) (found : Option Slot) (stamps : NewStamps) → length (time_fields o request found stamps).clock.reference_id ≡ 4
   length-time request None stamps = shown (o.reference.stratum == 16)
   length-time request (Some slot) stamps = shown (o.reference.stratum == 16)
 
@@ -185,13 +185,13 @@ reading-fits enrolment octets (Ok r) is =
 
 -- ---- replies to datagrams
 
-pub fits-datagram : (life : Life) (o : Occasion) (octets : List ℕ) → Reads octets (reading_of octets) → length o.reference.id ≡ 4
+pub fits-datagram : (life : Life) (o : Occasion) (octets : List ℕ) → Reads octets (reading_of octets) → length o.reference.reference_id ≡ 4
     → reply_length (verdict life o octets) ≤ length octets
 fits-datagram None o octets reads id = omega arith
 fits-datagram (Some past) o octets reads id =
     omega (arith, (within past o id (kind_of past octets)).1, reading-fits (enrolment_at past) octets (reading_of octets) reads)
 
-pub fits-answer : (life : Life) (o : Occasion) (octets : List ℕ) → length o.reference.id ≡ 4
+pub fits-answer : (life : Life) (o : Occasion) (octets : List ℕ) → length o.reference.reference_id ≡ 4
     → reply_length (verdict life o octets) ≤ most_octets (verdict life o octets)
 fits-answer None o octets id = omega arith
 fits-answer (Some past) o octets id = (within past o id (kind_of past octets)).0

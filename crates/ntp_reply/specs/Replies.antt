@@ -5,7 +5,8 @@ use Rattle.ntp_time.specs.declared.moment.Moment.{Moment}
 use Rattle.ntp_time.specs.Fresh.{fresh}
 use Rattle.ntp_customer.specs.declared.slot.Slot.{Slot}
 use Rattle.ntp_customer.specs.Exchanges.{receives, all_stamps}
-use Rattle.ntp_packet.specs.Header.{HeaderFields, blank_header, header_octets}
+use Rattle.ntp_packet.specs.declared.clock_fields.ClockFields.{ClockFields}
+use Rattle.ntp_packet.specs.Header.{HeaderFields, blank_clock, blank_header, header_octets}
 use Rattle.ntp_packet.specs.Kiss.{rate_code, deny_code}
 use Rattle.ntp_mac.specs.Key.{SymmetricKey}
 use Rattle.ntp_mac.specs.Mac.{mac_of}
@@ -32,21 +33,19 @@ shown_stratum r = if r.stratum == 16 then 0 else r.stratum
 
 -- the identifier in a packet: none where the stratum is 0, since it would be read as a kiss code (RFC 5905, 7.4; profile)
 abbrev pub shown_id : ReferenceState → List ℕ
-shown_id r = if r.stratum == 16 then 0 ∷ 0 ∷ 0 ∷ 0 ∷ [] else r.id
+shown_id r = if r.stratum == 16 then 0 ∷ 0 ∷ 0 ∷ 0 ∷ [] else r.reference_id
+
+-- a state as a packet tells it (RFC 5905, 7.3, 7.4; profile)
+abbrev pub shown : ReferenceState → ClockFields
+shown r = record r { stratum = shown_stratum r; reference_id = shown_id r }
 
 -- the header of a time reply and of a crypto-NAK, with this origin and these stamps (RFC 5905, 9.2)
 abbrev pub reply_fields : ReferenceState → HeaderFields → Stamp → Stamp → Stamp → HeaderFields
 reply_fields reference request origin receive transmit = record {
-  leap = reference.leap;
   version = request.version;
   mode = 4;
-  stratum = shown_stratum reference;
   poll = request.poll;
-  precision = reference.precision;
-  root_delay = reference.root_delay;
-  root_dispersion = reference.root_dispersion;
-  reference_id = shown_id reference;
-  reference = reference.reference;
+  clock = shown reference;
   origin = origin;
   receive = receive;
   transmit = transmit;
@@ -74,9 +73,8 @@ kiss_transmit transmit = if transmit.0 == 0 then record { 0 = 1 } else transmit
 -- the header of a kiss-o'-death (RFC 5905, 7.4; the fields that it leaves open: profile)
 abbrev pub kiss_fields : Kiss → HeaderFields → HeaderFields
 kiss_fields kiss request = record (blank_header request.version 4) {
-  leap = 3;
   poll = request.poll;
-  reference_id = kiss_code kiss;
+  clock = record blank_clock { leap = 3; reference_id = kiss_code kiss };
   origin = request.transmit;
   transmit = kiss_transmit request.transmit;
 }

@@ -25,9 +25,9 @@ pub fn a_reply_has_distinct_stamps()
 /// most as many octets. It has at most 72, and DENY 48, a crypto-NAK 52. The identifier of the reference state has four octets,
 /// as each `Reference` has.
 pub fn a_reply_is_no_longer_than_its_datagram()
-    ensures datagram { (life : Life) (o : Occasion) (octets : List ℕ) → All (λ octet. octet < 256) octets → length o.reference.id ≡ 4
+    ensures datagram { (life : Life) (o : Occasion) (octets : List ℕ) → All (λ octet. octet < 256) octets → length o.reference.reference_id ≡ 4
         → reply_length (verdict life o octets) ≤ length octets }
-    ensures most { (life : Life) (o : Occasion) (octets : List ℕ) → length o.reference.id ≡ 4
+    ensures most { (life : Life) (o : Occasion) (octets : List ℕ) → length o.reference.reference_id ≡ 4
         → reply_length (verdict life o octets) ≤ most_octets (verdict life o octets) }
 {
     octets_are_what_they_are_read_as();

@@ -1,11 +1,11 @@
 //! The headers of the replies, field by field.
-ghost use Rattle.std.specs.Prelude.{◌≡◌};
-ghost use Rattle.ntp_reply.specs.Replies.{reply_fields, basic_fields, time_fields, kiss_fields, kiss_code, kiss_transmit, shown_stratum, shown_id};
+ghost use Rattle.std.specs.Prelude.{◌≡◌, ◌≤◌};
+ghost use Rattle.ntp_reply.specs.Replies.{reply_fields, basic_fields, time_fields, kiss_fields, kiss_code, kiss_transmit, shown};
 
 use crate::occasion::{NewStamps, Occasion};
 use crate::{Kiss, Reference};
 use ntp_customer::Slot;
-use ntp_packet::{DENY_CODE, Header, RATE_CODE};
+use ntp_packet::{ClockFields, DENY_CODE, Header, RATE_CODE};
 use ntp_time::Stamp;
 
 /// The mode of a packet from a server (RFC 5905, 7.3).
@@ -62,41 +62,28 @@ fn reply_fields(
 ) -> Header
     ensures { result ≡ reply_fields reference.now request.now origin receive transmit }
 {
-    Header::new(
-        reference.leap(),
-        request.version(),
-        SERVER_MODE,
-        shown_stratum(reference),
-        request.poll(),
-        reference.precision(),
-        reference.root_delay(),
-        reference.root_dispersion(),
-        shown_id(reference),
-        reference.reference(),
-        origin,
-        receive,
-        transmit,
-    )
+    Header::blank(request.version(), SERVER_MODE)
+        .with_poll(request.poll())
+        .with_clock(shown(reference))
+        .with_origin(origin)
+        .with_receive(receive)
+        .with_transmit(transmit)
 }
 
-// The stratum that a packet shows.
-fn shown_stratum(reference: &Reference) -> u8
-    ensures { result ≡ shown_stratum reference.now }
-{
-    match reference.stratum() {
-        UNSYNCHRONISED_STRATUM => 0,
-        stratum => stratum,
-    }
-}
-
-// The reference identifier that a packet shows: none where the clock is unsynchronised, since a client
+// A state as a packet tells it: an unsynchronised clock shows stratum 0, and no reference identifier, since a client
 // would read it as a kiss code.
-fn shown_id(reference: &Reference) -> [u8; 4]
-    ensures { result ≡ shown_id reference.now }
+fn shown(reference: &Reference) -> ClockFields
+    ensures value { result ≡ shown reference.now }
+    ensures leap_fits { result.leap ≤ 3 }
 {
-    match reference.stratum() {
-        UNSYNCHRONISED_STRATUM => [0; 4],
-        _ => reference.id(),
+    let fields = reference.fields();
+    if fields.stratum != UNSYNCHRONISED_STRATUM {
+        return fields;
+    }
+    ClockFields {
+        stratum: 0,
+        reference_id: [0; 4],
+        ..fields
     }
 }
 

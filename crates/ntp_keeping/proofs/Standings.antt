@@ -22,7 +22,8 @@ use Rattle.ntp_service.specs.Model.{life_of}
 use Rattle.ntp_service.specs.Headline.{StandsFor, TellsOne, is_struck, kept}
 use Rattle.ntp_service.proofs.Histories.{other-address}
 use Rattle.ntp_service.proofs.Runs.{Tells-nil, Tells-push}
-use Rattle.ntp_keeping.specs.Alike.{address_named, standing_at, ComesOf, LeaveTheSame}
+use Rattle.ntp_service.specs.Commands.{address_named}
+use Rattle.ntp_keeping.specs.Alike.{standing_at, ComesOf, LeaveTheSame}
 
 -- ---- what commands come to
 

@@ -8,7 +8,6 @@ use Rattle.ntp_service.specs.declared.command.Command.{Command}
 use Rattle.ntp_service.specs.declared.event.Event.{Event}
 use Rattle.ntp_service.specs.declared.event.Event.TheVariants as event
 use Rattle.ntp_service.specs.declared.outcome.Outcome.{Outcome}
-use Rattle.ntp_service.specs.Events.{address_of}
 use Rattle.ntp_service.specs.Headline.{Tells}
 use Rattle.ntp_service.specs.Split.{HadMemory}
 
@@ -26,10 +25,6 @@ pub record HaveTheSame (one other : Registry) : Type 0 where
 abbrev pub ComesOf : List Command → Registry → Type 0
 ComesOf commands service =
     (happened : List (Event Global × Outcome)) × (map (λ p. p.0) happened ≡ map event.Command commands) × HadMemory happened × Tells [] happened service
-
--- the address that a command names (profile)
-abbrev pub address_named : Command → Address
-address_named command = address_of {A = Global} (event.Command command)
 
 -- two lists of commands leave the same customers (profile)
 abbrev pub LeaveTheSame : List Command → List Command → Type 0

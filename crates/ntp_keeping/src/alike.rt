@@ -5,7 +5,8 @@ ghost use Rattle.std.specs.List.{All};
 ghost use Rattle.ntp_customer.specs.Customer.{enrolment_at, older_in, IsCustomer};
 ghost use Rattle.ntp_service.specs.declared.outcome.Outcome.TheVariants as outcome;
 ghost use Rattle.ntp_service.specs.Headline.{command_outcome};
-ghost use Rattle.ntp_keeping.specs.Alike.{address_named, standing_at, ComesOf, LeaveTheSame, HaveOneNewer, HoldOne};
+ghost use Rattle.ntp_service.specs.Commands.{address_named};
+ghost use Rattle.ntp_keeping.specs.Alike.{standing_at, ComesOf, LeaveTheSame, HaveOneNewer, HoldOne};
 
 use indexmap::IndexMap;
 use ntp_service::{Address, Command, Customer, Refusal, Service};
@@ -87,7 +88,7 @@ fn agree_at(one: &Given, other: &Given, commands: &[Command]) -> bool
     ensures { OnTrue result (All (λ command. standing_at one.now.service (address_named command) ≡ standing_at other.now.service (address_named command)) commands.now) }
 {
     for order in commands {
-        if !agree(one, other, address_in(order)) {
+        if !agree(one, other, order.address()) {
             return false;
         }
     }
@@ -172,17 +173,4 @@ fn hold_one(one: &Customer, other: &Customer, number: u16) -> bool
         return false;
     };
     *first == *second
-}
-
-// The address that a command names.
-fn address_in(command: &Command) -> Address
-    ensures { result ≡ address_named command.now }
-{
-    match command {
-        Command::Enrol { address, .. }
-        | Command::Revoke { address }
-        | Command::Budget { address, .. }
-        | Command::Rollover { address, .. }
-        | Command::Retire { address, .. } => *address,
-    }
 }

@@ -5,24 +5,19 @@ use Rattle.ntp_time.specs.declared.moment.Moment.{Moment}
 use Rattle.ntp_service.specs.declared.address.Address.{Address}
 use Rattle.ntp_service.specs.Address.{address_eq}
 use Rattle.ntp_service.specs.declared.command.Command.{Command}
-use Rattle.ntp_service.specs.declared.event.Event.TheVariants as event
 use Rattle.ntp_service.specs.declared.observation.LineOutcome.{LineOutcome}
 use Rattle.ntp_service.specs.declared.observation.LineOutcome.TheVariants.{Done}
 use Rattle.ntp_service.specs.declared.observation.Observation.{Observation}
 use Rattle.ntp_service.specs.declared.observation.Observation.TheVariants.{Turn}
 use Rattle.ntp_service.specs.declared.observation.TurnOutcome.{TurnOutcome}
 use Rattle.ntp_service.specs.declared.observation.TurnOutcome.TheVariants.{Answered}
-use Rattle.ntp_service.specs.Events.{address_of}
+use Rattle.ntp_service.specs.Commands.{address_named}
 use Rattle.ntp_reports.specs.declared.signing.Signing.{Signing}
 use Rattle.ntp_reports.specs.declared.customer_report.CustomerReport.{CustomerReport}
 use Rattle.ntp_reports.specs.declared.customer_counts.CustomerCounts.{CustomerCounts}
 use Rattle.ntp_reports.specs.Counted.{AreCounts}
 use Rattle.ntp_reports.specs.Signing.{signing_in}
 use Rattle.ntp_reports.specs.Customers.{key_in, report_after, Takes}
-
--- the address that a command names (profile)
-abbrev pub address_in : Command → Address
-address_in command = address_of {A = Unit {0}} (event.Command command)
 
 -- the command that a line carried out, if it did: the one that was heard of before (profile)
 abbrev pub done_in : Option Command → LineOutcome → Option Command
@@ -79,7 +74,7 @@ module _ {A : Type 0} where
   -- a command was carried out by a line: of its address is reported what is after it, and all others are as they were (profile)
   abbrev pub CarriedOut : CustomerCounts A → CustomerCounts A → Command → ℕ → Type 0
   CarriedOut old new command line =
-      HasReport old new (address_in command) (report_after (report_at old (address_in command)) command line)
+      HasReport old new (address_named command) (report_after (report_at old (address_named command)) command line)
 
   -- a line carried out this command, or none (profile)
   abbrev pub IsTold : CustomerCounts A → CustomerCounts A → Option Command → ℕ → Type 0
@@ -88,7 +83,7 @@ module _ {A : Type 0} where
 
   -- memory was refused for the report of the address that a command names, which had none: all reports are as they were (profile)
   abbrev pub HasMissed : CustomerCounts A → CustomerCounts A → Command → Type 0
-  HasMissed old new command = (report_at old (address_in command) ≡ None) × AreSame old new × (new.has_missed ≡ true)
+  HasMissed old new command = (report_at old (address_named command) ≡ None) × AreSame old new × (new.has_missed ≡ true)
 
   -- a command was carried out by a line, or its report was missed (profile)
   abbrev pub CarriedOutOrMissed : CustomerCounts A → CustomerCounts A → Command → ℕ → Type 0

@@ -4,7 +4,8 @@ ghost use Rattle.std.specs.Map.Iter.{deref_pair};
 ghost use Rattle.std.specs.Bool.{OnFalse};
 ghost use Rattle.ntp_service.specs.declared.address.Address.{Address};
 ghost use Rattle.ntp_service.specs.declared.observation.Observation.{Observation};
-ghost use Rattle.ntp_reports.specs.Reported.{report_at, address_in, done_in, AreSame, HasReport, CarriedOut, IsTold, CarriedOutOrMissed, IsToldOrMissed, TakesTurn, CountsOf, SignsAs};
+ghost use Rattle.ntp_service.specs.Commands.{address_named};
+ghost use Rattle.ntp_reports.specs.Reported.{report_at, done_in, AreSame, HasReport, CarriedOut, IsTold, CarriedOutOrMissed, IsToldOrMissed, TakesTurn, CountsOf, SignsAs};
 
 use crate::customer_report::{CustomerReport, report_after};
 use indexmap::IndexMap;
@@ -94,12 +95,12 @@ impl<A: Allocator + Copy> CustomerCounts<A> {
     // Reports that a command was carried out by a line.
     fn carried_out(&mut self, command: &Command, line: u64) -> Result<(), AllocError>
         ensures ok { OnOk result (CarriedOut self.old self.new command.now line) }
-        ensures absent { OnErr result (report_at self.old (address_in command.now) ≡ None) }
+        ensures absent { OnErr result (report_at self.old (address_named command.now) ≡ None) }
         ensures err { OnErr result (AreSame self.old self.new) }
         ensures missed { self.new.has_missed ≡ self.old.has_missed }
         ensures heard { self.new.heard ≡ self.old.heard }
     {
-        let address = address_in(command);
+        let address = command.address();
         let before = self.report(address).copied();
         match report_after(before, command, line) {
             Some(report) => self.put(address, report),
@@ -163,18 +164,5 @@ impl<A: Allocator + Copy> Observer for CustomerCounts<A> {
         if let TurnOutcome::Answered { arrival, .. } = outcome {
             self.take(arrival.address, outcome);
         }
-    }
-}
-
-// The address that a command names.
-fn address_in(command: &Command) -> Address
-    ensures { result ≡ address_in command.now }
-{
-    match command {
-        Command::Enrol { address, .. }
-        | Command::Revoke { address }
-        | Command::Budget { address, .. }
-        | Command::Rollover { address, .. }
-        | Command::Retire { address, .. } => *address,
     }
 }

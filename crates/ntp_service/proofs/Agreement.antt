@@ -1,20 +1,28 @@
 -- What the changes of a register do to the agreement of its customers and its holders.
-use Rattle.std.proofs.Common.{◌≡◌, ◌≢◌, ℕ, true, false, List, [], ◌∷◌, ◌++◌, Option, Some, None, Contains, refl, sym, ap, ◌∙◌, subst, ⊎_elim, unwrap_or}
+use Rattle.std.proofs.Common.{◌≡◌, ◌≢◌, ℕ, true, false, List, [], ◌∷◌, ◌++◌, Option, Some, None, Contains, refl, sym, ap, ◌∙◌, subst, ⊎_elim, unwrap_or, is_some, arith}
 use Rattle.std.specs.Prelude.{◌↔◌}
 use Rattle.std.proofs.lemmas.Option.{none-some}
 use Rattle.std.proofs.lemmas.List.Elements.{Contains-append_left, Contains-append_right, Contains-append_cases}
 use Rattle.std.specs.Ordering.{nat_cmp}
 use Rattle.std.specs.Option.{option_map_or}
+use Rattle.std.specs.Int.NonZero.{non_zero_u16_get}
+use Rattle.std.specs.declared.num.NonZeroU16.{NonZeroU16}
+use Rattle.std.proofs.lemmas.Bool.Decides.{nat_tests}
+use Rattle.ntp_mac.specs.Key.{SymmetricKey}
 use Rattle.std.specs.FinMap.{get-empty}
 use Rattle.ntp_service.specs.declared.address.Address.{Address}
 use Rattle.ntp_service.specs.Address.{address_cmp}
 use Rattle.ntp_customer.specs.declared.numbered_key.NumberedKey.{NumberedKey}
-use Rattle.ntp_customer.specs.Customer.{CustomerState, enrolment_of, new_customer, revoked, rolled_over, retired, is_enrolled, numbers_of}
-use Rattle.ntp_customer.proofs.Customers.{revoked-absent}
-use Rattle.ntp_service.specs.Registry.{Registry, Agrees, empty_registry, customer_at, is_enrolled_at, numbers_at, holder_of, with_customer, with_holder, without_holder, without_holders, after_enrol}
+use Rattle.ntp_customer.specs.Customer.{Enrolment, CustomerState, enrolment_of, enrolment_at, new_customer, revoked, rebudgeted, rolled_over, retired, is_enrolled, numbers_in, numbers_of}
+use Rattle.ntp_customer.proofs.Customers.{revoked-absent, numbers-rebudgeted}
+use Rattle.ntp_service.specs.declared.refusal.Refusal.TheVariants.{NotEnrolled}
+use Rattle.ntp_service.specs.declared.command.Command.{Command}
+use Rattle.ntp_service.specs.declared.command.Command.TheVariants.{Enrol, Revoke, Budget, Rollover, Retire}
+use Rattle.ntp_service.specs.Commands.{numbered, refusal_of}
+use Rattle.ntp_service.specs.Registry.{Registry, Agrees, empty_registry, customer_at, is_enrolled_at, numbers_at, holder_of, with_customer, with_holder, without_holder, without_holders, after_command, own_refusal, holder_in_way}
 use Rattle.ntp_service.proofs.AddressLaws.{same_or_other_address, same_or_other_number}
 use Rattle.ntp_service.proofs.Members.{Contains-here, Contains-none, Contains-one, is_member}
-use Rattle.ntp_service.proofs.Numbers.{numbers-rolled_over, numbers-retired}
+use Rattle.ntp_service.proofs.Numbers.{found-number, numbers-rolled_over, numbers-retired}
 use Rattle.ntp_service.proofs.Lookups.{numbers_held, numbers_at-with_customer, numbers_at-with_customer-other, holder_of-with_holder, holder_of-with_holder-other, holder_of-without_holders, holder_of-without_holders-other}
 
 same_some : {X : Type 0} (x y : X) → Some x ≡ Some y → x ≡ y
@@ -152,21 +160,21 @@ module _ (r : Registry) (address : Address) (w : CustomerState) (agrees : Agrees
             (is_member freed n))
 
 -- an enrolment of an address that is not enrolled, with a number that is free, keeps the agreement
-pub agrees-after_enrol : (r : Registry) (address : Address) (key : NumberedKey) (budget : ℕ) → is_enrolled_at r address ≡ false
-    → holder_of r key.number ≡ None → Agrees r → Agrees (after_enrol r address key budget)
-agrees-after_enrol r address key budget new free agrees =
+agrees-enrol : (r : Registry) (address : Address) (key : NumberedKey) (budget : ℕ) → is_enrolled_at r address ≡ false
+    → holder_of r key.number ≡ None → Agrees r → Agrees (with_customer (with_holder r key.number address) address (new_customer (enrolment_of key budget)))
+agrees-enrol r address key budget new free agrees =
     agrees-taking r address (new_customer (enrolment_of key budget)) agrees key.number free
     (ap (λ l. l ++ key.number ∷ []) (sym (unenrolled-numbers r address new)))
 
 module _ (r : Registry) (address : Address) (c : CustomerState) (there : customer_at r address ≡ Some c) (agrees : Agrees r) where
   -- so does one key more of an address that is enrolled, with a number that is free
-  pub agrees-rollover : (key : NumberedKey) → is_enrolled c ≡ true → holder_of r key.number ≡ None
+  agrees-rollover : (key : NumberedKey) → is_enrolled c ≡ true → holder_of r key.number ≡ None
       → Agrees (with_customer (with_holder r key.number address) address (rolled_over c key))
   agrees-rollover key enrolled free = agrees-taking r address (rolled_over c key) agrees key.number free
       (numbers-rolled_over c key enrolled ∙ ap (λ l. l ++ key.number ∷ []) (sym (ap numbers_held there)))
 
   -- the end of a key
-  pub agrees-retire : (number : ℕ) → Contains (numbers_at r address) number
+  agrees-retire : (number : ℕ) → Contains (numbers_at r address) number
       → Agrees (without_holder (with_customer r address (retired c number)) number)
   agrees-retire number held = agrees-freeing r address (retired c number) agrees (number ∷ [])
       (λ n is. subst (Contains (numbers_at r address)) (Contains-one number n is) held)
@@ -177,10 +185,59 @@ module _ (r : Registry) (address : Address) (c : CustomerState) (there : custome
       ))
 
   -- and the end of an enrolment
-  pub agrees-revoke : Agrees (without_holders (with_customer r address (revoked c)) (numbers_of c))
+  agrees-revoke : Agrees (without_holders (with_customer r address (revoked c)) (numbers_of c))
   agrees-revoke = agrees-freeing r address (revoked c) agrees (numbers_of c)
       (λ n is. subst (λ l. Contains l n) (sym (ap numbers_held there)) is)
       (λ n. (
         (λ is. absurd (Contains-none n is)),
         (λ both. absurd (both.1 (subst (λ l. Contains l n) (ap numbers_held there) both.0))),
       ))
+
+-- ---- a command that is done
+-- what refuses an address that is not enrolled, and not this one, is told of a customer that is
+enrolled-there : (c : Command) → refusal_of None c ≡ Some NotEnrolled → (o : Option CustomerState)
+    → refusal_of (option_map_or enrolment_at o None) c ≡ None → (d : CustomerState) × (o ≡ Some d) × (is_enrolled d ≡ true)
+enrolled-there c asks None own = cc
+enrolled-there c asks (Some d) own = by_enrolment (enrolment_at d) refl
+  where
+    by_enrolment : (o : Option Enrolment) → enrolment_at d ≡ o → (w : CustomerState) × (Some d ≡ Some w) × (is_enrolled w ≡ true)
+    by_enrolment None is = let refused = subst (λ o. refusal_of o c ≡ None) is own in cc
+    by_enrolment (Some e) is = (d, refl, ap is_some is)
+
+unenrolled-there : (o : Option CustomerState) (address : Address) (number budget : NonZeroU16) (key : SymmetricKey)
+    → refusal_of (option_map_or enrolment_at o None) (Enrol address number key budget) ≡ None → option_map_or is_enrolled o false ≡ false
+unenrolled-there None address number budget key own = refl
+unenrolled-there (Some d) address number budget key own = by_enrolment (enrolment_at d) own
+  where
+    by_enrolment : (o : Option Enrolment) → refusal_of o (Enrol address number key budget) ≡ None → is_some o ≡ false
+    by_enrolment None own = refl
+    by_enrolment (Some e) own = cc
+
+-- a key that is taken is one that is held
+retired-held : (d : CustomerState) (address : Address) (number : NonZeroU16) → refusal_of (enrolment_at d) (Retire address number) ≡ None
+    → Contains (numbers_of d) (non_zero_u16_get number)
+retired-held d address number own = by_enrolment (enrolment_at d) own
+  where
+    by_enrolment : (o : Option Enrolment) → refusal_of o (Retire address number) ≡ None
+        → Contains (option_map_or numbers_in o []) (non_zero_u16_get number)
+    by_enrolment None own = cc
+    by_enrolment (Some e) own = found-number e.keys (non_zero_u16_get number) (grind (arith, nat_tests))
+
+-- a command that nothing is in the way of keeps the agreement
+pub agrees-after : (r : Registry) (c : Command) → own_refusal r c ≡ None → holder_in_way r c ≡ None → Agrees r → Agrees (after_command r c)
+agrees-after r (Enrol address number key budget) own free agrees =
+    agrees-enrol r address (numbered number key) (non_zero_u16_get budget)
+    (unenrolled-there (customer_at r address) address number budget key own) free agrees
+agrees-after r (Revoke address) own free agrees =
+    let it = enrolled-there (Revoke address) refl (customer_at r address) own in rw it.1 (agrees-revoke r address it.0 it.1 agrees)
+agrees-after r (Budget address budget) own free agrees =
+    let it = enrolled-there (Budget address budget) refl (customer_at r address) own in
+    rw it.1 (agrees-with_customer r address (rebudgeted it.0 (non_zero_u16_get budget)) agrees it.0 it.1
+    (numbers-rebudgeted it.0 (non_zero_u16_get budget)))
+agrees-after r (Rollover address number key) own free agrees =
+    let it = enrolled-there (Rollover address number key) refl (customer_at r address) own in
+    rw it.1 (agrees-rollover r address it.0 it.1 agrees (numbered number key) it.2 free)
+agrees-after r (Retire address number) own free agrees =
+    let it = enrolled-there (Retire address number) refl (customer_at r address) own in
+    let held = retired-held it.0 address number (subst (λ o. refusal_of (option_map_or enrolment_at o None) (Retire address number) ≡ None) it.1 own) in
+    rw it.1 (agrees-retire r address it.0 it.1 agrees (non_zero_u16_get number) (subst (λ o. Contains (numbers_held o) (non_zero_u16_get number)) (sym it.1) held))

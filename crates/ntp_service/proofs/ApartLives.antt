@@ -14,14 +14,15 @@ use Rattle.ntp_service.specs.declared.command.Command.{Command}
 use Rattle.ntp_service.specs.declared.command.Command.TheVariants.{Enrol, Revoke, Budget, Rollover, Retire}
 use Rattle.ntp_service.specs.declared.event.Event.{Event}
 use Rattle.ntp_service.specs.declared.event.Event.TheVariants as event
-use Rattle.ntp_service.specs.Model.{numbered, refusal_of, after_done, after, life_after, life_of}
+use Rattle.ntp_service.specs.Commands.{numbered, refusal_of, once_done}
+use Rattle.ntp_service.specs.Model.{after, life_after, life_of}
 use Rattle.ntp_service.proofs.Lives.{by_life}
 
 -- a change of terms leaves the exchanges
 changed : (change : Enrolment → Enrolment) (life : Life) → recent_in (option_map (with_terms change) life) ≡ recent_in life
 changed change = by_life _ refl (λ refusals. refl) (λ a refusals. refl)
 
-AreSaved-done : (life : Life) (c : Command) → AreSaved (recent_in life) → AreSaved (recent_in (after_done life c))
+AreSaved-done : (life : Life) (c : Command) → AreSaved (recent_in life) → AreSaved (recent_in (once_done [] life c))
 AreSaved-done life (Enrol address number key budget) are = AreSaved-none
 AreSaved-done None (Revoke address) are = are
 AreSaved-done (Some past) (Revoke address) are = AreSaved-none
@@ -31,7 +32,7 @@ AreSaved-done life (Rollover address number key) are = subst AreSaved (sym (chan
 AreSaved-done life (Retire address number) are = subst AreSaved (sym (changed (λ e. without_key e (non_zero_u16_get number)) life)) are
 
 AreSaved-command : (life : Life) (c : Command) (b : Bool) → AreSaved (recent_in life)
-    → AreSaved (recent_in (if b then life else after_done life c))
+    → AreSaved (recent_in (if b then life else once_done [] life c))
 AreSaved-command life c true are = are
 AreSaved-command life c false are = AreSaved-done life c are
 

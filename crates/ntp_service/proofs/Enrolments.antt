@@ -13,10 +13,11 @@ use Rattle.ntp_service.specs.declared.command.Command.TheVariants.{Enrol, Revoke
 use Rattle.ntp_service.specs.declared.event.Event.{Event}
 use Rattle.ntp_service.specs.declared.event.Event.TheVariants as event
 use Rattle.ntp_service.specs.Events.{address_of, own}
-use Rattle.ntp_service.specs.Model.{numbered, after_done, answer_to, after, life_of}
+use Rattle.ntp_service.specs.Commands.{numbered, once_done}
+use Rattle.ntp_service.specs.Model.{answer_to, after, life_of}
 use Rattle.ntp_service.specs.Headline.{IsTaken, number_asked}
 use Rattle.ntp_service.specs.Split.{is_command}
-use Rattle.ntp_service.proofs.Lives.{by_life, command_answer, after_command}
+use Rattle.ntp_service.proofs.Lives.{by_life, command_answer, life_after_command}
 use Rattle.ntp_service.proofs.Bounds.{same-enrolment}
 
 -- the enrolment after a command that is done, by that before it
@@ -27,13 +28,13 @@ enrolment_after terms (Budget address budget) = option_map {T = Enrolment} (λ e
 enrolment_after terms (Rollover address number key) = option_map {T = Enrolment} (λ e. with_key e (numbered number key)) terms
 enrolment_after terms (Retire address number) = option_map {T = Enrolment} (λ e. without_key e (non_zero_u16_get number)) terms
 
-enrolment-done : (c : Command) (life : Life) → enrolment_in (after_done life c) ≡ enrolment_after (enrolment_in life) c
+enrolment-done : (c : Command) (life : Life) → enrolment_in (once_done [] life c) ≡ enrolment_after (enrolment_in life) c
 enrolment-done (Enrol address number key budget) = λ life. refl
 enrolment-done other = by_life _ refl (λ refusals. refl) (λ a refusals. refl)
 
 -- with one enrolment a command leaves one, and is answered alike
 enrolment-command : (c : Command) (one other : Life) → enrolment_in one ≡ enrolment_in other
-    → enrolment_in (after_command one c) ≡ enrolment_in (after_command other c)
+    → enrolment_in (life_after_command one c) ≡ enrolment_in (life_after_command other c)
 enrolment-command c one other same = grind (arith, enrolment-done c one, enrolment-done c other)
 
 pub command-alike : (c : Command) (one other : Life) → enrolment_in one ≡ enrolment_in other → command_answer one c ≡ command_answer other c

@@ -20,11 +20,12 @@ use Rattle.ntp_service.specs.declared.event.Event.TheVariants as event
 use Rattle.ntp_service.specs.declared.outcome.Outcome.{Outcome}
 use Rattle.ntp_service.specs.declared.outcome.Outcome.TheVariants as outcome
 use Rattle.ntp_service.specs.Events.{own}
-use Rattle.ntp_service.specs.Model.{answer_to, after_done, after, life_after, life_of, says_after}
+use Rattle.ntp_service.specs.Commands.{once_done}
+use Rattle.ntp_service.specs.Model.{answer_to, after, life_after, life_of, says_after}
 use Rattle.ntp_service.specs.Headline.{Tells, TellsOne, happened_to}
 use Rattle.ntp_service.specs.Forgery.{is_signed_query, is_genuine, genuine, at_genuine, without_refusals, TellsWithoutForgeries}
 use Rattle.ntp_service.proofs.Histories.{events_of}
-use Rattle.ntp_service.proofs.Lives.{after_command}
+use Rattle.ntp_service.proofs.Lives.{life_after_command}
 
 -- ---- one datagram
 -- a signed query is answered alike with no refusals counted
@@ -51,12 +52,12 @@ after-kind past o other = refl
 
 -- and after a command
 same-done : (c : Command) (past : Past)
-    → without_refusals (after_done (Some (with_refusals past [])) c) ≡ without_refusals (after_done (Some past) c)
+    → without_refusals (once_done [] (Some (with_refusals past [])) c) ≡ without_refusals (once_done [] (Some past) c)
 same-done (Enrol address number key budget) past = refl
 same-done other past = refl
 
 same-command : (c : Command) (past : Past)
-    → without_refusals (after_command (Some (with_refusals past [])) c) ≡ without_refusals (after_command (Some past) c)
+    → without_refusals (life_after_command (Some (with_refusals past [])) c) ≡ without_refusals (life_after_command (Some past) c)
 same-command c past = grind (arith, same-done c past)
 
 module _ {A : Type 0} where

@@ -17,9 +17,10 @@ use Rattle.ntp_service.specs.declared.event.Event.{Event}
 use Rattle.ntp_service.specs.declared.event.Event.TheVariants as event
 use Rattle.ntp_service.specs.declared.outcome.Outcome.TheVariants.{Done, Refused}
 use Rattle.ntp_service.specs.Events.{address_of, own}
-use Rattle.ntp_service.specs.Model.{refusal_of, life_of}
-use Rattle.ntp_service.specs.Headline.{StandsFor, IsEnrolledWith, IsTaken, number_asked}
-use Rattle.ntp_service.proofs.Lives.{by_life, enrolment-kept, number_of_command, number-is}
+use Rattle.ntp_service.specs.Commands.{number_wanted, refusal_of}
+use Rattle.ntp_service.specs.Model.{life_of}
+use Rattle.ntp_service.specs.Headline.{StandsFor, IsEnrolledWith, IsTaken}
+use Rattle.ntp_service.proofs.Lives.{by_life, enrolment-kept}
 
 -- the numbers are kept
 numbers-kept : (life : Life) → numbers_held (option_map short life) ≡ option_map_or numbers_in (enrolment_in life) []
@@ -36,7 +37,7 @@ held-number (k ∷ keys) n (zero, within, is) = grind (arith, nat_tests)
 held-number (k ∷ keys) n (suc i, within, is) = let later = held-number keys n (i, omega arith, is) in grind (arith, nat_tests)
 
 -- who asks for a number, and is not refused, does not hold it
-asked-free : (c : Command) (terms : Option Enrolment) (n : ℕ) → number_of_command c ≡ Some n → refusal_of terms c ≡ None
+asked-free : (c : Command) (terms : Option Enrolment) (n : ℕ) → number_wanted c ≡ Some n → refusal_of terms c ≡ None
     → Contains (option_map_or numbers_in terms []) n → ⊥
 asked-free (Enrol address number key budget) None n asked plain is = omega (arith, is.1)
 asked-free (Enrol address number key budget) (Some e) n asked plain is = cc
@@ -60,7 +61,7 @@ module _ {A : Type 0} (r : Registry) (history : List (Event A)) (stands : Stands
   one-enrolled one two number first second = one-holder r one two number stands.agrees (holds one number first) (holds two number second)
 
   -- the register has a holder of the number that a command asks for exactly where another address is enrolled with it
-  pub taken-so : (c : Command) (n : ℕ) → number_asked {A = A} (event.Command c) ≡ Some n
+  pub taken-so : (c : Command) (n : ℕ) → number_wanted c ≡ Some n
       → refusal_of (enrolment_in (life_of (own (address_of {A = A} (event.Command c)) history))) c ≡ None
       → IsSome (holder_of r n) ↔ IsTaken history (event.Command c)
   taken-so c n asked plain = (there, back)
@@ -74,7 +75,7 @@ module _ {A : Type 0} (r : Registry) (history : List (Event A)) (stands : Stands
           let held : IsEnrolledWith history holder.0 n =
           subst (λ l. Contains l n) (numbers-are holder.0) (stands.agrees.enrolled holder.0 n holder.1) in
           let other : holder.0 ≢ address = λ same.
-          asked-free c (enrolment_in (life_of (own address history))) n (sym (number-is A c) ∙ asked) plain
+          asked-free c (enrolment_in (life_of (own address history))) n asked plain
           (subst (λ a. IsEnrolledWith history a n) same held) in
           (n, (asked, ap (λ o. option_map_or Refused o Done) plain), holder.0, other, held)
 

@@ -1,34 +1,28 @@
 -- An event in lives of which the same is kept.
-use Rattle.std.proofs.Common.{◌≡◌, ◌<◌, Option, Some, None, is_some, option_map, refl, sym, ap, ◌∙◌, arith}
+use Rattle.std.proofs.Common.{◌≡◌, ◌<◌, [], Option, Some, None, is_some, option_map, refl, sym, ap, ◌∙◌, arith}
 use Rattle.std.specs.Prelude.{if◌then◌else◌}
 use Rattle.std.specs.Option.{option_map_or}
 use Rattle.std.specs.Int.NonZero.{non_zero_u16_get}
 use Rattle.std.proofs.lemmas.Option.{none-some, same_Some}
-use Rattle.ntp_customer.specs.Tally.{most_counted}
-use Rattle.ntp_customer.specs.Customer.{CustomerState, enrolment_of, enrolment_at, new_customer, budget_of, revoked, rebudgeted, rolled_over, retired}
+use Rattle.ntp_customer.specs.Tally.{most_counted, tally}
+use Rattle.ntp_customer.specs.Customer.{CustomerState, enrolment_of, enrolment_at, budget_of}
 use Rattle.ntp_customer.specs.Past.{Past, short}
 use Rattle.ntp_reply.specs.Life.{Life, budget_in}
 use Rattle.ntp_reply.specs.Replies.{occasion_of}
 use Rattle.ntp_reply.proofs.KeptExchanges.{short-new, departure-alike}
 use Rattle.ntp_reply.proofs.ShortPasts.{datagram-alike}
 use Rattle.ntp_service.specs.declared.command.Command.{Command}
-use Rattle.ntp_service.specs.declared.command.Command.TheVariants.{Enrol, Revoke, Budget, Rollover, Retire}
+use Rattle.ntp_service.specs.declared.command.Command.TheVariants.{Enrol}
 use Rattle.ntp_service.specs.declared.event.Event.{Event}
 use Rattle.ntp_service.specs.declared.event.Event.TheVariants as event
 use Rattle.ntp_service.specs.declared.outcome.Outcome.{Outcome}
 use Rattle.ntp_service.specs.declared.outcome.Outcome.TheVariants as outcome
-use Rattle.ntp_service.specs.Model.{numbered, refusal_of, after_done, departure_outcome, answer_to, after}
-use Rattle.ntp_service.proofs.Lives.{by_life, enrolment-kept, command_answer, after_command}
+use Rattle.ntp_service.specs.Commands.{numbered, refusal_of, once_done}
+use Rattle.ntp_service.specs.Model.{departure_outcome, answer_to, after}
+use Rattle.ntp_service.proofs.Lives.{by_life, enrolment-kept, command_answer, life_after_command}
 
--- what is kept after a command that is done, by what was kept
-abbrev pub kept_after : Option CustomerState → Command → Option CustomerState
-kept_after o (Enrol address number key budget) = Some (new_customer (enrolment_of (numbered number key) (non_zero_u16_get budget)))
-kept_after o (Revoke address) = option_map revoked o
-kept_after o (Budget address budget) = option_map (λ c. rebudgeted c (non_zero_u16_get budget)) o
-kept_after o (Rollover address number key) = option_map (λ c. rolled_over c (numbered number key)) o
-kept_after o (Retire address number) = option_map (λ c. retired c (non_zero_u16_get number)) o
-
-pub kept-done : (c : Command) (life : Life) → kept_after (option_map short life) c ≡ option_map short (after_done life c)
+-- what is kept after a command that is done follows from what was kept
+pub kept-done : (c : Command) (life : Life) → once_done (tally []) (option_map short life) c ≡ option_map short (once_done [] life c)
 kept-done (Enrol address number key budget) = λ life. ap Some (short-new (enrolment_of (numbered number key) (non_zero_u16_get budget)))
 kept-done other = by_life _ refl (λ refusals. refl) (λ a refusals. refl)
 
@@ -36,10 +30,10 @@ kept-done other = by_life _ refl (λ refusals. refl) (λ a refusals. refl)
 abbrev by_customer : Command → Option CustomerState → Outcome × Option CustomerState
 by_customer c o =
     let refusal = refusal_of (option_map_or enrolment_at o None) c in
-    (option_map_or outcome.Refused refusal outcome.Done, if is_some refusal then o else kept_after o c)
+    (option_map_or outcome.Refused refusal outcome.Done, if is_some refusal then o else once_done (tally []) o c)
 
 kept-command : (c : Command) (life : Life)
-    → by_customer c (option_map short life) ≡ (command_answer life c, option_map short (after_command life c))
+    → by_customer c (option_map short life) ≡ (command_answer life c, option_map short (life_after_command life c))
 kept-command c life = grind (arith, enrolment-kept life, kept-done c life)
 
 module _ {A : Type 0} where

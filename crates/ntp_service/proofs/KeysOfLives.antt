@@ -12,7 +12,6 @@ use Rattle.ntp_customer.specs.declared.numbered_key.NumberedKey.{NumberedKey}
 use Rattle.ntp_customer.specs.Customer.{Enrolment, HasKeys, enrolment_of, with_terms, numbers_in, most_keys}
 use Rattle.ntp_customer.proofs.Customers.{with_key, without_key}
 use Rattle.ntp_service.specs.declared.refusal.Refusal.{Refusal}
-use Rattle.ntp_service.specs.Refusals.{rollover_refusal, retire_refusal}
 use Rattle.ntp_reply.specs.Life.{Life, enrolment_in}
 use Rattle.ntp_reply.specs.Replies.{occasion_of}
 use Rattle.ntp_reply.specs.Exchanged.{after_departure}
@@ -20,7 +19,8 @@ use Rattle.ntp_service.specs.declared.command.Command.{Command}
 use Rattle.ntp_service.specs.declared.command.Command.TheVariants.{Enrol, Revoke, Budget, Rollover, Retire}
 use Rattle.ntp_service.specs.declared.event.Event.{Event}
 use Rattle.ntp_service.specs.declared.event.Event.TheVariants as event
-use Rattle.ntp_service.specs.Model.{numbered, refusal_of, after_done, after, life_after, life_of}
+use Rattle.ntp_service.specs.Commands.{numbered, rollover_refusal, retire_refusal, refusal_of, once_done}
+use Rattle.ntp_service.specs.Model.{after, life_after, life_of}
 use Rattle.ntp_service.proofs.Lives.{by_life}
 use Rattle.ntp_service.proofs.Holders.{held-number}
 use Rattle.ntp_service.proofs.Bounds.{same-enrolment}
@@ -31,11 +31,11 @@ HasKeys-one key budget = record { some = omega arith; few = omega arith; apart =
 
 -- ---- one key more
 -- a rollover that is not refused finds room, and its number is not held
-rollover-plain : (e : Enrolment) (n : ℕ) → rollover_refusal (Some e) n ≡ None
+rollover-plain : (e : Enrolment) (n : ℕ) → rollover_refusal e n ≡ None
     → (length e.keys < most_keys) × (is_some (find (λ k. k.number == n) e.keys) ≡ false)
 rollover-plain e n plain = (grind (arith, nat_tests), grind (arith, nat_tests))
 
-HasKeys-with_key : (e : Enrolment) (key : NumberedKey) → rollover_refusal (Some e) key.number ≡ None → HasKeys e → HasKeys (with_key e key)
+HasKeys-with_key : (e : Enrolment) (key : NumberedKey) → rollover_refusal e key.number ≡ None → HasKeys e → HasKeys (with_key e key)
 HasKeys-with_key e key plain has = record {
   some = omega (arith, long);
   few = omega (arith, long, found.0);
@@ -53,7 +53,7 @@ HasKeys-with_key e key plain has = record {
 
 -- ---- one key less
 -- a retirement that is not refused finds two keys
-retire-plain : (e : Enrolment) (n : ℕ) → retire_refusal (Some e) n ≡ None → 1 < length e.keys
+retire-plain : (e : Enrolment) (n : ℕ) → retire_refusal e n ≡ None → 1 < length e.keys
 retire-plain e n plain = grind (arith, nat_tests)
 
 -- the numbers of those keys that stay
@@ -70,7 +70,7 @@ one-left (k ∷ []) n two apart = absurd (omega (arith, two))
 one-left (k ∷ l ∷ keys) n two apart =
     let differ : k.number ≢ l.number = apart 0 1 0 (omega arith) (omega arith) in grind (arith, nat_tests)
 
-HasKeys-without_key : (e : Enrolment) (n : ℕ) → retire_refusal (Some e) n ≡ None → HasKeys e → HasKeys (without_key e n)
+HasKeys-without_key : (e : Enrolment) (n : ℕ) → retire_refusal e n ≡ None → HasKeys e → HasKeys (without_key e n)
 HasKeys-without_key e n plain has = record {
   some = one-left e.keys n (retire-plain e n plain) has.apart;
   few = omega (arith, length-filter_both (λ k. not (k.number == n)) (λ k. not (not (k.number == n))) (λ k. refl) e.keys, has.few);
@@ -88,7 +88,7 @@ changed : (change : Enrolment → Enrolment) (life : Life)
     → HasKeysIn life → HasKeysIn (option_map (with_terms change) life)
 changed change = by_life _ (λ step has. has) (λ refusals step has. has) (λ a refusals step has. step a.enrolment refl has)
 
-HasKeys-done : (life : Life) (c : Command) → refusal_of (enrolment_in life) c ≡ None → HasKeysIn life → HasKeysIn (after_done life c)
+HasKeys-done : (life : Life) (c : Command) → refusal_of (enrolment_in life) c ≡ None → HasKeysIn life → HasKeysIn (once_done [] life c)
 HasKeys-done life (Enrol address number key budget) plain has = HasKeys-one (numbered number key) (non_zero_u16_get budget)
 HasKeys-done None (Revoke address) plain has = has
 HasKeys-done (Some past) (Revoke address) plain has = tt
@@ -97,13 +97,13 @@ HasKeys-done life (Budget address budget) plain has =
     (λ e is keys. record { some = keys.some; few = keys.few; apart = keys.apart }) has
 HasKeys-done life (Rollover address number key) plain has =
     changed (λ e. with_key e (numbered number key)) life
-    (λ e is. HasKeys-with_key e (numbered number key) (sym (ap (λ o. rollover_refusal o (non_zero_u16_get number)) is) ∙ plain)) has
+    (λ e is. HasKeys-with_key e (numbered number key) (sym (ap (λ o. refusal_of o (Rollover address number key)) is) ∙ plain)) has
 HasKeys-done life (Retire address number) plain has =
     changed (λ e. without_key e (non_zero_u16_get number)) life
-    (λ e is. HasKeys-without_key e (non_zero_u16_get number) (sym (ap (λ o. retire_refusal o (non_zero_u16_get number)) is) ∙ plain)) has
+    (λ e is. HasKeys-without_key e (non_zero_u16_get number) (sym (ap (λ o. refusal_of o (Retire address number)) is) ∙ plain)) has
 
 HasKeys-command : (life : Life) (c : Command) (o : Option Refusal) → refusal_of (enrolment_in life) c ≡ o → HasKeysIn life
-    → HasKeysIn (if is_some o then life else after_done life c)
+    → HasKeysIn (if is_some o then life else once_done [] life c)
 HasKeys-command life c None plain has = HasKeys-done life c plain has
 HasKeys-command life c (Some refusal) is has = has
 

@@ -1,22 +1,17 @@
 -- Lives by their cases, what is kept of them, and the commands that leave them as they are.
-use Rattle.std.proofs.Common.{◌≡◌, ◌≢◌, ℕ, List, Option, Some, None, is_some, option_map, refl, sym}
+use Rattle.std.proofs.Common.{◌≡◌, ◌≢◌, ℕ, List, [], Option, Some, None, is_some, option_map, refl, sym}
 use Rattle.std.specs.Prelude.{if◌then◌else◌}
 use Rattle.std.specs.Option.{option_map_or}
 use Rattle.std.proofs.lemmas.Option.{none-some, same_Some}
 use Rattle.ntp_customer.specs.Customer.{AccountOf, CustomerState, enrolment_at}
 use Rattle.ntp_customer.specs.Past.{Past, short}
 use Rattle.ntp_customer.proofs.Pasts.{by_past}
-use Rattle.ntp_service.specs.declared.address.Address.{Address}
 use Rattle.ntp_service.specs.declared.refusal.Refusal.{Refusal}
 use Rattle.ntp_reply.specs.Life.{Life, enrolment_in}
 use Rattle.ntp_service.specs.declared.command.Command.{Command}
-use Rattle.ntp_service.specs.declared.command.Command.TheVariants.{Enrol, Revoke, Budget, Rollover, Retire}
-use Rattle.ntp_service.specs.declared.event.Event.TheVariants as event
 use Rattle.ntp_service.specs.declared.outcome.Outcome.{Outcome}
 use Rattle.ntp_service.specs.declared.outcome.Outcome.TheVariants.{Done, Refused}
-use Rattle.ntp_service.specs.Events.{address_of}
-use Rattle.ntp_service.specs.Model.{refusal_of, after_done}
-use Rattle.ntp_service.specs.Headline.{number_asked}
+use Rattle.ntp_service.specs.Commands.{refusal_of, once_done}
 
 -- a life is that of an address that was never enrolled, of one that is not enrolled now, or of one that is
 module _ (P : Life → Type 0) (never : P None) (out : (refusals : List ℕ) → P (Some (record { account = None; refusals = refusals })))
@@ -40,36 +35,17 @@ never-enrolled (Some past) is = absurd (none-some (short past) (sym is))
 pub enrolment-kept : (life : Life) → option_map_or enrolment_at (option_map short life) None ≡ enrolment_in life
 enrolment-kept = by_life _ refl (λ refusals. refl) (λ a refusals. refl)
 
--- what a command names and asks for, whatever the events are that it stands among
-abbrev pub address_of_command : Command → Address
-address_of_command c = address_of {A = Unit {0}} (event.Command c)
-
-abbrev pub number_of_command : Command → Option ℕ
-number_of_command c = number_asked {A = Unit {0}} (event.Command c)
-
-pub address-is : (A : Type 0) (c : Command) → address_of {A = A} (event.Command c) ≡ address_of_command c
-address-is A (Enrol address number key budget) = refl
-address-is A (Revoke address) = refl
-address-is A (Budget address budget) = refl
-address-is A (Rollover address number key) = refl
-address-is A (Retire address number) = refl
-
-pub number-is : (A : Type 0) (c : Command) → number_asked {A = A} (event.Command c) ≡ number_of_command c
-number-is A (Enrol address number key budget) = refl
-number-is A (Rollover address number key) = refl
-number-is A other = refl
-
 -- the answer to a command, and the life after it
 abbrev pub command_answer : Life → Command → Outcome
 command_answer life c = option_map_or Refused (refusal_of (enrolment_in life) c) Done
 
-abbrev pub after_command : Life → Command → Life
-after_command life c = if is_some (refusal_of (enrolment_in life) c) then life else after_done life c
+abbrev pub life_after_command : Life → Command → Life
+life_after_command life c = if is_some (refusal_of (enrolment_in life) c) then life else once_done [] life c
 
 -- a command that is not done leaves the life
-pub undone : (c : Command) (life : Life) → command_answer life c ≢ Done → after_command life c ≡ life
+pub undone : (c : Command) (life : Life) → command_answer life c ≢ Done → life_after_command life c ≡ life
 undone c life = by_refusal (refusal_of (enrolment_in life) c)
   where
-    by_refusal : (o : Option Refusal) → option_map_or Refused o Done ≢ Done → (if is_some o then life else after_done life c) ≡ life
+    by_refusal : (o : Option Refusal) → option_map_or Refused o Done ≢ Done → (if is_some o then life else once_done [] life c) ≡ life
     by_refusal None plain = absurd (plain refl)
     by_refusal (Some refusal) plain = refl

@@ -1,14 +1,11 @@
 -- What a register answers after each change: at the address or the number that was changed, and at all others.
-use Rattle.std.proofs.Common.{◌≡◌, ◌≢◌, ℕ, List, [], ◌∷◌, Option, Some, None, Contains, fold, refl, sym, ap, ◌∙◌, ⊎_elim, arith}
+use Rattle.std.proofs.Common.{◌≡◌, ◌≢◌, ℕ, List, [], ◌∷◌, Option, Some, None, Contains, refl, sym, ap, ◌∙◌, ⊎_elim, arith}
 use Rattle.std.specs.Option.{option_map_or}
-use Rattle.std.specs.Ordering.{nat_cmp}
 use Rattle.std.proofs.lemmas.Cmp.{nat_cmp_total}
-use Rattle.std.specs.FinMap as map
 use Rattle.std.specs.FinMap.{nat_cmp-IsAntisymmetric}
 use Rattle.ntp_service.specs.declared.address.Address.{Address}
-use Rattle.ntp_customer.specs.declared.numbered_key.NumberedKey.{NumberedKey}
-use Rattle.ntp_customer.specs.Customer.{CustomerState, enrolment_of, new_customer, revoked, rebudgeted, rolled_over, retired, numbers_of}
-use Rattle.ntp_service.specs.Registry.{Registry, customer_at, numbers_at, holder_of, with_customer, with_holder, without_holder, without_holders, after_enrol, after_revoke, after_budget, after_rollover, after_retire}
+use Rattle.ntp_customer.specs.Customer.{CustomerState, numbers_of}
+use Rattle.ntp_service.specs.Registry.{Registry, customer_at, numbers_at, holder_of, with_customer, with_holder, without_holder, without_holders}
 use Rattle.ntp_service.proofs.Keys.{get-insert-here, get-insert-there, get-remove-here, get-remove-there, insert-present, remove-insert}
 use Rattle.ntp_service.proofs.AddressLaws.{address_cmp_total, address_cmp-IsAntisymmetric, same_or_other_number}
 use Rattle.ntp_service.proofs.Members.{Contains-here, Contains-there, Contains-cases}
@@ -83,68 +80,3 @@ holder_of-without_holders-other r [] n never = refl
 holder_of-without_holders-other r (m ∷ ms) n never =
     holder_of-without_holders-other (without_holder r m) ms n (λ is. never (Contains-there m ms n is))
     ∙ holder_of-without_holder-other r m n (λ e. never (Contains-here m ms n (sym e)))
-
--- ---- an address was enrolled
-module _ (r : Registry) (address : Address) (key : NumberedKey) (budget : ℕ) where
-  pub customer_at-after_enrol : customer_at (after_enrol r address key budget) address ≡ Some (new_customer (enrolment_of key budget))
-  customer_at-after_enrol = customer_at-with_customer r address (new_customer (enrolment_of key budget))
-
-  pub customer_at-after_enrol-other : (other : Address) → other ≢ address
-      → customer_at (after_enrol r address key budget) other ≡ customer_at r other
-  customer_at-after_enrol-other other ne =
-      customer_at-with_customer-other r address (new_customer (enrolment_of key budget)) other ne
-
--- ---- the customer of an address, c, was changed, and holders with it
-module _ (r : Registry) (address : Address) (change : CustomerState → CustomerState) (holders : CustomerState → map.FinMap nat_cmp Address)
-    (c : CustomerState) (there : customer_at r address ≡ Some c) where
-  abbrev changed : CustomerState → Registry
-  changed d = record { customers = map.insert r.customers address (change d); holders = holders d }
-
-  is-changed : option_map_or changed (customer_at r address) r ≡ changed c
-  is-changed = ap (λ o. option_map_or changed o r) there
-
-  customer_at-changed : customer_at (option_map_or changed (customer_at r address) r) address ≡ Some (change c)
-  customer_at-changed = ap (λ s. customer_at s address) is-changed ∙ customer_at-with_customer r address (change c)
-
-  customer_at-changed-other : (other : Address) → other ≢ address
-      → customer_at (option_map_or changed (customer_at r address) r) other ≡ customer_at r other
-  customer_at-changed-other other ne =
-      ap (λ s. customer_at s other) is-changed ∙ customer_at-with_customer-other r address (change c) other ne
-
-module _ (r : Registry) (address : Address) where
-  -- the address was revoked
-  pub customer_at-after_revoke : (c : CustomerState) → customer_at r address ≡ Some c
-      → customer_at (after_revoke r address) address ≡ Some (revoked c)
-  customer_at-after_revoke = customer_at-changed r address revoked (λ c. fold map.remove r.holders (numbers_of c))
-
-  pub customer_at-after_revoke-other : (c : CustomerState) → customer_at r address ≡ Some c → (other : Address) → other ≢ address
-      → customer_at (after_revoke r address) other ≡ customer_at r other
-  customer_at-after_revoke-other = customer_at-changed-other r address revoked (λ c. fold map.remove r.holders (numbers_of c))
-
-  -- it has another budget
-  pub customer_at-after_budget : (budget : ℕ) (c : CustomerState) → customer_at r address ≡ Some c
-      → customer_at (after_budget r address budget) address ≡ Some (rebudgeted c budget)
-  customer_at-after_budget budget = customer_at-changed r address (λ c. rebudgeted c budget) (λ c. r.holders)
-
-  pub customer_at-after_budget-other : (budget : ℕ) (c : CustomerState) → customer_at r address ≡ Some c
-      → (other : Address) → other ≢ address → customer_at (after_budget r address budget) other ≡ customer_at r other
-  customer_at-after_budget-other budget = customer_at-changed-other r address (λ c. rebudgeted c budget) (λ c. r.holders)
-
-  -- it has one key more
-  pub customer_at-after_rollover : (key : NumberedKey) (c : CustomerState) → customer_at r address ≡ Some c
-      → customer_at (after_rollover r address key) address ≡ Some (rolled_over c key)
-  customer_at-after_rollover key = customer_at-changed r address (λ c. rolled_over c key) (λ c. map.insert r.holders key.number address)
-
-  pub customer_at-after_rollover-other : (key : NumberedKey) (c : CustomerState) → customer_at r address ≡ Some c
-      → (other : Address) → other ≢ address → customer_at (after_rollover r address key) other ≡ customer_at r other
-  customer_at-after_rollover-other key =
-      customer_at-changed-other r address (λ c. rolled_over c key) (λ c. map.insert r.holders key.number address)
-
-  -- a key was taken from it
-  pub customer_at-after_retire : (number : ℕ) (c : CustomerState) → customer_at r address ≡ Some c
-      → customer_at (after_retire r address number) address ≡ Some (retired c number)
-  customer_at-after_retire number = customer_at-changed r address (λ c. retired c number) (λ c. map.remove r.holders number)
-
-  pub customer_at-after_retire-other : (number : ℕ) (c : CustomerState) → customer_at r address ≡ Some c
-      → (other : Address) → other ≢ address → customer_at (after_retire r address number) other ≡ customer_at r other
-  customer_at-after_retire-other number = customer_at-changed-other r address (λ c. retired c number) (λ c. map.remove r.holders number)

@@ -1,5 +1,5 @@
 -- The key numbers of a customer.
-use Rattle.std.proofs.Common.{◌≡◌, ◌≢◌, ◌==◌, ℕ, Bool, true, false, not, cond, List, [], ◌∷◌, ◌++◌, Contains, map, filter, refl, sym, ◌∙◌, ⊎_elim, true≢false, arith}
+use Rattle.std.proofs.Common.{◌≡◌, ◌≢◌, ◌==◌, ℕ, Bool, true, false, not, cond, List, [], ◌∷◌, ◌++◌, Contains, is_some, map, filter, find, refl, sym, ◌∙◌, ⊎_elim, true≢false, arith}
 use Rattle.std.specs.Prelude.{◌↔◌}
 use Rattle.std.proofs.lemmas.Bool.Decides.{nat_tests}
 use Rattle.std.proofs.lemmas.List.{map-append}
@@ -10,6 +10,16 @@ use Rattle.ntp_service.proofs.Members.{Contains-here, Contains-there, Contains-c
 
 abbrev numbers : List NumberedKey → List ℕ
 numbers keys = map (λ k. k.number) keys
+
+-- a number that is found is one of them
+pub found-number : (keys : List NumberedKey) (n : ℕ) → is_some (find (λ k. k.number == n) keys) ≡ true → Contains (numbers keys) n
+found-number [] n is = absurd (true≢false (sym is))
+found-number (k ∷ keys) n is = by_first (k.number == n) refl (found-number keys n)
+  where
+    by_first : (b : Bool) → (k.number == n) ≡ b → (is_some (find (λ k. k.number == n) keys) ≡ true → Contains (numbers keys) n)
+        → Contains (numbers (k ∷ keys)) n
+    by_first true here later = Contains-here k.number (numbers keys) n (grind (arith, nat_tests))
+    by_first false other later = Contains-there k.number (numbers keys) n (later (grind (arith, nat_tests)))
 
 -- one key more has its number behind the others
 pub numbers-rolled_over : (c : CustomerState) (key : NumberedKey) → is_enrolled c ≡ true

@@ -2,7 +2,7 @@
 use Rattle.std.specs.Prelude.{Bool, List, filter}
 use Rattle.ntp_service.specs.declared.address.Address.{Address}
 use Rattle.ntp_service.specs.Address.{address_eq}
-use Rattle.ntp_service.specs.declared.command.Command.TheVariants.{Enrol, Revoke, Budget, Rollover, Retire}
+use Rattle.ntp_service.specs.Commands.{address_named}
 use Rattle.ntp_service.specs.declared.event.Event.{Event}
 use Rattle.ntp_service.specs.declared.event.Event.TheVariants as event
 
@@ -10,11 +10,7 @@ use Rattle.ntp_service.specs.declared.event.Event.TheVariants as event
 abbrev pub address_of : {A : Type 0} → Event A → Address
 address_of (event.Datagram address receipt transmit reference octets) = address
 address_of (event.Departed address receive m) = address
-address_of (event.Command (Enrol address number key budget)) = address
-address_of (event.Command (Revoke address)) = address
-address_of (event.Command (Budget address budget)) = address
-address_of (event.Command (Rollover address number key)) = address
-address_of (event.Command (Retire address number)) = address
+address_of (event.Command command) = address_named command
 
 -- whether an event names an address (profile)
 abbrev pub names : {A : Type 0} → Address → Event A → Bool

@@ -1,16 +1,14 @@
 -- What a service is, and what it tells each address.
 use Rattle.std.specs.Prelude.{◌≡◌, ◌≢◌, ◌↔◌, ℕ, Contains, Option, Some, None, option_map, Bool, false, not, ◌&&◌, if◌then◌else◌, Result, Ok, Err, List, [], ◌∷◌, ◌++◌, map, filter}
 use Rattle.std.specs.Option.{option_map_or}
-use Rattle.std.specs.Int.NonZero.{non_zero_u16_get}
 use Rattle.ntp_service.specs.declared.address.Address.{Address}
 use Rattle.ntp_service.specs.declared.refusal.Refusal.{Refusal}
 use Rattle.ntp_service.specs.declared.refusal.Refusal.TheVariants.{KeyTaken, NoMemory}
-use Rattle.ntp_service.specs.Refusals.{is_foreign}
+use Rattle.ntp_service.specs.Commands.{number_wanted, is_foreign}
 use Rattle.ntp_service.specs.Registry.{Registry, Agrees, customer_at}
 use Rattle.ntp_customer.specs.Customer.{numbers_in}
 use Rattle.ntp_customer.specs.Past.{short}
 use Rattle.ntp_reply.specs.Life.{enrolment_in}
-use Rattle.ntp_service.specs.declared.command.Command.TheVariants.{Enrol, Rollover}
 use Rattle.ntp_service.specs.declared.event.Event.{Event}
 use Rattle.ntp_service.specs.declared.event.Event.TheVariants as event
 use Rattle.ntp_service.specs.declared.outcome.Outcome.{Outcome}
@@ -49,8 +47,7 @@ IsEnrolledWith history address number = Contains (option_map_or numbers_in (enro
 
 -- the key number that an event asks for, if it is a command that asks for one (profile)
 abbrev pub number_asked : {A : Type 0} → Event A → Option ℕ
-number_asked (event.Command (Enrol address number key budget)) = Some (non_zero_u16_get number)
-number_asked (event.Command (Rollover address number key)) = Some (non_zero_u16_get number)
+number_asked (event.Command command) = number_wanted command
 number_asked other = None
 
 -- after a history, an event asks for this number, and by the model of its own address it would be done (profile)

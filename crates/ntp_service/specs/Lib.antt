@@ -1,6 +1,6 @@
 pub mod Address
+pub mod Commands
 pub mod Registry
-pub mod Refusals
 pub mod Lends
 pub mod Codes
 pub mod Sees

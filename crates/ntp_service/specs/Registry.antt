@@ -1,12 +1,18 @@
 -- A register, as contracts see it: two finite maps.
-use Rattle.std.specs.Prelude.{◌≡◌, ℕ, Bool, false, Option, Some, None, List, [], fold, Contains}
+use Rattle.std.specs.Prelude.{◌≡◌, ℕ, Bool, false, Option, Some, None, IsSome, option_and_then, Result, Err, OnOk, OnErr, IfErr, List, [], fold, Contains}
 use Rattle.std.specs.Option.{option_map_or}
+use Rattle.std.specs.Int.NonZero.{non_zero_u16_get}
 use Rattle.std.specs.Ordering.{nat_cmp}
 use Rattle.std.specs.FinMap as map
 use Rattle.ntp_service.specs.declared.address.Address.{Address}
 use Rattle.ntp_service.specs.Address.{address_cmp}
-use Rattle.ntp_customer.specs.declared.numbered_key.NumberedKey.{NumberedKey}
-use Rattle.ntp_customer.specs.Customer.{Enrolment, CustomerState, enrolment_at, enrolment_of, new_customer, revoked, rebudgeted, rolled_over, retired, is_enrolled, numbers_of}
+use Rattle.ntp_service.specs.declared.command.Command.{Command}
+use Rattle.ntp_service.specs.declared.command.Command.TheVariants.{Enrol, Revoke, Budget, Rollover, Retire}
+use Rattle.ntp_service.specs.declared.refusal.Refusal.{Refusal}
+use Rattle.ntp_service.specs.declared.refusal.Refusal.TheVariants.{KeyTaken, NoMemory}
+use Rattle.ntp_service.specs.Commands.{address_named, number_wanted, refusal_of, once_done}
+use Rattle.ntp_customer.specs.Tally.{tally}
+use Rattle.ntp_customer.specs.Customer.{Enrolment, CustomerState, enrolment_at, is_enrolled, numbers_of}
 
 -- the customers by address, and the holder of each key number that is held (profile)
 pub record Registry : Type 0 where
@@ -58,25 +64,36 @@ without_holder r number = record r { holders = map.remove r.holders number }
 abbrev pub without_holders : Registry → List ℕ → Registry
 without_holders r numbers = record r { holders = fold map.remove r.holders numbers }
 
--- after an address is enrolled with a key: it is a new customer and holds the key's number (profile)
-abbrev pub after_enrol : Registry → Address → NumberedKey → ℕ → Registry
-after_enrol r address key budget =
-    with_customer (with_holder r key.number address) address (new_customer (enrolment_of key budget))
+-- the holders of numbers after a command that is done: its address holds the number that it asks for, and numbers given up are free (profile)
+abbrev pub holders_after : Registry → Command → map.FinMap nat_cmp Address
+holders_after r (Enrol address number key budget) = map.insert r.holders (non_zero_u16_get number) address
+holders_after r (Revoke address) = fold map.remove r.holders (numbers_at r address)
+holders_after r (Budget address budget) = r.holders
+holders_after r (Rollover address number key) = map.insert r.holders (non_zero_u16_get number) address
+holders_after r (Retire address number) = map.remove r.holders (non_zero_u16_get number)
 
--- after an address is revoked: its enrolment goes, and its numbers are free again (profile)
-abbrev pub after_revoke : Registry → Address → Registry
-after_revoke r address = option_map_or (λ c. without_holders (with_customer r address (revoked c)) (numbers_of c)) (customer_at r address) r
+-- after a command that is done: its address's customer and the holders are changed, and nothing else (profile)
+abbrev pub after_command : Registry → Command → Registry
+after_command r command = option_map_or
+    (λ c. record { customers = map.insert r.customers (address_named command) c; holders = holders_after r command })
+    (once_done (tally []) (customer_at r (address_named command)) command) r
 
--- after an address has another budget, if it is enrolled (profile)
-abbrev pub after_budget : Registry → Address → ℕ → Registry
-after_budget r address budget = option_map_or (λ c. with_customer r address (rebudgeted c budget)) (customer_at r address) r
+-- why a command is refused by what its own address has, if it is (profile)
+abbrev pub own_refusal : Registry → Command → Option Refusal
+own_refusal r command = refusal_of (terms_at r (address_named command)) command
 
--- after an enrolled address has one key more, with a number that nobody held: it is the number's holder (profile)
-abbrev pub after_rollover : Registry → Address → NumberedKey → Registry
-after_rollover r address key =
-    option_map_or (λ c. with_customer (with_holder r key.number address) address (rolled_over c key)) (customer_at r address) r
+-- the holder of the number that a command asks for, if it asks for one that is held (profile)
+abbrev pub holder_in_way : Registry → Command → Option Address
+holder_in_way r command = option_and_then (holder_of r) (number_wanted command)
 
--- after the key of a number that it holds is taken from an enrolled address: the number is free again (profile)
-abbrev pub after_retire : Registry → Address → ℕ → Registry
-after_retire r address number =
-    option_map_or (λ c. with_customer (without_holder r number) address (retired c number)) (customer_at r address) r
+-- a register r answers a command with this result, and is s afterwards (profile)
+pub record AnswersCommand (r s : Registry) (command : Command) (result : Result (Unit {0}) Refusal) : Type 0 where
+  -- what its own address has refuses it
+  pub own : (refusal : Refusal) → own_refusal r command ≡ Some refusal → result ≡ Err refusal
+  -- else a number that is held refuses it
+  pub taken : own_refusal r command ≡ None → IsSome (holder_in_way r command) → result ≡ Err KeyTaken
+  -- else nothing refuses it but want of memory, and that only where it asks for a number
+  pub memory : own_refusal r command ≡ None → holder_in_way r command ≡ None
+      → IfErr result (λ refusal. (refusal ≡ NoMemory) × IsSome (number_wanted command))
+  pub done : OnOk result (s ≡ after_command r command)
+  pub kept : OnErr result (s ≡ r)

@@ -1,4 +1,7 @@
 //! What an administrator orders.
+ghost use Rattle.std.specs.Prelude.{◌≡◌, option_map};
+ghost use Rattle.std.specs.Int.NonZero.{non_zero_u16_get};
+ghost use Rattle.ntp_service.specs.Commands.{address_named, number_wanted};
 
 use crate::Address;
 use ntp_mac::Key;
@@ -34,4 +37,29 @@ pub enum Command {
         address: Address,
         number: NonZero<u16>,
     },
+}
+
+impl Command {
+    /// The address that the command names.
+    pub fn address(&self) -> Address
+        ensures { result ≡ address_named self.now }
+    {
+        match *self {
+            Command::Enrol { address, .. }
+            | Command::Revoke { address }
+            | Command::Budget { address, .. }
+            | Command::Rollover { address, .. }
+            | Command::Retire { address, .. } => address,
+        }
+    }
+
+    /// The key number that the command asks for: an enrolment and a rollover ask for one.
+    pub fn number_wanted(&self) -> Option<NonZero<u16>>
+        ensures { option_map non_zero_u16_get result ≡ number_wanted self.now }
+    {
+        match *self {
+            Command::Enrol { number, .. } | Command::Rollover { number, .. } => Some(number),
+            Command::Revoke { .. } | Command::Budget { .. } | Command::Retire { .. } => None,
+        }
+    }
 }

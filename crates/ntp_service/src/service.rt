@@ -112,24 +112,7 @@ impl<A: Allocator + Copy> Service<A> {
             → (result ≡ Err Refusal.KeyTaken) ↔ IsTaken history (Event.Command command.now) }
         ensures refused { OnErr result (self.new ≡ self.old) }
     {
-        match command {
-            Command::Enrol {
-                address,
-                number,
-                key,
-                budget,
-            } => self
-                .register
-                .enrol(*address, number.get(), *key, budget.get()),
-            Command::Revoke { address } => self.register.revoke(*address),
-            Command::Budget { address, budget } => self.register.set_budget(*address, budget.get()),
-            Command::Rollover {
-                address,
-                number,
-                key,
-            } => self.register.rollover(*address, number.get(), *key),
-            Command::Retire { address, number } => self.register.retire(*address, number.get()),
-        }
+        self.register.carry_out(command)
     }
 
     /// The outcome of one event: what `datagram`, `departed` or `command` answers to it.

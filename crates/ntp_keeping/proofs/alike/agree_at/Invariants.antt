@@ -1,6 +1,7 @@
 use Rattle.std.proofs.Common.{take, ◌≡◌}
 use Rattle.std.specs.List.{All}
-use Rattle.ntp_keeping.specs.Alike.{address_named, standing_at}
+use Rattle.ntp_service.specs.Commands.{address_named}
+use Rattle.ntp_keeping.specs.Alike.{standing_at}
 use Rattle.ntp_keeping.proofs.alike.agree_at.Given as goal
 
 abbrev pub invariant-loop-order : goal.invariant-loop-order

@@ -141,13 +141,12 @@ fn command<'a>(alloc: Global) -> Result<Command<'a>, AllocError> {
         .about("Asks an NTP server for the time under a key, and tells what came of it")
         .after_help(AFTER_HELP)
         .arg(value(alloc, "key-file", "FILE", "The key file").required(true))?
-        .arg(number(alloc, "number", "N", 1, 65_535, "The number of the key").required(true))?
+        .arg(number(alloc, "number", "N", (1, 65_535), "The number of the key").required(true))?
         .arg(number(
             alloc,
             "count",
             "K",
-            1,
-            1_000,
+            (1, 1_000),
             "How many queries [default: 1]",
         ))?
         .arg(seconds(
@@ -183,8 +182,7 @@ fn limited<'a>(alloc: Global, command: Command<'a>) -> Result<Command<'a>, Alloc
             alloc,
             "max-stratum",
             "N",
-            0,
-            16,
+            (0, 16),
             "Critical: a greater stratum",
         ))?
         .arg(seconds(
@@ -197,8 +195,7 @@ fn limited<'a>(alloc: Global, command: Command<'a>) -> Result<Command<'a>, Alloc
             alloc,
             "warn-stratum",
             "N",
-            0,
-            16,
+            (0, 16),
             "A warning: a greater stratum",
         ))?
         .arg(seconds(
@@ -217,13 +214,12 @@ fn value<'a>(alloc: Global, name: &'a str, shown: &'a str, help: &'a str) -> Arg
         .help(help)
 }
 
-// A name with a whole number.
+// A name with a whole number, from the least to the most of these.
 fn number<'a>(
     alloc: Global,
     name: &'a str,
     shown: &'a str,
-    least: u64,
-    most: u64,
+    (least, most): (u64, u64),
     help: &'a str,
 ) -> Arg<'a> {
     value(alloc, name, shown, help).value_parser(ValueParser::unsigned(least, most))

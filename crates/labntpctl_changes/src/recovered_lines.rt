@@ -2,7 +2,7 @@
 
 use labntpctl_standing::{Reported, Standing, address_text, key_text, left_at};
 use ntp_admin::Command;
-use ntp_keeping::{Amendment, Seen, SeenKey, SeenTerms, amendment_for, command_line, lost_keys};
+use ntp_keeping::{Amendment, Seen, SeenKey, amendment_for, command_line, lost_keys};
 use ntp_service::Address;
 use std::alloc::{AllocError, Global};
 use std::num::NonZero;
@@ -135,29 +135,31 @@ fn add_lost(
     };
     let [older, newer] = lost_keys(left, &customer.seen, is_later);
     let is_all = older.is_some() && (newer.is_some() || terms.newer.is_none());
-    add_lost_key(alloc, lines, customer.address, terms, older, is_all)?;
-    add_lost_key(alloc, lines, customer.address, terms, newer, false)
+    let anew = if is_all { Some(terms.budget) } else { None };
+    add_lost_key(alloc, lines, customer.address, older, anew)?;
+    add_lost_key(alloc, lines, customer.address, newer, None)
 }
 
-// Adds the line of a key, if it is lost: it is given anew by an enrolment where it `is_first` of a customer who has no key any more.
+// Adds the line of a key, if it is lost. A customer who has no key any more is enrolled `anew`, with this budget.
 fn add_lost_key(
     alloc: Global,
     lines: &mut String,
     address: Address,
-    terms: &SeenTerms,
     lost: Option<SeenKey>,
-    is_first: bool,
+    anew: Option<u16>,
 ) -> Result<(), AllocError> {
     let Some(key) = lost else {
         return Ok(());
     };
     let address = address_text(alloc, address)?;
     let key = key_text(alloc, &key)?;
-    let budget = terms.budget;
-    let line = if is_first {
-        format!(in alloc; "lost: {address}: {key}: labntpctl enrol {address} --budget {budget}\n")?
-    } else {
-        format!(in alloc; "lost: {address}: {key}: labntpctl rollover {address}\n")?
+    let line = match anew {
+        Some(budget) => {
+            format!(in alloc;
+                "lost: {address}: {key}: labntpctl enrol {address} --budget {budget}\n"
+            )?
+        }
+        None => format!(in alloc; "lost: {address}: {key}: labntpctl rollover {address}\n")?,
     };
     lines.push_str(line.as_str())
 }

@@ -10,7 +10,7 @@ use ntp_checking::{DocumentLines, NoToml, key_lines, key_wrong, shown_value};
 use ntp_customer_files::{TEXT_FAULTY, memory_status};
 use ntp_mac::Algorithm;
 use std::alloc::{AllocError, Global};
-use toml::Table;
+use toml::{Table, Value};
 
 /// The files of customers that a configuration names, as far as it does.
 #[derive(Drop)]
@@ -139,6 +139,7 @@ fn check_places(
     report: &mut Report,
 ) -> Result<(), u8> {
     let named = NamedFiles {
+        configuration: path,
         register: path_at(document, Setting::Register),
         commands: path_at(document, Setting::Commands),
         key_file: match clock_daemon_in(document) {
@@ -149,7 +150,7 @@ fn check_places(
         statistics: path_at(document, Setting::Statistics),
         customers: path_at(document, Setting::Customers),
     };
-    if tell_places(rt, rt.alloc(), path, named, usize::MAX, &mut report.out)? > 0 {
+    if tell_places(rt, rt.alloc(), named, usize::MAX, &mut report.out)? > 0 {
         report.take(TEXT_FAULTY);
     }
     Ok(())
@@ -206,7 +207,13 @@ fn found_in(alloc: Global, text: &str, document: &Table) -> Result<Vec<Found>, A
     for setting in KEYS.iter() {
         if let Some(fault) = setting_fault(document, *setting) {
             let line = lines.top.line_of(setting.key());
-            add(alloc, &mut found, document, *setting, line, &fault)?;
+            add(
+                alloc,
+                &mut found,
+                line,
+                &fault,
+                value_at(document, *setting),
+            )?;
         }
     }
     for key in document.keys() {
@@ -239,14 +246,8 @@ fn add_of_clock(
             continue;
         }
         if let Some(fault) = setting_fault(clock, *setting) {
-            add(
-                alloc,
-                found,
-                clock,
-                *setting,
-                line_of(setting.key()),
-                &fault,
-            )?;
+            let line = line_of(setting.key());
+            add(alloc, found, line, &fault, value_at(clock, *setting))?;
         }
     }
     for key in clock.keys() {
@@ -259,16 +260,15 @@ fn add_of_clock(
     Ok(())
 }
 
-// Adds the fault of a setting, with what stands there.
+// Adds the fault of a setting, with the value that stands there.
 fn add(
     alloc: Global,
     found: &mut Vec<Found>,
-    table: &Table,
-    setting: Setting,
     line: u64,
     fault: &ConfigurationFault,
+    there: Option<&Value>,
 ) -> Result<(), AllocError> {
-    let text = match value_at(table, setting) {
+    let text = match there {
         None => format!(in alloc; "{fault}")?,
         Some(value) => {
             let shown = shown_value(value);

@@ -6,7 +6,7 @@ ghost use Rattle.ntp_reports.specs.Counted.{count_at};
 use crate::clock_told::DaemonClock;
 use crate::customers_file::CustomersFile;
 use crate::files::{DaemonCommands, FileFault};
-use crate::news::News;
+use crate::news::{HourTotals, News};
 use crate::observers::DaemonObserver;
 use crate::parts::{Begun, Daemon, DaemonPort, Host};
 use crate::receiving::FailedReceives;
@@ -379,13 +379,15 @@ impl<'a, R: Files + Clock, L: Write + Drop> Housekeeping<'a, R, L> {
         O: DaemonObserver,
     {
         let counts = server.observer.counts();
-        let time = counts
-            .count(Kind::Basic)
-            .saturating_add(counts.count(Kind::Interleaved));
-        let rate = counts.count(Kind::Rate);
-        let hours = self.times.seconds / TOTALS_PERIOD;
-        self.news
-            .tell_totals(hours, time, rate, server.port.stale(), self.seen.drops);
+        self.news.tell_totals(&HourTotals {
+            hours: self.times.seconds / TOTALS_PERIOD,
+            time: counts
+                .count(Kind::Basic)
+                .saturating_add(counts.count(Kind::Interleaved)),
+            rate: counts.count(Kind::Rate),
+            stale: server.port.stale(),
+            drops: self.seen.drops,
+        });
     }
 }
 

@@ -21,6 +21,20 @@ const MINUTE: u64 = 60;
 /// The leap indicator where no leap second is announced (RFC 5905, 7.3).
 const NO_LEAP: u8 = 0;
 
+/// What was done in some hours.
+#[derive(Clone, Copy)]
+pub(crate) struct HourTotals {
+    pub hours: u64,
+    /// Replies with the time.
+    pub time: u64,
+    /// Replies with RATE.
+    pub rate: u64,
+    /// Datagrams that were dropped as stale.
+    pub stale: u64,
+    /// Datagrams that the kernel dropped.
+    pub drops: u64,
+}
+
 // What was told last.
 #[derive(Clone, Copy)]
 struct Told {
@@ -259,9 +273,15 @@ impl<L: Write + Drop> News<L> {
         self.log.end();
     }
 
-    /// Logs the totals of `hours` hours: `time` replies with the time, `rate` with RATE, `stale` datagrams dropped as stale, and `drops`
-    /// dropped by the kernel.
-    pub(crate) fn tell_totals(&mut self, hours: u64, time: u64, rate: u64, stale: u64, drops: u64) {
+    /// Logs the totals of some hours.
+    pub(crate) fn tell_totals(&mut self, totals: &HourTotals) {
+        let HourTotals {
+            hours,
+            time,
+            rate,
+            stale,
+            drops,
+        } = *totals;
         let line = self.log.begin(Priority::Information);
         let _ = write!(
             line,

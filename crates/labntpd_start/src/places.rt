@@ -43,6 +43,8 @@ struct Place<'a> {
 /// The files that a configuration names. Some may be left out.
 #[derive(Clone, Copy)]
 pub struct NamedFiles<'a> {
+    /// The file of the configuration itself.
+    pub configuration: &'a str,
     pub register: Option<&'a str>,
     pub commands: Option<&'a str>,
     pub key_file: Option<&'a str>,
@@ -52,9 +54,10 @@ pub struct NamedFiles<'a> {
 }
 
 impl<'a> NamedFiles<'a> {
-    /// The files of a configuration.
-    pub fn of(configuration: &'a Configuration) -> NamedFiles<'a> {
+    /// The files of a configuration that stands at a path.
+    pub fn of(path: &'a str, configuration: &'a Configuration) -> NamedFiles<'a> {
         NamedFiles {
+            configuration: path,
             register: Some(configuration.register.as_str()),
             commands: Some(configuration.commands.as_str()),
             key_file: match &configuration.clock {
@@ -77,18 +80,17 @@ pub fn judge_places<R: Files, F: Write>(
     configuration: &Configuration,
     faults: &mut F,
 ) -> Result<(), u8> {
-    match tell_places(files, alloc, path, NamedFiles::of(configuration), 1, faults)? {
+    match tell_places(files, alloc, NamedFiles::of(path, configuration), 1, faults)? {
         0 => Ok(()),
         _ => Err(TEXT_FAULTY),
     }
 }
 
-/// Tells in a line each what is wrong with where these files stand, at most `most` faults. The configuration at `path` names the files.
-/// Gives how many faults were told. The error is the exit status for want of memory.
+/// Tells in a line each what is wrong with where these files stand, at most `most` faults. Gives how many were told. The error
+/// is the exit status for want of memory.
 pub fn tell_places<R: Files, F: Write>(
     files: &R,
     alloc: Global,
-    path: &str,
     named: NamedFiles<'_>,
     most: usize,
     faults: &mut F,
@@ -97,8 +99,8 @@ pub fn tell_places<R: Files, F: Write>(
     let customers = path_beside(alloc, named.customers);
     match (statistics, customers) {
         (Ok(statistics), Ok(customers)) => {
-            let named = all_named(path, named, statistics.as_str(), customers.as_str());
-            Ok(tell_named(files, path, &named, most, faults))
+            let every = all_named(named, statistics.as_str(), customers.as_str());
+            Ok(tell_named(files, named.configuration, &every, most, faults))
         }
         _ => Err(memory_status(faults)),
     }
@@ -178,13 +180,12 @@ fn path_beside(alloc: Global, path: Option<&str>) -> io::Result<String> {
 
 // The files that a configuration names, those beside its statistics and its customers, and its own.
 fn all_named<'a>(
-    path: &'a str,
     named: NamedFiles<'a>,
     beside_statistics: &'a str,
     beside_customers: &'a str,
 ) -> [Option<Named<'a>>; 9] {
     [
-        file_at("the configuration", Some(path), Use::Read),
+        file_at("the configuration", Some(named.configuration), Use::Read),
         file_at("register", named.register, Use::Read),
         file_at("commands", named.commands, Use::Read),
         file_at("clock.key_file", named.key_file, Use::Read),

@@ -75,10 +75,11 @@ class Checks:
             inside = os.readlink(f"/proc/{process}/cwd")
         except OSError:
             return None
-        is_ours = inside.startswith((f"{TOP}/", f"{tempfile.gettempdir()}/"))
-        if not is_ours or "--crate-name" not in words or os.path.basename(words[0]) != "rattle":
+        # Wrong bodies are tried in copies, and all else in its place.
+        is_copy, is_here = inside.startswith(f"{tempfile.gettempdir()}/"), inside.startswith(f"{TOP}/")
+        if not (is_copy or is_here) or "--crate-name" not in words or os.path.basename(words[0]) != "rattle":
             return None
-        kind = "wrong" if "--only" in words or "rt-edit-" in inside else "tests" if "--test" in words else "proof"
+        kind = "wrong" if is_copy else "tests" if "--test" in words else "proof"
         return words[words.index("--crate-name") + 1], kind
 
     def table(self):

@@ -7,10 +7,11 @@ import shutil
 import subprocess
 import sys
 
+TOP = os.path.dirname(os.path.dirname(os.path.realpath(__file__)))
+sys.path.insert(0, f"{TOP}/tools")
 import judging
 from judging import Odd, PassedOver
-
-TOP = os.path.dirname(os.path.dirname(os.path.realpath(__file__)))
+from processes import give_way
 
 # The word with which a test starts itself once more, in namespaces of its own.
 INSIDE = "--inside"
@@ -35,6 +36,11 @@ def enter(words, cases, namespaces, *programs):
         print(f"0 passed, 0 failed, {len(cases)} skipped")
         return 0
     os.execvp("unshare", ["unshare", *namespaces, sys.executable, os.path.realpath(sys.argv[0]), INSIDE, *words])
+
+
+def take_precedence():
+    """Has what else runs on this host take little of the processors that a test shares with it."""
+    give_way(0, -10)
 
 
 # ---- nftables

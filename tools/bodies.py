@@ -10,6 +10,8 @@ import re
 import shutil
 import subprocess
 
+from processes import give_way
+
 FUNCTION = re.compile(r"( *)(?:pub(?:\([^)]*\))? )?(?:final )?(const )?(?:unsafe )?fn (\w+)")
 BLOCK = re.compile(r"(?:unsafe )?(?:impl\b|(?:pub(?:\([^)]*\))? )?(?:unsafe )?trait ).*")
 TYPE = re.compile(r"^(?:pub(?:\([^)]*\))? )?(?:struct|enum|union) (\w+)", re.M)
@@ -363,6 +365,7 @@ class Scratch:
         self.checks += 1
         how = {"cwd": self.folder, "stdin": subprocess.DEVNULL, "stdout": subprocess.PIPE, "stderr": subprocess.STDOUT, "errors": "replace"}
         with subprocess.Popen([*self.command, *words, "--jobs", str(self.jobs)], start_new_session=True, **how) as started:
+            give_way(started.pid, os.getpriority(os.PRIO_PROCESS, 0))
             said = started.stdout.read()
             try:
                 _, ended, used = os.wait4(started.pid, 0)

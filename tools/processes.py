@@ -40,6 +40,14 @@ def children():
     return Table().children.get(os.getpid(), [])
 
 
+def give_way(process, niceness):
+    """Has a process give way to others as this niceness asks for. Where each session has a share of its own (sched(7), autogroup), the niceness
+    of a process counts in its session alone, so that of the session is set too."""
+    os.setpriority(os.PRIO_PROCESS, process, niceness)
+    with contextlib.suppress(OSError), open(f"/proc/{process or 'self'}/autogroup", "w") as it:
+        it.write(str(niceness))
+
+
 def take_orphans():
     """From now on this process is given what outlives those that it started, so that `end_all` finds it."""
     ctypes.CDLL(None).prctl(PR_SET_CHILD_SUBREAPER, 1, 0, 0, 0)

@@ -245,11 +245,15 @@ class Said:
                 return UNTOLD, f"the prover could not tell whether {it} is proved{rest}"
         folders = (f"{proofs_of(trial.name)}/", f"{proofs_of(closures)}/")
         is_own = lambda file, number: file.startswith(folders) or self.is_in(trial, file, number)
-        told = list(self.refusals(is_own))
-        refusal = next((line for line, is_of_names in told if not is_of_names), "")
         if self.unread((), is_own):
             return UNTOLD, self.unread((), is_own)
-        if refusal or any(state == "no proof" and rest.startswith(": expected answers") for state, rest in own.values()):
+        return self.refusal(own.values(), is_own)
+
+    def refusal(self, states, is_own=lambda file, number: True):
+        """Whether goals are refused where functions are not proved that have these states, and why."""
+        told = list(self.refusals(is_own))
+        refusal = next((line for line, is_of_names in told if not is_of_names), "")
+        if refusal or any(state == "no proof" and rest.startswith(": expected answers") for state, rest in states):
             return REFUSED, refusal
         return (BY_NAMES, told[0][0]) if told else (UNTOLD, "the check says nothing of its goals")
 
@@ -392,9 +396,7 @@ class Scratch:
             return PASSED, ""
         if not said.last.startswith("logic=not-proved"):
             return UNTOLD, said.last or "the check gave no verdict"
-        told = list(said.refusals())
-        refusal = next((line for line, is_of_names in told if not is_of_names), "")
-        return (BY_NAMES, told[0][0]) if told and not refusal else (REFUSED, refusal)
+        return said.refusal(said.states.values())
 
 
 def trial_of(scratch, edit, number):

@@ -7,10 +7,9 @@ use labntpd_configuration::Configuration;
 use labntpd_start::start_lines;
 use ntp_admin::{Command, parse_command, refusal_word};
 use ntp_customer_files::{MOST_FILE_OCTETS, TEXT_FAULTY, fault_word, memory_status};
-use ntp_keeping::{NEW_KEY_OCTETS, NewKey, Order, lowest_free, order_line, order_shown};
+use ntp_keeping::{NEW_KEY_OCTETS, NewKey, command_line, command_shown, lowest_free};
 use ntp_mac::Algorithm;
-use ntp_service::Refusal;
-use std::alloc::{AllocError, Global};
+use ntp_service::{LineFault, Refusal};
 use std::io::Write;
 use std::num::NonZero;
 use std::random::RandomSource;
@@ -18,7 +17,11 @@ use std::random::RandomSource;
 /// A line that is to be appended.
 #[derive(Drop)]
 pub struct Decided {
-    /// The line, with the key.
+    /// The command.
+    pub command: Command,
+    /// The key that is made for it.
+    pub key: Option<NewKey>,
+    /// Its line, with the key.
     pub line: String,
     /// The same with `KEY` in the place of the key.
     pub shown: String,
@@ -26,10 +29,6 @@ pub struct Decided {
     pub number: u64,
     /// How many octets the commands file has before it.
     pub octets: usize,
-    /// The key that it gives, with its number.
-    pub key: Option<(NonZero<u16>, NewKey)>,
-    /// The number of the key that it takes.
-    pub retired: Option<NonZero<u16>>,
 }
 
 /// Decides on the line of a change, which the daemon will not refuse. A fault is told in one line, and gives the exit status.
@@ -50,10 +49,17 @@ fn decide_over(
     path: &str,
     standing: &mut Standing,
 ) -> Result<Decided, u8> {
-    let order = order_for(rt, asked, standing)?;
-    let decided = made(rt, decided_by(rt.alloc(), standing, order))?;
-    judge(rt, path, standing, decided.line.as_str())?;
-    Ok(decided)
+    let (command, key) = command_for(rt, asked, standing)?;
+    let line = line_of(rt, &command, &key)?;
+    judge(rt, path, standing, line.as_str())?;
+    Ok(Decided {
+        command,
+        key,
+        line,
+        shown: made(rt, command_shown(rt.alloc(), &command))?,
+        number: standing.lines.saturating_add(1),
+        octets: standing.octets,
+    })
 }
 
 /// What a register and a commands file have come to, which a line feed ends. A fault is told in one line, and gives the exit status.
@@ -64,18 +70,16 @@ pub fn whole_standing(rt: &HostRuntime, register: &str, commands: &str) -> Resul
     Ok(standing)
 }
 
-// The line of an order, behind those that have come to this.
-fn decided_by(alloc: Global, standing: &Standing, order: Order) -> Result<Decided, AllocError> {
-    let line = order_line(alloc, order)?;
-    let shown = order_shown(alloc, order)?;
-    Ok(Decided {
-        line,
-        shown,
-        number: standing.lines.saturating_add(1),
-        octets: standing.octets,
-        key: key_in(&order),
-        retired: retired_in(&order),
-    })
+// The line of a command, with the key that is made for it, if one is.
+fn line_of(rt: &HostRuntime, command: &Command, key: &Option<NewKey>) -> Result<String, u8> {
+    let octets = match key {
+        Some(key) => key.octets.as_slice(),
+        None => &[],
+    };
+    match made(rt, command_line(rt.alloc(), command, octets))? {
+        Some(line) => Ok(line),
+        None => Err(faulty(rt, LineFault::KeyText)),
+    }
 }
 
 // Judges that a line, which ends with its line feed, may stand in the commands file at a path, and that the daemon will not refuse it.
@@ -92,12 +96,15 @@ fn judge(rt: &HostRuntime, path: &str, standing: &mut Standing, line: &str) -> R
             Ok(()) => Ok(()),
             Err(refusal) => Err(refused(rt, refusal)),
         },
-        Err(fault) => {
-            let word = fault_word(fault);
-            let _ = writeln!(start_lines(rt), "faulty {word}");
-            Err(TEXT_FAULTY)
-        }
+        Err(fault) => Err(faulty(rt, fault)),
     }
+}
+
+// Tells the fault of a line, and gives the exit status.
+fn faulty(rt: &HostRuntime, fault: LineFault) -> u8 {
+    let word = fault_word(fault);
+    let _ = writeln!(start_lines(rt), "faulty {word}");
+    TEXT_FAULTY
 }
 
 // Tells a refusal, and gives the exit status.
@@ -110,30 +117,46 @@ fn refused(rt: &HostRuntime, refusal: Refusal) -> u8 {
     TEXT_FAULTY
 }
 
-// The order for a change, with a number and a new key where it needs them.
-fn order_for(rt: &HostRuntime, asked: &Ordered<'_>, standing: &Standing) -> Result<Order, u8> {
+// The command for a change, with a number and a new key where it needs them, and that key.
+fn command_for(
+    rt: &HostRuntime,
+    asked: &Ordered<'_>,
+    standing: &Standing,
+) -> Result<(Command, Option<NewKey>), u8> {
     let address = asked.address;
     match asked.change {
-        Change::Enrol { budget, algorithm } => Ok(Order::Enrol {
-            address,
-            number: free_number(rt, standing)?,
-            key: new_key(rt, algorithm, asked.dry_run)?,
-            budget,
-        }),
-        Change::Rollover(algorithm) => Ok(Order::Rollover {
-            address,
-            number: free_number(rt, standing)?,
-            key: new_key(rt, algorithm, asked.dry_run)?,
-        }),
-        Change::Revoke => Ok(Order::Revoke { address }),
-        Change::Budget(budget) => Ok(Order::Budget { address, budget }),
+        Change::Enrol { budget, algorithm } => {
+            let number = free_number(rt, standing)?;
+            let new = new_key(rt, algorithm, asked.dry_run)?;
+            let key = new.key();
+            let command = Command::Enrol {
+                address,
+                number,
+                key,
+                budget,
+            };
+            Ok((command, Some(new)))
+        }
+        Change::Rollover(algorithm) => {
+            let number = free_number(rt, standing)?;
+            let new = new_key(rt, algorithm, asked.dry_run)?;
+            let key = new.key();
+            let command = Command::Rollover {
+                address,
+                number,
+                key,
+            };
+            Ok((command, Some(new)))
+        }
         Change::Retire { number, .. } => {
             let older = standing.older_number(address);
             match number.or(older.and_then(NonZero::<u16>::new)) {
-                Some(number) => Ok(Order::Retire { address, number }),
+                Some(number) => Ok((Command::Retire { address, number }, None)),
                 None => Err(refused(rt, Refusal::NotEnrolled)),
             }
         }
+        Change::Revoke => Ok((Command::Revoke { address }, None)),
+        Change::Budget(budget) => Ok((Command::Budget { address, budget }, None)),
     }
 }
 
@@ -156,22 +179,4 @@ pub fn new_key(rt: &HostRuntime, algorithm: Algorithm, is_shown: bool) -> Result
         judged(rt, "random octets", rt.fill_bytes(&mut octets))?;
     }
     Ok(NewKey { algorithm, octets })
-}
-
-// The key that an order gives, with its number.
-fn key_in(order: &Order) -> Option<(NonZero<u16>, NewKey)> {
-    match order {
-        Order::Enrol { number, key, .. } | Order::Rollover { number, key, .. } => {
-            Some((*number, *key))
-        }
-        Order::Revoke { .. } | Order::Budget { .. } | Order::Retire { .. } => None,
-    }
-}
-
-// The number of the key that an order takes.
-fn retired_in(order: &Order) -> Option<NonZero<u16>> {
-    match order {
-        Order::Retire { number, .. } => Some(*number),
-        _ => None,
-    }
 }

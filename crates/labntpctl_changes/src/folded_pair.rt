@@ -138,11 +138,9 @@ fn push_line(
     command: &Command,
     octets: &KeyOctets,
 ) -> Result<(), FoldFault> {
-    let octets = match command {
-        Command::Enrol { number, .. } | Command::Rollover { number, .. } => {
-            octets_at(octets, *number)?
-        }
-        Command::Revoke { .. } | Command::Budget { .. } | Command::Retire { .. } => &[],
+    let octets = match command.number_wanted() {
+        Some(number) => octets_at(octets, number)?,
+        None => &[],
     };
     match command_line(alloc, command, octets)? {
         Some(line) => Ok(text.push_str(line.as_str())?),

@@ -8,6 +8,7 @@ use crate::waiting::{GOOD, answer_in_time, is_answered};
 use labntpctl_standing::{HeldFile, listening, text_for, usual_path, write_new};
 use labntpd_configuration::Configuration;
 use labntpd_start::{configuration_at, start_lines};
+use ntp_admin::Command;
 use ntp_customer_files::{DONE, IO_FAILED, TEXT_FAULTY, write_status};
 use std::alloc::{AllocError, Global};
 use std::fmt::Display;
@@ -120,7 +121,7 @@ fn confirmed<'a>(
     if !matches!(asked.change, Change::Retire { asks: true, .. }) {
         return Ok(Some(*asked));
     }
-    let Some(number) = decide(rt, asked, configuration)?.retired else {
+    let Command::Retire { number, .. } = decide(rt, asked, configuration)?.command else {
         return Ok(Some(*asked));
     };
     if !is_wanted(rt, configuration, asked.address, number)? {
@@ -173,7 +174,7 @@ fn give(
     configuration: &Configuration,
     decided: &Decided,
 ) -> Result<Option<String>, u8> {
-    let Some((number, key)) = decided.key else {
+    let (Some(number), Some(key)) = (decided.command.number_wanted(), decided.key) else {
         return Ok(None);
     };
     let path = match asked.output {

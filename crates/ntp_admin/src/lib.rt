@@ -5,6 +5,7 @@
 mod customers;
 mod fault;
 mod form;
+mod naming;
 mod parsing;
 mod parts;
 mod printing;
@@ -13,6 +14,7 @@ pub mod words;
 
 pub use customers::customer_in;
 pub use fault::RegisterFault;
+pub use naming::{Verb, number_named};
 pub use ntp_service::{Command, Event, LineFault, NoMemory, Octets, Outcome};
 pub use parsing::{is_passed_over, parse_command, parse_event};
 pub use printing::{print_answer, refusal_word};

@@ -16,8 +16,8 @@ use Rattle.ntp_admin.specs.Words.{parts}
 use Rattle.ntp_query.specs.KeyFile.{words, begins_with, is_key_line, key_of_words, key_in_words, key_in_line, key_in_lines, key_in_text}
 use Rattle.ntp_query.specs.declared.key_file.KeyFileFault.{KeyFileFault}
 use Rattle.ntp_query.specs.declared.key_file.KeyFileFault.TheVariants.{Missing, Line}
-use Rattle.ntp_keeping.specs.declared.order.NewKey.{NewKey}
-use Rattle.ntp_keeping.specs.Orders.{key_of, number_text, IsNumber, IsNewKey}
+use Rattle.ntp_keeping.specs.declared.new_key.NewKey.{NewKey}
+use Rattle.ntp_keeping.specs.CommandText.{key_of, number_text, IsNumber, IsNewKey}
 use Rattle.ntp_keeping.specs.Grants.{chrony_algorithm, chrony_key}
 use Rattle.ntp_keeping.proofs.Joined.{lacks, AllLack, parts-all, lacks-all, parts-first-line}
 use Rattle.ntp_keeping.proofs.Spelled.{reads-number, reads-key, new-key, lacks-decimal, lacks-digits}

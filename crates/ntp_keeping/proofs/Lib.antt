@@ -2,7 +2,7 @@ pub mod AnswerLines
 pub mod Held
 pub mod Joined
 pub mod Spelled
-pub mod OrderLines
+pub mod CommandLines
 pub mod KeyText
 pub mod SameKeys
 pub mod SameTerms

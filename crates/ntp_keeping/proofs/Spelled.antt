@@ -16,8 +16,8 @@ use Rattle.hex.proofs.HexLemmas.{decode_of-encode_lower, decode_of-ok, length-en
 use Rattle.ntp_service.specs.declared.address.Address.{Address}
 use Rattle.ntp_admin.specs.Words.{is_decimal, decimal_in, number_in, key_in, hex_in, address_in, address_from, non_zero, ◌>>=◌}
 use Rattle.ntp_admin.proofs.Numbers.{new-non_zero}
-use Rattle.ntp_keeping.specs.declared.order.NewKey.{NewKey}
-use Rattle.ntp_keeping.specs.Orders.{address_text, number_text, AreKeyOctets, IsAddress, IsNewKey, IsNumber}
+use Rattle.ntp_keeping.specs.declared.new_key.NewKey.{NewKey}
+use Rattle.ntp_keeping.specs.CommandText.{address_text, number_text, AreKeyOctets, IsAddress, IsNewKey, IsNumber}
 use Rattle.ntp_keeping.proofs.Joined.{lacks, lacks-by, lacks-joined, parts-joined}
 
 own : IsNumeralModel (λ ds. list_all is_ascii_digit ds ≡ true) (digits_value 10)

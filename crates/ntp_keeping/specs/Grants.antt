@@ -6,8 +6,8 @@ use Rattle.std.specs.declared.num.NonZeroU16.{NonZeroU16}
 use Rattle.hex.specs.Hex.{encode_lower}
 use Rattle.ntp_mac.specs.declared.key.Algorithm.{Algorithm}
 use Rattle.ntp_mac.specs.declared.key.Algorithm.TheVariants.{Md5, Sha1}
-use Rattle.ntp_keeping.specs.declared.order.NewKey.{NewKey}
-use Rattle.ntp_keeping.specs.Orders.{algorithm_text, number_text}
+use Rattle.ntp_keeping.specs.declared.new_key.NewKey.{NewKey}
+use Rattle.ntp_keeping.specs.CommandText.{algorithm_text, number_text}
 
 -- the word for an algorithm in chrony's key files (chrony.conf(5))
 abbrev pub chrony_algorithm : Algorithm → List ℕ

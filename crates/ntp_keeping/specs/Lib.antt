@@ -1,5 +1,5 @@
 pub mod Numbers
-pub mod Orders
+pub mod CommandText
 pub mod Grants
 pub mod AnswersFile
 pub mod Alike

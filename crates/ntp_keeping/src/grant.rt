@@ -2,11 +2,11 @@
 ghost use Rattle.std.specs.Prelude.{◌≡◌, ◌∷◌, ◌++◌, IfOk, Ok, string_bytes};
 ghost use Rattle.hex.specs.Hex.{encode_lower};
 ghost use Rattle.ntp_query.specs.KeyFile.{key_in_text};
-ghost use Rattle.ntp_keeping.specs.Orders.{key_of, IsNewKey, IsNumber};
+ghost use Rattle.ntp_keeping.specs.CommandText.{key_of, IsNewKey, IsNumber};
 ghost use Rattle.ntp_keeping.specs.Grants.{chrony_algorithm, chrony_key, chrony_server, ntpsec_key};
 
 use crate::NewKey;
-use crate::order_text::algorithm_word;
+use crate::command_text::algorithm_word;
 use ntp_mac::Algorithm;
 use std::alloc::{AllocError, Global};
 use std::num::NonZero;

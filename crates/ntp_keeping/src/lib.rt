@@ -5,18 +5,18 @@
 
 mod alike;
 mod answers;
+mod command_text;
 mod folding;
 mod grant;
+mod new_key;
 mod numbers;
-mod order;
-mod order_text;
 mod recovery;
 
 pub use alike::leave_the_same;
 pub use answers::answer_behind;
+pub use command_text::{command_line, command_shown};
 pub use folding::{FoldFault, Folded, GivenKey, Kept, Terms, fold};
 pub use grant::{Grant, customer_text};
+pub use new_key::{NEW_KEY_OCTETS, NewKey};
 pub use numbers::lowest_free;
-pub use order::{NEW_KEY_OCTETS, NewKey, Order};
-pub use order_text::{command_line, order_line, order_shown};
 pub use recovery::{Amendment, Seen, SeenKey, SeenTerms, amendment_for, are_same, lost_keys};

@@ -10,7 +10,8 @@ use Rattle.std.proofs.KnownBytes.{Appends-trans}
 use Rattle.ntp_reports.specs.declared.subject.Subject.{Subject}
 use Rattle.ntp_service.specs.declared.observation.LineOutcome.{LineOutcome}
 use Rattle.ntp_reports.specs.AnswerText.{outcome_text}
-use Rattle.ntp_reports.specs.Logging.{verb_text, address_text, subject_text, logged_line}
+use Rattle.ntp_admin.specs.Named.{verb_text}
+use Rattle.ntp_reports.specs.Logging.{address_text, subject_text, logged_line}
 
 -- four numbers with dots, between two texts
 dotted : (v a b c d tail : List ℕ) → v ++ (32 ∷ (a ++ (46 ∷ (b ++ (46 ∷ (c ++ (46 ∷ (d ++ tail))))))))

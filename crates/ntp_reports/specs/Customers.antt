@@ -3,7 +3,7 @@ use Rattle.std.specs.Prelude.{◌≡◌, ℕ, ◌==◌, if◌then◌else◌, Opt
 use Rattle.std.specs.Option.{option_map_or, option_to_list}
 use Rattle.std.specs.Int.NonZero.{non_zero_u16_get}
 use Rattle.ntp_service.specs.declared.command.Command.{Command}
-use Rattle.ntp_service.specs.declared.command.Command.TheVariants.{Enrol, Revoke, Budget, Rollover, Retire}
+use Rattle.ntp_service.specs.declared.command.Command.TheVariants.{Enrol, Revoke, Rollover, Retire}
 use Rattle.ntp_service.specs.declared.observation.Observation.TheVariants.{Turn}
 use Rattle.ntp_service.specs.declared.observation.TurnOutcome.{TurnOutcome}
 use Rattle.ntp_reports.specs.declared.signing.Signing.{Signing}
@@ -54,9 +54,9 @@ retired report number = with_keys report (unless_named report.first number) (unl
 abbrev pub report_after : Option CustomerReport → Command → ℕ → Option CustomerReport
 report_after before (Enrol address number key budget) line = Some (enrolled_again before (non_zero_u16_get number) line)
 report_after before (Revoke address) line = option_map revoked before
-report_after before (Budget address budget) line = before
 report_after before (Rollover address number key) line = option_map (λ report. rolled_over report (non_zero_u16_get number)) before
 report_after before (Retire address number) line = option_map (λ report. retired report (non_zero_u16_get number)) before
+report_after before other line = before
 
 -- a key after a turn in which a query was signed, or none was: the key that signed has its receipt (profile)
 abbrev pub used_by : Option Signing → KeyUse → KeyUse

@@ -6,29 +6,18 @@ use Rattle.std.specs.Int.NonZero.{non_zero_u16_get}
 use Rattle.std.specs.declared.num.NonZeroU16.{NonZeroU16}
 use Rattle.ntp_service.specs.declared.address.Address.{Address}
 use Rattle.ntp_service.specs.declared.command.Command.{Command}
-use Rattle.ntp_service.specs.declared.command.Command.TheVariants as command
+use Rattle.ntp_service.specs.Commands.{address_named}
 use Rattle.ntp_service.specs.declared.observation.LineOutcome.{LineOutcome}
 use Rattle.ntp_service.specs.declared.observation.LineOutcome.TheVariants.{Done}
+use Rattle.ntp_admin.specs.Named.{number_named, verb_of, verb_text}
+use Rattle.ntp_admin.specs.declared.naming.Verb.{Verb}
+use Rattle.ntp_admin.specs.declared.naming.Verb.TheVariants as verb
 use Rattle.ntp_reports.specs.declared.subject.Subject.{Subject}
-use Rattle.ntp_reports.specs.declared.subject.Verb.{Verb}
-use Rattle.ntp_reports.specs.declared.subject.Verb.TheVariants as verb
 use Rattle.ntp_reports.specs.AnswerText.{outcome_text}
 
 -- all but the key and the budget of a command (profile)
 abbrev pub subject_of : Command → Subject
-subject_of (command.Enrol address number key budget) = record { verb = verb.Enrol; address = address; number = Some number }
-subject_of (command.Revoke address) = record { verb = verb.Revoke; address = address; number = None }
-subject_of (command.Budget address budget) = record { verb = verb.Budget; address = address; number = None }
-subject_of (command.Rollover address number key) = record { verb = verb.Rollover; address = address; number = Some number }
-subject_of (command.Retire address number) = record { verb = verb.Retire; address = address; number = Some number }
-
--- the first word of a command's line (profile)
-abbrev pub verb_text : Verb → List ℕ
-verb_text verb.Enrol = codes "enrol"
-verb_text verb.Revoke = codes "revoke"
-verb_text verb.Budget = codes "budget"
-verb_text verb.Rollover = codes "rollover"
-verb_text verb.Retire = codes "retire"
+subject_of c = record { verb = verb_of c; address = address_named c; number = number_named c }
 
 -- an address, in its four numbers (profile)
 abbrev pub address_text : Address → List ℕ

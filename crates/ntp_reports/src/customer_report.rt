@@ -116,9 +116,9 @@ pub(crate) fn report_after(
     match command {
         Command::Enrol { number, .. } => Some(enrolled(before, number.get(), line)),
         Command::Revoke { .. } => Some(revoked(before?)),
-        Command::Budget { .. } => before,
         Command::Rollover { number, .. } => Some(rolled_over(before?, number.get())),
         Command::Retire { number, .. } => Some(retired(before?, number.get())),
+        _ => before,
     }
 }
 

@@ -27,4 +27,4 @@ pub use customer_text::customer_line;
 pub use kind::Kind;
 pub use line_allowance::{Ask, LineAllowance, MOST_LINES};
 pub use statistics::{Belief, ClockGauges, FileGauges, Gauges, write_statistics};
-pub use subject::{Subject, Verb, customers_after, write_logged_line};
+pub use subject::{Subject, customers_after, write_logged_line};

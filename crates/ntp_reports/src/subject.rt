@@ -2,9 +2,9 @@
 ghost use Rattle.std.specs.Prelude.{◌≡◌, OnOk, option_map};
 ghost use Rattle.std.specs.Io.KnownBytes.{Appends};
 ghost use Rattle.ntp_reports.specs.AnswerText.{outcome_text};
-ghost use Rattle.ntp_reports.specs.Logging.{subject_of, verb_text, number_text, subject_text, logged_line, customers_after};
+ghost use Rattle.ntp_reports.specs.Logging.{subject_of, number_text, subject_text, logged_line, customers_after};
 
-use ntp_admin::refusal_word;
+use ntp_admin::{Verb, number_named, refusal_word};
 use ntp_customer_files::fault_word;
 use ntp_service::{Address, Command, LineOutcome};
 use std::io::{self, Write};
@@ -21,45 +21,15 @@ pub struct Subject {
     pub number: Option<NonZero<u16>>,
 }
 
-/// What a command orders.
-#[derive(Clone, Copy, Debug, PartialEq, Eq)]
-pub enum Verb {
-    /// An enrolment.
-    Enrol,
-    /// The end of one.
-    Revoke,
-    /// Another budget.
-    Budget,
-    /// One key more.
-    Rollover,
-    /// One key less.
-    Retire,
-}
-
 impl Subject {
     /// What is told of a command.
     pub fn of(command: &Command) -> Subject
         ensures { result ≡ subject_of command.now }
     {
-        let (verb, address, number) = match *command {
-            Command::Enrol {
-                address,
-                number,
-                ..
-            } => (Verb::Enrol, address, Some(number)),
-            Command::Revoke { address } => (Verb::Revoke, address, None),
-            Command::Budget { address, .. } => (Verb::Budget, address, None),
-            Command::Rollover {
-                address,
-                number,
-                ..
-            } => (Verb::Rollover, address, Some(number)),
-            Command::Retire { address, number } => (Verb::Retire, address, Some(number)),
-        };
         Subject {
-            verb,
-            address,
-            number,
+            verb: Verb::of(command),
+            address: command.address(),
+            number: number_named(command),
         }
     }
 
@@ -67,25 +37,12 @@ impl Subject {
     fn write<W: Write>(&self, out: &mut W) -> io::Result<()>
         ensures { OnOk result (Appends (W.contents out.old) (W.contents out.new) (subject_text self.now)) }
     {
-        let verb = verb_word(self.verb);
+        let verb = self.verb.word();
         let Address([a, b, c, d]) = self.address;
         match self.number {
             Some(number) => write!(out, "{verb} {a}.{b}.{c}.{d} {number}: "),
             None => write!(out, "{verb} {a}.{b}.{c}.{d}: "),
         }
-    }
-}
-
-// The first word of a command's line.
-fn verb_word(verb: Verb) -> &'static str
-    ensures { result.now ≡ verb_text verb }
-{
-    match verb {
-        Verb::Enrol => "enrol",
-        Verb::Revoke => "revoke",
-        Verb::Budget => "budget",
-        Verb::Rollover => "rollover",
-        Verb::Retire => "retire",
     }
 }
 

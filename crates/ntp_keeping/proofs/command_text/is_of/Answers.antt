@@ -1,7 +1,7 @@
 use Rattle.std.proofs.Common.{◌∙◌, sym, ap}
 use Rattle.std.proofs.lemmas.Bool.{OnTrue_from}
 use Rattle.ntp_keeping.proofs.SameKeys.{same-key}
-use Rattle.ntp_keeping.proofs.order_text.is_of.Goals as goal
+use Rattle.ntp_keeping.proofs.command_text.is_of.Goals as goal
 
 pub returns-in-Ok-clause-same : goal.returns-in-Ok-clause-same
 returns-in-Ok-clause-same c = OnTrue_from c.eq.result _ (λ so.

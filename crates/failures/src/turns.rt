@@ -1,10 +1,13 @@
 //! What no contract says of a server: the replies of its turns to the octet, where a turn has no datagram or a send fails; that
 //! serving takes no memory; and a port about which nothing is known.
-ghost use Rattle.std.specs.Prelude.{◌≡◌};
+ghost use Rattle.std.specs.Prelude.{◌≡◌, ◌<◌, ◌^◌};
+ghost use Rattle.ntp_service_serve.specs.Port.{failed_calls};
 
 use ntp_reply::Reference;
 use ntp_service::{Address, Service};
-use ntp_service_serve::{Arrival, DatagramRoom, MemoryPort, Port, PortFault, Sent, Turn, serve};
+use ntp_service_serve::{
+    Arrival, DatagramRoom, MemoryPort, Port, PortCounts, PortFault, Sent, Turn, serve,
+};
 use ntp_time::Moment;
 use std::alloc::{Allocator, Global};
 use std::process::Abort;
@@ -124,14 +127,15 @@ fn serving_takes_no_memory(rt: HostRuntime) -> Result<(), Fail> {
 // A port about which only this is known: each call fails.
 #[derive(Drop)]
 struct Broken {
-    failed: u64,
+    counts: PortCounts,
+    ghost few: { failed_calls counts < 2 ^ 64 },
 }
 
 impl Port for Broken {
-    ghost failure_count = { λ p. p.failed };
+    ghost counts = { λ p. p.counts };
 
     fn receive(&mut self, _datagram: &mut DatagramRoom) -> Result<Arrival, PortFault> {
-        self.failed += 1;
+        self.counts.failed_receives += 1;
         Err(PortFault::Receive)
     }
 
@@ -140,12 +144,12 @@ impl Port for Broken {
     }
 
     fn send(&mut self, _address: Address, _port: u16, _reply: &[u8]) -> Result<(), PortFault> {
-        self.failed += 1;
+        self.counts.failed_sends += 1;
         Err(PortFault::Send)
     }
 
     fn failures(&self) -> u64 {
-        self.failed
+        self.counts.failed_receives + self.counts.failed_sends
     }
 }
 
@@ -153,7 +157,9 @@ impl Port for Broken {
 fn a_broken_port_gives_no_event(rt: HostRuntime) -> Result<(), Fail> {
     let reference = reference()?;
     let mut service = enrolled_service(rt.alloc())?;
-    let mut port = Broken { failed: 0 };
+    let mut port = Broken {
+        counts: PortCounts::NONE,
+    };
     let counts = served(&rt, &mut port, &mut service, &reference, 3);
     assert!(rt; counts == [0, 0, 0] && port.failures() == 3);
     Ok(())

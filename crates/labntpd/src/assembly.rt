@@ -1,5 +1,5 @@
 //! Customers are served, day and night.
-ghost use Rattle.std.specs.Prelude.{◌≡◌, IfOk};
+ghost use Rattle.std.specs.Prelude.{◌≡◌, ◌+◌, IfOk};
 
 use labntpd_assembly::{Assembly, Begun, Host, Parts, ReportingObserver, ServeFault, observer};
 use labntpd_configuration::Configuration;
@@ -73,7 +73,7 @@ impl<'a> Opened<'a> {
         configuration: &Configuration,
         beginning: &mut Beginning,
     ) -> Result<Opened<'a>, u8>
-        ensures { IfOk result (λ opened. opened.port.failures ≡ 0) }
+        ensures { IfOk result (λ opened. opened.port.counts.failed_receives + opened.port.counts.failed_sends ≡ 0) }
     {
         let watch = watch_from_now(rt, clocks, configuration);
         let socket = open_socket(rt, alloc, configuration.listen)?;
@@ -100,7 +100,7 @@ fn serve_opened<'a>(
     commands: HeldCommands<'a, HostRuntime>,
     opened: Opened<'a>,
 ) -> u8
-    requires { opened.port.failures ≡ 0 }
+    requires { opened.port.counts.failed_receives + opened.port.counts.failed_sends ≡ 0 }
 {
     let rt = host.rt;
     let Beginning {

@@ -3,6 +3,7 @@ use Rattle.std.specs.Prelude.{ℕ, Option, None, option_map, List}
 use Rattle.ntp_time.specs.declared.moment.Moment.{Moment}
 use Rattle.ntp_service.specs.declared.observation.Observation.{Observation}
 use Rattle.ntp_reply.specs.Reference.{ReferenceState}
+use Rattle.ntp_service_serve.specs.declared.port.PortCounts.{PortCounts}
 use Rattle.ntp_service_serve.specs.Port.{Told}
 use Rattle.ntp_service_serve.specs.Sources.{Coming}
 use Rattle.ntp_host.specs.Pacing.{each_millisecond}
@@ -11,9 +12,9 @@ use Rattle.ntp_server.specs.Parts.{parts_of}
 use Rattle.ntp_server.specs.Rounds.{Parts}
 use Rattle.ntp_server.specs.declared.server.Server.{Server}
 
--- what the parts of a daemon tell, by what each does: its port, how many calls of that failed and what it dropped; its commands, as
+-- what the parts of a daemon tell, by what each does: its port, what that counted; its commands, as
 -- `EachMillisecond` asks for them; its states, how often their source was given time; its observer. Its reporter tells nothing (profile)
-abbrev pub daemon_told : {P C S O A : Type 0} → (P → Option Told) → (P → ℕ) → (P → ℕ) → (C → Option (Coming (Option (List ℕ))))
+abbrev pub daemon_told : {P C S O A : Type 0} → (P → Option Told) → (P → PortCounts) → (C → Option (Coming (Option (List ℕ))))
     → (S → Option (Coming ReferenceState)) → (S → Option ℕ) → (O → Option (List Observation)) → Server P (EachMillisecond C) S O A → Parts
-daemon_told told failures dropped commands states tended seen daemon =
-    parts_of told failures dropped (λ c. option_map (each_millisecond c.asked) (commands c.source)) states tended seen None daemon
+daemon_told told counts commands states tended seen daemon =
+    parts_of told counts (λ c. option_map (each_millisecond c.asked) (commands c.source)) states tended seen None daemon

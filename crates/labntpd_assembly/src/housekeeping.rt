@@ -401,7 +401,7 @@ impl<
     L: Write + Drop,
 > Reporter<Daemon<P, C, S, O>> for Housekeeping<'a, R, L> {
     // It knows how many receives of a server have failed, and how many stale datagrams it has dropped.
-    ghost knows = { λ h server. (h.failed ≡ count_at (O.counted server.observer) NothingReceived) × (h.stale ≡ server.port.stale) };
+    ghost knows = { λ h server. (h.failed ≡ count_at (O.counted server.observer) NothingReceived) × (h.stale ≡ server.port.counts.dropped) };
 
     fn report(&mut self, server: &Daemon<P, C, S, O>, receipt: Option<Moment>) {
         let failed = server.observer.counts().count(Kind::NothingReceived);

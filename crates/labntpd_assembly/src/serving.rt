@@ -2,6 +2,7 @@
 ghost use Rattle.std.specs.Prelude.{◌≡◌, ◌+◌, ◌<◌, ◌^◌, None, false, true, IfOk};
 ghost use Rattle.std.specs.declared.alloc.Global.{Global};
 ghost use Rattle.ntp_reports.specs.Counted.{count_at};
+ghost use Rattle.ntp_service_serve.specs.Port.{failed_calls};
 ghost use Rattle.ntp_server.specs.Rounds.{ServesRounds};
 ghost use Rattle.labntpd_assembly.specs.Assembled.{daemon_told};
 
@@ -79,13 +80,13 @@ where
     /// datagrams were dropped and counted as stale, and what it sent is the replies; and so with the commands, as `EachMillisecond` asks
     /// for them, with the states of the clock and with the observer: each as far as it tells.
     pub fn serve(&mut self, turns: u64) -> Totals
-        requires failures { self.old.daemon.port.failures + turns < 2 ^ 64 }
+        requires failures { failed_calls self.old.daemon.port.counts + turns < 2 ^ 64 }
         ensures serves { ServesRounds Global false true turns
-            (daemon_told (λ p. P.told p.port) (λ p. p.failures) (λ p. p.stale) C.coming S.coming S.tended O.seen self.old.daemon)
-            (daemon_told (λ p. P.told p.port) (λ p. p.failures) (λ p. p.stale) C.coming S.coming S.tended O.seen self.new.daemon) result }
+            (daemon_told (λ p. P.told p.port) (λ p. p.counts) C.coming S.coming S.tended O.seen self.old.daemon)
+            (daemon_told (λ p. P.told p.port) (λ p. p.counts) C.coming S.coming S.tended O.seen self.new.daemon) result }
         // Behind the last turn it is known how many receives have failed, and how many stale datagrams were dropped.
         ensures receives { 0 < turns → self.new.beside.failed ≡ count_at (O.counted self.new.daemon.observer) Kind.NothingReceived }
-        ensures stale { 0 < turns → self.new.beside.stale ≡ self.new.daemon.port.stale }
+        ensures stale { 0 < turns → self.new.beside.stale ≡ self.new.daemon.port.counts.dropped }
     {
         self.daemon.serve_reported(turns, &mut self.beside)
     }

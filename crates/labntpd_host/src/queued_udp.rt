@@ -1,8 +1,7 @@
 //! A port over a UDP socket whose queue can be asked.
 
-ghost use Rattle.std.specs.Prelude.{◌≡◌, ◌+◌, ◌-◌, ◌≤◌, ◌<◌, ◌^◌, None, IfOk, IfErr, IfSome, IfNone, false, is_err, if◌then◌else◌};
-ghost use Rattle.std.specs.Option.{option_map_or};
-ghost use Rattle.ntp_service_serve.specs.Port.{most_received_octets, Receives, DropsAny};
+ghost use Rattle.std.specs.Prelude.{◌≡◌, ◌-◌, ◌≤◌, ◌<◌, ◌^◌, None, IfOk, IfErr, IfSome, IfNone, false, is_err};
+ghost use Rattle.ntp_service_serve.specs.Port.{most_received_octets, failed_calls, CountsReceive, CountsWait, Receives, DropsAny};
 ghost use Rattle.labntpd_host.specs.Reading.{IsBetween, Reads};
 
 use crate::kernel_queue::{most_datagrams, queue_state};
@@ -12,7 +11,7 @@ use libc::types::pollfd;
 use ntp_freshness::QueuedPort;
 use ntp_host::UdpPort;
 use ntp_service::Address;
-use ntp_service_serve::{Arrival, DatagramRoom, Port, PortFault, TimedPort};
+use ntp_service_serve::{Arrival, DatagramRoom, Port, PortCounts, PortFault, TimedPort};
 use ntp_time::{Moment, Stamp};
 use std::cell::Cell;
 use std::fs::Files;
@@ -84,9 +83,10 @@ pub struct QueuedUdp<'a, P: TimedPort, C: Clock + Copy + Drop, R: Files> {
     shown: Option<Moment>,
     // Whether a reply was sent since then, and nothing was received.
     has_sent: bool,
-    failures: u64,
+    counts: PortCounts,
     would_wait: u64,
-    ghost counted: { P.failure_count port ≤ failures },
+    ghost few: { failed_calls counts < 2 ^ 64 },
+    ghost below: { failed_calls (P.counts port) ≤ failed_calls counts },
 }
 
 impl<'a, C: Clock + Copy + Drop, R: Files> QueuedUdp<'a, UdpPort<C>, C, R> {
@@ -100,7 +100,7 @@ impl<'a, C: Clock + Copy + Drop, R: Files> QueuedUdp<'a, UdpPort<C>, C, R> {
         files: &'a R,
         room: Vec<u8>,
     ) -> QueuedUdp<'a, UdpPort<C>, C, R>
-        ensures { result.failures ≡ 0 }
+        ensures { failed_calls result.counts ≡ 0 }
     {
         QueuedUdp {
             descriptor: socket.as_raw_fd(),
@@ -112,7 +112,7 @@ impl<'a, C: Clock + Copy + Drop, R: Files> QueuedUdp<'a, UdpPort<C>, C, R> {
             room,
             shown: None,
             has_sent: false,
-            failures: 0,
+            counts: PortCounts::NONE,
             would_wait: 0,
         }
     }
@@ -155,21 +155,21 @@ fn readable(descriptor: i32) -> pollfd {
 }
 
 impl<'a, P: TimedPort, C: Clock + Copy + Drop, R: Files> Port for QueuedUdp<'a, P, C, R> {
-    ghost failure_count = { λ queued. queued.failures };
+    ghost counts = { λ queued. queued.counts };
 
     fn receive(&mut self, datagram: &mut DatagramRoom) -> Result<Arrival, PortFault>
-        requires { self.old.failures < 2 ^ 64 - 1 }
+        requires { failed_calls self.old.counts < 2 ^ 64 - 1 }
         ensures length { IfOk result (λ arrival. arrival.length ≤ most_received_octets) }
         ensures fault { IfErr result (λ fault. fault ≡ PortFault.Receive) }
-        ensures failures { self.new.failures ≡ self.old.failures + (if is_err result then 1 else 0) }
-        ensures turns { Receives false 0 0 None None result datagram.new }
-        ensures below { Receives P.may_drop (P.drop_count self.old.port) (P.drop_count self.new.port)
+        ensures counts { CountsReceive self.old.counts self.new.counts (is_err result) }
+        ensures turns { Receives false self.old.counts.dropped self.new.counts.dropped None None result datagram.new }
+        ensures below { Receives P.may_drop (P.counts self.old.port).dropped (P.counts self.new.port).dropped
             (P.told self.old.port) (P.told self.new.port) result datagram.new }
     {
         self.has_sent = false;
         let received = self.port.receive(datagram);
         if received.is_err() {
-            self.failures += 1;
+            self.counts.failed_receives += 1;
         }
         received
     }
@@ -177,7 +177,7 @@ impl<'a, P: TimedPort, C: Clock + Copy + Drop, R: Files> Port for QueuedUdp<'a, 
     /// What the host's clock shows. Just after a reply was sent it gives the middle between what the clock showed before it and what
     /// it shows now, which is nearer to the departure than either.
     fn now(&mut self) -> Moment
-        ensures failures { self.new.failures ≡ self.old.failures }
+        ensures counts { self.new.counts ≡ self.old.counts }
         ensures below { Reads self.old.has_sent self.old.shown (P.told self.old.port) (P.told self.new.port) result }
     {
         let now = self.port.now();
@@ -198,41 +198,44 @@ impl<'a, P: TimedPort, C: Clock + Copy + Drop, R: Files> Port for QueuedUdp<'a, 
         if matches!(sent, AtOnce::WouldWait) {
             self.would_wait = self.would_wait.saturating_add(1);
         }
-        self.failures += 1;
+        self.counts.failed_sends += 1;
         Err(PortFault::Send)
     }
 
     fn failures(&self) -> u64 {
-        self.failures
+        self.counts.failed_receives + self.counts.failed_sends
     }
 }
 
 impl<'a, P: TimedPort, C: Clock + Copy + Drop, R: Files> TimedPort for QueuedUdp<'a, P, C, R> {
     fn receive_in_time(&mut self, datagram: &mut DatagramRoom) -> Option<Result<Arrival, PortFault>>
         // Of its own turns it tells nothing.
-        requires { self.old.failures < 2 ^ 64 - 1 }
+        requires { failed_calls self.old.counts < 2 ^ 64 - 1 }
         ensures length { IfSome result (λ received. IfOk received (λ arrival. arrival.length ≤ most_received_octets)) }
         ensures fault { IfSome result (λ received. IfErr received (λ fault. fault ≡ PortFault.Receive)) }
-        ensures failures { self.new.failures
-            ≡ self.old.failures + option_map_or (λ received. if is_err received then 1 else 0) result 0 }
-        ensures turns { IfSome result (λ received. Receives false 0 0 None None received datagram.new) }
-        ensures nothing { IfNone result ((false ≡ false) × DropsAny false 0 0 None None) }
-        ensures below { IfSome result (λ received. Receives P.may_drop (P.drop_count self.old.port) (P.drop_count self.new.port)
+        ensures counts { CountsWait self.old.counts self.new.counts result }
+        ensures turns { IfSome result (λ received. Receives false self.old.counts.dropped self.new.counts.dropped None None received datagram.new) }
+        ensures nothing { IfNone result ((false ≡ false) × DropsAny false self.old.counts.dropped self.new.counts.dropped None None) }
+        ensures below { IfSome result (λ received. Receives P.may_drop (P.counts self.old.port).dropped (P.counts self.new.port).dropped
             (P.told self.old.port) (P.told self.new.port) received datagram.new) }
-        ensures dropped { IfNone result (DropsAny P.may_drop (P.drop_count self.old.port) (P.drop_count self.new.port)
+        ensures dropped { IfNone result (DropsAny P.may_drop (P.counts self.old.port).dropped (P.counts self.new.port).dropped
             (P.told self.old.port) (P.told self.new.port)) }
     {
         // After a reply that tells no time nobody asks for its departure.
         self.has_sent = false;
         let expected = self.clocks.expected.get();
         if expected >= 0 && !self.has_come(expected) {
+            self.counts.idle_waits = self.counts.idle_waits.saturating_add(1);
             return None;
         }
-        let received = self.port.receive_in_time(datagram);
-        if let Some(Err(_)) = &received {
-            self.failures += 1;
+        let Some(received) = self.port.receive_in_time(datagram) else {
+            self.counts.idle_waits = self.counts.idle_waits.saturating_add(1);
+            return None;
+        };
+        if received.is_err() {
+            self.counts.failed_receives += 1;
         }
-        received
+        Some(received)
     }
 }
 

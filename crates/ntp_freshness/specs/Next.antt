@@ -1,5 +1,6 @@
 -- Not to be believed: for proofs. What one take comes to.
-use Rattle.std.specs.Prelude.{◌≡◌, ℕ, true, Option, None, Some, Ok, Err, List, length, ◌++◌}
+use Rattle.std.specs.Prelude.{◌≡◌, ℕ, ◌+◌, true, Option, None, Some, Ok, Err, List, length, ◌++◌}
+use Rattle.ntp_service_serve.specs.declared.port.PortCounts.{PortCounts}
 use Rattle.ntp_service_serve.specs.Port.{Told, ReceiveTells, TellsOn, DropTells, DropsTurns}
 use Rattle.ntp_freshness.specs.declared.queue_event.QueueEvent.{QueueEvent}
 use Rattle.ntp_freshness.specs.declared.fresh_port.Next.{Next}
@@ -27,6 +28,11 @@ NextTells old new Stale datagram = DropTells old new true
 abbrev pub failures_in : Next → ℕ
 failures_in (Fault fault) = 1
 failures_in other = 0
+
+-- that is counted, and nothing else, beside the datagrams that were dropped
+abbrev pub CountsNext : PortCounts → PortCounts → Next → Type 0
+CountsNext old new next = (new.failed_receives ≡ old.failed_receives + failures_in next) × (new.failed_sends ≡ old.failed_sends)
+    × (new.idle_waits ≡ old.idle_waits)
 
 -- how many datagrams were dropped
 abbrev pub drops_in : Next → ℕ

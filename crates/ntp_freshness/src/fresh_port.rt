@@ -1,18 +1,18 @@
 //! A port that passes on only datagrams that have not waited for long.
 ghost use Rattle.std.specs.Prelude.{◌≡◌, ◌+◌, ◌-◌, ◌/◌, ◌≤◌, ◌<◌, ◌^◌, List, All, Option, None, Some, Result, Err, IfOk, IfErr, IfSome, IfNone, false, true, option_map, is_err, if◌then◌else◌};
 ghost use Rattle.std.specs.Option.{option_map_or};
-ghost use Rattle.ntp_service_serve.specs.Port.{most_received_octets, Receives, DropsAny, NowTells, SendTells};
+ghost use Rattle.ntp_service_serve.specs.Port.{most_received_octets, failed_calls, counted_send, CountsReceive, CountsWait, Receives, DropsAny, NowTells, SendTells};
 ghost use Rattle.ntp_freshness.specs.declared.queue_event.QueueEvent.{QueueEvent};
 ghost use Rattle.ntp_freshness.specs.Freshness.{moment_of, IsInOrder, oldest_look};
 ghost use Rattle.ntp_freshness.specs.Queue.{ReadsClock};
 ghost use Rattle.ntp_freshness.specs.Watch.{Watches, Counts, longest_of, IsCounted, kept_after};
 ghost use Rattle.ntp_freshness.specs.Fresh.{StandsFor, IsShown, counted_on, kept, PassesOnFresh};
-ghost use Rattle.ntp_freshness.specs.Next.{TakesNext, Looks, Drops, failures_in};
+ghost use Rattle.ntp_freshness.specs.Next.{TakesNext, Looks, Drops, CountsNext};
 
 use crate::queue_watch::QueueWatch;
 use crate::queued_port::QueuedPort;
 use ntp_service::Address;
-use ntp_service_serve::{Arrival, DatagramRoom, Port, PortFault, TimedPort};
+use ntp_service_serve::{Arrival, DatagramRoom, Port, PortCounts, PortFault, TimedPort};
 use ntp_time::Moment;
 
 /// Least time between two looks at the queue, in nanoseconds: a ten-thousandth of a second. So looking costs little
@@ -40,10 +40,11 @@ pub struct FreshPort<P: QueuedPort> {
     reading: u64,
     // What it shows when the queue may be looked at again.
     next_look: u64,
-    stale: u64,
+    counts: PortCounts,
     sweeps: u64,
-    failures: u64,
-    ghost counted: { P.failure_count port ≤ failures },
+    ghost few: { failed_calls counts < 2 ^ 64 },
+    ghost fits: { counts.dropped < 2 ^ 64 },
+    ghost below: { failed_calls (P.counts port) ≤ failed_calls counts },
 }
 
 // What came of one take.
@@ -60,7 +61,8 @@ enum Next {
 
 impl<P: QueuedPort> FreshPort<P> {
     /// A port that passes on what may be answered of what comes at `port`, by what `watch` was told and will be. It has dropped
-    /// nothing. `watch` may know the queue already, by the port's clock: a queue that is new was empty just before.
+    /// nothing, and calls of `port` that failed before are counted as receives. `watch` may know the queue already, by the port's
+    /// clock: a queue that is new was empty just before.
     pub fn new(mut port: P, watch: QueueWatch) -> FreshPort<P>
         ensures stands { (history : List QueueEvent) → Watches watch history → IsInOrder history
             → All (λ event. moment_of event ≤ result.reading) history → Counts watch history
@@ -69,20 +71,22 @@ impl<P: QueuedPort> FreshPort<P> {
         ensures shown { IsShown result.reading (P.history result.port) }
         ensures turns { P.told result.port ≡ P.told port }
         ensures history { ReadsClock (P.history port) (P.history result.port) result.reading }
-        ensures stale { result.stale ≡ 0 }
+        ensures stale { result.counts.dropped ≡ 0 }
         ensures sweeps { result.sweeps ≡ 0 }
-        ensures failures { result.failures ≡ P.failure_count port }
+        ensures failures { failed_calls result.counts ≡ failed_calls (P.counts port) }
     {
         let reading = port.ticks();
-        let failures = port.failures();
+        let failed_receives = port.failures();
         FreshPort {
             port,
             watch,
             reading,
             next_look: 0,
-            stale: 0,
+            counts: PortCounts {
+                failed_receives,
+                ..PortCounts::NONE
+            },
             sweeps: 0,
-            failures,
         }
     }
 
@@ -95,9 +99,9 @@ impl<P: QueuedPort> FreshPort<P> {
 
     /// How many datagrams were dropped, as far as the number can count.
     pub fn stale(&self) -> u64
-        ensures { result ≡ self.now.stale }
+        ensures { result ≡ self.now.counts.dropped }
     {
-        self.stale
+        self.counts.dropped
     }
 
     /// How many times the queue was swept, as far as the number can count.
@@ -125,17 +129,19 @@ impl<P: QueuedPort> FreshPort<P> {
         &mut self,
         datagram: &mut DatagramRoom,
     ) -> Option<Result<Arrival, PortFault>>
-        requires { self.old.failures < 2 ^ 64 - 1 }
+        requires { failed_calls self.old.counts < 2 ^ 64 - 1 }
         ensures length { IfSome result (λ received. IfOk received (λ arrival. arrival.length ≤ most_received_octets)) }
         ensures fault { IfSome result (λ received. IfErr received (λ fault. fault ≡ PortFault.Receive)) }
-        ensures failures { self.new.failures
-            ≡ self.old.failures + option_map_or (λ received. if is_err received then 1 else 0) result 0 }
-        ensures fresh { PassesOnFresh (kept self.old.watch self.old.reading self.old.next_look self.old.stale (P.told self.old.port) (P.history self.old.port))
-            (kept self.new.watch self.new.reading self.new.next_look self.new.stale (P.told self.new.port) (P.history self.new.port)) result datagram.new }
+        ensures counts { CountsWait self.old.counts self.new.counts result }
+        ensures fresh { PassesOnFresh (kept self.old.watch self.old.reading self.old.next_look self.old.counts.dropped (P.told self.old.port) (P.history self.old.port))
+            (kept self.new.watch self.new.reading self.new.next_look self.new.counts.dropped (P.told self.new.port) (P.history self.new.port)) result datagram.new }
     {
         for _sweep in 0..MOST_SWEEPS {
             match self.take_next(datagram) {
-                Next::Nothing => return None,
+                Next::Nothing => {
+                    self.counts.idle_waits = self.counts.idle_waits.saturating_add(1);
+                    return None;
+                }
                 Next::Fault(fault) => return Some(Err(fault)),
                 Next::Fresh(arrival) => return Some(Ok(arrival)),
                 Next::Stale => {
@@ -144,17 +150,18 @@ impl<P: QueuedPort> FreshPort<P> {
                 }
             }
         }
+        self.counts.idle_waits = self.counts.idle_waits.saturating_add(1);
         None
     }
 
     // Takes the next datagram out of the queue, and judges it.
     fn take_next(&mut self, datagram: &mut DatagramRoom) -> Next
-        requires { self.old.failures < 2 ^ 64 - 1 }
+        requires { failed_calls self.old.counts < 2 ^ 64 - 1 }
         ensures fresh { (arrival : Arrival) → result ≡ Next.Fresh arrival → arrival.length ≤ most_received_octets }
         ensures fault { (fault : PortFault) → result ≡ Next.Fault fault → fault ≡ PortFault.Receive }
-        ensures failures { self.new.failures ≡ self.old.failures + failures_in result }
-        ensures next { TakesNext (kept self.old.watch self.old.reading self.old.next_look self.old.stale (P.told self.old.port) (P.history self.old.port))
-            (kept self.new.watch self.new.reading self.new.next_look self.new.stale (P.told self.new.port) (P.history self.new.port)) result datagram.new }
+        ensures counts { CountsNext self.old.counts self.new.counts result }
+        ensures next { TakesNext (kept self.old.watch self.old.reading self.old.next_look self.old.counts.dropped (P.told self.old.port) (P.history self.old.port))
+            (kept self.new.watch self.new.reading self.new.next_look self.new.counts.dropped (P.told self.new.port) (P.history self.new.port)) result datagram.new }
     {
         self.look();
         let received = self.port.take_in_time(datagram);
@@ -166,7 +173,7 @@ impl<P: QueuedPort> FreshPort<P> {
         };
         match received {
             Err(fault) => {
-                self.failures += 1;
+                self.counts.failed_receives += 1;
                 Next::Fault(fault)
             }
             Ok(arrival) => {
@@ -176,7 +183,7 @@ impl<P: QueuedPort> FreshPort<P> {
                     return Next::Fresh(arrival);
                 }
                 self.next_look = 0;
-                self.stale = self.stale.saturating_add(1);
+                self.counts.dropped = self.counts.dropped.saturating_add(1);
                 Next::Stale
             }
         }
@@ -184,9 +191,9 @@ impl<P: QueuedPort> FreshPort<P> {
 
     // Drops what was in the queue when it was looked at last, as long as it may not be answered.
     fn sweep(&mut self)
-        ensures failures { self.new.failures ≡ self.old.failures }
-        ensures drops { Drops (kept self.old.watch self.old.reading self.old.next_look self.old.stale (P.told self.old.port) (P.history self.old.port))
-            (kept self.new.watch self.new.reading self.new.next_look self.new.stale (P.told self.new.port) (P.history self.new.port)) }
+        ensures counts { CountsNext self.old.counts self.new.counts Next.Stale }
+        ensures drops { Drops (kept self.old.watch self.old.reading self.old.next_look self.old.counts.dropped (P.told self.old.port) (P.history self.old.port))
+            (kept self.new.watch self.new.reading self.new.next_look self.new.counts.dropped (P.told self.new.port) (P.history self.new.port)) }
     {
         for _ in 0..self.watch.waiting() {
             if !self.drop_next() {
@@ -197,12 +204,12 @@ impl<P: QueuedPort> FreshPort<P> {
 
     // Drops the next datagram, where it is one of those that were counted and may not be answered by what is known. Whether it did.
     fn drop_next(&mut self) -> bool
-        ensures failures { self.new.failures ≡ self.old.failures }
-        ensures drops { Drops (kept self.old.watch self.old.reading self.old.next_look self.old.stale (P.told self.old.port) (P.history self.old.port))
-            (kept self.new.watch self.new.reading self.new.next_look self.new.stale (P.told self.new.port) (P.history self.new.port)) }
-        ensures did { self.new.stale ≡ counted_on self.old.stale (if result then 1 else 0) }
+        ensures counts { CountsNext self.old.counts self.new.counts Next.Stale }
+        ensures drops { Drops (kept self.old.watch self.old.reading self.old.next_look self.old.counts.dropped (P.told self.old.port) (P.history self.old.port))
+            (kept self.new.watch self.new.reading self.new.next_look self.new.counts.dropped (P.told self.new.port) (P.history self.new.port)) }
+        ensures did { self.new.counts.dropped ≡ counted_on self.old.counts.dropped (if result then 1 else 0) }
     {
-        let stale = self.stale;
+        let dropped = self.counts.dropped;
         if !self.watch.is_waiting() {
             return false;
         }
@@ -212,16 +219,16 @@ impl<P: QueuedPort> FreshPort<P> {
         let has_dropped = self.port.drop_next();
         if has_dropped {
             self.watch.took();
-            self.stale = stale.saturating_add(1);
+            self.counts.dropped = dropped.saturating_add(1);
         }
         has_dropped
     }
 
     // Looks at the queue where it is time to, once in a ten-thousandth of a second at most.
     fn look(&mut self)
-        ensures failures { self.new.failures ≡ self.old.failures }
-        ensures looks { Looks (kept self.old.watch self.old.reading self.old.next_look self.old.stale (P.told self.old.port) (P.history self.old.port))
-            (kept self.new.watch self.new.reading self.new.next_look self.new.stale (P.told self.new.port) (P.history self.new.port)) (Some (oldest_look (longest_of self.old.watch))) }
+        ensures counts { self.new.counts ≡ self.old.counts }
+        ensures looks { Looks (kept self.old.watch self.old.reading self.old.next_look self.old.counts.dropped (P.told self.old.port) (P.history self.old.port))
+            (kept self.new.watch self.new.reading self.new.next_look self.new.counts.dropped (P.told self.new.port) (P.history self.new.port)) (Some (oldest_look (longest_of self.old.watch))) }
         ensures counted { self.old.next_look ≤ self.old.reading → IsCounted self.new.watch self.old.reading }
     {
         if self.reading >= self.next_look {
@@ -232,9 +239,9 @@ impl<P: QueuedPort> FreshPort<P> {
 
     // Looks at the queue where what is known of it is old.
     fn look_where_due(&mut self)
-        ensures failures { self.new.failures ≡ self.old.failures }
-        ensures looks { Looks (kept self.old.watch self.old.reading self.old.next_look self.old.stale (P.told self.old.port) (P.history self.old.port))
-            (kept self.new.watch self.new.reading self.new.next_look self.new.stale (P.told self.new.port) (P.history self.new.port)) (Some (longest_of self.old.watch / 10)) }
+        ensures counts { self.new.counts ≡ self.old.counts }
+        ensures looks { Looks (kept self.old.watch self.old.reading self.old.next_look self.old.counts.dropped (P.told self.old.port) (P.history self.old.port))
+            (kept self.new.watch self.new.reading self.new.next_look self.new.counts.dropped (P.told self.new.port) (P.history self.new.port)) (Some (longest_of self.old.watch / 10)) }
         ensures counted { IsCounted self.new.watch self.old.reading }
     {
         if self.watch.is_due(self.reading) {
@@ -244,9 +251,9 @@ impl<P: QueuedPort> FreshPort<P> {
 
     // Looks whether the queue is empty, and how many datagrams are in it where that has to be known.
     fn look_now(&mut self)
-        ensures failures { self.new.failures ≡ self.old.failures }
-        ensures looks { Looks (kept self.old.watch self.old.reading self.old.next_look self.old.stale (P.told self.old.port) (P.history self.old.port))
-            (kept self.new.watch self.new.reading self.new.next_look self.new.stale (P.told self.new.port) (P.history self.new.port)) (Some 0) }
+        ensures counts { self.new.counts ≡ self.old.counts }
+        ensures looks { Looks (kept self.old.watch self.old.reading self.old.next_look self.old.counts.dropped (P.told self.old.port) (P.history self.old.port))
+            (kept self.new.watch self.new.reading self.new.next_look self.new.counts.dropped (P.told self.new.port) (P.history self.new.port)) (Some 0) }
         ensures counted { IsCounted self.new.watch self.old.reading }
     {
         self.look_whether_empty();
@@ -255,9 +262,9 @@ impl<P: QueuedPort> FreshPort<P> {
 
     // Looks whether the queue is empty.
     fn look_whether_empty(&mut self)
-        ensures failures { self.new.failures ≡ self.old.failures }
-        ensures looks { Looks (kept self.old.watch self.old.reading self.old.next_look self.old.stale (P.told self.old.port) (P.history self.old.port))
-            (kept self.new.watch self.new.reading self.new.next_look self.new.stale (P.told self.new.port) (P.history self.new.port)) (Some 0) }
+        ensures counts { self.new.counts ≡ self.old.counts }
+        ensures looks { Looks (kept self.old.watch self.old.reading self.old.next_look self.old.counts.dropped (P.told self.old.port) (P.history self.old.port))
+            (kept self.new.watch self.new.reading self.new.next_look self.new.counts.dropped (P.told self.new.port) (P.history self.new.port)) (Some 0) }
     {
         if self.port.is_empty() {
             self.watch.saw(0, self.reading);
@@ -266,9 +273,9 @@ impl<P: QueuedPort> FreshPort<P> {
 
     // Looks how many datagrams are in the queue, where no earlier look is waited for and what is known is old: that costs more.
     fn look_how_many(&mut self)
-        ensures failures { self.new.failures ≡ self.old.failures }
-        ensures looks { Looks (kept self.old.watch self.old.reading self.old.next_look self.old.stale (P.told self.old.port) (P.history self.old.port))
-            (kept self.new.watch self.new.reading self.new.next_look self.new.stale (P.told self.new.port) (P.history self.new.port)) None }
+        ensures counts { self.new.counts ≡ self.old.counts }
+        ensures looks { Looks (kept self.old.watch self.old.reading self.old.next_look self.old.counts.dropped (P.told self.old.port) (P.history self.old.port))
+            (kept self.new.watch self.new.reading self.new.next_look self.new.counts.dropped (P.told self.new.port) (P.history self.new.port)) None }
         ensures counted { IsCounted self.new.watch self.old.reading }
     {
         if !self.watch.is_waiting() && self.watch.is_old(self.reading) {
@@ -284,19 +291,17 @@ impl<P: QueuedPort> Port for FreshPort<P> {
 
     ghost may_drop = { true };
 
-    ghost drop_count = { λ f. f.stale };
-
-    ghost failure_count = { λ f. f.failures };
+    ghost counts = { λ f. f.counts };
 
     /// Waits until a datagram comes that may be answered. It fails where the other port does, and after 2^64 - 1 waits that gave none.
     fn receive(&mut self, datagram: &mut DatagramRoom) -> Result<Arrival, PortFault>
-        requires { self.old.failures < 2 ^ 64 - 1 }
+        requires { failed_calls self.old.counts < 2 ^ 64 - 1 }
         ensures length { IfOk result (λ arrival. arrival.length ≤ most_received_octets) }
         ensures fault { IfErr result (λ fault. fault ≡ PortFault.Receive) }
-        ensures failures { self.new.failures ≡ self.old.failures + (if is_err result then 1 else 0) }
-        ensures turns { Receives true self.old.stale self.new.stale (P.told self.old.port) (P.told self.new.port) result datagram.new }
-        ensures fresh { (given : Option (Result Arrival PortFault)) × PassesOnFresh (kept self.old.watch self.old.reading self.old.next_look self.old.stale (P.told self.old.port) (P.history self.old.port))
-            (kept self.new.watch self.new.reading self.new.next_look self.new.stale (P.told self.new.port) (P.history self.new.port)) given datagram.new
+        ensures counts { CountsReceive self.old.counts self.new.counts (is_err result) }
+        ensures turns { Receives true self.old.counts.dropped self.new.counts.dropped (P.told self.old.port) (P.told self.new.port) result datagram.new }
+        ensures fresh { (given : Option (Result Arrival PortFault)) × PassesOnFresh (kept self.old.watch self.old.reading self.old.next_look self.old.counts.dropped (P.told self.old.port) (P.history self.old.port))
+            (kept self.new.watch self.new.reading self.new.next_look self.new.counts.dropped (P.told self.new.port) (P.history self.new.port)) given datagram.new
             × (result ≡ option_map_or (λ received. received) given (Err PortFault.Receive)) }
     {
         for _wait in 0..u64::MAX {
@@ -304,17 +309,16 @@ impl<P: QueuedPort> Port for FreshPort<P> {
                 return received;
             }
         }
-        self.failures += 1;
+        self.counts.failed_receives += 1;
         Err(PortFault::Receive)
     }
 
     /// The moment that the other port's clock shows, read once.
     fn now(&mut self) -> Moment
-        ensures failures { self.new.failures ≡ self.old.failures }
+        ensures counts { self.new.counts ≡ self.old.counts }
         ensures watch { self.new.watch ≡ self.old.watch }
         ensures reading { self.new.reading ≡ self.old.reading }
         ensures next_look { self.new.next_look ≡ self.old.next_look }
-        ensures stale { self.new.stale ≡ self.old.stale }
         ensures sweeps { self.new.sweeps ≡ self.old.sweeps }
         ensures turns { NowTells (P.told self.old.port) (P.told self.new.port) result }
     {
@@ -323,42 +327,40 @@ impl<P: QueuedPort> Port for FreshPort<P> {
 
     /// Sends a reply by the other port, once.
     fn send(&mut self, address: Address, port: u16, reply: &[u8]) -> Result<(), PortFault>
-        requires { self.old.failures < 2 ^ 64 - 1 }
+        requires { failed_calls self.old.counts < 2 ^ 64 - 1 }
         ensures fault { IfErr result (λ fault. fault ≡ PortFault.Send) }
-        ensures failures { self.new.failures ≡ self.old.failures + (if is_err result then 1 else 0) }
+        ensures counts { self.new.counts ≡ counted_send (is_err result) self.old.counts }
         ensures watch { self.new.watch ≡ self.old.watch }
         ensures reading { self.new.reading ≡ self.old.reading }
         ensures next_look { self.new.next_look ≡ self.old.next_look }
-        ensures stale { self.new.stale ≡ self.old.stale }
         ensures sweeps { self.new.sweeps ≡ self.old.sweeps }
         ensures turns { SendTells (P.told self.old.port) (P.told self.new.port) address port reply.now result }
     {
         let sent = self.port.send(address, port, reply);
         if sent.is_err() {
-            self.failures += 1;
+            self.counts.failed_sends += 1;
         }
         sent
     }
 
     fn failures(&self) -> u64 {
-        self.failures
+        self.counts.failed_receives + self.counts.failed_sends
     }
 }
 
 impl<P: QueuedPort> TimedPort for FreshPort<P> {
     /// As `receive_fresh`.
     fn receive_in_time(&mut self, datagram: &mut DatagramRoom) -> Option<Result<Arrival, PortFault>>
-        requires { self.old.failures < 2 ^ 64 - 1 }
+        requires { failed_calls self.old.counts < 2 ^ 64 - 1 }
         ensures length { IfSome result (λ received. IfOk received (λ arrival. arrival.length ≤ most_received_octets)) }
         ensures fault { IfSome result (λ received. IfErr received (λ fault. fault ≡ PortFault.Receive)) }
-        ensures failures { self.new.failures
-            ≡ self.old.failures + option_map_or (λ received. if is_err received then 1 else 0) result 0 }
+        ensures counts { CountsWait self.old.counts self.new.counts result }
         ensures turns { IfSome result (λ received.
-            Receives true self.old.stale self.new.stale (P.told self.old.port) (P.told self.new.port) received datagram.new) }
+            Receives true self.old.counts.dropped self.new.counts.dropped (P.told self.old.port) (P.told self.new.port) received datagram.new) }
         ensures nothing { IfNone result ((false ≡ false)
-            × DropsAny true self.old.stale self.new.stale (P.told self.old.port) (P.told self.new.port)) }
-        ensures fresh { PassesOnFresh (kept self.old.watch self.old.reading self.old.next_look self.old.stale (P.told self.old.port) (P.history self.old.port))
-            (kept self.new.watch self.new.reading self.new.next_look self.new.stale (P.told self.new.port) (P.history self.new.port)) result datagram.new }
+            × DropsAny true self.old.counts.dropped self.new.counts.dropped (P.told self.old.port) (P.told self.new.port)) }
+        ensures fresh { PassesOnFresh (kept self.old.watch self.old.reading self.old.next_look self.old.counts.dropped (P.told self.old.port) (P.history self.old.port))
+            (kept self.new.watch self.new.reading self.new.next_look self.new.counts.dropped (P.told self.new.port) (P.history self.new.port)) result datagram.new }
     {
         self.receive_fresh(datagram)
     }

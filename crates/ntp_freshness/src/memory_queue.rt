@@ -45,6 +45,7 @@ pub struct MemoryQueue<A: Allocator = Global> {
     readings: Vec<u64, A>,
     read: usize,
     shown: u64,
+    idle_waits: u64,
     log: Log<A>,
     ghost within: { taken ≤ vec_len due },
     ghost last: { log.has_missed ≡ false → last_reading (reverse log.events.items) ≡ shown },
@@ -75,6 +76,7 @@ impl<A: Allocator> MemoryQueue<A> {
             readings,
             read: 0,
             shown: 0,
+            idle_waits: 0,
             log: Log {
                 events,
                 has_missed: false,
@@ -108,11 +110,11 @@ impl<A: Allocator> MemoryQueue<A> {
 }
 
 impl<A: Allocator> Port for MemoryQueue<A> {
-    ghost use Rattle.ntp_service_serve.specs.Memory.{told_by, memory_failures};
+    ghost use Rattle.ntp_service_serve.specs.Memory.{told_by, memory_counts};
 
     ghost told = { λ queue. Some (told_by queue.port) };
 
-    ghost failure_count = { λ queue. memory_failures queue.port };
+    ghost counts = { λ queue. record (memory_counts queue.port) { idle_waits = queue.idle_waits } };
 
     fn receive(&mut self, datagram: &mut DatagramRoom) -> Result<Arrival, PortFault> {
         let received = self.port.receive(datagram);
@@ -192,6 +194,7 @@ impl<A: Allocator> QueuedPort for MemoryQueue<A> {
                 count: 0,
                 at: self.shown,
             });
+            self.idle_waits = self.idle_waits.saturating_add(1);
             return None;
         }
         match self.port.receive(datagram) {

@@ -1,7 +1,8 @@
 -- What a port over a socket counts.
 use Rattle.std.specs.Prelude.{ℕ}
+use Rattle.ntp_service_serve.specs.Port.{failed_calls}
 use Rattle.ntp_host.specs.declared.udp_port.UdpPort.{UdpPort}
 
 -- how many calls failed (profile)
 abbrev pub udp_failures : {C : Type 0} → UdpPort C → ℕ
-udp_failures p = p.failures
+udp_failures p = failed_calls p.counts

@@ -1,9 +1,10 @@
 //! A port over a UDP socket.
-ghost use Rattle.std.specs.Prelude.{◌≡◌};
+ghost use Rattle.std.specs.Prelude.{◌≡◌, ◌<◌, ◌^◌};
+ghost use Rattle.ntp_service_serve.specs.Port.{failed_calls};
 
 use crate::clock::moment_now;
 use ntp_service::Address;
-use ntp_service_serve::{Arrival, DatagramRoom, Port, PortFault, TimedPort};
+use ntp_service_serve::{Arrival, DatagramRoom, Port, PortCounts, PortFault, TimedPort};
 use ntp_time::Moment;
 use std::io::{self, ErrorKind};
 use std::net::{Ipv4Addr, SocketAddr, SocketAddrV4, UdpSocket};
@@ -17,7 +18,8 @@ use std::time::Clock;
 pub struct UdpPort<C: Clock + Drop> {
     socket: UdpSocket,
     clock: C,
-    failures: u64,
+    counts: PortCounts,
+    ghost few: { failed_calls counts < 2 ^ 64 },
 }
 
 impl<C: Clock + Drop> UdpPort<C> {
@@ -31,7 +33,7 @@ impl<C: Clock + Drop> UdpPort<C> {
         UdpPort {
             socket,
             clock,
-            failures: 0,
+            counts: PortCounts::NONE,
         }
     }
 }
@@ -45,9 +47,7 @@ fn is_no_failure(error: &io::Error) -> bool {
 }
 
 impl<C: Clock + Drop> Port for UdpPort<C> {
-    ghost use Rattle.ntp_host.specs.Failures.{udp_failures};
-
-    ghost failure_count = { udp_failures };
+    ghost counts = { λ udp. udp.counts };
 
     /// Waits until a datagram comes: a time limit that passes, or a signal, ends no turn.
     fn receive(&mut self, datagram: &mut DatagramRoom) -> Result<Arrival, PortFault> {
@@ -56,7 +56,7 @@ impl<C: Clock + Drop> Port for UdpPort<C> {
                 return received;
             }
         }
-        self.failures += 1;
+        self.counts.failed_receives += 1;
         Err(PortFault::Receive)
     }
 
@@ -69,14 +69,14 @@ impl<C: Clock + Drop> Port for UdpPort<C> {
         match self.socket.send_to(reply, target) {
             Ok(sent) if sent == reply.len() => Ok(()),
             _ => {
-                self.failures += 1;
+                self.counts.failed_sends += 1;
                 Err(PortFault::Send)
             }
         }
     }
 
     fn failures(&self) -> u64 {
-        self.failures
+        self.counts.failed_receives + self.counts.failed_sends
     }
 }
 
@@ -95,9 +95,12 @@ impl<C: Clock + Drop> TimedPort for UdpPort<C> {
                 length,
                 receipt,
             })),
-            Err(error) if is_no_failure(&error) => None,
+            Err(error) if is_no_failure(&error) => {
+                self.counts.idle_waits = self.counts.idle_waits.saturating_add(1);
+                None
+            }
             _ => {
-                self.failures += 1;
+                self.counts.failed_receives += 1;
                 Some(Err(PortFault::Receive))
             }
         }

@@ -1,10 +1,33 @@
 -- How many calls of a port fail while a datagram is answered.
-use Rattle.std.proofs.Common.{◌≡◌, ℕ, ◌+◌, ◌≤◌, Bool, true, false, if◌then◌else◌, arith}
+use Rattle.std.proofs.Common.{◌≡◌, ℕ, ◌+◌, ◌≤◌, Option, Result, Ok, Err, List, ap, arith}
+use Rattle.std.specs.Prelude.{option_map, is_err}
+use Rattle.std.specs.Result.{result_ok}
+use Rattle.ntp_reply.specs.Reference.{ReferenceState}
+use Rattle.ntp_service.specs.Registry.{Registry}
+use Rattle.ntp_service.specs.declared.observation.Arrival.{Arrival}
+use Rattle.ntp_service.specs.declared.observation.TurnOutcome.{TurnOutcome}
+use Rattle.ntp_service_serve.specs.declared.port.PortCounts.{PortCounts}
+use Rattle.ntp_service_serve.specs.declared.port.PortFault.{PortFault}
+use Rattle.ntp_service_serve.specs.Port.{Told, failed_calls, counted_send, CountsReceive}
+use Rattle.ntp_service_serve.specs.Made.{Made, Missed, Received, turn_of, arrival_of, is_unsent}
+use Rattle.ntp_service_serve.specs.Serving.{TurnMakes}
+use Rattle.ntp_service_serve.proofs.Counting.{at-most-one}
 
 -- a call that received failed or not, and a turn fails once at most: in that call, or behind it
-pub one-fails : (failed failing : Bool) (before halfway after : ℕ) → halfway ≡ before + (if failed then 1 else 0)
-    → after + (if failed then 1 else 0) ≡ halfway + (if failing then 1 else 0) → after ≤ before + 1
-one-fails true true before halfway after received answered = omega (arith, received, answered)
-one-fails true false before halfway after received answered = omega (arith, received, answered)
-one-fails false true before halfway after received answered = omega (arith, received, answered)
-one-fails false false before halfway after received answered = omega (arith, received, answered)
+pub one-fails : (A : Type 0) (reference : ReferenceState) (r : Result Arrival PortFault) (buffer : List ℕ) (t u : Option Told)
+    (a b c : PortCounts) (s q : Registry) (o : TurnOutcome) → TurnMakes A reference r buffer t u b c s q o → CountsReceive a b (is_err r)
+    → failed_calls c ≤ failed_calls a + 1
+one-fails A reference r buffer t u a b c s q o turn received = by_turn turn.made r turn.arrived received turn.counts
+  where
+    by_turn : (made : Made) (r : Result Arrival PortFault) → option_map arrival_of (turn_of made).arrival ≡ result_ok r
+        → CountsReceive a b (is_err r) → c ≡ counted_send (is_unsent made) b → failed_calls c ≤ failed_calls a + 1
+    by_turn (Missed clock sends) (Ok arrival) arrived received sent = absurd (cc)
+    by_turn (Missed clock sends) (Err fault) arrived received sent =
+        let receives : c.failed_receives ≡ b.failed_receives = ap (λ (k : PortCounts). k.failed_receives) sent in
+        let none : c.failed_sends ≡ b.failed_sends + 0 = ap (λ (k : PortCounts). k.failed_sends) sent in
+        omega (arith, received.0, received.1, receives, none)
+    by_turn (Received d clock sends answer noted) (Err fault) arrived received sent = absurd (cc)
+    by_turn (Received d clock sends answer noted) (Ok arrival) arrived received sent =
+        let unsent = is_unsent (Received d clock sends answer noted) in
+        let receives : c.failed_receives ≡ b.failed_receives = ap (λ (k : PortCounts). k.failed_receives) sent in
+        omega (arith, received.0, received.1, receives, ap (λ (k : PortCounts). k.failed_sends) sent, at-most-one unsent)

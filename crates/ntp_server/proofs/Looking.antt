@@ -9,7 +9,9 @@ use Rattle.ntp_service.specs.Sees.{Sees}
 use Rattle.ntp_service.proofs.Seen.{Sees-nil, Sees-append}
 use Rattle.ntp_service.specs.Headline.{Tells}
 use Rattle.ntp_service.proofs.Runs.{Tells-nil, Tells-append}
-use Rattle.ntp_service_serve.specs.Port.{Told}
+use Rattle.ntp_service_serve.specs.declared.port.PortCounts.{PortCounts}
+use Rattle.ntp_service_serve.specs.Port.{Told, CountsMore}
+use Rattle.ntp_service_serve.proofs.Dropping.{CountsMore-nil, CountsMore-append}
 use Rattle.ntp_customer_files.specs.CommandsFile.{TakenLine, CarriesOut, CarriesOutDue, lines_taken, happened_at_lines, line_observations}
 use Rattle.ntp_service_serve.specs.Sources.{Coming, Gives, CountsOn}
 use Rattle.ntp_server.specs.Rounds.{Look, Parts, AreDueAt, AreDueInTurn}
@@ -99,35 +101,58 @@ module _ (A : Type 0) where
       })
 
   -- ---- a wait
-  pub Waits-none : (prompt : Bool) (p : Parts) → Waits A prompt p p
-  Waits-none prompt p = record {
-    looks = [];
-    idle = idle prompt;
-    asked = λ k d below. absurd (omega (arith, below));
-    done = Looks-nil p;
-    tended = CountsOn-nil p.tended;
-    reported = Sees-nil p.shown;
-  }
+  pub Waits-none : (prompt : Bool) (p : Parts) → (w : Waits A prompt p p) × (length w.looks ≡ 0)
+  Waits-none prompt p = (
+    record {
+      looks = [];
+      idle = idle prompt;
+      asked = λ k d below. absurd (omega (arith, below));
+      done = Looks-nil p;
+      waited = CountsMore-nil p.counts.idle_waits;
+      tended = CountsOn-nil p.tended;
+      reported = Sees-nil p.shown;
+    },
+    refl,
+  )
     where
       idle : (prompt : Bool) → IsIdle prompt []
       idle true = refl
       idle false = tt
 
   -- it goes on only at a port that is not prompt; what the port, the source of the states and the reporter tell does not matter to a look
-  pub Waits-more : (prompt : Bool) (p q r : Parts) (port : Option Told) (failures dropped : ℕ) (states later : Option (Coming ReferenceState))
-      (tended : Option ℕ) (blank shown : Option (List (Option Moment))) → prompt ≡ false → Waits A prompt p q
-      → LooksOnce A None (record q { port = port; failures = failures; dropped = dropped; states = states; shown = blank }) r
-      → r.tended ≡ q.tended → CountsOn r.tended tended 1 → Sees q.shown shown (None ∷ [])
-      → Waits A prompt p (record r { states = later; tended = tended; shown = shown })
-  Waits-more prompt p q r port failures dropped states later tended blank shown waits w l same tends shows = record {
-    looks = w.looks ++ l.look ∷ [];
-    idle = subst (λ b. IsIdle b (w.looks ++ l.look ∷ [])) (sym waits) tt;
-    asked = All-push (λ x. x.asked ≡ None) w.looks l.look w.asked l.asks;
-    done = Looks-append w.looks (l.look ∷ []) p q (record r { states = later; tended = tended; shown = shown }) w.done
-        (record { due = l.done.due; commands = l.done.commands; observed = l.done.observed; tells = l.done.tells });
-    tended = subst (λ n. CountsOn p.tended tended n) (sym (length-append w.looks (l.look ∷ [])))
-        (CountsOn-append p.tended q.tended tended (length w.looks) 1 w.tended (subst (λ c. CountsOn c tended 1) same tends));
-    reported = subst (λ xs. Sees p.shown shown xs) (sym (map-append (λ x. x.asked) w.looks (l.look ∷ [])))
-        (Sees-append p.shown q.shown shown (asked_of w.looks) (l.look.asked ∷ []) w.reported
-        (subst (λ a. Sees q.shown shown (a ∷ [])) (sym l.asks) shows));
+  pub Waits-more : (prompt : Bool) (p q r : Parts) (port : Option Told) (counts : PortCounts) (states later : Option (Coming ReferenceState))
+      (tended : Option ℕ) (blank shown : Option (List (Option Moment))) (n : ℕ) → prompt ≡ false
+      → (w : Waits A prompt p q) × (length w.looks ≡ n)
+      → LooksOnce A None (record q { port = port; counts = counts; states = states; shown = blank }) r
+      → CountsMore q.counts.idle_waits r.counts.idle_waits 1 → r.tended ≡ q.tended → CountsOn r.tended tended 1 → Sees q.shown shown (None ∷ [])
+      → (w : Waits A prompt p (record r { states = later; tended = tended; shown = shown })) × (length w.looks ≡ n + 1)
+  Waits-more prompt p q r port counts states later tended blank shown n waits (w, many) l waited same tends shows =
+      let all : length (w.looks ++ l.look ∷ []) ≡ length w.looks + 1 = length-append w.looks (l.look ∷ []) in (
+        record {
+          looks = w.looks ++ l.look ∷ [];
+          idle = subst (λ b. IsIdle b (w.looks ++ l.look ∷ [])) (sym waits) tt;
+          asked = All-push (λ x. x.asked ≡ None) w.looks l.look w.asked l.asks;
+          done = Looks-append w.looks (l.look ∷ []) p q (record r { states = later; tended = tended; shown = shown }) w.done
+              (record { due = l.done.due; commands = l.done.commands; observed = l.done.observed; tells = l.done.tells });
+          waited = CountsMore-append p.counts.idle_waits q.counts.idle_waits r.counts.idle_waits (length w.looks) 1 _ all w.waited waited;
+          tended = subst (λ n. CountsOn p.tended tended n) (sym all)
+              (CountsOn-append p.tended q.tended tended (length w.looks) 1 w.tended (subst (λ c. CountsOn c tended 1) same tends));
+          reported = subst (λ xs. Sees p.shown shown xs) (sym (map-append (λ x. x.asked) w.looks (l.look ∷ [])))
+              (Sees-append p.shown q.shown shown (asked_of w.looks) (l.look.asked ∷ []) w.reported
+              (subst (λ a. Sees q.shown shown (a ∷ [])) (sym l.asks) shows));
+        },
+        all ∙ ap (λ m. m + 1) many,
+      )
+
+  -- the port goes on, as far as its waits are counted
+  pub Waits-port : (prompt : Bool) (p q : Parts) (port : Option Told) (counts : PortCounts) (w : Waits A prompt p q)
+      → CountsMore p.counts.idle_waits counts.idle_waits (length w.looks) → Waits A prompt p (record q { port = port; counts = counts })
+  Waits-port prompt p q port counts w waited = record {
+    looks = w.looks;
+    idle = w.idle;
+    asked = w.asked;
+    done = record { due = w.done.due; commands = w.done.commands; observed = w.done.observed; tells = w.done.tells };
+    waited = waited;
+    tended = w.tended;
+    reported = w.reported;
   }

@@ -1,6 +1,6 @@
 -- One round after another.
 use Rattle.std.proofs.Common.{◌≡◌, ℕ, ◌+◌, ◌≤◌, Bool, true, false, Option, None, Some, Result, List, [], ◌∷◌, ◌++◌, length, refl, sym, ap, ◌∙◌, subst, append-nil, length-append, arith}
-use Rattle.std.specs.Prelude.{if◌then◌else◌, option_map, is_err, flat_map}
+use Rattle.std.specs.Prelude.{option_map, flat_map}
 use Rattle.std.specs.Result.{result_ok}
 use Rattle.std.proofs.lemmas.List.{map-append, length-map}
 use Rattle.std.proofs.lemmas.List.Elements.{All-push}
@@ -16,14 +16,16 @@ use Rattle.ntp_service.specs.Sees.{Sees}
 use Rattle.ntp_service.proofs.Seen.{Sees-nil, Sees-append}
 use Rattle.ntp_service.specs.Headline.{Tells}
 use Rattle.ntp_service.proofs.Runs.{Tells-nil, Tells-append}
+use Rattle.ntp_service_serve.specs.declared.port.PortCounts.{PortCounts}
 use Rattle.ntp_service_serve.specs.declared.port.PortFault.{PortFault}
-use Rattle.ntp_service_serve.specs.Port.{IncomingValue}
-use Rattle.ntp_service_serve.specs.Made.{Made, Missed, Received, turn_of, arrival_of, happened_in_turn, sent_in, has_arrived, has_departed, is_failing, turn_outcome}
+use Rattle.ntp_service_serve.specs.Port.{IncomingValue, failed_calls, counted_send, CountsMore}
+use Rattle.ntp_service_serve.proofs.Dropping.{CountsMore-nil, CountsMore-append}
+use Rattle.ntp_service_serve.specs.Made.{Made, Missed, Received, turn_of, arrival_of, happened_in_turn, sent_in, has_arrived, has_departed, is_unsent, turn_outcome}
 use Rattle.ntp_service_serve.specs.Serving.{Makes}
 use Rattle.ntp_service_serve.proofs.Taking.{TakesTurn}
 use Rattle.ntp_service_serve.specs.Sending.{was_sent}
-use Rattle.ntp_service_serve.proofs.ManyTurns.{sent_of, count_of, Makes-nil, Makes-append}
-use Rattle.ntp_service_serve.proofs.Counting.{if_so, at-most-one, sent-one, noted-one, count-more}
+use Rattle.ntp_service_serve.proofs.ManyTurns.{sent_of, count_of, if_so, count-more, Makes-nil, Makes-append, Makes-few}
+use Rattle.ntp_service_serve.proofs.Counting.{at-most-one, sent-one, noted-one}
 use Rattle.ntp_server.specs.declared.server.Totals.{Totals}
 use Rattle.ntp_service_serve.specs.Sources.{Gives, CountsOn}
 use Rattle.ntp_server.specs.Rounds.{Look, Round, Parts, AreDueInTurn, HasLooks, AsksRight, ServesRounds, looks_of, made_in, receipt_in, happened_in_round, round_observations}
@@ -50,10 +52,10 @@ pub Makes-turn : (A : Type 0) (prompt may : Bool) (asked : Option Moment) (p q r
     → s.commands ≡ r.commands → Waits A prompt p q → LooksOnce A asked (record q { shown = blank }) r
     → asked ≡ option_map (λ a. a.receipt) (result_ok received) → r.states ≡ p.states
     → Gives r.states s.states (asked ∷ []) (reference ∷ []) → s.tended ≡ q.tended
-    → r.failures ≡ p.failures + (if is_err received then 1 else 0)
-    → TakesTurn A reference may received buffer p.port s.port p.dropped s.dropped r.failures s.failures r.service s.service outcome
+    → r.counts ≡ q.counts
+    → TakesTurn A reference may received buffer p.port s.port p.counts r.counts s.counts r.service s.service outcome
     → Sees r.seen s.seen (Turn outcome ∷ []) → Sees q.shown s.shown (asked ∷ []) → MakesRound A prompt may p s outcome
-Makes-turn A prompt may asked p q r s blank reference received buffer outcome applied commands waits looked receipt same states tended failed
+Makes-turn A prompt may asked p q r s blank reference received buffer outcome applied commands waits looked receipt same states tended counts
     taken seen shows =
     let turn = taken.turn in
     let looks = waits.looks ++ looked.look ∷ [] in
@@ -68,8 +70,9 @@ Makes-turn A prompt may asked p q r s blank reference received buffer outcome ap
       commands = subst (λ c. Gives p.commands c (asked_of looks) (given_of looks)) (sym commands) all.commands;
       states = subst (λ a. Gives p.states s.states (a ∷ []) (reference ∷ [])) right
           (subst (λ l. Gives l s.states (asked ∷ []) (reference ∷ [])) same states);
-      tends = length waits.looks;
-      waits = sym (length-append waits.looks (looked.look ∷ []));
+      idle = length waits.looks;
+      looks = sym (length-append waits.looks (looked.look ∷ []));
+      waits = subst (λ n. CountsMore p.counts.idle_waits n (length waits.looks)) (sym (ap (λ (k : PortCounts). k.idle_waits) (turn.counts ∙ ap (counted_send (is_unsent turn.made)) counts))) waits.waited;
       tended = subst (λ c. CountsOn p.tended c (length waits.looks)) (sym tended) waits.tended;
       reported = subst (λ xs. Sees p.shown s.shown xs) (sym (map-append (λ l. l.asked) waits.looks (looked.look ∷ [])))
           (Sees-append p.shown q.shown s.shown (asked_of waits.looks) (looked.look.asked ∷ []) waits.reported
@@ -78,7 +81,6 @@ Makes-turn A prompt may asked p q r s blank reference received buffer outcome ap
       observed = Sees-append p.seen r.seen s.seen (looks_observations looks) (Turn (turn_outcome turn.made) ∷ []) all.observed
           (subst (λ l. Sees r.seen s.seen (Turn l ∷ [])) turn.comes_to seen);
       comes_to = turn.comes_to;
-      failures = omega (arith, failed, turn.failures);
       tells = λ history stands. Tells-append history (happened_at_looks looks) (happened_in_turn reference turn.made) r.service s.service
           (all.tells history stands) (λ stood. turn.tells _ stood);
     }
@@ -130,16 +132,16 @@ Serves-none A prompt may p = record {
   due = refl;
   commands = Gives-nil p.commands;
   states = Gives-nil p.states;
-  tends = 0;
-  waits = refl;
+  idle = 0;
+  looks = refl;
+  waits = CountsMore-nil p.counts.idle_waits;
   tended = CountsOn-nil p.tended;
   reported = Sees-nil p.shown;
-  port = Makes-nil may p.dropped p.port;
+  port = Makes-nil may p.counts p.port;
   observed = Sees-nil p.seen;
   arrivals = refl;
   sent = refl;
   departed = refl;
-  failures = let none : p.failures ≡ p.failures + 0 = omega arith in none;
   tells = λ history stands. Tells-nil history p.service stands;
 }
 
@@ -172,14 +174,15 @@ Serves-round A prompt may n p q r a b outcome s m arrivals sent departed =
           (sym (map-append (λ l. l.reference) rounds (round ∷ [])))
           (Gives-append p.states q.states r.states (receipts_of rounds) (receipt_in round.made ∷ []) (states_of rounds)
           (round.reference ∷ []) s.states m.states));
-      tends = s.tends + m.tends;
-      waits = omega (arith, s.waits, m.waits, ap length looks, length-append (looks_of rounds) round.looks);
-      tended = CountsOn-append p.tended q.tended r.tended s.tends m.tends s.tended m.tended;
+      idle = s.idle + m.idle;
+      looks = omega (arith, s.looks, m.looks, ap length looks, length-append (looks_of rounds) round.looks);
+      waits = CountsMore-append p.counts.idle_waits q.counts.idle_waits r.counts.idle_waits s.idle m.idle (s.idle + m.idle) refl s.waits m.waits;
+      tended = CountsOn-append p.tended q.tended r.tended s.idle m.idle s.tended m.tended;
       reported = subst (λ l. Sees p.shown r.shown (asked_of l)) (sym looks)
           (subst (λ xs. Sees p.shown r.shown xs) (sym (map-append (λ l. l.asked) (looks_of rounds) round.looks))
           (Sees-append p.shown q.shown r.shown (asked_of (looks_of rounds)) (asked_of round.looks) s.reported m.reported));
-      port = subst (λ l. Makes may l p.dropped r.dropped p.port r.port) (sym turns)
-          (Makes-append may (made_in rounds) (made ∷ []) p.dropped q.dropped r.dropped p.port q.port r.port s.port m.port);
+      port = subst (λ l. Makes may l p.counts r.counts p.port r.port) (sym turns)
+          (Makes-append may (made_in rounds) (made ∷ []) p.counts q.counts r.counts p.port q.port r.port s.port m.port);
       observed = subst (λ l. Sees p.seen r.seen l) (sym (flat_map-push round_observations rounds round))
           (Sees-append p.seen q.seen r.seen (flat_map round_observations rounds) (round_observations round) s.observed m.observed);
       arrivals = omega (
@@ -210,7 +213,6 @@ Serves-round A prompt may n p q r a b outcome s m arrivals sent departed =
         ap (count_of has_departed) turns,
         count-more has_departed (made_in rounds) made,
       );
-      failures = omega (arith, s.failures, m.failures, ap (count_of is_failing) turns, count-more is_failing (made_in rounds) made);
       tells = λ history stands. subst (λ l. Tells history l r.service) (sym (flat_map-push happened_in_round rounds round))
           (Tells-append history (flat_map happened_in_round rounds) (happened_in_round round) q.service r.service
           (s.tells history stands) (λ stood. m.tells _ stood));
@@ -218,12 +220,12 @@ Serves-round A prompt may n p q r a b outcome s m arrivals sent departed =
 
 -- how many there can be
 pub Serves-few : (A : Type 0) (prompt may : Bool) (n : ℕ) (p q : Parts) (a : Totals) → ServesRounds A prompt may n p q a
-    → (a.arrivals ≤ n) × (a.sent ≤ n) × (a.departed ≤ n) × (q.failures ≤ p.failures + n)
+    → (a.arrivals ≤ n) × (a.sent ≤ n) × (a.departed ≤ n) × (failed_calls q.counts ≤ failed_calls p.counts + n)
 Serves-few A prompt may n p q a s =
     let made = made_in s.rounds in
     let all : length made ≡ n = length-map s.rounds (λ x. x.made) ∙ s.each in (
       omega (arith, all, s.arrivals, few_such has_arrived made),
       omega (arith, all, s.sent, few_sent made),
       omega (arith, all, s.departed, few_such has_departed made),
-      omega (arith, all, s.failures, few_such is_failing made),
+      omega (arith, all, Makes-few may made p.counts q.counts p.port q.port s.port),
     )

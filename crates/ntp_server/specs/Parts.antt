@@ -3,20 +3,20 @@ use Rattle.std.specs.Prelude.{ℕ, Option, List}
 use Rattle.ntp_time.specs.declared.moment.Moment.{Moment}
 use Rattle.ntp_service.specs.declared.observation.Observation.{Observation}
 use Rattle.ntp_reply.specs.Reference.{ReferenceState}
+use Rattle.ntp_service_serve.specs.declared.port.PortCounts.{PortCounts}
 use Rattle.ntp_service_serve.specs.Port.{Told}
 use Rattle.ntp_service_serve.specs.Sources.{Coming}
 use Rattle.ntp_server.specs.Rounds.{Parts}
 use Rattle.ntp_server.specs.declared.server.Server.{Server}
 
--- those of a server, by what each tells: its port, how many calls of that failed and what it dropped, its commands, its states, how often
--- their source was given time, its observer; and what its reporter tells (profile)
-abbrev pub parts_of : {P C R O A : Type 0} → (P → Option Told) → (P → ℕ) → (P → ℕ) → (C → Option (Coming (Option (List ℕ))))
+-- those of a server, by what each tells: its port, what that counted, its commands, its states, how often their source was given time, its
+-- observer; and what its reporter tells (profile)
+abbrev pub parts_of : {P C R O A : Type 0} → (P → Option Told) → (P → PortCounts) → (C → Option (Coming (Option (List ℕ))))
     → (R → Option (Coming ReferenceState)) → (R → Option ℕ) → (O → Option (List Observation)) → Option (List (Option Moment))
     → Server P C R O A → Parts
-parts_of told failures dropped commands states tended seen shown server = record {
+parts_of told counts commands states tended seen shown server = record {
   port = told server.port;
-  failures = failures server.port;
-  dropped = dropped server.port;
+  counts = counts server.port;
   commands = commands server.commands;
   applied = server.applied;
   states = states server.reference;

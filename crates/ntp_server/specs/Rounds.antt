@@ -9,8 +9,9 @@ use Rattle.ntp_service.specs.declared.observation.Observation.{Observation}
 use Rattle.ntp_service.specs.declared.observation.Observation.TheVariants.{Turn}
 use Rattle.ntp_service.specs.Sees.{Sees}
 use Rattle.ntp_service.specs.Headline.{StandsFor, Tells}
-use Rattle.ntp_service_serve.specs.Port.{Told}
-use Rattle.ntp_service_serve.specs.Made.{Made, turn_of, happened_in_turn, sent_in, has_arrived, has_departed, is_failing, turn_outcome}
+use Rattle.ntp_service_serve.specs.declared.port.PortCounts.{PortCounts}
+use Rattle.ntp_service_serve.specs.Port.{Told, CountsMore}
+use Rattle.ntp_service_serve.specs.Made.{Made, turn_of, happened_in_turn, sent_in, has_arrived, has_departed, turn_outcome}
 use Rattle.ntp_service_serve.specs.Serving.{Makes}
 use Rattle.ntp_customer_files.specs.CommandsFile.{TakenLine, AreDue, lines_taken, happened_at_lines, line_observations}
 use Rattle.ntp_server.specs.declared.server.Totals.{Totals}
@@ -73,12 +74,10 @@ pub record AsksRight (r : Round) : Type 0 where
   pub waiting : All (λ l. l.asked ≡ None) idle
   pub come : last.asked ≡ receipt_in r.made
 
--- what the parts of a server and its reporter tell, with how many calls of its port failed, how many datagrams that has dropped, how many
--- lines were applied, and its service (profile)
+-- what the parts of a server and its reporter tell, with what its port counted, how many lines were applied, and its service (profile)
 pub record Parts : Type 0 where
   pub port : Option Told
-  pub failures : ℕ
-  pub dropped : ℕ
+  pub counts : PortCounts
   pub commands : Option (Coming (Option (List ℕ)))
   pub applied : ℕ
   pub states : Option (Coming ReferenceState)
@@ -97,17 +96,18 @@ pub record ServesRounds (A : Type 0) (prompt may_drop : Bool) (turns : ℕ) (bef
   pub due : AreDueInTurn before.applied (looks_of rounds) after.applied
   pub commands : Gives before.commands after.commands (map (λ l. l.asked) (looks_of rounds)) (map (λ l. l.given) (looks_of rounds))
   pub states : Gives before.states after.states (map (λ r. receipt_in r.made) rounds) (map (λ r. r.reference) rounds)
-  -- the source of the states was given time after each look but a round's last
-  pub tends : ℕ
-  pub waits : tends + turns ≡ length (looks_of rounds)
-  pub tended : CountsOn before.tended after.tended tends
+  -- as many waits of the port ended with nothing as there were looks but each round's last, and the source of the states was given time
+  -- as often
+  pub idle : ℕ
+  pub looks : idle + turns ≡ length (looks_of rounds)
+  pub waits : CountsMore before.counts.idle_waits after.counts.idle_waits idle
+  pub tended : CountsOn before.tended after.tended idle
   -- the reporter was shown the server after each look, with what that had been asked with
   pub reported : Sees before.shown after.shown (map (λ l. l.asked) (looks_of rounds))
-  pub port : Makes may_drop (made_in rounds) before.dropped after.dropped before.port after.port
+  pub port : Makes may_drop (made_in rounds) before.counts after.counts before.port after.port
   pub observed : Sees before.seen after.seen (flat_map round_observations rounds)
   pub arrivals : totals.arrivals ≡ length (filter has_arrived (made_in rounds))
   pub sent : totals.sent ≡ length (flat_map sent_in (made_in rounds))
   pub departed : totals.departed ≡ length (filter has_departed (made_in rounds))
-  pub failures : after.failures ≡ before.failures + length (filter is_failing (made_in rounds))
   -- whatever history the service stood for, it tells what happened in the rounds
   pub tells : (history : List (Event A)) → StandsFor before.service history → Tells history (flat_map happened_in_round rounds) after.service

@@ -9,7 +9,8 @@ use Rattle.ntp_service.specs.declared.observation.TurnOutcome.{TurnOutcome}
 use Rattle.ntp_service.specs.declared.observation.TurnOutcome.TheVariants.{NothingReceived, Answered}
 use Rattle.ntp_service.specs.Sees.{Sees}
 use Rattle.ntp_service.specs.Headline.{StandsFor, Tells}
-use Rattle.ntp_service_serve.specs.Made.{is_failing, turn_outcome}
+use Rattle.ntp_service_serve.specs.Port.{CountsMore}
+use Rattle.ntp_service_serve.specs.Made.{turn_outcome}
 use Rattle.ntp_service_serve.specs.Serving.{Makes}
 use Rattle.ntp_service_serve.specs.Sending.{was_sent, was_noted}
 use Rattle.ntp_customer_files.specs.CommandsFile.{happened_at_lines, line_observations}
@@ -61,6 +62,7 @@ pub record Waits (A : Type 0) (prompt : Bool) (before after : Parts) : Type 0 wh
   pub idle : IsIdle prompt looks
   pub asked : All (λ l. l.asked ≡ None) looks
   pub done : Looks A looks before after
+  pub waited : CountsMore before.counts.idle_waits after.counts.idle_waits (length looks)
   pub tended : CountsOn before.tended after.tended (length looks)
   pub reported : Sees before.shown after.shown (asked_of looks)
 
@@ -72,14 +74,14 @@ pub record MakesRound (A : Type 0) (prompt may_drop : Bool) (before after : Part
   pub due : AreDueInTurn before.applied round.looks after.applied
   pub commands : Gives before.commands after.commands (asked_of round.looks) (given_of round.looks)
   pub states : Gives before.states after.states (receipt_in round.made ∷ []) (round.reference ∷ [])
-  pub tends : ℕ
-  pub waits : tends + 1 ≡ length round.looks
-  pub tended : CountsOn before.tended after.tended tends
+  pub idle : ℕ
+  pub looks : idle + 1 ≡ length round.looks
+  pub waits : CountsMore before.counts.idle_waits after.counts.idle_waits idle
+  pub tended : CountsOn before.tended after.tended idle
   pub reported : Sees before.shown after.shown (asked_of round.looks)
-  pub port : Makes may_drop (round.made ∷ []) before.dropped after.dropped before.port after.port
+  pub port : Makes may_drop (round.made ∷ []) before.counts after.counts before.port after.port
   pub observed : Sees before.seen after.seen (round_observations round)
   pub comes_to : outcome ≡ turn_outcome round.made
-  pub failures : after.failures ≡ before.failures + (if is_failing round.made then 1 else 0)
   pub tells : (history : List (Event A)) → StandsFor before.service history → Tells history (happened_in_round round) after.service
 
 -- how many datagrams came in a turn

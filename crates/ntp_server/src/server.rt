@@ -1,7 +1,7 @@
 //! A server, turn by turn.
-ghost use Rattle.std.specs.Prelude.{◌≡◌, ◌+◌, ◌-◌, ◌≤◌, ◌<◌, ◌^◌, None, option_map, IfOk, is_err, if◌then◌else◌};
+ghost use Rattle.std.specs.Prelude.{◌≡◌, ◌+◌, ◌-◌, ◌≤◌, ◌<◌, ◌^◌, None, option_map, IfOk, is_err};
 ghost use Rattle.std.specs.Result.{result_ok};
-ghost use Rattle.ntp_service_serve.specs.Port.{most_received_octets, Receives};
+ghost use Rattle.ntp_service_serve.specs.Port.{most_received_octets, failed_calls, CountsReceive, Receives};
 ghost use Rattle.ntp_server.specs.Steps.{arrivals_in, replies_in, departures_in};
 
 use crate::reporter::{NoReports, Reporter};
@@ -13,6 +13,9 @@ use ntp_service_serve::{
 };
 use ntp_time::Moment;
 use std::alloc::Allocator;
+
+// So many waits in one turn no number of 64 bits counts.
+const UNCOUNTED_WAITS: u128 = 1 << 64;
 
 /// A service, and what it works with.
 #[derive(Drop)]
@@ -59,10 +62,10 @@ impl<
     /// told each line and each turn as it is done. It takes memory for enrolments, rollovers and the octets of a commands
     /// file that changed.
     pub fn serve(&mut self, turns: u64) -> Totals
-        requires { P.failure_count self.old.port + turns < 2 ^ 64 }
+        requires { failed_calls (P.counts self.old.port) + turns < 2 ^ 64 }
         ensures { ServesRounds A P.is_prompt P.may_drop turns
-            (parts_of P.told P.failure_count P.drop_count C.coming R.coming R.tended O.seen None self.old)
-            (parts_of P.told P.failure_count P.drop_count C.coming R.coming R.tended O.seen None self.new) result }
+            (parts_of P.told P.counts C.coming R.coming R.tended O.seen None self.old)
+            (parts_of P.told P.counts C.coming R.coming R.tended O.seen None self.new) result }
     {
         self.serve_reported(turns, &mut NoReports)
     }
@@ -77,10 +80,10 @@ impl<
         turns: u64,
         reporter: &mut Q,
     ) -> Totals
-        requires { P.failure_count self.old.port + turns < 2 ^ 64 }
+        requires { failed_calls (P.counts self.old.port) + turns < 2 ^ 64 }
         ensures rounds { ServesRounds A P.is_prompt P.may_drop turns
-            (parts_of P.told P.failure_count P.drop_count C.coming R.coming R.tended O.seen (Q.shown reporter.old) self.old)
-            (parts_of P.told P.failure_count P.drop_count C.coming R.coming R.tended O.seen (Q.shown reporter.new) self.new) result }
+            (parts_of P.told P.counts C.coming R.coming R.tended O.seen (Q.shown reporter.old) self.old)
+            (parts_of P.told P.counts C.coming R.coming R.tended O.seen (Q.shown reporter.new) self.new) result }
         ensures known { 0 < turns → Q.knows reporter.new self.new }
     {
         let mut datagram = [0; MOST_RECEIVED_OCTETS];
@@ -102,10 +105,10 @@ impl<
         datagram: &mut DatagramRoom,
         reporter: &mut Q,
     ) -> TurnOutcome
-        requires { P.failure_count self.old.port < 2 ^ 64 - 1 }
+        requires { failed_calls (P.counts self.old.port) < 2 ^ 64 - 1 }
         ensures made { MakesRound A P.is_prompt P.may_drop
-            (parts_of P.told P.failure_count P.drop_count C.coming R.coming R.tended O.seen (Q.shown reporter.old) self.old)
-            (parts_of P.told P.failure_count P.drop_count C.coming R.coming R.tended O.seen (Q.shown reporter.new) self.new) result }
+            (parts_of P.told P.counts C.coming R.coming R.tended O.seen (Q.shown reporter.old) self.old)
+            (parts_of P.told P.counts C.coming R.coming R.tended O.seen (Q.shown reporter.new) self.new) result }
         ensures known { Q.knows reporter.new self.new }
     {
         let received = self.wait(datagram, reporter);
@@ -130,17 +133,17 @@ impl<
         datagram: &mut DatagramRoom,
         reporter: &mut Q,
     ) -> Result<Arrival, PortFault>
-        requires { P.failure_count self.old.port < 2 ^ 64 - 1 }
+        requires { failed_calls (P.counts self.old.port) < 2 ^ 64 - 1 }
         ensures length { IfOk result (λ arrival. arrival.length ≤ most_received_octets) }
-        ensures failures { P.failure_count self.new.port ≡ P.failure_count self.old.port + (if is_err result then 1 else 0) }
-        ensures turns { Receives P.may_drop (P.drop_count self.old.port) (P.drop_count self.new.port)
+        ensures counts { CountsReceive (P.counts self.old.port) (P.counts self.new.port) (is_err result) }
+        ensures turns { Receives P.may_drop (P.counts self.old.port).dropped (P.counts self.new.port).dropped
             (P.told self.old.port) (P.told self.new.port) result datagram.new }
         ensures reference { R.coming self.new.reference ≡ R.coming self.old.reference }
         ensures looks { Waits A P.is_prompt
-            (parts_of P.told P.failure_count P.drop_count C.coming R.coming R.tended O.seen (Q.shown reporter.old) self.old)
-            (parts_of P.told P.failure_count P.drop_count C.coming R.coming R.tended O.seen (Q.shown reporter.new) self.new) }
+            (parts_of P.told P.counts C.coming R.coming R.tended O.seen (Q.shown reporter.old) self.old)
+            (parts_of P.told P.counts C.coming R.coming R.tended O.seen (Q.shown reporter.new) self.new) }
     {
-        for _ in 0..u64::MAX {
+        for _wait in 0..UNCOUNTED_WAITS {
             if let Some(received) = self.port.receive_in_time(datagram) {
                 return received;
             }
@@ -156,8 +159,8 @@ impl<
         ensures port { self.new.port ≡ self.old.port }
         ensures reference { self.new.reference ≡ self.old.reference }
         ensures looks { LooksOnce A receipt
-            (parts_of P.told P.failure_count P.drop_count C.coming R.coming R.tended O.seen None self.old)
-            (parts_of P.told P.failure_count P.drop_count C.coming R.coming R.tended O.seen None self.new) }
+            (parts_of P.told P.counts C.coming R.coming R.tended O.seen None self.old)
+            (parts_of P.told P.counts C.coming R.coming R.tended O.seen None self.new) }
     {
         let alloc = self.service.allocator();
         if let Some(octets) = self.commands.look(alloc, receipt) {

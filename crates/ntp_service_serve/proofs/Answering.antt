@@ -14,34 +14,35 @@ use Rattle.ntp_service.specs.declared.outcome.Outcome.TheVariants as outcome
 use Rattle.ntp_service.specs.Headline.{StandsFor, TellsOne}
 use Rattle.ntp_service.proofs.Runs.{Tells-nil, Tells-one, Tells-append}
 use Rattle.ntp_service_serve.specs.declared.memory_port.Sent.{Sent}
+use Rattle.ntp_service_serve.specs.declared.port.PortCounts.{PortCounts}
 use Rattle.ntp_service_serve.specs.declared.port.PortFault.{PortFault}
-use Rattle.ntp_service_serve.specs.Port.{IncomingValue, Readings, TurnValue, no_turn, Told, Arrives, Begins, ReceiveTells, NowTells, later, received}
-use Rattle.ntp_service_serve.specs.Made.{Missed, Received, turn_of, arrival_of, sending_of}
+use Rattle.ntp_service_serve.specs.Port.{IncomingValue, Readings, TurnValue, no_turn, Told, Arrives, Begins, ReceiveTells, NowTells, later, received, counted_send}
+use Rattle.ntp_service_serve.specs.Made.{Missed, Received, turn_of, arrival_of, sending_of, is_unsent}
 use Rattle.ntp_service_serve.specs.Serving.{TurnMakes}
 use Rattle.ntp_service_serve.specs.Sending.{turn_with, IsInTurn, SendingMakes}
-use Rattle.ntp_service_serve.proofs.OneTurn.{FollowsOne, follows-one}
+use Rattle.ntp_service_serve.proofs.OneTurn.{FollowsOne, follows-one, counted-none}
 
 -- ---- a turn in which nothing came
-made-empty : (A : Type 0) (reference : ReferenceState) (turn : TurnValue) (t u : Option Told) (f g : ℕ) (fault : PortFault)
-    (buffer : List ℕ) (s : Registry) → FollowsOne (Missed turn.clock turn.sends) t u → g ≡ f
-    → TurnMakes A reference (Err fault) buffer t u f g s s NothingReceived
-made-empty A reference turn t u f g fault buffer s follows count = record {
+made-empty : (A : Type 0) (reference : ReferenceState) (turn : TurnValue) (t u : Option Told) (k l : PortCounts) (fault : PortFault)
+    (buffer : List ℕ) (s : Registry) → FollowsOne (Missed turn.clock turn.sends) t u → l ≡ k
+    → TurnMakes A reference (Err fault) buffer t u k l s s NothingReceived
+made-empty A reference turn t u k l fault buffer s follows count = record {
   made = Missed turn.clock turn.sends;
   comes_to = refl;
   arrived = refl;
   octets = refl;
   port = follows;
-  failures = omega (arith, count);
+  counts = count ∙ counted-none k;
   tells = λ history stands. Tells-nil history s stands;
 }
 
-pub nothing-came : (A : Type 0) (reference : ReferenceState) (t u : Option Told) (f g : ℕ) (fault : PortFault) (buffer : List ℕ)
-    (s : Registry) → g ≡ f → ReceiveTells t u (Err fault) buffer → TurnMakes A reference (Err fault) buffer t u f g s s NothingReceived
-nothing-came A reference t u f g fault buffer s count told = by_told t u told
+pub nothing-came : (A : Type 0) (reference : ReferenceState) (t u : Option Told) (k l : PortCounts) (fault : PortFault) (buffer : List ℕ)
+    (s : Registry) → l ≡ k → ReceiveTells t u (Err fault) buffer → TurnMakes A reference (Err fault) buffer t u k l s s NothingReceived
+nothing-came A reference t u k l fault buffer s count told = by_told t u told
   where
     by_turns : (coming : List TurnValue) (old new : Told) → old.coming ≡ coming → Begins (get_or coming 0 no_turn) old new (Err fault) buffer
-        → TurnMakes A reference (Err fault) buffer (Some old) (Some new) f g s s NothingReceived
-    by_turns [] old new here p = made-empty A reference no_turn (Some old) (Some new) f g fault buffer s (record {
+        → TurnMakes A reference (Err fault) buffer (Some old) (Some new) k l s s NothingReceived
+    by_turns [] old new here p = made-empty A reference no_turn (Some old) (Some new) k l fault buffer s (record {
       next = rw here refl;
       coming = ap (λ (z : Told). z.coming) p.1;
       sent = ap (λ (z : Told). z.sent) p.1 ∙ sym (append-nil old.sent);
@@ -49,18 +50,18 @@ nothing-came A reference t u f g fault buffer s count told = by_told t u told
     by_turns (turn ∷ rest) old new here p = by_arrival turn.arrival refl p.0
       where
         by_arrival : (x : Option IncomingValue) → turn.arrival ≡ x → Arrives x (Err fault) buffer
-            → TurnMakes A reference (Err fault) buffer (Some old) (Some new) f g s s NothingReceived
+            → TurnMakes A reference (Err fault) buffer (Some old) (Some new) k l s s NothingReceived
         by_arrival (Some d) is q = absurd q
         by_arrival None is q =
             let whole : turn ≡ turn_of (Missed turn.clock turn.sends) =
             ap (λ z. record { arrival = z; clock = turn.clock; sends = turn.sends }) is in
-            made-empty A reference turn (Some old) (Some new) f g fault buffer s
+            made-empty A reference turn (Some old) (Some new) k l fault buffer s
             (follows-one (Missed turn.clock turn.sends) rest old new (here ∙ ap (λ z. z ∷ rest) whole)
             (ap (λ (z : Told). z.coming) p.1 ∙ ap (drop 1) here) (ap (λ (z : Told). z.sent) p.1 ∙ sym (append-nil old.sent))) count
 
     by_told : (t u : Option Told) → ReceiveTells t u (Err fault) buffer
-        → TurnMakes A reference (Err fault) buffer t u f g s s NothingReceived
-    by_told None u p = made-empty A reference no_turn None u f g fault buffer s tt count
+        → TurnMakes A reference (Err fault) buffer t u k l s s NothingReceived
+    by_told None u p = made-empty A reference no_turn None u k l fault buffer s tt count
     by_told (Some old) None p = absurd p
     by_told (Some old) (Some new) p = by_turns old.coming old new refl p
 
@@ -132,12 +133,12 @@ module _ (x : Arrival) (buffer : List ℕ) (transmit : Moment) (most : x.length 
   comes (Some old) (Some mid) (Some new) p q = comes-next old.coming old mid new refl p q
 
 pub answered : (A : Type 0) (reference : ReferenceState) (x : Arrival) (buffer : List ℕ) (transmit : Moment) (t v u : Option Told)
-    (f g h : ℕ) (s r q : Registry) (a : Answer) (sending : Sending) (k : Comes t v x buffer transmit) → g ≡ f
+    (i j l : PortCounts) (s r q : Registry) (a : Answer) (sending : Sending) (k : Comes t v x buffer transmit) → j ≡ i
     → ((history : List (Event A)) → StandsFor s history
     → TellsOne history (event.Datagram x.address x.receipt transmit reference (take x.length buffer)) (outcome.Datagram a) r)
-    → SendingMakes A a k.from transmit t u g h r q sending
-    → TurnMakes A reference (Ok x) buffer t u f h s q (Answered x a sending)
-answered A reference x buffer transmit t v u f g h s r q a sending k count told p =
+    → SendingMakes A a k.from transmit t u j l r q sending
+    → TurnMakes A reference (Ok x) buffer t u i l s q (Answered x a sending)
+answered A reference x buffer transmit t v u i j l s r q a sending k count told p =
     let d = k.from in
     let same : ◌≡◌ {A = Event A} (event.Datagram x.address x.receipt transmit reference (take x.length buffer))
     (event.Datagram d.address d.receipt (p.clock false 0) reference (received d)) =
@@ -151,7 +152,7 @@ answered A reference x buffer transmit t v u f g h s r q a sending k count told 
       arrived = ap (λ z. Some z) k.arrival;
       octets = ap (λ l. Some l) k.octets;
       port = p.port;
-      failures = omega (arith, p.failures, count);
+      counts = p.counts ∙ ap (counted_send (is_unsent (Received d p.clock p.sends a p.noted))) count;
       tells = λ history stands. Tells-append history ((first, outcome.Datagram a) ∷ []) _ r q
           (Tells-one history first (outcome.Datagram a) r
           (subst (λ e. TellsOne history e (outcome.Datagram a) r) same (told history stands)))

@@ -1,7 +1,7 @@
 -- The counts of turns.
 use Rattle.std.proofs.Common.{◌≡◌, ℕ, ◌+◌, ◌≤◌, Bool, true, false, Option, List, [], ◌∷◌, ◌++◌, length, refl, sym, ap, ◌∙◌, subst, append-nil, length-append, arith}
 use Rattle.std.proofs.lemmas.Grind.{flat_map-append}
-use Rattle.std.specs.Prelude.{Result, is_err, flat_map, if◌then◌else◌}
+use Rattle.std.specs.Prelude.{Result, flat_map}
 use Rattle.ntp_service.specs.Registry.{Registry}
 use Rattle.ntp_reply.specs.Reference.{ReferenceState}
 use Rattle.ntp_reply.specs.declared.answers.Answer.{Answer}
@@ -11,17 +11,15 @@ use Rattle.ntp_service.specs.declared.observation.TurnOutcome.{TurnOutcome}
 use Rattle.ntp_service.specs.declared.observation.TurnOutcome.TheVariants.{NothingReceived, Answered}
 use Rattle.ntp_service.specs.Headline.{Tells}
 use Rattle.ntp_service.proofs.Runs.{Tells-nil, Tells-append}
+use Rattle.ntp_service_serve.specs.declared.port.PortCounts.{PortCounts}
 use Rattle.ntp_service_serve.specs.declared.port.PortFault.{PortFault}
 use Rattle.ntp_service_serve.specs.declared.serving.Served.{Served}
 use Rattle.ntp_service_serve.specs.Port.{IncomingValue, Readings, Told}
-use Rattle.ntp_service_serve.specs.Made.{Made, Missed, Received, happened_in_turn, sent_in, has_arrived, has_departed, is_failing, sending_of, turn_outcome}
+use Rattle.ntp_service_serve.specs.Made.{Made, Missed, Received, happened_in_turn, sent_in, has_arrived, has_departed, sending_of, turn_outcome}
 use Rattle.ntp_service_serve.specs.Serving.{ServeMakes}
 use Rattle.ntp_service_serve.specs.Sending.{counted, was_sent, was_noted}
 use Rattle.ntp_service_serve.proofs.Taking.{TakesTurn}
-use Rattle.ntp_service_serve.proofs.ManyTurns.{sent_of, count_of, count-append, Makes-nil, Makes-append}
-
-abbrev pub if_so : Bool → ℕ
-if_so b = if b then 1 else 0
+use Rattle.ntp_service_serve.proofs.ManyTurns.{sent_of, if_so, count-more, Makes-nil, Makes-append}
 
 pub at-most-one : (b : Bool) → if_so b ≤ 1
 at-most-one true = omega arith
@@ -83,50 +81,38 @@ counted-made (Received d clock sends a noted) c = record {
   departed = ap (λ b. c.departed + if_so b) (noted-one d clock sends a noted);
 }
 
-count-one : (is : Made → Bool) (m : Made) → count_of is (m ∷ []) ≡ if_so (is m)
-count-one is m = chosen (is m)
-  where
-    chosen : (b : Bool) → length (if b then m ∷ [] else []) ≡ if_so b
-    chosen true = refl
-    chosen false = refl
-
-pub count-more : (is : Made → Bool) (made : List Made) (m : Made) → count_of is (made ++ m ∷ []) ≡ count_of is made + if_so (is m)
-count-more is made m = count-append is made (m ∷ []) ∙ ap (λ n. count_of is made + n) (count-one is m)
-
 sent-more : (made : List Made) (m : Made) → length (sent_of (made ++ m ∷ [])) ≡ length (sent_of made) + length (sent_in m)
 sent-more made m = ap length (flat_map-append sent_in made (m ∷ [])) ∙ length-append (sent_of made) (sent_of (m ∷ []))
     ∙ ap (λ l. length (sent_of made) + length l) (append-nil (sent_in m))
 
 -- ---- the turns of a server
-pub ServeMakes-nil : (A : Type 0) (reference : ReferenceState) (may : Bool) (t : Option Told) (f c : ℕ) (s : Registry)
-    → ServeMakes A reference may 0 t t f f c c s s (record { arrivals = 0; sent = 0; departed = 0 })
-ServeMakes-nil A reference may t f c s = record {
+pub ServeMakes-nil : (A : Type 0) (reference : ReferenceState) (may : Bool) (t : Option Told) (a : PortCounts) (s : Registry)
+    → ServeMakes A reference may 0 t t a a s s (record { arrivals = 0; sent = 0; departed = 0 })
+ServeMakes-nil A reference may t a s = record {
   made = [];
   each = refl;
-  port = Makes-nil may c t;
+  port = Makes-nil may a t;
   arrivals = refl;
   sent = refl;
   departed = refl;
-  failures = let none : f ≡ f + 0 = omega arith in none;
   tells = λ history stands. Tells-nil history s stands;
 }
 
-pub ServeMakes-turn : (A : Type 0) (reference : ReferenceState) (may : Bool) (n : ℕ) (t u v : Option Told) (f g i h b c d : ℕ)
+pub ServeMakes-turn : (A : Type 0) (reference : ReferenceState) (may : Bool) (n : ℕ) (t u v : Option Told) (a b i c : PortCounts)
     (s r q : Registry) (served : Served) (x : Result Arrival PortFault) (buffer : List ℕ) (o : TurnOutcome)
-    → ServeMakes A reference may n t u f g b c s r served → i ≡ g + (if is_err x then 1 else 0)
-    → TakesTurn A reference may x buffer u v c d i h r q o → ServeMakes A reference may (n + 1) t v f h b d s q (counted o served)
-ServeMakes-turn A reference may n t u v f g i h b c d s r q served x buffer o p came taken =
+    → ServeMakes A reference may n t u a b s r served → TakesTurn A reference may x buffer u v b i c r q o
+    → ServeMakes A reference may (n + 1) t v a c s q (counted o served)
+ServeMakes-turn A reference may n t u v a b i c s r q served x buffer o p taken =
     let k = taken.turn in
     let m = k.made in
     let one : Counted m served (counted o served) = subst (λ z. Counted m served (counted z served)) (sym k.comes_to) (counted-made m served) in
     record {
       made = p.made ++ m ∷ [];
       each = omega (arith, p.each, length-append p.made (m ∷ []));
-      port = Makes-append may p.made (m ∷ []) b c d t u v p.port taken.port;
+      port = Makes-append may p.made (m ∷ []) a b c t u v p.port taken.port;
       arrivals = omega (arith, p.arrivals, one.arrivals, count-more has_arrived p.made m);
       sent = omega (arith, p.sent, one.sent, sent-more p.made m);
       departed = omega (arith, p.departed, one.departed, count-more has_departed p.made m);
-      failures = omega (arith, p.failures, k.failures, came, count-more is_failing p.made m);
       tells = λ history stands.
           subst (λ l. Tells history l q)
           (ap (λ l. flat_map (happened_in_turn reference) p.made ++ l) (sym (append-nil (happened_in_turn reference m)))

@@ -1,6 +1,6 @@
 -- One turn, by the calls that were made in it.
 use Rattle.std.proofs.Common.{◌≡◌, ℕ, ◌+◌, ◌≤◌, Bool, true, false, Option, None, Some, Result, Ok, Err, List, [], ◌∷◌, ◌++◌, length, drop, refl, sym, ap, ◌∙◌, subst, append-nil, arith, rules}
-use Rattle.std.specs.Prelude.{nat_le, not, is_err, option_to_list, map, if◌then◌else◌}
+use Rattle.std.specs.Prelude.{nat_le, not, is_err, is_some, option_to_list, map, if◌then◌else◌}
 use Rattle.ntp_time.specs.declared.moment.Moment.{Moment}
 use Rattle.ntp_time.specs.declared.stamp.Stamp.{Stamp}
 use Rattle.ntp_mac.specs.Mac.{most_reply_octets}
@@ -15,17 +15,22 @@ use Rattle.ntp_service.specs.Model.{departure_outcome}
 use Rattle.ntp_service.specs.Headline.{StandsFor, TellsOne}
 use Rattle.ntp_service.proofs.Runs.{Tells-nil, Tells-one}
 use Rattle.ntp_service_serve.specs.declared.memory_port.Sent.{Sent}
+use Rattle.ntp_service_serve.specs.declared.port.PortCounts.{PortCounts}
 use Rattle.ntp_service_serve.specs.declared.port.PortFault.{PortFault}
 use Rattle.ntp_service_serve.specs.declared.port.PortFault.TheVariants.{Send}
 use Rattle.ntp_service_serve.specs.Sequence.{firsts}
-use Rattle.ntp_service_serve.specs.Port.{IncomingValue, Readings, later, TurnValue, no_turn, Told, NowTells, SendTells}
-use Rattle.ntp_service_serve.specs.Made.{Made, Received, turn_of, reply_in, departing, sent_in, sending_of, is_failing}
+use Rattle.ntp_service_serve.specs.Port.{IncomingValue, Readings, later, TurnValue, no_turn, Told, counted_send, NowTells, SendTells}
+use Rattle.ntp_service_serve.specs.Made.{Made, Received, turn_of, reply_in, departing, sent_in, sending_of, is_unsent}
 use Rattle.ntp_service_serve.specs.Serving.{FollowsList, Follows}
 use Rattle.ntp_service_serve.specs.Sending.{saved_in, turn_with, HasBegun, IsInTurn, SendingMakes}
 
 -- one turn, at any port
 abbrev pub FollowsOne : Made → Option Told → Option Told → Type 0
 FollowsOne m t u = Follows (turn_of m ∷ []) (m ∷ []) t u
+
+-- no send failed
+pub counted-none : (k : PortCounts) → k ≡ counted_send false k
+counted-none k = let none : k.failed_sends ≡ k.failed_sends + 0 = omega arith in ap (λ n. record k { failed_sends = n }) none
 
 -- at a port that tells its turns
 pub follows-one : (m : Made) (rest : List TurnValue) (old new : Told) → old.coming ≡ turn_of m ∷ rest → new.coming ≡ rest
@@ -172,16 +177,16 @@ module _ (from : IncomingValue) (transmit : Moment) where
           (ap (λ (z : Told). z.sent) i.3.after ∙ sym (append-nil old.sent) ∙ ap (λ l. old.sent ++ l) (sym (nothing-sent i.0 i.1 none))),
     )
 
-    silent-unfailing : (sends : Bool) → reply_in a ≡ None → is_failing (made_of (λ tried n. transmit) sends false) ≡ false
-    silent-unfailing true none = refl
-    silent-unfailing false none = rw none refl
+    silent-sent : (clock : Readings) (sends : Bool) → reply_in a ≡ None → is_unsent (made_of clock sends false) ≡ false
+    silent-sent clock true none = refl
+    silent-sent clock false none = ap is_some none
 
-    pub makes-no-reply : (A : Type 0) (t u : Option Told) (f g : ℕ) (s : Registry) → reply_in a ≡ None → g ≡ f
-        → IsInTurn t u from transmit → SendingMakes A a from transmit t u f g s s NoReply
-    makes-no-reply A t u f g s none count i =
+    pub makes-no-reply : (A : Type 0) (t u : Option Told) (k l : PortCounts) (s : Registry) → reply_in a ≡ None → l ≡ k
+        → IsInTurn t u from transmit → SendingMakes A a from transmit t u k l s s NoReply
+    makes-no-reply A t u k l s none count i =
         let p = follows-silent t u none i in
         let gone : departing p.1 a ≡ [] = undeparting-silence p.1 a none in
-        let well : is_failing (made_of p.0 p.1 false) ≡ false = silent-unfailing p.1 none in
+        let well : is_unsent (made_of p.0 p.1 false) ≡ false = silent-sent p.0 p.1 none in
         record {
           clock = p.0;
           first = p.2;
@@ -189,7 +194,7 @@ module _ (from : IncomingValue) (transmit : Moment) where
           noted = false;
           comes_to = sending-silence p.1 a false none;
           port = p.3;
-          failures = rw well (omega (arith, count));
+          counts = count ∙ counted-none k ∙ ap (λ b. counted_send b k) (sym well);
           tells = λ history stands. rw gone (Tells-nil history s stands);
         }
 
@@ -226,10 +231,10 @@ module _ (from : IncomingValue) (transmit : Moment) where
                 (ap (λ (x : Told). x.sent) after ∙ tried-sent old.sent true noted p.0),
           )
 
-      pub makes-not-sent : (A : Type 0) (t w : Option Told) (f g : ℕ) (s : Registry) (sent : Result (Unit {0}) PortFault)
-          → is_err sent ≡ true → g ≡ f + 1 → HasTried (not (is_err sent)) reply t w
-          → SendingMakes A a from transmit t w f g s s NotSent
-      makes-not-sent A t w f g s sent failed count p =
+      pub makes-not-sent : (A : Type 0) (t w : Option Told) (k l : PortCounts) (s : Registry) (sent : Result (Unit {0}) PortFault)
+          → is_err sent ≡ true → l ≡ counted_send (is_err sent) k → HasTried (not (is_err sent)) reply t w
+          → SendingMakes A a from transmit t w k l s s NotSent
+      makes-not-sent A t w k l s sent failed count p =
           let q = follows-tried false false t w (subst (λ b. HasTried (not b) reply t w) failed p) in
           record {
             clock = q.0;
@@ -238,14 +243,14 @@ module _ (from : IncomingValue) (transmit : Moment) where
             noted = false;
             comes_to = sending-failed a false reply is;
             port = q.2;
-            failures = rw is (omega (arith, count));
+            counts = count ∙ ap (λ b. counted_send b k) (failed ∙ sym (ap is_some is));
             tells = λ history stands. Tells-nil history s stands;
           }
 
-      pub makes-sent : (A : Type 0) (t w : Option Told) (f g : ℕ) (s : Registry) (sent : Result (Unit {0}) PortFault)
-          → is_err sent ≡ false → saved_in a ≡ None → g ≡ f → HasTried (not (is_err sent)) reply t w
-          → SendingMakes A a from transmit t w f g s s WasSent
-      makes-sent A t w f g s sent good unsaved count p =
+      pub makes-sent : (A : Type 0) (t w : Option Told) (k l : PortCounts) (s : Registry) (sent : Result (Unit {0}) PortFault)
+          → is_err sent ≡ false → saved_in a ≡ None → l ≡ counted_send (is_err sent) k → HasTried (not (is_err sent)) reply t w
+          → SendingMakes A a from transmit t w k l s s WasSent
+      makes-sent A t w k l s sent good unsaved count p =
           let q = follows-tried true false t w (subst (λ b. HasTried (not b) reply t w) good p) in
           record {
             clock = q.0;
@@ -254,18 +259,18 @@ module _ (from : IncomingValue) (transmit : Moment) where
             noted = false;
             comes_to = sending-sent a false reply is unsaved;
             port = q.2;
-            failures = omega (arith, count);
+            counts = count ∙ ap (λ b. counted_send b k) good;
             tells = λ history stands. rw (undeparting a unsaved) (Tells-nil history s stands);
           }
 
-      pub makes-departed : (A : Type 0) (t w z : Option Told) (f g : ℕ) (s r : Registry) (sent : Result (Unit {0}) PortFault)
-          (saved : Stamp) (moment : Moment) (noted : Bool) (address : Address) → is_err sent ≡ false → saved_in a ≡ Some saved → g ≡ f
+      pub makes-departed : (A : Type 0) (t w z : Option Told) (k l : PortCounts) (s r : Registry) (sent : Result (Unit {0}) PortFault)
+          (saved : Stamp) (moment : Moment) (noted : Bool) (address : Address) → is_err sent ≡ false → saved_in a ≡ Some saved → l ≡ counted_send (is_err sent) k
           → from.address ≡ address → HasTried (not (is_err sent)) reply t w → NowTells w z moment
           → ((history : List (Event A)) → StandsFor s history
           → TellsOne history (event.Departed address saved moment) (departure_outcome noted) r)
-          → SendingMakes A a from transmit t z f g s r (if noted then Noted else NotNoted)
-      makes-departed A t w z f g s r sent saved moment noted address good was count e p k told =
-          let q = follows-departed noted t w z moment (subst (λ b. HasTried (not b) reply t w) good p) k in
+          → SendingMakes A a from transmit t z k l s r (if noted then Noted else NotNoted)
+      makes-departed A t w z k l s r sent saved moment noted address good was count e p reads told =
+          let q = follows-departed noted t w z moment (subst (λ b. HasTried (not b) reply t w) good p) reads in
           record {
             clock = q.0;
             first = q.1;
@@ -273,7 +278,7 @@ module _ (from : IncomingValue) (transmit : Moment) where
             noted = noted;
             comes_to = sending-time a noted saved was;
             port = q.3;
-            failures = omega (arith, count);
+            counts = count ∙ ap (λ b. counted_send b k) good;
             tells = λ history stands.
                 rw (departing-time a saved was) (Tells-one history (event.Departed from.address saved (q.0 true 1)) (departure_outcome noted) r
                 (subst (λ m. TellsOne history (event.Departed from.address saved m) (departure_outcome noted) r) (sym q.2)

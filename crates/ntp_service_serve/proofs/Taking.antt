@@ -1,19 +1,20 @@
 -- A turn behind those whose datagrams were dropped.
 use Rattle.std.proofs.Common.{inl, inr, ◌⊎◌, ◌≡◌, ℕ, zero, suc, Bool, true, false, Option, None, Some, Result, Ok, List, [], ◌∷◌, ◌++◌, length, get_or, refl, sym, ap, subst, ◌∙◌, append-nil, length-append, arith}
-use Rattle.std.specs.Prelude.{IfErr, flat_map, option_map}
+use Rattle.std.specs.Prelude.{IfErr, is_err, flat_map, option_map}
 use Rattle.std.specs.Result.{result_ok}
 use Rattle.std.proofs.lemmas.Grind.{flat_map-append}
 use Rattle.ntp_service.specs.Registry.{Registry}
 use Rattle.ntp_reply.specs.Reference.{ReferenceState}
 use Rattle.ntp_service.specs.declared.observation.Arrival.{Arrival}
 use Rattle.ntp_service.specs.declared.observation.TurnOutcome.{TurnOutcome}
+use Rattle.ntp_service_serve.specs.declared.port.PortCounts.{PortCounts}
 use Rattle.ntp_service_serve.specs.declared.port.PortFault.{PortFault}
 use Rattle.ntp_service_serve.specs.Sequence.{firsts}
-use Rattle.ntp_service_serve.specs.Port.{IncomingValue, Readings, TurnValue, no_turn, Told, Arrives, Begins, ReceiveTells, DropTells, TellsOn, DropsTurns, CountsMore, Receives, GivesUp}
+use Rattle.ntp_service_serve.specs.Port.{IncomingValue, Readings, TurnValue, no_turn, Told, Arrives, Begins, ReceiveTells, DropTells, TellsOn, DropsTurns, CountsMore, CountsReceive, Receives, GivesUp}
 use Rattle.ntp_service_serve.specs.Made.{Made, Missed, Received, turn_of, arrival_of}
-use Rattle.ntp_service_serve.specs.Serving.{Follows, Taken, InTurn, Dropped, GivenUp, begun_in, made_of, dropped_in, PassesOver, Makes, TurnMakes}
+use Rattle.ntp_service_serve.specs.Serving.{Follows, Taken, InTurn, Dropped, GivenUp, begun_in, made_of, dropped_in, PassesOver, AreBegun, Makes, TurnMakes}
 use Rattle.ntp_service_serve.specs.Sending.{turn_with}
-use Rattle.ntp_service_serve.proofs.ManyTurns.{Follows-nil, Follows-append}
+use Rattle.ntp_service_serve.proofs.ManyTurns.{Follows-nil, Follows-append, Makes-one}
 use Rattle.ntp_service_serve.proofs.Dropping.{CountsMore-nil, CountsMore-append}
 
 -- ---- one that was dropped
@@ -102,36 +103,40 @@ follows-none clock sends (Some old) u v on same =
 
 -- ---- a turn that was made of what was received
 pub record TakesTurn (A : Type 0) (reference : ReferenceState) (may : Bool) (r : Result Arrival PortFault) (buffer : List ℕ) (t v : Option Told)
-    (c d f g : ℕ) (s q : Registry) (o : TurnOutcome) : Type 0 where
+    (a b c : PortCounts) (s q : Registry) (o : TurnOutcome) : Type 0 where
   pub before : Option Told
-  pub turn : TurnMakes A reference r buffer before v f g s q o
-  pub port : Makes may (turn.made ∷ []) c d t v
+  pub turn : TurnMakes A reference r buffer before v b c s q o
+  pub port : Makes may (turn.made ∷ []) a c t v
 
-pub takes-turn : (A : Type 0) (reference : ReferenceState) (may : Bool) (r : Result Arrival PortFault) (buffer : List ℕ) (t u v : Option Told)
-    (c d e f g : ℕ) (s q : Registry) (o : TurnOutcome) → Receives may c d t u r buffer → e ≡ d → IfErr r (λ fault. v ≡ u)
-    → ((x : Option Told) → ReceiveTells x u r buffer → TurnMakes A reference r buffer x v f g s q o)
-    → TakesTurn A reference may r buffer t v c e f g s q o
-takes-turn A reference false r buffer t u v c d e f g s q o p counted idle turns =
-    let turn = turns t p.1 in record { before = t; turn = turn; port = (counted ∙ p.0, turn.port) }
-takes-turn A reference true r buffer t u v c d e f g s q o p counted idle turns = by_receive p.2
-  where
-    counts : CountsMore c e p.1.0
-    counts = subst (λ n. CountsMore c n p.1.0) (sym counted) p.1.1
+module _ (A : Type 0) (reference : ReferenceState) (r : Result Arrival PortFault) (buffer : List ℕ) (t u v : Option Told) (a b c : PortCounts)
+    (s q : Registry) (o : TurnOutcome) (counts : CountsReceive a b (is_err r)) where
+  taken : (may : Bool) (x : Option Told) (turn : TurnMakes A reference r buffer x v b c s q o) → AreBegun may (turn.made ∷ []) a.dropped b.dropped t v
+      → TakesTurn A reference may r buffer t v a b c s q o
+  taken may x turn begun =
+      let same : b.dropped ≡ c.dropped = sym (ap (λ (k : PortCounts). k.dropped) turn.counts) in
+      record {
+        before = x;
+        turn = turn;
+        port = Makes-one may turn.made r a b c t v turn.arrived counts turn.counts
+            (subst (λ n. AreBegun may (turn.made ∷ []) a.dropped n t v) same begun);
+      }
 
-    by_receive : (ReceiveTells p.0 u r buffer ⊎ GivesUp p.0 u r) → TakesTurn A reference true r buffer t v c e f g s q o
-    by_receive (inl told) =
-        let turn = turns p.0 told in
-        record {
-          before = p.0;
-          turn = turn;
-          port = passes-over turn.made (InTurn turn.made) p.1.0 c e t p.0 v refl refl counts p.1.2 turn.port;
-        }
-    by_receive (inr up) =
-        let turn = turns None tt in
-        record { before = None; turn = turn; port = by_made turn.made (turn.arrived ∙ ap result_ok up.0) }
-      where
-        by_made : (m : Made) → option_map arrival_of (turn_of m).arrival ≡ None → PassesOver (m ∷ []) c e t v
-        by_made (Received x clock sends a noted) is = absurd (cc)
-        by_made (Missed clock sends) is =
-            passes-over (Missed clock sends) (GivenUp clock sends) p.1.0 c e t p.0 v refl refl counts p.1.2
-            (follows-none clock sends p.0 u v up.1 (subst (λ x. IfErr x (λ fault. v ≡ u)) up.0 idle))
+  pub takes-turn : (may : Bool) → Receives may a.dropped b.dropped t u r buffer → IfErr r (λ fault. v ≡ u)
+      → ((x : Option Told) → ReceiveTells x u r buffer → TurnMakes A reference r buffer x v b c s q o)
+      → TakesTurn A reference may r buffer t v a b c s q o
+  takes-turn false p idle turns =
+      let turn = turns t p.1 in taken false t turn (p.0, turn.port)
+  takes-turn true p idle turns = by_receive p.2
+    where
+      by_receive : (ReceiveTells p.0 u r buffer ⊎ GivesUp p.0 u r) → TakesTurn A reference true r buffer t v a b c s q o
+      by_receive (inl told) =
+          let turn = turns p.0 told in
+          taken true p.0 turn (passes-over turn.made (InTurn turn.made) p.1.0 a.dropped b.dropped t p.0 v refl refl p.1.1 p.1.2 turn.port)
+      by_receive (inr up) =
+          let turn = turns None tt in taken true None turn (by_made turn.made (turn.arrived ∙ ap result_ok up.0))
+        where
+          by_made : (m : Made) → option_map arrival_of (turn_of m).arrival ≡ None → PassesOver (m ∷ []) a.dropped b.dropped t v
+          by_made (Received x clock sends a noted) is = absurd (cc)
+          by_made (Missed clock sends) is =
+              passes-over (Missed clock sends) (GivenUp clock sends) p.1.0 a.dropped b.dropped t p.0 v refl refl p.1.1 p.1.2
+              (follows-none clock sends p.0 u v up.1 (subst (λ x. IfErr x (λ fault. v ≡ u)) up.0 idle))

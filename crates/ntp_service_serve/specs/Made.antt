@@ -1,5 +1,5 @@
 -- A turn that a server made, and what it gives.
-use Rattle.std.specs.Prelude.{ℕ, Bool, true, false, not, ◌&&◌, Option, None, Some, is_some, option_to_list, List, [], ◌∷◌, length, map, if◌then◌else◌}
+use Rattle.std.specs.Prelude.{ℕ, Bool, true, false, Option, None, Some, is_some, is_none, option_to_list, List, [], ◌∷◌, length, map, if◌then◌else◌}
 use Rattle.ntp_time.specs.declared.stamp.Stamp.{Stamp}
 use Rattle.ntp_reply.specs.Reference.{ReferenceState}
 use Rattle.ntp_reply.specs.declared.answers.Answer.{Answer}
@@ -63,10 +63,14 @@ abbrev pub has_departed : Made → Bool
 has_departed (Received d clock true (answer.Time reply saved) true) = true
 has_departed other = false
 
--- whether a call of it failed: nothing was received, or there was a reply that could not be sent (profile)
-abbrev pub is_failing : Made → Bool
-is_failing (Missed clock sends) = true
-is_failing (Received d clock sends a noted) = not sends && is_some (reply_in a)
+-- whether nothing could be received in it (profile)
+abbrev pub is_missed : Made → Bool
+is_missed m = is_none (turn_of m).arrival
+
+-- whether it has a reply that could not be sent (profile)
+abbrev pub is_unsent : Made → Bool
+is_unsent (Received d clock false a noted) = is_some (reply_in a)
+is_unsent other = false
 
 -- what is told of a datagram beside its octets (profile)
 abbrev pub arrival_of : IncomingValue → Arrival

@@ -1,10 +1,11 @@
 -- What a port in memory tells.
-use Rattle.std.specs.Prelude.{ℕ, zero, suc, ◌-◌, option_map, map, drop, slice_get, if◌then◌else◌}
+use Rattle.std.specs.Prelude.{zero, suc, ◌-◌, option_map, map, drop, slice_get, if◌then◌else◌}
 use Rattle.std.specs.Option.{option_map_or}
 use Rattle.ntp_time.specs.declared.moment.Moment.{Moment}
 use Rattle.ntp_service_serve.specs.declared.turn.Incoming.{Incoming}
 use Rattle.ntp_service_serve.specs.declared.turn.Turn.{Turn}
 use Rattle.ntp_service_serve.specs.declared.memory_port.MemoryPort.{MemoryPort}
+use Rattle.ntp_service_serve.specs.declared.port.PortCounts.{PortCounts}
 use Rattle.ntp_service_serve.specs.Port.{IncomingValue, Readings, later, TurnValue, no_turn, Told}
 
 -- a datagram of a list of turns, as a port tells it (profile)
@@ -35,6 +36,6 @@ told_by p = record {
   sent = p.sent.items;
 }
 
--- how many calls failed (profile)
-abbrev pub memory_failures : {A : Type 0} → MemoryPort A → ℕ
-memory_failures p = p.failures
+-- what is counted: it drops nothing of itself, and no wait of it ends with nothing (profile)
+abbrev pub memory_counts : {A : Type 0} → MemoryPort A → PortCounts
+memory_counts p = record { failed_receives = p.failed_receives; failed_sends = p.failed_sends; dropped = 0; idle_waits = 0 }

@@ -1,10 +1,11 @@
 -- What a port that tells its turns answers.
-use Rattle.std.specs.Prelude.{◌≡◌, ℕ, zero, suc, ◌+◌, ◌^◌, ◌<◌, ◌⊎◌, Bool, false, true, not, ◌&&◌, Option, None, Some, IfSome, IsSomeAnd, Result, Ok, Err, List, [], ◌∷◌, ◌++◌, length, get_or, take, drop, nat_le, if◌then◌else◌}
+use Rattle.std.specs.Prelude.{◌≡◌, ℕ, zero, suc, ◌+◌, ◌^◌, ◌<◌, ◌⊎◌, Bool, false, true, not, ◌&&◌, Option, None, Some, IfSome, IsSomeAnd, Result, Ok, Err, is_err, List, [], ◌∷◌, ◌++◌, length, get_or, take, drop, nat_le, if◌then◌else◌}
 use Rattle.ntp_time.specs.declared.moment.Moment.{Moment}
 use Rattle.ntp_mac.specs.Mac.{most_reply_octets}
 use Rattle.ntp_service.specs.declared.address.Address.{Address}
 use Rattle.ntp_service_serve.specs.declared.memory_port.Sent.{Sent}
 use Rattle.ntp_service.specs.declared.observation.Arrival.{Arrival}
+use Rattle.ntp_service_serve.specs.declared.port.PortCounts.{PortCounts}
 use Rattle.ntp_service_serve.specs.declared.port.PortFault.{PortFault}
 use Rattle.ntp_service_serve.specs.declared.port.PortFault.TheVariants.{Receive, Send}
 
@@ -104,6 +105,23 @@ DropsTurns (suc n) old new = (next : Option Told) × DropTells old next true × 
 -- a count went on by these, as far as a number of 64 bits can count (profile)
 abbrev pub CountsMore : ℕ → ℕ → ℕ → Type 0
 CountsMore count after more = count + more < 2 ^ 64 → after ≡ count + more
+
+-- how many calls failed (profile)
+abbrev pub failed_calls : PortCounts → ℕ
+failed_calls counts = counts.failed_receives + counts.failed_sends
+
+-- the counts behind a send, which failed or not (profile)
+abbrev pub counted_send : Bool → PortCounts → PortCounts
+counted_send failed counts = record counts { failed_sends = counts.failed_sends + (if failed then 1 else 0) }
+
+-- a receive is counted, which failed or not; how many waits in it ended with nothing is not told (profile)
+abbrev pub CountsReceive : PortCounts → PortCounts → Bool → Type 0
+CountsReceive old new failed = (new.failed_receives ≡ old.failed_receives + (if failed then 1 else 0)) × (new.failed_sends ≡ old.failed_sends)
+
+-- a wait is counted, which ended with nothing or with what was received (profile)
+abbrev pub CountsWait : PortCounts → PortCounts → Option (Result Arrival PortFault) → Type 0
+CountsWait old new None = CountsMore old.idle_waits new.idle_waits 1 × CountsReceive old new false
+CountsWait old new (Some r) = (new.idle_waits ≡ old.idle_waits) × CountsReceive old new (is_err r)
 
 -- datagrams were dropped and counted, by a port that may drop; by any other none (profile)
 abbrev pub DropsAny : Bool → ℕ → ℕ → Option Told → Option Told → Type 0

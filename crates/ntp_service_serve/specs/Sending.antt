@@ -1,5 +1,5 @@
 -- Not to be believed: for proofs. What becomes of the reply of an answer, and how a turn is counted.
-use Rattle.std.specs.Prelude.{◌≡◌, ℕ, ◌+◌, Bool, false, true, Option, None, Some, IfSome, IsSomeAnd, List, ◌∷◌, [], map, if◌then◌else◌}
+use Rattle.std.specs.Prelude.{◌≡◌, ◌+◌, Bool, false, true, Option, None, Some, IfSome, IsSomeAnd, List, ◌∷◌, [], map, if◌then◌else◌}
 use Rattle.ntp_time.specs.declared.moment.Moment.{Moment}
 use Rattle.ntp_time.specs.declared.stamp.Stamp.{Stamp}
 use Rattle.ntp_service.specs.Registry.{Registry}
@@ -13,9 +13,10 @@ use Rattle.ntp_service.specs.declared.event.Event.{Event}
 use Rattle.ntp_service.specs.declared.event.Event.TheVariants as event
 use Rattle.ntp_service.specs.Model.{departure_outcome}
 use Rattle.ntp_service.specs.Headline.{StandsFor, Tells}
+use Rattle.ntp_service_serve.specs.declared.port.PortCounts.{PortCounts}
 use Rattle.ntp_service_serve.specs.declared.serving.Served.{Served}
-use Rattle.ntp_service_serve.specs.Port.{IncomingValue, Readings, later, TurnValue, Told}
-use Rattle.ntp_service_serve.specs.Made.{Received, departing, sending_of, is_failing}
+use Rattle.ntp_service_serve.specs.Port.{IncomingValue, Readings, later, TurnValue, Told, counted_send}
+use Rattle.ntp_service_serve.specs.Made.{Received, departing, sending_of, is_unsent}
 use Rattle.ntp_service_serve.specs.Serving.{Follows}
 
 -- the receive stamp of a time reply
@@ -46,7 +47,7 @@ IsInTurn t u from transmit = IfSome t (λ old. IsSomeAnd u (λ new. (clock : Rea
 
 -- the reply of an answer to this datagram was sent, or could not be, and its departure was reported where it was time; `t` is what the
 -- port told before the turn
-pub record SendingMakes (A : Type 0) (answer : Answer) (from : IncomingValue) (transmit : Moment) (t u : Option Told) (f g : ℕ)
+pub record SendingMakes (A : Type 0) (answer : Answer) (from : IncomingValue) (transmit : Moment) (t u : Option Told) (a b : PortCounts)
     (service after : Registry) (sending : Sending) : Type 0 where
   pub clock : Readings
   pub first : clock false 0 ≡ transmit
@@ -54,7 +55,7 @@ pub record SendingMakes (A : Type 0) (answer : Answer) (from : IncomingValue) (t
   pub noted : Bool
   pub comes_to : sending ≡ sending_of answer sends noted
   pub port : Follows (turn_with from clock sends ∷ []) (Received from clock sends answer noted ∷ []) t u
-  pub failures : g ≡ f + (if is_failing (Received from clock sends answer noted) then 1 else 0)
+  pub counts : b ≡ counted_send (is_unsent (Received from clock sends answer noted)) a
   pub tells : (history : List (Event A)) → StandsFor service history
       → Tells history (map (λ saved. (event.Departed from.address saved (clock true 1), departure_outcome noted)) (departing sends answer)) after
 

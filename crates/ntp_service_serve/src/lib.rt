@@ -9,7 +9,7 @@ mod turn;
 
 pub use memory_port::{MemoryPort, Sent};
 pub use ntp_service::Arrival;
-pub use port::{DatagramRoom, MOST_RECEIVED_OCTETS, Port, PortFault, TimedPort};
+pub use port::{DatagramRoom, MOST_RECEIVED_OCTETS, Port, PortCounts, PortFault, TimedPort};
 pub use serving::{Served, answer_received, serve};
 pub use sources::{CommandsSource, FixedReference, ReferenceSource};
 pub use turn::{Incoming, Turn};

@@ -1,5 +1,5 @@
 //! A port in memory.
-ghost use Rattle.std.specs.Prelude.{◌≡◌, ◌+◌, ◌≤◌, ◌<◌, true, false, not, ◌&&◌, vec_len, vec_capacity, if◌then◌else◌, IfOk, IsTrue, Some, None, [], map};
+ghost use Rattle.std.specs.Prelude.{◌≡◌, ◌+◌, ◌≤◌, ◌<◌, ◌^◌, true, false, not, ◌&&◌, vec_len, vec_capacity, if◌then◌else◌, IfOk, IsTrue, Some, None, [], map};
 
 use crate::port::{DatagramRoom, MOST_RECEIVED_OCTETS, Port, PortFault, TimedPort};
 use crate::turn::Turn;
@@ -34,16 +34,19 @@ pub struct MemoryPort<A: Allocator = Global> {
     has_read_clock: bool,
     has_tried_send: bool,
     sent: Vec<Sent, A>,
-    failures: u64,
+    failed_receives: u64,
+    failed_sends: u64,
     ghost within: { begun ≤ vec_len turns },
     ghost present: { IsTrue is_present → 0 < begun },
     ghost owed: { vec_len sent + (if is_present && not has_tried_send then 1 else 0) ≤ begun },
+    ghost few: { failed_receives + failed_sends < 2 ^ 64 },
     ghost room: { vec_len turns ≤ vec_capacity sent },
 }
 
 impl<A: Allocator + Copy> MemoryPort<A> {
     ghost use Rattle.ntp_service_serve.specs.Port.{no_turn};
-    ghost use Rattle.ntp_service_serve.specs.Memory.{turn_told, told_by, memory_failures};
+    ghost use Rattle.ntp_service_serve.specs.Port.{failed_calls};
+    ghost use Rattle.ntp_service_serve.specs.Memory.{turn_told, told_by, memory_counts};
 
     /// A port that will make these turns. The room for all that can be sent is taken from `alloc` here, so that
     /// no call of the port takes memory: `NoMemory` only where it was refused.
@@ -55,7 +58,7 @@ impl<A: Allocator + Copy> MemoryPort<A> {
           has_tried_send = false;
           sent = [];
         }) }
-        ensures failures { IfOk result (λ port. memory_failures port ≡ 0) }
+        ensures failures { IfOk result (λ port. failed_calls (memory_counts port) ≡ 0) }
     {
         let sent = Vec::with_capacity(alloc, turns.len())?;
         Ok(MemoryPort {
@@ -65,14 +68,15 @@ impl<A: Allocator + Copy> MemoryPort<A> {
             has_read_clock: false,
             has_tried_send: false,
             sent,
-            failures: 0,
+            failed_receives: 0,
+            failed_sends: 0,
         })
     }
 }
 
 impl<A: Allocator> MemoryPort<A> {
     ghost use Rattle.ntp_service_serve.specs.Port.{DropTells};
-    ghost use Rattle.ntp_service_serve.specs.Memory.{told_by, present_of, memory_failures};
+    ghost use Rattle.ntp_service_serve.specs.Memory.{told_by, present_of, memory_counts};
 
     /// What was sent, in order.
     pub fn sent(&self) -> &[Sent]
@@ -84,7 +88,7 @@ impl<A: Allocator> MemoryPort<A> {
     /// Drops the datagram of the next turn, which begins, where it has one. Whether it had.
     pub fn drop_next(&mut self) -> bool
         ensures turns { DropTells (Some (told_by self.old)) (Some (told_by self.new)) result }
-        ensures failures { memory_failures self.new ≡ memory_failures self.old }
+        ensures counts { memory_counts self.new ≡ memory_counts self.old }
     {
         let at = self.begun;
         if at == self.turns.len() || self.turns[at].arrival.is_none() {
@@ -106,11 +110,11 @@ impl<A: Allocator> MemoryPort<A> {
 }
 
 impl<A: Allocator> Port for MemoryPort<A> {
-    ghost use Rattle.ntp_service_serve.specs.Memory.{told_by, memory_failures};
+    ghost use Rattle.ntp_service_serve.specs.Memory.{told_by, memory_counts};
 
     ghost told = { λ p. Some (told_by p) };
 
-    ghost failure_count = { memory_failures };
+    ghost counts = { memory_counts };
 
     fn receive(&mut self, datagram: &mut DatagramRoom) -> Result<Arrival, PortFault> {
         let at = self.begun;
@@ -118,7 +122,7 @@ impl<A: Allocator> Port for MemoryPort<A> {
         self.has_read_clock = false;
         self.has_tried_send = false;
         if at == self.turns.len() {
-            self.failures += 1;
+            self.failed_receives += 1;
             return Err(PortFault::Receive);
         }
         self.begun = at + 1;
@@ -126,7 +130,7 @@ impl<A: Allocator> Port for MemoryPort<A> {
         let incoming = match &self.turns[at].arrival {
             Some(incoming) => incoming,
             None => {
-                self.failures += 1;
+                self.failed_receives += 1;
                 return Err(PortFault::Receive);
             }
         };
@@ -162,7 +166,7 @@ impl<A: Allocator> Port for MemoryPort<A> {
         };
         self.has_tried_send = true;
         let Some(reply) = taken else {
-            self.failures += 1;
+            self.failed_sends += 1;
             return Err(PortFault::Send);
         };
         self.sent.push_reserved(Sent {
@@ -174,7 +178,7 @@ impl<A: Allocator> Port for MemoryPort<A> {
     }
 
     fn failures(&self) -> u64 {
-        self.failures
+        self.failed_receives + self.failed_sends
     }
 }
 

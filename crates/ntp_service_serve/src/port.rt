@@ -1,7 +1,7 @@
 //! What a server asks of the network and of the clock.
-ghost use Rattle.std.specs.Prelude.{◌≡◌, ℕ, ◌+◌, ◌-◌, ◌≤◌, ◌<◌, ◌^◌, Option, None, IfOk, IfErr, IfSome, IfNone, Bool, false, is_err, if◌then◌else◌};
-ghost use Rattle.std.specs.Option.{option_map_or};
-ghost use Rattle.ntp_service_serve.specs.Port.{Told, most_received_octets, Receives, DropsAny, NowTells, SendTells};
+ghost use Rattle.std.specs.Prelude.{◌≡◌, ◌-◌, ◌≤◌, ◌<◌, ◌^◌, Option, None, IfOk, IfErr, IfSome, IfNone, Bool, false, is_err};
+ghost use Rattle.ntp_service_serve.specs.declared.port.PortCounts.{PortCounts};
+ghost use Rattle.ntp_service_serve.specs.Port.{Told, most_received_octets, failed_calls, counted_send, CountsReceive, CountsWait, Receives, DropsAny, NowTells, SendTells};
 
 use ntp_service::{Address, Arrival};
 use ntp_time::Moment;
@@ -22,6 +22,29 @@ pub enum PortFault {
     Send,
 }
 
+/// What a port counts.
+#[derive(Clone, Copy, Debug, PartialEq, Eq)]
+pub struct PortCounts {
+    /// How many receives failed.
+    pub failed_receives: u64,
+    /// How many sends failed.
+    pub failed_sends: u64,
+    /// How many datagrams were dropped, as far as the number can count.
+    pub dropped: u64,
+    /// How many waits ended with nothing, as far as the number can count.
+    pub idle_waits: u64,
+}
+
+impl PortCounts {
+    /// Nothing was counted yet.
+    pub const NONE: PortCounts = PortCounts {
+        failed_receives: 0,
+        failed_sends: 0,
+        dropped: 0,
+        idle_waits: 0,
+    };
+}
+
 /// Where datagrams come from and replies go to, with the clock (profile).
 ///
 /// A port may tell its turns: what its calls will answer, as a list of turns. Each `receive` begins one. Before it, a port that may drop
@@ -33,37 +56,32 @@ pub trait Port {
     // Whether it may drop datagrams that it takes.
     ghost may_drop: { Bool } = { false };
 
-    // How many it dropped, as far as that is counted.
-    ghost drop_count: { Self → ℕ } = { λ _. 0 };
-
-    // How many calls failed.
-    ghost failure_count: { Self → ℕ };
+    // What it counted.
+    ghost counts: { Self → PortCounts };
 
     /// Receives a datagram into the front of `datagram`, cut to 1,025 octets. The one fault is `Receive`.
     fn receive(&mut self, datagram: &mut DatagramRoom) -> Result<Arrival, PortFault>
-        requires { failure_count self.old < 2 ^ 64 - 1 }
+        requires { failed_calls (counts self.old) < 2 ^ 64 - 1 }
         ensures length { IfOk result (λ arrival. arrival.length ≤ most_received_octets) }
         ensures fault { IfErr result (λ fault. fault ≡ PortFault.Receive) }
-        ensures failures { failure_count self.new ≡ failure_count self.old + (if is_err result then 1 else 0) }
-        ensures turns { Receives may_drop (drop_count self.old) (drop_count self.new) (told self.old) (told self.new) result datagram.new };
+        ensures counts { CountsReceive (counts self.old) (counts self.new) (is_err result) }
+        ensures turns { Receives may_drop (counts self.old).dropped (counts self.new).dropped (told self.old) (told self.new) result datagram.new };
 
     /// The moment that the clock shows. A call never fails.
     fn now(&mut self) -> Moment
-        ensures failures { failure_count self.new ≡ failure_count self.old }
-        ensures dropped { drop_count self.new ≡ drop_count self.old }
+        ensures counts { counts self.new ≡ counts self.old }
         ensures turns { NowTells (told self.old) (told self.new) result };
 
     /// Sends a reply to an address and a UDP port. The one fault is `Send`.
     fn send(&mut self, address: Address, port: u16, reply: &[u8]) -> Result<(), PortFault>
-        requires { failure_count self.old < 2 ^ 64 - 1 }
+        requires { failed_calls (counts self.old) < 2 ^ 64 - 1 }
         ensures fault { IfErr result (λ fault. fault ≡ PortFault.Send) }
-        ensures failures { failure_count self.new ≡ failure_count self.old + (if is_err result then 1 else 0) }
-        ensures dropped { drop_count self.new ≡ drop_count self.old }
+        ensures counts { counts self.new ≡ counted_send (is_err result) (counts self.old) }
         ensures turns { SendTells (told self.old) (told self.new) address port reply.now result };
 
     /// How many calls of `receive` and `send` failed.
     fn failures(&self) -> u64
-        ensures { result ≡ failure_count self.now };
+        ensures { result ≡ failed_calls (counts self.now) };
 }
 
 /// A port at which a wait for a datagram may end with none, so that there is time to look at something else (profile).
@@ -74,13 +92,12 @@ pub trait TimedPort: Port {
     /// Receives a datagram as `receive` does, where one comes in time. Nothing where none did, which is no failure and
     /// begins no turn but those that are dropped.
     fn receive_in_time(&mut self, datagram: &mut DatagramRoom) -> Option<Result<Arrival, PortFault>>
-        requires { Self.failure_count self.old < 2 ^ 64 - 1 }
+        requires { failed_calls (Self.counts self.old) < 2 ^ 64 - 1 }
         ensures length { IfSome result (λ received. IfOk received (λ arrival. arrival.length ≤ most_received_octets)) }
         ensures fault { IfSome result (λ received. IfErr received (λ fault. fault ≡ PortFault.Receive)) }
-        ensures failures { Self.failure_count self.new
-            ≡ Self.failure_count self.old + option_map_or (λ received. if is_err received then 1 else 0) result 0 }
-        ensures turns { IfSome result (λ received. Receives Self.may_drop (Self.drop_count self.old) (Self.drop_count self.new)
+        ensures counts { CountsWait (Self.counts self.old) (Self.counts self.new) result }
+        ensures turns { IfSome result (λ received. Receives Self.may_drop (Self.counts self.old).dropped (Self.counts self.new).dropped
             (Self.told self.old) (Self.told self.new) received datagram.new) }
-        ensures nothing { IfNone result ((is_prompt ≡ false) × DropsAny Self.may_drop (Self.drop_count self.old) (Self.drop_count self.new)
+        ensures nothing { IfNone result ((is_prompt ≡ false) × DropsAny Self.may_drop (Self.counts self.old).dropped (Self.counts self.new).dropped
             (Self.told self.old) (Self.told self.new)) };
 }

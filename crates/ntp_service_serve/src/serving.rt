@@ -1,7 +1,7 @@
 //! A server: datagrams in, replies out.
-ghost use Rattle.std.specs.Prelude.{◌≡◌, ℕ, ◌+◌, ◌-◌, ◌≤◌, ◌<◌, ◌^◌, Option, option_map, OnOk, IfOk, IfErr};
+ghost use Rattle.std.specs.Prelude.{◌≡◌, ◌+◌, ◌-◌, ◌≤◌, ◌<◌, ◌^◌, Option, option_map, OnOk, IfOk, IfErr};
 ghost use Rattle.ntp_time.specs.declared.moment.Moment.{Moment};
-ghost use Rattle.ntp_service_serve.specs.Port.{Told, IncomingValue, ReceiveTells, most_received_octets};
+ghost use Rattle.ntp_service_serve.specs.Port.{Told, IncomingValue, ReceiveTells, most_received_octets, failed_calls};
 ghost use Rattle.ntp_service_serve.specs.Made.{reply_in};
 ghost use Rattle.ntp_service_serve.specs.Serving.{ServeMakes, TurnMakes};
 ghost use Rattle.ntp_service_serve.specs.Sending.{IsInTurn, SendingMakes, counted, saved_in};
@@ -39,11 +39,11 @@ pub fn serve<P: Port, A: Allocator + Copy>(
     reference: &Reference,
     turns: u32,
 ) -> Served
-    requires { P.failure_count port.old + turns < 2 ^ 64 }
-    ensures failures { P.failure_count port.new ≤ P.failure_count port.old + turns }
+    requires { failed_calls (P.counts port.old) + turns < 2 ^ 64 }
+    ensures failures { failed_calls (P.counts port.new) ≤ failed_calls (P.counts port.old) + turns }
     ensures counts { (result.arrivals ≤ turns) × (result.sent ≤ turns) × (result.departed ≤ turns) }
     ensures turns { ServeMakes A reference.now P.may_drop turns (P.told port.old) (P.told port.new)
-        (P.failure_count port.old) (P.failure_count port.new) (P.drop_count port.old) (P.drop_count port.new) service.old service.new result }
+        (P.counts port.old) (P.counts port.new) service.old service.new result }
 {
     let mut datagram = [0; MOST_RECEIVED_OCTETS];
     let mut served = Served {
@@ -69,11 +69,10 @@ pub fn answer_received<P: Port, A: Allocator + Copy>(
     datagram: &DatagramRoom,
 ) -> TurnOutcome
     requires length { IfOk received (λ arrival. arrival.length ≤ most_received_octets) }
-    requires failures { OnOk received (P.failure_count port.old < 2 ^ 64 - 1) }
+    requires failures { OnOk received (failed_calls (P.counts port.old) < 2 ^ 64 - 1) }
     ensures idle { IfErr received (λ _. P.told port.new ≡ P.told port.old) }
-    ensures dropped { P.drop_count port.new ≡ P.drop_count port.old }
     ensures makes { (t : Option Told) → ReceiveTells t (P.told port.old) received datagram.now
-        → TurnMakes A reference.now received datagram.now t (P.told port.new) (P.failure_count port.old) (P.failure_count port.new)
+        → TurnMakes A reference.now received datagram.now t (P.told port.new) (P.counts port.old) (P.counts port.new)
         service.old service.new result }
 {
     let Ok(arrival) = received else {
@@ -103,11 +102,10 @@ fn send_reply<P: Port, A: Allocator + Copy>(
     arrival: Arrival,
     answer: &Answer,
 ) -> Sending
-    requires failures { P.failure_count port.old < 2 ^ 64 - 1 }
-    ensures dropped { P.drop_count port.new ≡ P.drop_count port.old }
-    ensures makes { (t : Option Told) (from : IncomingValue) (transmit : Moment) → IsInTurn t (P.told port.old) from transmit
+    requires { failed_calls (P.counts port.old) < 2 ^ 64 - 1 }
+    ensures { (t : Option Told) (from : IncomingValue) (transmit : Moment) → IsInTurn t (P.told port.old) from transmit
         → from.address ≡ arrival.address → from.port ≡ arrival.port
-        → SendingMakes A answer.now from transmit t (P.told port.new) (P.failure_count port.old) (P.failure_count port.new)
+        → SendingMakes A answer.now from transmit t (P.told port.new) (P.counts port.old) (P.counts port.new)
         service.old service.new result }
 {
     let Some(reply) = reply_in(answer) else {

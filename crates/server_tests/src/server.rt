@@ -2,7 +2,8 @@
 //! no memory where no commands change, that commands are carried out while nothing comes, when the source of the clock's
 //! state is given time, and when a reporter is shown the server. The digests are those of Python's `hashlib.md5` over the
 //! key `key` and the octets before the key number, and of `hashlib.sha1` with the key `new`.
-ghost use Rattle.std.specs.Prelude.{◌≡◌};
+ghost use Rattle.std.specs.Prelude.{◌≡◌, ◌<◌, ◌^◌};
+ghost use Rattle.ntp_service_serve.specs.Port.{failed_calls};
 
 use crate::looks::commands;
 use ntp_admin::parse_command;
@@ -13,7 +14,8 @@ use ntp_server::{
 };
 use ntp_service::{Address, Arrival, LineOutcome, Observation, Sending, Service, TurnOutcome};
 use ntp_service_serve::{
-    DatagramRoom, FixedReference, MemoryPort, Port, PortFault, ReferenceSource, TimedPort,
+    DatagramRoom, FixedReference, MemoryPort, Port, PortCounts, PortFault, ReferenceSource,
+    TimedPort,
 };
 use ntp_time::{Moment, Stamp};
 use std::alloc::{Allocator, Global};
@@ -262,14 +264,15 @@ fn serving_takes_no_memory_where_no_commands_change(rt: HostRuntime) -> Result<(
 #[derive(Drop)]
 struct Quiet {
     waits: u8,
-    failed: u64,
+    counts: PortCounts,
+    ghost few: { failed_calls counts < 2 ^ 64 },
 }
 
 impl Port for Quiet {
-    ghost failure_count = { λ p. p.failed };
+    ghost counts = { λ p. p.counts };
 
     fn receive(&mut self, _datagram: &mut DatagramRoom) -> Result<Arrival, PortFault> {
-        self.failed += 1;
+        self.counts.failed_receives += 1;
         Err(PortFault::Receive)
     }
 
@@ -278,25 +281,27 @@ impl Port for Quiet {
     }
 
     fn send(&mut self, _address: Address, _port: u16, _reply: &[u8]) -> Result<(), PortFault> {
-        self.failed += 1;
+        self.counts.failed_sends += 1;
         Err(PortFault::Send)
     }
 
     fn failures(&self) -> u64 {
-        self.failed
+        self.counts.failed_receives + self.counts.failed_sends
     }
 }
 
 impl TimedPort for Quiet {
     fn receive_in_time(
         &mut self,
-        datagram: &mut DatagramRoom,
+        _datagram: &mut DatagramRoom,
     ) -> Option<Result<Arrival, PortFault>> {
         if self.waits > 0 {
             self.waits -= 1;
+            self.counts.idle_waits = self.counts.idle_waits.saturating_add(1);
             return None;
         }
-        Some(self.receive(datagram))
+        self.counts.failed_receives += 1;
+        Some(Err(PortFault::Receive))
     }
 }
 
@@ -306,7 +311,7 @@ fn quiet_server(
 ) -> Result<Server<Quiet, MemoryCommands<Global>, Tended, MemoryObserver<Global>, Global>, Fail> {
     let quiet = Quiet {
         waits: 2,
-        failed: 0,
+        counts: PortCounts::NONE,
     };
     let tended = Tended {
         reference: reference()?,

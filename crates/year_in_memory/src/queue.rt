@@ -1,6 +1,6 @@
 //! The daemon's port in memory, whose clock moves its host's.
 ghost use Rattle.std.specs.Prelude.{Some};
-ghost use Rattle.ntp_service_serve.specs.Memory.{told_by, memory_failures};
+ghost use Rattle.ntp_service_serve.specs.Memory.{told_by, memory_counts};
 
 use crate::files::{COMMANDS, Place};
 use crate::host::MemoryHost;
@@ -19,6 +19,7 @@ use std::io;
 pub struct YearQueue<'a, 'd> {
     queue: MemoryQueue,
     time: Passing<'a, 'd>,
+    idle_waits: u64,
 }
 
 // What time that passes changes.
@@ -69,7 +70,11 @@ impl<'a, 'd> YearQueue<'a, 'd> {
             lines: Appending { lines, appended: 0 },
             readings,
         };
-        YearQueue { queue, time }
+        YearQueue {
+            queue,
+            time,
+            idle_waits: 0,
+        }
     }
 
     /// What was sent, in order.
@@ -81,7 +86,7 @@ impl<'a, 'd> YearQueue<'a, 'd> {
 impl<'a, 'd> Port for YearQueue<'a, 'd> {
     ghost told = { λ year. Some (told_by year.queue.port) };
 
-    ghost failure_count = { λ year. memory_failures year.queue.port };
+    ghost counts = { λ year. record (memory_counts year.queue.port) { idle_waits = year.idle_waits } };
 
     fn receive(&mut self, datagram: &mut DatagramRoom) -> Result<Arrival, PortFault> {
         self.queue.receive(datagram)
@@ -108,7 +113,11 @@ impl<'a, 'd> TimedPort for YearQueue<'a, 'd> {
         if self.time.readings == 0 {
             return Some(self.queue.receive(datagram));
         }
-        self.queue.take_in_time(datagram)
+        let Some(received) = self.queue.take_in_time(datagram) else {
+            self.idle_waits = self.idle_waits.saturating_add(1);
+            return None;
+        };
+        Some(received)
     }
 }
 

@@ -1,5 +1,6 @@
 //! The assembly of the daemon, run over parts in memory.
 ghost use Rattle.std.specs.Prelude.{◌≡◌};
+ghost use Rattle.ntp_service_serve.specs.Port.{failed_calls};
 
 use crate::files::{ANSWERS, COMMANDS, Disk, LOG, MemoryFile};
 use crate::host::MemoryHost;
@@ -133,7 +134,7 @@ where
     O: DaemonObserver + Drop,
     R: Files + Clock,
     L: Write + Drop,
-    requires { parts.port.failures ≡ 0 }
+    requires { failed_calls parts.port.counts ≡ 0 }
 {
     let mut said = Vec::new(host.alloc);
     let mut assembly = Assembly::begin(host, parts, begun, &mut said)?;

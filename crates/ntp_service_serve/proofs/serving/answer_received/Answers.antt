@@ -11,6 +11,6 @@ returns-clause-makes g c t h =
     let r : ReceiveTells t _ _ c.args.datagram.now = rw c.in-Ok.is at h in
     let k = comes c.in-Ok.arrival c.args.datagram.now c.now-transmit.result (search rules) c.told-datagram t _ _ r
     c.now-transmit.ensures.turns in
-    rw c.in-Ok.is (answered _ _ c.in-Ok.arrival c.args.datagram.now c.now-transmit.result t _ _ _ _ _ _ _ _ _ _ k (search rules)
+    rw c.in-Ok.is (answered _ _ c.in-Ok.arrival c.args.datagram.now c.now-transmit.result t _ _ _ _ _ _ _ _ _ _ k c.now-transmit.ensures.counts
     (λ history stands. c.datagram-answer.ensures.tells history stands)
-    (c.send_reply-sending.ensures.makes t k.from c.now-transmit.result k.in_turn (ap (λ z. z.address) k.arrival) (ap (λ z. z.port) k.arrival)))
+    (c.send_reply-sending.ensures t k.from c.now-transmit.result k.in_turn (ap (λ z. z.address) k.arrival) (ap (λ z. z.port) k.arrival)))

@@ -1,13 +1,14 @@
 use Rattle.std.proofs.Common.{◌≤◌, ◌+◌}
+use Rattle.ntp_service_serve.specs.Port.{failed_calls}
 use Rattle.ntp_service_serve.specs.Serving.{ServeMakes}
 use Rattle.ntp_service_serve.proofs.serving.serve.Given as goal
 
 abbrev pub invariant-loop-turn : goal.invariant-loop-turn
 invariant-loop-turn g l = record {
-  failures : g.P.Port.failure_count l.port ≤ g.P.Port.failure_count l.fn.port + l._turn;
+  failures : failed_calls (g.P.Port.counts l.port) ≤ failed_calls (g.P.Port.counts l.fn.port) + l._turn;
   arrivals : l.served.arrivals ≤ l._turn;
   sent : l.served.sent ≤ l._turn;
   departed : l.served.departed ≤ l._turn;
   makes : ServeMakes g.row.A.Denot l.reference g.P.Port.may_drop l._turn (g.P.Port.told l.fn.port) (g.P.Port.told l.port)
-      (g.P.Port.failure_count l.fn.port) (g.P.Port.failure_count l.port) (g.P.Port.drop_count l.fn.port) (g.P.Port.drop_count l.port) l.fn.service l.service l.served;
+      (g.P.Port.counts l.fn.port) (g.P.Port.counts l.port) l.fn.service l.service l.served;
 }

@@ -6,7 +6,7 @@ use Rattle.ntp_freshness.proofs.fresh_port.FreshPort.look_how_many.Goals.{else-n
 pub returns-then-is_old-clause-looks : goal.returns-then-is_old-clause-looks
 returns-then-is_old-clause-looks g c =
     Looks-some _ _ 0
-    (Looks-count c.args.self.now.watch c.saw.new.self c.args.self.now.reading c.args.self.now.next_look c.args.self.now.stale c.most_held-count.result
+    (Looks-count c.args.self.now.watch c.saw.new.self c.args.self.now.reading c.args.self.now.next_look c.args.self.now.counts.dropped c.most_held-count.result
     (g.P.Port.told c.args.self.now.port) (g.P.Port.told c.most_held-count.new.self) (g.P.QueuedPort.history c.args.self.now.port)
     (g.P.QueuedPort.history c.most_held-count.new.self) c.most_held-count.ensures.turns c.saw.ensures.longest
     (λ history watches. c.saw.ensures.watches history

@@ -4,11 +4,11 @@ use Rattle.ntp_freshness.proofs.Dropping.{DropsMany-none, DropsMany-more, Passes
 use Rattle.ntp_freshness.proofs.fresh_port.FreshPort.receive_fresh.Goals as goal
 
 pub loop-sweep-init : goal.loop-sweep-init
-loop-sweep-init g c = record { failures = search rules; drops = DropsMany-none _ (omega arith) }
+loop-sweep-init g c = record { counts = search rules; drops = DropsMany-none _ (omega arith) }
 
 pub loop-sweep-preserved : goal.loop-sweep-preserved
 loop-sweep-preserved g c = record {
-  failures = search rules;
+  counts = search rules;
   drops = DropsMany-more _ _ _ _ _ _ c.loop-sweep.invariant.drops c.in-Stale.ensures.next c.sweep.ensures.drops;
 }
 

@@ -1,11 +1,12 @@
-use Rattle.std.proofs.Common.{◌≡◌}
+use Rattle.ntp_freshness.specs.declared.fresh_port.Next.TheVariants.{Stale}
 use Rattle.ntp_freshness.specs.Fresh.{kept}
+use Rattle.ntp_freshness.specs.Next.{CountsNext}
 use Rattle.ntp_freshness.proofs.Dropping.{DropsMany}
 use Rattle.ntp_freshness.proofs.fresh_port.FreshPort.receive_fresh.Given as goal
 
 abbrev pub invariant-loop-sweep : goal.invariant-loop-sweep
 invariant-loop-sweep g l = record {
-  failures : l.self.failures ≡ l.fn.self.failures;
-  drops : DropsMany l._sweep (kept l.fn.self.watch l.fn.self.reading l.fn.self.next_look l.fn.self.stale (g.P.Port.told l.fn.self.port) (g.P.QueuedPort.history l.fn.self.port))
-      (kept l.self.watch l.self.reading l.self.next_look l.self.stale (g.P.Port.told l.self.port) (g.P.QueuedPort.history l.self.port));
+  counts : CountsNext l.fn.self.counts l.self.counts Stale;
+  drops : DropsMany l._sweep (kept l.fn.self.watch l.fn.self.reading l.fn.self.next_look l.fn.self.counts.dropped (g.P.Port.told l.fn.self.port) (g.P.QueuedPort.history l.fn.self.port))
+      (kept l.self.watch l.self.reading l.self.next_look l.self.counts.dropped (g.P.Port.told l.self.port) (g.P.QueuedPort.history l.self.port));
 }

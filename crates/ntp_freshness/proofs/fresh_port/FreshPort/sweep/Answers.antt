@@ -1,13 +1,13 @@
-use Rattle.std.proofs.Common.{rules, ◌∙◌, arith}
+use Rattle.std.proofs.Common.{rules, arith}
 use Rattle.ntp_freshness.proofs.Dropping.{Drops-none, Drops-append}
 use Rattle.ntp_freshness.proofs.fresh_port.FreshPort.sweep.Goals as goal
 
 pub loop-init : goal.loop-init
-loop-init g c = record { failures = search rules; drops = Drops-none _ (omega arith) }
+loop-init g c = record { counts = search rules; drops = Drops-none _ (omega arith) }
 
 pub loop-preserved : goal.loop-preserved
 loop-preserved g c = record {
-  failures = c.drop_next.ensures.failures ∙ c.loop.invariant.failures;
+  counts = search rules;
   drops = Drops-append _ _ _ c.loop.invariant.drops c.drop_next.ensures.drops;
 }
 

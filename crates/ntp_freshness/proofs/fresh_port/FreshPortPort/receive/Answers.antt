@@ -4,11 +4,11 @@ use Rattle.ntp_freshness.proofs.Passing.{passes-received, passes-given_up}
 use Rattle.ntp_freshness.proofs.fresh_port.FreshPortPort.receive.Goals as goal
 
 pub loop-wait-init : goal.loop-wait-init
-loop-wait-init g c = record { failures = search rules; waits = inl (refl, refl) }
+loop-wait-init g c = record { counts = search rules; waits = inl (refl, refl) }
 
 pub loop-wait-preserved : goal.loop-wait-preserved
 loop-wait-preserved g c = record {
-  failures = omega (arith, c.in_default.ensures.failures, c.loop-wait.invariant.failures);
+  counts = search rules;
   waits = inr (Passes-after _ _ _ _ None _ _ c.loop-wait.invariant.waits c.in_default.ensures.fresh);
 }
 

@@ -1,8 +1,7 @@
-use Rattle.std.specs.Prelude.{None, is_err}
+use Rattle.std.specs.Prelude.{None}
 use Rattle.ntp_meeting.proofs.Answering.{one-fails}
 use Rattle.ntp_meeting.proofs.pair.Pair.answer.Goals as goal
 
 pub returns : goal.returns
 returns g c =
-    let turn = c.answer_received-outcome.ensures.makes None tt in
-    one-fails (is_err c.in-Some.received) _ _ _ _ c.in-Some.ensures.failures turn.failures
+    one-fails _ _ _ _ _ _ c.args.self.now.port.counts _ _ _ _ _ (c.answer_received-outcome.ensures.makes None tt) c.in-Some.ensures.counts.1

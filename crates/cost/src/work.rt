@@ -6,10 +6,9 @@ use crate::many;
 use crate::words::{Query, Word};
 use ntp_admin::Command;
 use ntp_mac::{Algorithm, Key, digest};
-use ntp_packet::read_request;
+use ntp_packet::{Moment, Short, Stamp, read_request};
 use ntp_reply::{Answer, Reference};
 use ntp_service::{Address, Service};
-use ntp_time::{Moment, Short, Stamp};
 use std::alloc::Global;
 use std::num::NonZero;
 

@@ -2,7 +2,7 @@
 ghost use Rattle.std.specs.Prelude.{◌≡◌, ◌≢◌};
 ghost use Rattle.ntp_meeting.specs.Words.{HasMet};
 
-use ntp_customer_files::{DONE, memory_status, socket_status, write_status};
+use ntp_admin::{DONE, memory_status, socket_status, write_status};
 use ntp_meeting::{LoopbackFault, meet};
 use std::alloc::Allocator;
 use std::io::Write;

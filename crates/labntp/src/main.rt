@@ -5,10 +5,9 @@
 mod loopback;
 mod serve_job;
 
-use labntp_command_line::{Job, job, replay_status};
+use labntp_jobs::{Job, Watched, job, replay_status};
 use loopback::loopback_status;
-use ntp_customer_files::{unread_status, usage_status};
-use ntp_service_replay::Watched;
+use ntp_admin::{unread_status, usage_status};
 use serve_job::serve_status;
 use std::process::ExitCode;
 use std::{env, io};

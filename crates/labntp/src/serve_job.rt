@@ -2,15 +2,14 @@
 ghost use Rattle.std.specs.Prelude.{◌≡◌};
 ghost use Rattle.ntp_host.specs.Failures.{udp_failures};
 
-use labntp_command_line::Serving;
-use ntp_admin::RegisterFault;
-use ntp_customer_files::{
-    DONE, FaultLines, LoadFault, Loaded, MOST_FILE_OCTETS, load_register, load_status,
-    socket_status, write_status,
+use labntp_jobs::Serving;
+use ntp_admin::{
+    DONE, FaultLines, LoadFault, Loaded, MOST_FILE_OCTETS, RegisterFault, load_register,
+    load_status, socket_status, write_status,
 };
 use ntp_host::{CommandsFile, UdpPort, read_file};
+use ntp_port::FixedReference;
 use ntp_server::{Server, Totals};
-use ntp_service_serve::FixedReference;
 use std::alloc::Global;
 use std::fs::Files;
 use std::io::{self, ErrorKind, Write};

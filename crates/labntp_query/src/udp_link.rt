@@ -2,9 +2,9 @@
 ghost use Rattle.std.specs.Prelude.{◌≤◌, IfOk, IfSome};
 
 use ntp_host::moment_now;
+use ntp_packet::Moment;
 use ntp_query::{Link, Received, Room, Server, empty_room};
 use ntp_service::Address;
-use ntp_time::Moment;
 use std::io::{self, ErrorKind};
 use std::net::{Ipv4Addr, Net, SocketAddrV4, UdpSocket};
 use std::time::{Clock, Duration, Instant};

@@ -1,12 +1,16 @@
 //! The words of the command line.
 
+use crate::customer_file::ANY;
+use crate::door::{Door, Output, Place};
+use crate::explaining::Explained;
+use crate::folding::FoldAsked;
+use crate::ordered::{Change, Ordered};
+use crate::places::FilesNamed;
+use crate::recovering::RecoverAsked;
 use clap::builder::ValueParser;
 use clap::error::ErrorKind;
 use clap::{Arg, ArgAction, ArgMatches, Command, Error};
-use labntpctl_changes::{Change, FoldAsked, Ordered, RecoverAsked};
-use labntpctl_looks::{Door, Explained, Output, Place};
-use labntpctl_standing::{ANY, FilesNamed};
-use labntpd_configuration::command_line::VERSION;
+use labntpd_files::command_line::VERSION;
 use ntp_admin::words;
 use ntp_mac::Algorithm;
 use ntp_query::{Server, server_in};

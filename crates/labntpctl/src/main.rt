@@ -1,15 +1,49 @@
 //! The program for clerks: `labntpctl` lists the customers of labntpd, and enrols, revokes and changes them.
 #![tactic(auto)]
 
+mod checked_commands;
+mod checked_configuration;
+mod checked_register;
+mod checking;
 mod command_line;
+mod commands_file;
+mod customer_file;
+mod customers;
+mod deciding;
+mod differing;
+mod door;
+mod door_rules;
+mod explaining;
+mod faults;
+mod folded_pair;
+mod folding;
+mod history;
+mod key_octets;
+mod ordered;
+mod ordering;
+mod places;
+mod placing;
+mod recovered_lines;
+mod recovering;
+mod report;
+mod reported;
+mod retiring;
+mod standing;
+mod table;
+mod waiting;
 
+use checking::check_status;
 use clap::error::ErrorKind;
 use command_line::{Asked, parse};
-use labntpctl_changes::{fold_status, order_status, recover_status};
-use labntpctl_looks::{check_status, customers_status, door_status, explain_status};
-use labntpd_host::has_standard_streams;
-use labntpd_start::start_lines;
-use ntp_customer_files::{memory_status, unread_status, write_status};
+use customers::customers_status;
+use door::door_status;
+use explaining::explain_status;
+use folding::fold_status;
+use labntpd_assembly::start_lines;
+use ntp_admin::{memory_status, unread_status, write_status};
+use ntp_host::has_standard_streams;
+use ordering::order_status;
+use recovering::recover_status;
 use std::process::ExitCode;
 use std::{env, io};
 

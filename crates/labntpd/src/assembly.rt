@@ -1,19 +1,17 @@
 //! Customers are served, day and night.
 ghost use Rattle.std.specs.Prelude.{◌≡◌, ◌+◌, IfOk};
 
-use labntpd_assembly::{Assembly, Begun, Host, Parts, ReportingObserver, ServeFault, observer};
-use labntpd_configuration::Configuration;
-use labntpd_host::{
-    BoundAt, ClockSource, HostClocks, Log, QueuedUdp, SOCKETS_ROOM, has_standard_streams,
+use labntpd_assembly::{
+    Assembly, Beginning, Begun, Host, Parts, Prepared, ReportingObserver, ServeFault, answers_file,
+    clock_source, log_form, observer, open_socket, set_up, start_lines, watch_from_now,
 };
-use labntpd_start::{
-    Beginning, Prepared, answers_file, clock_source, log_form, open_socket, set_up, start_lines,
-    watch_from_now,
+use labntpd_files::Configuration;
+use ntp_admin::{DONE, memory_status, write_status};
+use ntp_host::{
+    BoundAt, ClockSource, HeldCommands, HostClocks, Log, QueuedUdp, SOCKETS_ROOM, UdpPort,
+    begin_commands, has_standard_streams,
 };
-use ntp_customer_files::{DONE, memory_status, write_status};
-use ntp_freshness::FreshPort;
-use ntp_host::UdpPort;
-use ntp_server::{HeldCommands, begin_commands};
+use ntp_port::FreshPort;
 use std::alloc::Global;
 use std::fs::File;
 use std::io::{LineWriter, Stderr};

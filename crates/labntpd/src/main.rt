@@ -5,11 +5,11 @@ mod assembly;
 
 use assembly::serve_status;
 use clap::error::ErrorKind;
-use labntpd_configuration::Configuration;
-use labntpd_configuration::command_line::{Asked, parse};
-use labntpd_start::{prepare, start_lines};
-use ntp_customer_files::{DONE, memory_status, unread_status, write_status};
-use ntp_server::{begin_commands, is_nearly_full, write_nearly_full};
+use labntpd_assembly::{prepare, start_lines};
+use labntpd_files::Configuration;
+use labntpd_files::command_line::{Asked, parse};
+use ntp_admin::{DONE, memory_status, unread_status, write_status};
+use ntp_host::{begin_commands, is_nearly_full, write_nearly_full};
 use std::io::Write;
 use std::process::ExitCode;
 use std::{env, io};

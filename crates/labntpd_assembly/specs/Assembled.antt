@@ -1,11 +1,11 @@
 -- What a daemon tells that was put together.
 use Rattle.std.specs.Prelude.{ℕ, Option, None, option_map, List}
-use Rattle.ntp_time.specs.declared.moment.Moment.{Moment}
+use Rattle.ntp_packet.specs.declared.moment.Moment.{Moment}
 use Rattle.ntp_service.specs.declared.observation.Observation.{Observation}
 use Rattle.ntp_reply.specs.Reference.{ReferenceState}
-use Rattle.ntp_service_serve.specs.declared.port.PortCounts.{PortCounts}
-use Rattle.ntp_service_serve.specs.Port.{Told}
-use Rattle.ntp_service_serve.specs.Sources.{Coming}
+use Rattle.ntp_port.specs.declared.port.PortCounts.{PortCounts}
+use Rattle.ntp_port.specs.Port.{Told}
+use Rattle.ntp_port.specs.Sources.{Coming}
 use Rattle.ntp_host.specs.Pacing.{each_millisecond}
 use Rattle.ntp_host.specs.declared.pacing.EachMillisecond.{EachMillisecond}
 use Rattle.ntp_server.specs.Parts.{parts_of}

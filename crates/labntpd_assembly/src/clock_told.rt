@@ -1,10 +1,10 @@
 //! What is told of the source of the clock's state.
 
-use labntpd_host::{ClockSource, FollowedClock};
 use ntp_client::{ClockAnswer, Doubt, Reading};
+use ntp_host::{ClockSource, FollowedClock};
+use ntp_port::ReferenceSource;
 use ntp_reply::Reference;
 use ntp_reports::{Belief, ClockGauges};
-use ntp_service_serve::ReferenceSource;
 use std::time::Clock;
 
 /// A second, in nanoseconds.

@@ -2,7 +2,7 @@
 ghost use Rattle.std.specs.Prelude.{◌≡◌, Some, None, option_map};
 ghost use Rattle.ntp_reports.specs.Logging.{subject_of, customers_after};
 
-use labntpd_host::{HostClocks, Log, Priority};
+use ntp_host::{HostClocks, Log, Priority};
 use ntp_reports::{Ask, LineAllowance, Subject, customers_after, write_logged_line};
 use ntp_service::{Command, LineOutcome, Observer, TurnOutcome};
 use std::io::Write;

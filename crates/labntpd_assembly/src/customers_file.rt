@@ -1,7 +1,7 @@
 //! The customers file: what each customer has, what it was answered, and when its keys signed.
 
 use crate::files::FileFault;
-use labntpd_host::new_file;
+use ntp_host::new_file;
 use ntp_reports::{CustomerCounts, customer_line};
 use ntp_service::Service;
 use std::alloc::{AllocError, Global};

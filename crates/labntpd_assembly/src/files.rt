@@ -1,9 +1,8 @@
 //! What the daemon reads and writes while it serves, and why that fails.
 
-use ntp_customer_files::AdmitFault;
-use ntp_host::CommandsFile;
-use ntp_server::AdmittedCommands;
-use ntp_service_serve::CommandsSource;
+use ntp_admin::AdmitFault;
+use ntp_host::{AdmittedCommands, CommandsFile};
+use ntp_port::CommandsSource;
 use std::alloc::Global;
 use std::fs::Files;
 use std::{fmt, io};

@@ -5,13 +5,12 @@ use crate::clock_told::is_synchronised;
 use crate::files::{FileFault, are_told_alike};
 use crate::parts::Begun;
 use crate::watched::Watched;
-use labntpd_configuration::Configuration;
-use labntpd_configuration::command_line::VERSION;
-use labntpd_host::{BoundAt, Log, LogForm, Priority};
+use labntpd_files::Configuration;
+use labntpd_files::command_line::VERSION;
 use ntp_client::reference_unsynchronised;
+use ntp_host::{BoundAt, Log, LogForm, Priority, is_nearly_full, write_nearly_full};
 use ntp_reply::Reference;
 use ntp_reports::{Ask, LineAllowance};
-use ntp_server::{is_nearly_full, write_nearly_full};
 use std::alloc::{AllocError, Global};
 use std::io::Write;
 

@@ -4,7 +4,7 @@ ghost use Rattle.ntp_reports.specs.declared.counts.Counts.{Counts};
 ghost use Rattle.ntp_reports.specs.Counted.{nothing_counted};
 
 use crate::command_log::CommandLog;
-use labntpd_host::{HostClocks, Log};
+use ntp_host::{HostClocks, Log};
 use ntp_reports::{AnswerLines, Both, Counting, Counts, CustomerCounts};
 use ntp_service::Observer;
 use std::io::{self, Write};

@@ -1,11 +1,9 @@
 //! What a daemon works with.
-use labntpd_configuration::Configuration;
-use labntpd_host::{BoundAt, HostClocks, LogForm, QueuedUdp};
-use ntp_freshness::{FreshPort, QueuedPort};
-use ntp_host::EachMillisecond;
+use labntpd_files::Configuration;
+use ntp_host::{BoundAt, EachMillisecond, HostClocks, LogForm, QueuedUdp};
+use ntp_port::{FreshPort, QueuedPort, TimedPort};
 use ntp_server::Server;
 use ntp_service::Service;
-use ntp_service_serve::TimedPort;
 use std::alloc::Global;
 use std::fs::Files;
 use std::time::Clock;

@@ -1,6 +1,6 @@
 //! Whether datagrams can be received.
 
-use labntpd_host::pause;
+use ntp_host::pause;
 
 /// How many receives fail one after another before each is followed by a pause (profile).
 const MOST_IN_A_ROW: u64 = 100;

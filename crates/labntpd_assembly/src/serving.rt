@@ -2,7 +2,7 @@
 ghost use Rattle.std.specs.Prelude.{◌≡◌, ◌+◌, ◌<◌, ◌^◌, None, false, true, IfOk};
 ghost use Rattle.std.specs.declared.alloc.Global.{Global};
 ghost use Rattle.ntp_reports.specs.Counted.{count_at};
-ghost use Rattle.ntp_service_serve.specs.Port.{failed_calls};
+ghost use Rattle.ntp_port.specs.Port.{failed_calls};
 ghost use Rattle.ntp_server.specs.Rounds.{ServesRounds};
 ghost use Rattle.labntpd_assembly.specs.Assembled.{daemon_told};
 

@@ -1,8 +1,8 @@
 //! The files that can fail while a daemon serves, and what was seen of them.
 
 use crate::files::{FileFault, are_told_alike};
-use labntpd_configuration::Configuration;
-use ntp_customer_files::AdmitFault;
+use labntpd_files::Configuration;
+use ntp_admin::AdmitFault;
 use ntp_reports::FileGauges;
 
 /// The files that can fail.

@@ -2,8 +2,8 @@
 
 use crate::counting::Counting;
 use ntp_host::{CommandsFile, EachMillisecond};
-use ntp_service_serve::CommandsSource;
-use ntp_time::{Moment, Stamp};
+use ntp_packet::{Moment, Stamp};
+use ntp_port::CommandsSource;
 use std::alloc::{Allocator, Global};
 use std::cell::Cell;
 use std::fs::{self, Files};

@@ -1,7 +1,7 @@
 //! A port that waits for a datagram.
 
 use ntp_host::UdpPort;
-use ntp_service_serve::{MOST_RECEIVED_OCTETS, Port};
+use ntp_port::{MOST_RECEIVED_OCTETS, Port};
 use std::io::{self, ErrorKind};
 use std::net::UdpSocket;
 use std::time::{Clock, Duration};

@@ -5,3 +5,9 @@ pub mod Answers
 pub mod Form
 pub mod Enrolment
 pub mod RegisterFile
+pub mod FileText
+pub mod CommandsFile
+pub mod Admitting
+pub mod Applying
+pub mod Loading
+pub mod Starts

@@ -10,9 +10,9 @@ use Rattle.std.specs.Int.{w8, w32, w64, cast_signed, from_be_bytes}
 use Rattle.std.specs.declared.num.NonZeroU16.{NonZeroU16}
 use Rattle.std.proofs.Math.Nat.{zero-lt-suc}
 use Rattle.hex.specs.Hex.{decode_of, decode_sized}
-use Rattle.ntp_time.specs.declared.stamp.Stamp.{Stamp}
-use Rattle.ntp_time.specs.declared.stamp.Short.{Short}
-use Rattle.ntp_time.specs.declared.moment.Moment.{Moment}
+use Rattle.ntp_packet.specs.declared.stamp.Stamp.{Stamp}
+use Rattle.ntp_packet.specs.declared.stamp.Short.{Short}
+use Rattle.ntp_packet.specs.declared.moment.Moment.{Moment}
 use Rattle.ntp_mac.specs.declared.key.Algorithm.{Algorithm}
 use Rattle.ntp_mac.specs.declared.key.Algorithm.TheVariants.{Md5, Sha1}
 use Rattle.ntp_service.specs.declared.address.Address.{Address}

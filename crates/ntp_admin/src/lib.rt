@@ -1,21 +1,42 @@
-//! The texts that stand for events, commands and outcomes, and the register file, in TOML: the reference state and the
-//! customers with which a server begins.
+//! What administrators write, and what they are answered: words and lines; the register file, loaded; a commands file, applied; and what
+//! a program ends with, as where a file cannot be read.
 #![tactic(auto)]
 
+mod applied_lines;
+mod commands;
 mod customers;
 mod fault;
+mod fault_lines;
+mod fault_words;
+mod file_text;
 mod form;
+mod laws;
+mod loading;
 mod naming;
 mod parsing;
 mod parts;
 mod printing;
 mod register_reader;
+mod starting;
+mod status;
 pub mod words;
 
+pub use applied_lines::{AdmitFault, AppliedLines};
+pub use commands::{apply_commands, commands_step};
 pub use customers::customer_in;
 pub use fault::RegisterFault;
+pub use fault_lines::FaultLines;
+pub use fault_words::fault_word;
+pub use file_text::{MOST_FILE_OCTETS, line_without_text};
+pub use laws::what_is_due_stands_behind_what_was_applied;
+pub use loading::{LoadFault, Loaded, load_register};
 pub use naming::{Verb, number_named};
 pub use ntp_service::{Command, Event, LineFault, NoMemory, Octets, Outcome};
 pub use parsing::{is_passed_over, parse_command, parse_event};
 pub use printing::{print_answer, refusal_word};
 pub use register_reader::{read_reference, read_register};
+pub use starting::load_status;
+pub use status::{
+    DONE, IO_FAILED, MEMORY_OUT, TEXT_FAULTY, USAGE_REFUSED, failed_status, memory_status,
+    socket_status, unread_status, usage_status, write_status,
+};

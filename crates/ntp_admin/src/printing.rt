@@ -4,10 +4,9 @@ ghost use Rattle.hex.specs.Hex.{encode_lower};
 ghost use Rattle.ntp_admin.specs.Answers.{malformed_text, reason_text, answer_text, stamp_text, refusal_text, outcome_text};
 
 use ntp_mac::Reply;
-use ntp_packet::Malformed;
+use ntp_packet::{Malformed, Stamp};
 use ntp_reply::{Answer, Reason};
 use ntp_service::{NoMemory, Outcome, Refusal};
-use ntp_time::Stamp;
 use std::alloc::{AllocError, Allocator};
 
 /// The line that is printed for an outcome, with its line feed. Its words are separated by one space,

@@ -8,10 +8,9 @@ ghost use Rattle.ntp_admin.specs.Words.{is_decimal, decimal_in, address_in, numb
 use crate::parts::Parts;
 use hex::{FromHex, FromHexError};
 use ntp_mac::{Algorithm, Key, MOST_KEY_OCTETS};
-use ntp_packet::ClockFields;
+use ntp_packet::{ClockFields, Moment, Short, Stamp};
 use ntp_reply::Reference;
 use ntp_service::{Address, LineFault, Octets};
-use ntp_time::{Moment, Short, Stamp};
 use std::alloc::Allocator;
 use std::num::NonZero;
 

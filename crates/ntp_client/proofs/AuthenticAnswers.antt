@@ -1,6 +1,6 @@
 -- Octets change what is learned only where they are an authentic reply.
 use Rattle.std.proofs.Common.{◌≡◌, ℕ, List, refl}
-use Rattle.ntp_time.specs.declared.moment.Moment.{Moment}
+use Rattle.ntp_packet.specs.declared.moment.Moment.{Moment}
 use Rattle.ntp_packet.specs.Request.{RequestValue, IsRequest}
 use Rattle.ntp_packet.proofs.Octets.{AreOctets}
 use Rattle.ntp_mac.specs.Signed.{IsSigned}

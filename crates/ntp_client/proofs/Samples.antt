@@ -1,6 +1,6 @@
 -- Octets are taken for a sample exactly where they give one.
 use Rattle.std.proofs.Common.{◌≡◌, ℕ, List, Some, Ok, inl, inr, refl, sym, ap, ◌∙◌}
-use Rattle.ntp_time.specs.declared.moment.Moment.{Moment}
+use Rattle.ntp_packet.specs.declared.moment.Moment.{Moment}
 use Rattle.ntp_packet.specs.FirstCase.{decided}
 use Rattle.ntp_packet.proofs.Octets.{AreOctets}
 use Rattle.ntp_mac.proofs.ReadAs.{only-reading_of}

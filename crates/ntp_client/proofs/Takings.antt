@@ -2,9 +2,9 @@
 use Rattle.std.proofs.Common.{◌≡◌, ◌≢◌, ℕ, ◌<◌, List, [], ◌∷◌, Option, Some, None, Ok, refl, sym, ap, ◌∙◌, arith}
 use Rattle.std.specs.Prelude.{Contains}
 use Rattle.std.proofs.lemmas.Bool.{eq-eqb}
-use Rattle.ntp_time.specs.declared.stamp.Stamp.{Stamp}
-use Rattle.ntp_time.specs.declared.moment.Moment.{Moment}
-use Rattle.ntp_time.proofs.Freshness.{fresh-apart, fresh-nonzero}
+use Rattle.ntp_packet.specs.declared.stamp.Stamp.{Stamp}
+use Rattle.ntp_packet.specs.declared.moment.Moment.{Moment}
+use Rattle.ntp_packet.proofs.Freshness.{fresh-apart, fresh-nonzero}
 use Rattle.ntp_packet.specs.Header.{HeaderFields}
 use Rattle.ntp_packet.specs.FirstCase.{◌>>◌, decided}
 use Rattle.ntp_packet.specs.Request.{RequestValue}

@@ -1,9 +1,9 @@
 -- The reference state that replies tell, by the last answer of the host's clock daemon.
 use Rattle.std.specs.Prelude.{ℕ, ℤ, pos, neg_ℤ, ◌+◌, ◌-◌, ◌*◌, ◌^◌, ◌*ℤ◌, min, unsigned_abs, Bool, false, not, ◌&&◌, ◌==◌, nat_lt, nat_le, int_le, if◌then◌else◌, Option, Some, None}
 use Rattle.std.specs.Int.{div_ceil}
-use Rattle.ntp_time.specs.declared.moment.Moment.{Moment}
-use Rattle.ntp_time.specs.Moment.{units}
-use Rattle.ntp_time.specs.Difference.{difference}
+use Rattle.ntp_packet.specs.declared.moment.Moment.{Moment}
+use Rattle.ntp_packet.specs.Moment.{units}
+use Rattle.ntp_packet.specs.Difference.{difference}
 use Rattle.ntp_packet.specs.Header.{blank_clock}
 use Rattle.ntp_reply.specs.Reference.{ReferenceState}
 use Rattle.ntp_client.specs.declared.answer.ClockAnswer.{ClockAnswer}

@@ -1,6 +1,6 @@
 -- Not to be believed: for proofs. The steps of `taken_for` from a packet on, from its tail on, from its MAC on, and the last ones.
 use Rattle.std.specs.Prelude.{ℕ, not, ◌==◌, ok_or, Result, Ok}
-use Rattle.ntp_time.specs.declared.moment.Moment.{Moment}
+use Rattle.ntp_packet.specs.declared.moment.Moment.{Moment}
 use Rattle.ntp_packet.specs.Header.{HeaderFields}
 use Rattle.ntp_packet.specs.Kiss.{rate_code}
 use Rattle.ntp_packet.specs.FirstCase.{◌>>=◌, ◌>>◌, provided}

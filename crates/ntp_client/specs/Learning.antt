@@ -1,9 +1,9 @@
 -- What is learned from the answers of the host's clock daemon.
 use Rattle.std.specs.Prelude.{ℕ, ℤ, ◌+◌, ◌+ℤ◌, ◌-◌, ◌-ℤ◌, ◌*◌, ◌^◌, min, unsigned_abs, nat_lt, if◌then◌else◌, Option, Some, None, option_map, option_and_then, Result, Ok, Err}
 use Rattle.std.specs.Int.{div_ceil}
-use Rattle.ntp_time.specs.declared.stamp.Stamp.{Stamp}
-use Rattle.ntp_time.specs.declared.stamp.Short.{Short}
-use Rattle.ntp_time.specs.Difference.{difference}
+use Rattle.ntp_packet.specs.declared.stamp.Stamp.{Stamp}
+use Rattle.ntp_packet.specs.declared.stamp.Short.{Short}
+use Rattle.ntp_packet.specs.Difference.{difference}
 use Rattle.ntp_packet.specs.Header.{HeaderFields, no_stamp}
 use Rattle.ntp_packet.specs.Request.{RequestValue}
 use Rattle.ntp_packet.specs.declared.malformed.Malformed.{Malformed}

@@ -1,6 +1,6 @@
 -- Readings of the host's clocks.
 use Rattle.std.specs.Prelude.{ℕ, pos, ◌^◌, ◌-ℤ◌, ◌*ℤ◌, unsigned_abs}
-use Rattle.ntp_time.specs.Difference.{difference}
+use Rattle.ntp_packet.specs.Difference.{difference}
 use Rattle.ntp_client.specs.declared.reading.Reading.{Reading}
 
 -- how far the host's clock has gone apart from the ticks between two readings, in units of 2^-32 nanoseconds: the two are slewed

@@ -1,7 +1,7 @@
 -- What gives a client a sample.
 use Rattle.std.specs.Prelude.{◌≡◌, ◌≢◌, ℕ, ◌≤◌, ◌⊎◌, true, false, Some, List, []}
-use Rattle.ntp_time.specs.declared.moment.Moment.{Moment}
-use Rattle.ntp_time.specs.Fresh.{fresh}
+use Rattle.ntp_packet.specs.declared.moment.Moment.{Moment}
+use Rattle.ntp_packet.specs.Fresh.{fresh}
 use Rattle.ntp_packet.specs.Header.{HeaderFields}
 use Rattle.ntp_packet.specs.Request.{RequestValue, IsRequest}
 use Rattle.ntp_mac.specs.Signed.{IsSigned}

@@ -2,7 +2,7 @@
 use Rattle.std.specs.Prelude.{ℕ, List, Bool, not, ◌==◌, ◌&&◌, ◌||◌, nat_eq, nat_lt, if◌then◌else◌, Option, None, ok_or, option_map, option_and_then, Result, Ok, Err}
 use Rattle.std.specs.Result.{result_ok}
 use Rattle.std.specs.Cmp.Lexicographic.{pointwise}
-use Rattle.ntp_time.specs.declared.moment.Moment.{Moment}
+use Rattle.ntp_packet.specs.declared.moment.Moment.{Moment}
 use Rattle.ntp_packet.specs.Header.{HeaderFields}
 use Rattle.ntp_packet.specs.Kiss.{rate_code, deny_code}
 use Rattle.ntp_packet.specs.FirstCase.{◌>>=◌, ◌>>◌, provided, map_err, decided}

@@ -1,8 +1,8 @@
 -- Whether the host's clock was set, and whether the daemon shows an update since.
 use Rattle.std.specs.Prelude.{pos, ◌*◌, ◌^◌, Bool, true, false, not, ◌&&◌, ◌==◌, nat_lt, int_le, Option, Some, None}
-use Rattle.ntp_time.specs.declared.stamp.Stamp.{Stamp}
-use Rattle.ntp_time.specs.declared.moment.Moment.{Moment}
-use Rattle.ntp_time.specs.Difference.{difference}
+use Rattle.ntp_packet.specs.declared.stamp.Stamp.{Stamp}
+use Rattle.ntp_packet.specs.declared.moment.Moment.{Moment}
+use Rattle.ntp_packet.specs.Difference.{difference}
 use Rattle.ntp_packet.specs.Header.{no_stamp}
 use Rattle.ntp_client.specs.declared.reading.Reading.{Reading}
 use Rattle.ntp_client.specs.declared.watch.ClockWatch.{ClockWatch}

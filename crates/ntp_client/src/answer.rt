@@ -1,8 +1,8 @@
 //! An answer of the host's clock daemon.
 
 use crate::Reading;
+use ntp_packet::Stamp;
 use ntp_reply::Reference;
-use ntp_time::Stamp;
 
 /// An authentic answer of the host's clock daemon, and what it rests on.
 #[derive(Clone, Copy, Debug, PartialEq, Eq)]

@@ -6,8 +6,8 @@ use crate::growing::{age, root_distance_twice};
 use crate::reading::{SECOND_UNITS, apart, nano_units};
 use crate::state::UNSYNCHRONISED_LEAP;
 use crate::{ClockAnswer, ClockLimits, Reading};
+use ntp_packet::difference;
 use ntp_reply::Reference;
-use ntp_time::difference;
 
 /// The highest stratum of a synchronised clock (RFC 5905, 7.3).
 const HIGHEST_STRATUM: u8 = 15;

@@ -14,8 +14,7 @@ use crate::pairing::exchange_of;
 use crate::query::{query_header, transmit_of};
 use crate::{Distrust, Sample, Taken};
 use ntp_mac::{Key, Reply, seal};
-use ntp_packet::{Request, read_request};
-use ntp_time::Moment;
+use ntp_packet::{Moment, Request, read_request};
 use std::marker::Model;
 
 /// A request, ready to be sent: a header and its MAC, of 68 or 72 octets.

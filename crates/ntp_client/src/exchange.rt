@@ -1,6 +1,6 @@
 //! Exchanges of a client with its server.
 
-use ntp_time::Stamp;
+use ntp_packet::Stamp;
 
 /// An exchange that gave a sample, as the next request carries it (RFC 9769, 2).
 #[derive(Clone, Copy, Debug, PartialEq, Eq)]

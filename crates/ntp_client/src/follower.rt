@@ -19,9 +19,8 @@ use crate::{
     Taken, state_in_force,
 };
 use ntp_mac::Key;
-use ntp_packet::{ClockFields, Header, read_request};
+use ntp_packet::{ClockFields, Header, Short, Stamp, read_request};
 use ntp_reply::Reference;
-use ntp_time::{Short, Stamp};
 use std::marker::Model;
 
 /// How many units of 2^-32 seconds a unit of 2^-16 seconds has.

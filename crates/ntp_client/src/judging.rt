@@ -9,8 +9,7 @@ use crate::pairing::{Pairing, is_basic, pairing_of, sample_of};
 use crate::query::VERSION;
 use crate::{Distrust, Sample, Taken};
 use ntp_mac::{Key, verifies};
-use ntp_packet::{DENY_CODE, Header, RATE_CODE, Request, Tail};
-use ntp_time::Moment;
+use ntp_packet::{DENY_CODE, Header, Moment, RATE_CODE, Request, Tail};
 
 /// The mode of a packet from a server (RFC 5905, 7.3).
 const SERVER_MODE: u8 = 4;

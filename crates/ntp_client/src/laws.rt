@@ -1,7 +1,7 @@
 //! What holds of the definitions, whatever code meets them. Each function is a law: a call of it does
 //! nothing.
 ghost use Rattle.std.specs.Prelude.{◌≡◌, ◌↔◌, ℕ, ◌<◌, List, All};
-ghost use Rattle.ntp_time.specs.declared.moment.Moment.{Moment};
+ghost use Rattle.ntp_packet.specs.declared.moment.Moment.{Moment};
 ghost use Rattle.ntp_client.specs.State.{ClientState, IsClient};
 ghost use Rattle.ntp_client.specs.Sample.{IsSample};
 ghost use Rattle.ntp_client.specs.Taking.{taken_for};

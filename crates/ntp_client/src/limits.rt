@@ -1,6 +1,6 @@
 //! The limits within which an answer is believed.
 
-use ntp_time::Short;
+use ntp_packet::Short;
 
 /// The limits within which an answer of the host's clock daemon is believed (profile).
 #[derive(Clone, Copy, Debug, PartialEq, Eq)]

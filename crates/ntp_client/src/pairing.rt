@@ -4,8 +4,7 @@ ghost use Rattle.ntp_client.specs.Pairing.{pairing_of, is_basic, exchange_of, sa
 
 use crate::Sample;
 use crate::exchange::{Exchange, Outstanding};
-use ntp_packet::Header;
-use ntp_time::{Moment, Stamp, fresh};
+use ntp_packet::{Header, Moment, Stamp, fresh};
 
 /// The exchange that a reply tells of.
 #[derive(Clone, Copy, Debug, PartialEq, Eq)]

@@ -3,8 +3,7 @@ ghost use Rattle.std.specs.Prelude.{◌≡◌};
 ghost use Rattle.ntp_client.specs.Query.{origin_of, receive_of, transmit_of, query_fields};
 
 use crate::exchange::{Exchange, Outstanding};
-use ntp_packet::Header;
-use ntp_time::{Moment, Stamp, fresh};
+use ntp_packet::{Header, Moment, Stamp, fresh};
 
 /// The version of NTP (RFC 5905, 7.3).
 pub(crate) const VERSION: u8 = 4;

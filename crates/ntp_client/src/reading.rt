@@ -1,9 +1,9 @@
 //! Readings of the host's clocks.
 ghost use Rattle.std.specs.Prelude.{◌≡◌, ◌^◌, ◌≤◌, ◌-ℤ◌, ◌*ℤ◌, pos, unsigned_abs};
-ghost use Rattle.ntp_time.specs.Difference.{difference};
+ghost use Rattle.ntp_packet.specs.Difference.{difference};
 ghost use Rattle.ntp_client.specs.Reading.{apart};
 
-use ntp_time::{Moment, Stamp, difference};
+use ntp_packet::{Moment, Stamp, difference};
 
 /// How many units of 2^-32 seconds a second has (RFC 5905, 6).
 pub(crate) const SECOND_UNITS: i128 = 1 << 32;

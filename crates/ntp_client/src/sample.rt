@@ -1,8 +1,8 @@
 //! A sample of a server's clock.
 ghost use Rattle.std.specs.Prelude.{◌≡◌, ◌^◌, ◌<◌, ◌≤◌, ◌+ℤ◌, ◌-ℤ◌, unsigned_abs};
-ghost use Rattle.ntp_time.specs.Difference.{difference};
+ghost use Rattle.ntp_packet.specs.Difference.{difference};
 
-use ntp_time::{Stamp, difference};
+use ntp_packet::{Stamp, difference};
 use std::fmt;
 
 /// How many units of 2^-33 seconds a second has: the units of a sample's `offset_twice`, halved.

@@ -5,9 +5,8 @@ ghost use Rattle.ntp_client.specs.InForce.{unsynchronised, is_read, where_read, 
 use crate::believing::is_believed;
 use crate::growing::dispersion;
 use crate::{ClockAnswer, ClockLimits, Reading};
-use ntp_packet::ClockFields;
+use ntp_packet::{ClockFields, Moment, Short, Stamp};
 use ntp_reply::Reference;
-use ntp_time::{Moment, Short, Stamp};
 
 /// The leap indicator of an unsynchronised clock (RFC 5905, 7.3).
 pub(crate) const UNSYNCHRONISED_LEAP: u8 = 3;

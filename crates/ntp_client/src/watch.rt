@@ -4,7 +4,7 @@ ghost use Rattle.ntp_client.specs.Watching.{new_watch, is_set_since, after_set, 
 
 use crate::Reading;
 use crate::reading::apart;
-use ntp_time::{Moment, Stamp, difference};
+use ntp_packet::{Moment, Stamp, difference};
 
 /// How far the clocks go apart at most where the host's was not set, in units of 2^-32 nanoseconds: a thousandth of a second (profile).
 const MOST_APART: u128 = 1_000_000 << 32;

@@ -1,7 +1,7 @@
 -- Stamps that are listed one exchange after another.
 use Rattle.std.proofs.Common.{◌≡◌, ℕ, ◌+◌, ◌<◌, List, ◌++◌, ◌∷◌, [], length, take, map, slice_index_or, sym, ap, ◌∙◌}
 use Rattle.std.proofs.lemmas.List.{take_more, map-append, append_assoc}
-use Rattle.ntp_time.specs.declared.stamp.Stamp.{Stamp}
+use Rattle.ntp_packet.specs.declared.stamp.Stamp.{Stamp}
 use Rattle.ntp_customer.specs.declared.slot.Slot.{Slot}
 
 -- one more, behind those that were listed

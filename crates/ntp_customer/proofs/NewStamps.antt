@@ -4,7 +4,7 @@ use Rattle.std.specs.List.{list_any}
 use Rattle.std.proofs.Math.Bool.{or-false}
 use Rattle.std.proofs.lemmas.List.{length-map, length-append}
 use Rattle.std.proofs.lemmas.List.Folds.{list_any-append}
-use Rattle.ntp_time.specs.declared.stamp.Stamp.{Stamp}
+use Rattle.ntp_packet.specs.declared.stamp.Stamp.{Stamp}
 use Rattle.ntp_customer.specs.declared.slot.Slot.{Slot}
 use Rattle.ntp_customer.specs.Exchanges.{most_slots, receives, transmits, all_stamps, is_received_at, AreSaved}
 

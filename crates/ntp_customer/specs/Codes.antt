@@ -2,7 +2,7 @@
 use Rattle.std.specs.Prelude.{ℕ, refl, Bool, List, ◌≡◌, true, false, Option}
 use Rattle.std.specs.Coded.{Coded, code_by, coded×, coded_option, coded_ℕ, coded_list, coded_bool}
 use Rattle.ntp_customer.specs.Tally.{Tallied, Tally}
-use Rattle.ntp_time.specs.declared.stamp.Stamp.{Stamp}
+use Rattle.ntp_packet.specs.declared.stamp.Stamp.{Stamp}
 use Rattle.ntp_customer.specs.declared.slot.Slot.{Slot}
 use Rattle.ntp_mac.specs.Key.{SymmetricKey}
 use Rattle.ntp_mac.specs.declared.key.Algorithm.{Algorithm}

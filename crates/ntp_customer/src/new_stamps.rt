@@ -1,12 +1,12 @@
 //! New stamps beside the saved ones: each is the first that is free.
 ghost use Rattle.std.specs.Prelude.{◌≡◌, ◌==◌, ◌||◌, [], ◌∷◌, ◌++◌, IsTrue};
 ghost use Rattle.std.specs.List.{list_any};
-ghost use Rattle.ntp_time.specs.Fresh.{fresh, is_free};
+ghost use Rattle.ntp_packet.specs.Fresh.{fresh, is_free};
 ghost use Rattle.ntp_customer.specs.Exchanges.{receives, all_stamps, is_received_at};
 
 use crate::slots::MOST_SLOTS;
 use crate::{Slot, Slots};
-use ntp_time::{Stamp, first_free};
+use ntp_packet::{Stamp, first_free};
 use std::alloc::Allocator;
 
 /// How many stamps can be taken: both of each exchange that is saved.

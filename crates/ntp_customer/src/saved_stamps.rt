@@ -5,7 +5,7 @@ ghost use Rattle.ntp_customer.specs.Exchanges.{receives, transmits, all_stamps};
 
 use crate::{Slot, Slots};
 use arrayvec::ArrayVec;
-use ntp_time::Stamp;
+use ntp_packet::Stamp;
 use std::alloc::Allocator;
 
 /// How many stamps such a list has room for: both of each exchange that is saved, and one more.

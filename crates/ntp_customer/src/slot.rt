@@ -1,5 +1,5 @@
 //! One exchange.
-use ntp_time::Stamp;
+use ntp_packet::Stamp;
 
 /// What is saved of a time reply (profile, after RFC 9769).
 #[derive(Clone, Copy, Debug, Default, PartialEq, Eq)]

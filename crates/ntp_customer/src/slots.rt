@@ -1,12 +1,12 @@
 //! The exchanges that are saved. Nothing else opens them.
 ghost use Rattle.std.specs.Prelude.{◌≡◌, [], ◌∷◌, ◌++◌, IfOk, IsNone, IsTrue, is_some, option_and_then, position};
 ghost use Rattle.std.specs.Bool.{OnFalse};
-ghost use Rattle.ntp_time.specs.Fresh.{is_free};
+ghost use Rattle.ntp_packet.specs.Fresh.{is_free};
 ghost use Rattle.ntp_customer.specs.Exchanges.{AreSaved, recent, new_exchange, receives, all_stamps, exchange_at, unused_at, unless_used, is_unused_at, spent, with_departure};
 
 use crate::{NoMemory, Slot};
 use circular_buffer::HeapCircularBuffer;
-use ntp_time::{Moment, Stamp};
+use ntp_packet::{Moment, Stamp};
 use std::alloc::{Allocator, Global};
 use std::marker::Model;
 

@@ -1,6 +1,6 @@
 -- What a port over a socket counts.
 use Rattle.std.specs.Prelude.{ℕ}
-use Rattle.ntp_service_serve.specs.Port.{failed_calls}
+use Rattle.ntp_port.specs.Port.{failed_calls}
 use Rattle.ntp_host.specs.declared.udp_port.UdpPort.{UdpPort}
 
 -- how many calls failed (profile)

@@ -1,9 +1,9 @@
 -- When it is time to ask again.
 use Rattle.std.specs.Prelude.{ℕ, ◌+◌, ◌-◌, ◌%◌, ◌^◌, Bool, true, nat_le, Option, None, Some, List, [], ◌∷◌, ◌++◌, drop, if◌then◌else◌}
-use Rattle.ntp_time.specs.declared.stamp.Stamp.{Stamp}
-use Rattle.ntp_time.specs.declared.moment.Moment.{Moment}
-use Rattle.ntp_service_serve.specs.Sequence.{firsts}
-use Rattle.ntp_service_serve.specs.Sources.{Coming}
+use Rattle.ntp_packet.specs.declared.stamp.Stamp.{Stamp}
+use Rattle.ntp_packet.specs.declared.moment.Moment.{Moment}
+use Rattle.ntp_port.specs.Sequence.{firsts}
+use Rattle.ntp_port.specs.Sources.{Coming}
 
 -- a thousandth of a second, in units of 2^-32 seconds, rounded down (profile)
 abbrev pub millisecond : ℕ

@@ -3,7 +3,7 @@ ghost use Rattle.std.specs.Prelude.{◌≡◌, IfOk, IfErr};
 ghost use Rattle.std.specs.Time.{system_time_nanos, FitsClock};
 ghost use Rattle.ntp_host.specs.Clock.{IsMomentOf, unread};
 
-use ntp_time::{Moment, Stamp};
+use ntp_packet::{Moment, Stamp};
 use std::io;
 use std::time::{Clock, SystemTime, UNIX_EPOCH};
 

@@ -3,8 +3,8 @@
 use crate::pacing::{MILLISECOND, is_due};
 use crate::version::Version;
 use crate::whole_read::{read_open, regular_metadata};
-use ntp_service_serve::CommandsSource;
-use ntp_time::{Moment, Stamp};
+use ntp_packet::{Moment, Stamp};
+use ntp_port::CommandsSource;
 use std::alloc::Allocator;
 use std::fs::{self, Files, OpenFile};
 use std::io::{self, Read};

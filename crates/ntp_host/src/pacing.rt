@@ -1,10 +1,10 @@
 //! How often files are asked.
 ghost use Rattle.std.specs.Prelude.{◌≡◌, None, false, IsTrue, [], ◌∷◌, option_map};
-ghost use Rattle.ntp_service_serve.specs.Sources.{Gives};
+ghost use Rattle.ntp_port.specs.Sources.{Gives};
 ghost use Rattle.ntp_host.specs.Pacing.{millisecond, is_due, asked_after, each_millisecond};
 
-use ntp_service_serve::CommandsSource;
-use ntp_time::{Moment, Stamp};
+use ntp_packet::{Moment, Stamp};
+use ntp_port::CommandsSource;
 use std::alloc::Allocator;
 
 /// A thousandth of a second, in units of 2^-32 seconds.

@@ -1,11 +1,11 @@
 //! A port over a UDP socket.
 ghost use Rattle.std.specs.Prelude.{◌≡◌, ◌<◌, ◌^◌};
-ghost use Rattle.ntp_service_serve.specs.Port.{failed_calls};
+ghost use Rattle.ntp_port.specs.Port.{failed_calls};
 
 use crate::clock::moment_now;
+use ntp_packet::Moment;
+use ntp_port::{Arrival, DatagramRoom, Port, PortCounts, PortFault, TimedPort};
 use ntp_service::Address;
-use ntp_service_serve::{Arrival, DatagramRoom, Port, PortCounts, PortFault, TimedPort};
-use ntp_time::Moment;
 use std::io::{self, ErrorKind};
 use std::net::{Ipv4Addr, SocketAddr, SocketAddrV4, UdpSocket};
 use std::time::Clock;

@@ -1,9 +1,9 @@
 -- What a time reply leaves on both sides.
 use Rattle.std.proofs.Common.{◌≡◌, ℕ, ◌^◌, ◌<◌, List, [], Option, Some, None, Ok, refl, sym, ap, ◌∙◌}
 use Rattle.std.specs.Prelude.{IfSome}
-use Rattle.ntp_time.specs.declared.stamp.Stamp.{Stamp}
-use Rattle.ntp_time.specs.declared.moment.Moment.{Moment}
-use Rattle.ntp_time.specs.Fresh.{fresh}
+use Rattle.ntp_packet.specs.declared.stamp.Stamp.{Stamp}
+use Rattle.ntp_packet.specs.declared.moment.Moment.{Moment}
+use Rattle.ntp_packet.specs.Fresh.{fresh}
 use Rattle.ntp_packet.specs.Header.{HeaderFields, IsHeader}
 use Rattle.ntp_mac.specs.Reading.{reading_of}
 use Rattle.ntp_customer.specs.declared.slot.Slot.{Slot}

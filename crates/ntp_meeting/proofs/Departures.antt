@@ -2,9 +2,9 @@
 use Rattle.std.proofs.Common.{◌≡◌, List, [], ◌∷◌, Some, inl, inr, refl, ap, ◌∙◌}
 use Rattle.std.proofs.lemmas.Bool.{cases_Bool}
 use Rattle.std.proofs.lemmas.Option.{none-some}
-use Rattle.ntp_time.specs.declared.stamp.Stamp.{Stamp}
-use Rattle.ntp_time.specs.declared.moment.Moment.{Moment}
-use Rattle.ntp_time.specs.Fresh.{fresh}
+use Rattle.ntp_packet.specs.declared.stamp.Stamp.{Stamp}
+use Rattle.ntp_packet.specs.declared.moment.Moment.{Moment}
+use Rattle.ntp_packet.specs.Fresh.{fresh}
 use Rattle.ntp_customer.specs.declared.slot.Slot.{Slot}
 use Rattle.ntp_customer.specs.Exchanges.{recent, receives, is_unused_at, unused_at, with_unused, with_departure}
 use Rattle.ntp_customer.proofs.Recents.{recent-departed}

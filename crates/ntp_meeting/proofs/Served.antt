@@ -1,7 +1,7 @@
 -- What the answer to a signed query is, and what it leaves.
 use Rattle.std.proofs.Common.{◌≡◌, ℕ, Bool, true, false, ◌==◌, nat_lt, ◌<◌, lt-ltb, List, refl}
 use Rattle.std.specs.Prelude.{if◌then◌else◌}
-use Rattle.ntp_time.specs.declared.stamp.Stamp.{Stamp}
+use Rattle.ntp_packet.specs.declared.stamp.Stamp.{Stamp}
 use Rattle.ntp_packet.specs.Header.{HeaderFields}
 use Rattle.ntp_mac.specs.Key.{SymmetricKey}
 use Rattle.ntp_customer.specs.Customer.{budget_of}

@@ -1,7 +1,7 @@
 -- The new stamps of a reply are of known time, and have 64 bits.
 use Rattle.std.proofs.Common.{◌≢◌, ◌^◌, ◌<◌, List, [], ◌∷◌, ◌++◌, length, arith}
 use Rattle.std.proofs.lemmas.List.{length-append, length-map}
-use Rattle.ntp_time.proofs.Freshness.{fresh-nonzero, fresh-below}
+use Rattle.ntp_packet.proofs.Freshness.{fresh-nonzero, fresh-below}
 use Rattle.ntp_customer.specs.declared.slot.Slot.{Slot}
 use Rattle.ntp_customer.specs.Exchanges.{receives, transmits, all_stamps}
 use Rattle.ntp_customer.proofs.Recents.{length-recent}

@@ -2,9 +2,9 @@
 //! it does nothing.
 ghost use Rattle.std.specs.Prelude.{◌≡◌, ◌≢◌, ◌^◌, ◌<◌, [], true, false, Some, None, IfSome, List, ℕ};
 ghost use Rattle.std.specs.Option.{option_and_then};
-ghost use Rattle.ntp_time.specs.declared.stamp.Stamp.{Stamp};
-ghost use Rattle.ntp_time.specs.declared.moment.Moment.{Moment};
-ghost use Rattle.ntp_time.specs.Fresh.{fresh};
+ghost use Rattle.ntp_packet.specs.declared.stamp.Stamp.{Stamp};
+ghost use Rattle.ntp_packet.specs.declared.moment.Moment.{Moment};
+ghost use Rattle.ntp_packet.specs.Fresh.{fresh};
 ghost use Rattle.ntp_packet.specs.Header.{header_octets};
 ghost use Rattle.ntp_customer.specs.declared.slot.Slot.{Slot};
 ghost use Rattle.ntp_customer.specs.Exchanges.{AreSaved, new_exchange, receives, unused_at};

@@ -15,3 +15,5 @@ pub mod Composed
 pub mod Answered
 pub mod TheReading
 pub mod FirstCase
+pub mod Freshness
+pub mod Signed

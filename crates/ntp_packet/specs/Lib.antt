@@ -7,3 +7,7 @@ pub mod Request
 pub mod Faults
 pub mod Fields
 pub mod OneAnswer
+pub mod Fresh
+pub mod Moment
+pub mod Unix
+pub mod Difference

@@ -1,6 +1,6 @@
 //! The fields of a packet that tell the state of a server's clock.
 
-use ntp_time::{Short, Stamp};
+use crate::{Short, Stamp};
 
 /// The fields of a packet that tell the state of a server's clock (RFC 5905, 7.3), with any values.
 #[derive(Clone, Copy, Debug, PartialEq, Eq)]

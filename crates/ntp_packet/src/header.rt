@@ -2,8 +2,7 @@
 ghost use Rattle.std.specs.Prelude.{◌≡◌, ◌≤◌, length};
 ghost use Rattle.ntp_packet.specs.Header.{blank_header};
 
-use crate::ClockFields;
-use ntp_time::{Short, Stamp};
+use crate::{ClockFields, Short, Stamp};
 use std::marker::Model;
 
 /// How many octets a header has (RFC 5905, 7.3).

@@ -3,8 +3,7 @@ ghost use Rattle.std.specs.Prelude.{◌≡◌, ◌↔◌, ◌+◌, ◌<◌, ◌�
 ghost use Rattle.std.specs.Int.{w32, w64, to_be_bytes};
 ghost use Rattle.ntp_packet.specs.Header.{header_length, header_octets, IsHeader};
 
-use crate::{HEADER_OCTETS, Header};
-use ntp_time::{Short, Stamp};
+use crate::{HEADER_OCTETS, Header, Short, Stamp};
 
 /// Reads a header from the first 48 octets, whatever follows. `None` exactly where there are fewer.
 pub fn read_header(octets: &[u8]) -> Option<Header>

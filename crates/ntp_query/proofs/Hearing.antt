@@ -2,7 +2,7 @@
 use Rattle.std.proofs.Common.{◌≡◌, ℕ, true, false, List, ◌∷◌, Option, Some, None, refl, sym, ap, ◌∙◌}
 use Rattle.std.specs.Prelude.{IfSome, unwrap_or, map, if◌then◌else◌}
 use Rattle.std.specs.List.{find}
-use Rattle.ntp_time.specs.declared.moment.Moment.{Moment}
+use Rattle.ntp_packet.specs.declared.moment.Moment.{Moment}
 use Rattle.ntp_client.specs.State.{ClientState}
 use Rattle.ntp_query.specs.declared.outcome.Outcome.{Outcome}
 use Rattle.ntp_query.specs.declared.outcome.Outcome.TheVariants.{Silence}

@@ -1,6 +1,6 @@
 -- What a reply that gave a sample tells.
 use Rattle.std.specs.Prelude.{ℤ, pos, ◌+◌, ◌*◌, ◌^◌, ◌+ℤ◌, ◌-ℤ◌}
-use Rattle.ntp_time.specs.Difference.{difference}
+use Rattle.ntp_packet.specs.Difference.{difference}
 use Rattle.ntp_packet.specs.Header.{HeaderFields}
 use Rattle.ntp_client.specs.declared.sample.Sample.{Sample}
 use Rattle.ntp_query.specs.declared.answer.Answer.{Answer}

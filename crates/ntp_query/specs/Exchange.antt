@@ -1,6 +1,6 @@
 -- A query: one request, and what comes of it.
 use Rattle.std.specs.Prelude.{◌≡◌, ℕ, Option, IfSome, IsSomeAnd, List, [], ◌∷◌, ◌++◌, map}
-use Rattle.ntp_time.specs.declared.moment.Moment.{Moment}
+use Rattle.ntp_packet.specs.declared.moment.Moment.{Moment}
 use Rattle.ntp_client.specs.State.{ClientState}
 use Rattle.ntp_client.specs.Query.{query_octets, next_query, after_query}
 use Rattle.ntp_query.specs.declared.outcome.Outcome.{Outcome}

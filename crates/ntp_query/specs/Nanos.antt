@@ -1,7 +1,7 @@
 -- Times in seconds, to the nanosecond.
 use Rattle.std.specs.Prelude.{ℕ, suc, ℤ, pos, negsuc, neg_ℤ, ◌+◌, ◌*◌, ◌/◌, ◌%◌, ◌^◌, List, [], ◌∷◌, ◌++◌, map, codes}
 use Rattle.std.specs.Fmt.{decimal}
-use Rattle.ntp_time.specs.Unix.{second_nanos}
+use Rattle.ntp_packet.specs.Unix.{second_nanos}
 
 -- the whole number nearest to a quotient, of two as near the greater
 abbrev pub nearest : ℕ → ℕ → ℕ

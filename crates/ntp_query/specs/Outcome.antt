@@ -1,7 +1,7 @@
 -- What comes of a query.
 use Rattle.std.specs.Prelude.{ℕ, List, [], ◌∷◌, unwrap_or, Bool, true, false, Option, Some, None, Result, Ok, Err}
 use Rattle.std.specs.List.{find}
-use Rattle.ntp_time.specs.declared.moment.Moment.{Moment}
+use Rattle.ntp_packet.specs.declared.moment.Moment.{Moment}
 use Rattle.ntp_packet.specs.Request.{RequestValue}
 use Rattle.ntp_packet.specs.declared.malformed.Malformed.{Malformed}
 use Rattle.ntp_mac.specs.Reading.{reading_of}

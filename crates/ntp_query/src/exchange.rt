@@ -4,8 +4,7 @@ ghost use Rattle.ntp_query.specs.Exchange.{Incoming, Comes, IsOver, Sends, outco
 
 use crate::{Outcome, hear};
 use ntp_client::Client;
-use ntp_packet::MOST_DATAGRAM_OCTETS;
-use ntp_time::Moment;
+use ntp_packet::{MOST_DATAGRAM_OCTETS, Moment};
 use std::io;
 
 /// How many octets of a datagram are taken at most: one more than a packet may have, so that a longer one is still told from the longest

@@ -4,8 +4,7 @@ ghost use Rattle.ntp_query.specs.Outcome.{heard, answer_in, ends};
 
 use crate::Answer;
 use ntp_client::{Client, Distrust, Taken};
-use ntp_packet::read_request;
-use ntp_time::Moment;
+use ntp_packet::{Moment, read_request};
 
 /// What came of a query.
 #[derive(Clone, Copy, Debug, PartialEq, Eq)]

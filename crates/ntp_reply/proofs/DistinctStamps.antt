@@ -3,8 +3,8 @@ use Rattle.std.proofs.Common.{◌^◌, ◌<◌, List, [], ◌∷◌, ◌++◌, l
 use Rattle.std.specs.Prelude.{IsTrue}
 use Rattle.std.proofs.lemmas.List.{length-append, length-map}
 use Rattle.std.proofs.lemmas.List.Elements.{Contains-append_right}
-use Rattle.ntp_time.specs.Fresh.{is_free}
-use Rattle.ntp_time.proofs.Freshness.{free-nonzero, free-apart, IsFresh-fresh}
+use Rattle.ntp_packet.specs.Fresh.{is_free}
+use Rattle.ntp_packet.proofs.Freshness.{free-nonzero, free-apart, IsFresh-fresh}
 use Rattle.ntp_packet.specs.Header.{HeaderFields}
 use Rattle.ntp_customer.specs.declared.slot.Slot.{Slot}
 use Rattle.ntp_customer.specs.Exchanges.{AreSaved, receives, transmits, all_stamps}

@@ -1,8 +1,8 @@
 -- The headers of replies, and the octets of a signed one.
 use Rattle.std.specs.Prelude.{◌≢◌, ℕ, List, [], ◌∷◌, ◌++◌, ◌==◌, if◌then◌else◌, Option, Some, None}
-use Rattle.ntp_time.specs.declared.stamp.Stamp.{Stamp}
-use Rattle.ntp_time.specs.declared.moment.Moment.{Moment}
-use Rattle.ntp_time.specs.Fresh.{fresh}
+use Rattle.ntp_packet.specs.declared.stamp.Stamp.{Stamp}
+use Rattle.ntp_packet.specs.declared.moment.Moment.{Moment}
+use Rattle.ntp_packet.specs.Fresh.{fresh}
 use Rattle.ntp_customer.specs.declared.slot.Slot.{Slot}
 use Rattle.ntp_customer.specs.Exchanges.{receives, all_stamps}
 use Rattle.ntp_packet.specs.declared.clock_fields.ClockFields.{ClockFields}

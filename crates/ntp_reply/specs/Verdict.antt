@@ -1,6 +1,6 @@
 -- What a datagram is answered, and what it leaves of the life of the address from which it came.
 use Rattle.std.specs.Prelude.{ℕ, List, ◌++◌, Some, None, option_map, length, ◌+◌, ◌==◌, nat_lt, if◌then◌else◌}
-use Rattle.ntp_time.specs.Moment.{window_of}
+use Rattle.ntp_packet.specs.Moment.{window_of}
 use Rattle.ntp_customer.specs.Tally.{count_in}
 use Rattle.ntp_packet.specs.Header.{HeaderFields, header_octets}
 use Rattle.ntp_packet.specs.Tail.{tail_octets}

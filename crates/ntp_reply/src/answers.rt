@@ -1,8 +1,7 @@
 //! What a datagram is answered.
 
 use ntp_mac::Reply;
-use ntp_packet::Malformed;
-use ntp_time::Stamp;
+use ntp_packet::{Malformed, Stamp};
 
 /// Why a datagram gets no reply (profile).
 #[derive(Clone, Copy, Debug, PartialEq, Eq)]

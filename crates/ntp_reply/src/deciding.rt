@@ -13,8 +13,7 @@ use crate::signed_queries::serve_signed;
 use crate::{Answer, Reason, Reference};
 use ntp_customer::Customer;
 use ntp_mac::verifies;
-use ntp_packet::{Request, Tail, read_request};
-use ntp_time::Moment;
+use ntp_packet::{Moment, Request, Tail, read_request};
 use std::alloc::Allocator;
 
 /// The mode of a packet from a client (RFC 5905, 7.3).

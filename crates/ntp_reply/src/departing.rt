@@ -6,7 +6,7 @@ ghost use Rattle.ntp_customer.specs.Past.{Past, short};
 ghost use Rattle.ntp_reply.specs.Exchanged.{is_noted, after_departure};
 
 use ntp_customer::Customer;
-use ntp_time::{Moment, Stamp};
+use ntp_packet::{Moment, Stamp};
 use std::alloc::Allocator;
 
 /// A reply to a customer with this receive stamp left at this moment: its transmit stamp becomes the moment's, or the first

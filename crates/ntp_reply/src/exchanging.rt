@@ -1,6 +1,6 @@
 //! The exchanges of a customer: which one a request asks about, and what a reply saves of itself.
 ghost use Rattle.std.specs.Prelude.{◌≡◌, [], ◌∷◌, ◌++◌, IsTrue};
-ghost use Rattle.ntp_time.specs.Fresh.{is_free};
+ghost use Rattle.ntp_packet.specs.Fresh.{is_free};
 ghost use Rattle.ntp_customer.specs.Exchanges.{recent, new_exchange, receives, all_stamps};
 ghost use Rattle.ntp_reply.specs.Replies.{new_stamps};
 ghost use Rattle.ntp_reply.specs.Exchanged.{matched, with_match_used};

@@ -1,7 +1,7 @@
 //! When a datagram is answered, and the stamps that its reply tells of that.
 
 use crate::Reference;
-use ntp_time::{Moment, Stamp};
+use ntp_packet::{Moment, Stamp};
 
 /// What is handed in with a datagram: when it came, the transmit moment of the reply to it, and the state of the server's clock
 /// (profile).

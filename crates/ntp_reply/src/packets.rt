@@ -5,8 +5,7 @@ ghost use Rattle.ntp_reply.specs.Replies.{reply_fields, basic_fields, time_field
 use crate::occasion::{NewStamps, Occasion};
 use crate::{Kiss, Reference};
 use ntp_customer::Slot;
-use ntp_packet::{ClockFields, DENY_CODE, Header, RATE_CODE};
-use ntp_time::Stamp;
+use ntp_packet::{ClockFields, DENY_CODE, Header, RATE_CODE, Stamp};
 
 /// The mode of a packet from a server (RFC 5905, 7.3).
 const SERVER_MODE: u8 = 4;

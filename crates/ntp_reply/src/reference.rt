@@ -2,8 +2,7 @@
 ghost use Rattle.std.specs.Prelude.{◌≡◌, ◌≤◌};
 ghost use Rattle.ntp_reply.specs.Reference.{MakesState};
 
-use ntp_packet::ClockFields;
-use ntp_time::{Short, Stamp};
+use ntp_packet::{ClockFields, Short, Stamp};
 use std::marker::Model;
 
 /// What is refused: a leap above 3, a stratum of 0 or above 16, or only one of leap 3 and stratum 16.

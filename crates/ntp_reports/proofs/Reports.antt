@@ -7,7 +7,7 @@ use Rattle.std.specs.Cmp.Lexicographic.{same_text}
 use Rattle.std.proofs.lemmas.Bool.Decides.{nat_tests}
 use Rattle.std.proofs.lemmas.List.{reverse-append}
 use Rattle.std.proofs.lemmas.List.Elements.{filter-append}
-use Rattle.ntp_time.specs.declared.moment.Moment.{Moment}
+use Rattle.ntp_packet.specs.declared.moment.Moment.{Moment}
 use Rattle.ntp_service.specs.declared.address.Address.{Address}
 use Rattle.ntp_service.specs.Address.{address_eq}
 use Rattle.ntp_reply.specs.declared.answers.Answer.{Answer}

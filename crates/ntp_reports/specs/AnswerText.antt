@@ -4,7 +4,7 @@ use Rattle.std.specs.Fmt.{decimal}
 use Rattle.ntp_admin.specs.Answers.{refusal_text, line_feed}
 use Rattle.ntp_service.specs.declared.observation.LineOutcome.{LineOutcome}
 use Rattle.ntp_service.specs.declared.observation.LineOutcome.TheVariants.{Done, Refused, Faulty}
-use Rattle.ntp_customer_files.specs.CommandsFile.{line_fault_text}
+use Rattle.ntp_admin.specs.CommandsFile.{line_fault_text}
 
 -- what became of a line of commands: in the words of a replay where it is a command (profile)
 abbrev pub outcome_text : LineOutcome → List ℕ

@@ -1,8 +1,8 @@
 -- Which time replies are interleaved.
 use Rattle.std.specs.Prelude.{ℕ, Bool, ◌&&◌, List, length, take, drop, nat_le}
 use Rattle.std.specs.Int.{w64, is_negative, from_be_bytes}
-use Rattle.ntp_time.specs.declared.stamp.Stamp.{Stamp}
-use Rattle.ntp_time.specs.Difference.{difference}
+use Rattle.ntp_packet.specs.declared.stamp.Stamp.{Stamp}
+use Rattle.ntp_packet.specs.Difference.{difference}
 use Rattle.ntp_packet.specs.Header.{header_length}
 
 -- the stamp in the eight octets of a packet from a place on (RFC 5905, 7.3)

@@ -1,7 +1,7 @@
 -- What an observer reports of customers.
 use Rattle.std.specs.Prelude.{◌≡◌, ℕ, ◌⊎◌, Bool, false, true, ◌==◌, if◌then◌else◌, Option, None, Some, option_and_then, IfSome, List, filter, filter_map, reverse, slice_get}
 use Rattle.std.specs.Map.{lookup}
-use Rattle.ntp_time.specs.declared.moment.Moment.{Moment}
+use Rattle.ntp_packet.specs.declared.moment.Moment.{Moment}
 use Rattle.ntp_service.specs.declared.address.Address.{Address}
 use Rattle.ntp_service.specs.Address.{address_eq}
 use Rattle.ntp_service.specs.declared.command.Command.{Command}

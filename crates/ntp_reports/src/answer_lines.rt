@@ -3,8 +3,7 @@ ghost use Rattle.std.specs.Prelude.{◌≡◌, OnOk, None, Some, IfNone, IfSome}
 ghost use Rattle.std.specs.Io.KnownBytes.{Appends};
 ghost use Rattle.ntp_reports.specs.AnswerText.{answer_line};
 
-use ntp_admin::refusal_word;
-use ntp_customer_files::fault_word;
+use ntp_admin::{fault_word, refusal_word};
 use ntp_service::{Command, LineOutcome, Observer, TurnOutcome};
 use std::io::{self, Write};
 

@@ -4,8 +4,8 @@ ghost use Rattle.ntp_reports.specs.Customers.{new_key, enrolled_again, rolled_ov
 
 use crate::counts::Counts;
 use crate::signing::{Signing, signing_in};
+use ntp_packet::Moment;
 use ntp_service::{Command, TurnOutcome};
-use ntp_time::Moment;
 
 /// A key number of a customer, and when it signed last.
 #[derive(Clone, Copy, Debug, PartialEq, Eq)]

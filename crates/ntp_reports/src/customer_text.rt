@@ -5,8 +5,8 @@ use crate::counts::Counts;
 use crate::customer_report::CustomerReport;
 use crate::kind::Kind;
 use ntp_mac::Algorithm;
+use ntp_packet::Moment;
 use ntp_service::{Address, Customer};
-use ntp_time::Moment;
 use serde::{Described, Serialize, Serializer};
 use std::alloc::{AllocError, Allocator, Global};
 

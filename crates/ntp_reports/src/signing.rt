@@ -4,10 +4,9 @@ ghost use Rattle.ntp_packet.specs.Header.{header_length};
 ghost use Rattle.ntp_reports.specs.Signing.{signing_in, answered_under, number_in};
 
 use ntp_mac::Reply;
-use ntp_packet::HEADER_OCTETS;
+use ntp_packet::{HEADER_OCTETS, Moment};
 use ntp_reply::Answer;
 use ntp_service::TurnOutcome;
-use ntp_time::Moment;
 
 /// How many octets a key number has behind the header of a sealed reply (RFC 5905, 7.3).
 const NUMBER_OCTETS: usize = 4;

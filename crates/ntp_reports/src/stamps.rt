@@ -1,13 +1,12 @@
 //! What the stamps of a time reply tell.
 ghost use Rattle.std.specs.Prelude.{◌≡◌, ◌+◌, ◌≤◌, length, take, drop};
 ghost use Rattle.std.specs.Int.{is_negative};
-ghost use Rattle.ntp_time.specs.Difference.{difference};
+ghost use Rattle.ntp_packet.specs.Difference.{difference};
 ghost use Rattle.ntp_packet.specs.Header.{header_length};
 ghost use Rattle.ntp_reports.specs.Interleaving.{stamp_at, receive_in, transmit_in, tells_departure};
 
 use ntp_mac::Reply;
-use ntp_packet::HEADER_OCTETS;
-use ntp_time::{Stamp, difference};
+use ntp_packet::{HEADER_OCTETS, Stamp, difference};
 
 // Whether a time reply tells the departure of an earlier one (RFC 9769, 2): its transmit stamp lies before its receive
 // stamp (profile).

@@ -3,7 +3,7 @@
 use crate::counted_kinds::{CountedKind, answers, commands};
 use crate::counts::Counts;
 use crate::kind::Kind;
-use ntp_time::Short;
+use ntp_packet::Short;
 use std::io::{self, Write};
 
 /// How many nanoseconds a second has.

@@ -4,8 +4,7 @@ ghost use Rattle.std.specs.Io.KnownBytes.{Appends};
 ghost use Rattle.ntp_reports.specs.AnswerText.{outcome_text};
 ghost use Rattle.ntp_reports.specs.Logging.{subject_of, number_text, subject_text, logged_line, customers_after};
 
-use ntp_admin::{Verb, number_named, refusal_word};
-use ntp_customer_files::fault_word;
+use ntp_admin::{Verb, fault_word, number_named, refusal_word};
 use ntp_service::{Address, Command, LineOutcome};
 use std::io::{self, Write};
 use std::num::NonZero;

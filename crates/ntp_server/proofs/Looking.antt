@@ -3,17 +3,17 @@ use Rattle.std.proofs.Common.{◌≡◌, ℕ, ◌+◌, Bool, true, false, Option
 use Rattle.std.proofs.lemmas.List.{append_assoc, map-append}
 use Rattle.std.proofs.lemmas.List.Elements.{All-push}
 use Rattle.std.proofs.lemmas.Grind.{flat_map-append}
-use Rattle.ntp_time.specs.declared.moment.Moment.{Moment}
+use Rattle.ntp_packet.specs.declared.moment.Moment.{Moment}
 use Rattle.ntp_reply.specs.Reference.{ReferenceState}
 use Rattle.ntp_service.specs.Sees.{Sees}
 use Rattle.ntp_service.proofs.Seen.{Sees-nil, Sees-append}
 use Rattle.ntp_service.specs.Headline.{Tells}
 use Rattle.ntp_service.proofs.Runs.{Tells-nil, Tells-append}
-use Rattle.ntp_service_serve.specs.declared.port.PortCounts.{PortCounts}
-use Rattle.ntp_service_serve.specs.Port.{Told, CountsMore}
-use Rattle.ntp_service_serve.proofs.Dropping.{CountsMore-nil, CountsMore-append}
-use Rattle.ntp_customer_files.specs.CommandsFile.{TakenLine, CarriesOut, CarriesOutDue, lines_taken, happened_at_lines, line_observations}
-use Rattle.ntp_service_serve.specs.Sources.{Coming, Gives, CountsOn}
+use Rattle.ntp_port.specs.declared.port.PortCounts.{PortCounts}
+use Rattle.ntp_port.specs.Port.{Told, CountsMore}
+use Rattle.ntp_port.proofs.Dropping.{CountsMore-nil, CountsMore-append}
+use Rattle.ntp_admin.specs.CommandsFile.{TakenLine, CarriesOut, CarriesOutDue, lines_taken, happened_at_lines, line_observations}
+use Rattle.ntp_port.specs.Sources.{Coming, Gives, CountsOn}
 use Rattle.ntp_server.specs.Rounds.{Look, Parts, AreDueAt, AreDueInTurn}
 use Rattle.ntp_server.specs.Steps.{Looks, LooksOnce, Waits, IsIdle, asked_of, given_of, happened_at_looks, looks_observations}
 

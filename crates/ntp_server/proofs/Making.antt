@@ -6,7 +6,7 @@ use Rattle.std.proofs.lemmas.List.{map-append, length-map}
 use Rattle.std.proofs.lemmas.List.Elements.{All-push}
 use Rattle.std.proofs.lemmas.Grind.{flat_map-append}
 use Rattle.std.proofs.lemmas.List.Sums.{length-filter, count_by-le-length}
-use Rattle.ntp_time.specs.declared.moment.Moment.{Moment}
+use Rattle.ntp_packet.specs.declared.moment.Moment.{Moment}
 use Rattle.ntp_reply.specs.Reference.{ReferenceState}
 use Rattle.ntp_service.specs.declared.observation.Arrival.{Arrival}
 use Rattle.ntp_service.specs.declared.observation.Observation.TheVariants.{Turn}
@@ -16,18 +16,18 @@ use Rattle.ntp_service.specs.Sees.{Sees}
 use Rattle.ntp_service.proofs.Seen.{Sees-nil, Sees-append}
 use Rattle.ntp_service.specs.Headline.{Tells}
 use Rattle.ntp_service.proofs.Runs.{Tells-nil, Tells-append}
-use Rattle.ntp_service_serve.specs.declared.port.PortCounts.{PortCounts}
-use Rattle.ntp_service_serve.specs.declared.port.PortFault.{PortFault}
-use Rattle.ntp_service_serve.specs.Port.{IncomingValue, failed_calls, counted_send, CountsMore}
-use Rattle.ntp_service_serve.proofs.Dropping.{CountsMore-nil, CountsMore-append}
-use Rattle.ntp_service_serve.specs.Made.{Made, Missed, Received, turn_of, arrival_of, happened_in_turn, sent_in, has_arrived, has_departed, is_unsent, turn_outcome}
-use Rattle.ntp_service_serve.specs.Serving.{Makes}
-use Rattle.ntp_service_serve.proofs.Taking.{TakesTurn}
-use Rattle.ntp_service_serve.specs.Sending.{was_sent}
-use Rattle.ntp_service_serve.proofs.ManyTurns.{sent_of, count_of, if_so, count-more, Makes-nil, Makes-append, Makes-few}
-use Rattle.ntp_service_serve.proofs.Counting.{at-most-one, sent-one, noted-one}
+use Rattle.ntp_port.specs.declared.port.PortCounts.{PortCounts}
+use Rattle.ntp_port.specs.declared.port.PortFault.{PortFault}
+use Rattle.ntp_port.specs.Port.{IncomingValue, failed_calls, counted_send, CountsMore}
+use Rattle.ntp_port.proofs.Dropping.{CountsMore-nil, CountsMore-append}
+use Rattle.ntp_port.specs.Made.{Made, Missed, Received, turn_of, arrival_of, happened_in_turn, sent_in, has_arrived, has_departed, is_unsent, turn_outcome}
+use Rattle.ntp_port.specs.Serving.{Makes}
+use Rattle.ntp_port.proofs.Taking.{TakesTurn}
+use Rattle.ntp_port.specs.Sending.{was_sent}
+use Rattle.ntp_port.proofs.ManyTurns.{sent_of, count_of, if_so, count-more, Makes-nil, Makes-append, Makes-few}
+use Rattle.ntp_port.proofs.Counting.{at-most-one, sent-one, noted-one}
 use Rattle.ntp_server.specs.declared.server.Totals.{Totals}
-use Rattle.ntp_service_serve.specs.Sources.{Gives, CountsOn}
+use Rattle.ntp_port.specs.Sources.{Gives, CountsOn}
 use Rattle.ntp_server.specs.Rounds.{Look, Round, Parts, AreDueInTurn, HasLooks, AsksRight, ServesRounds, looks_of, made_in, receipt_in, happened_in_round, round_observations}
 use Rattle.ntp_server.specs.Steps.{LooksOnce, Waits, IsIdle, MakesRound, asked_of, given_of, happened_at_looks, looks_observations, receipts_of, states_of, arrivals_in, replies_in, departures_in}
 use Rattle.ntp_server.proofs.Looking.{Gives-nil, Gives-append, CountsOn-nil, CountsOn-append, due-append, Looks-append}

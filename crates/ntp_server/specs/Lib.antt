@@ -2,4 +2,3 @@ pub mod Memory
 pub mod Rounds
 pub mod Steps
 pub mod Parts
-pub mod HandingOn

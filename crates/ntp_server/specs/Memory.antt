@@ -5,8 +5,8 @@ use Rattle.ntp_service.specs.declared.observation.Observation.{Observation}
 use Rattle.ntp_server.specs.declared.memory.MemoryCommands.{MemoryCommands}
 use Rattle.ntp_server.specs.declared.memory.MemoryStates.{MemoryStates}
 use Rattle.ntp_server.specs.declared.memory.MemoryObserver.{MemoryObserver}
-use Rattle.ntp_service_serve.specs.Sequence.{firsts}
-use Rattle.ntp_service_serve.specs.Sources.{Coming}
+use Rattle.ntp_port.specs.Sequence.{firsts}
+use Rattle.ntp_port.specs.Sources.{Coming}
 
 -- these and then nothing more, whatever is asked with (profile)
 abbrev pub commands_coming : List (Option (List ℕ)) → Coming (Option (List ℕ))

@@ -1,6 +1,6 @@
 -- What a server with its commands does.
 use Rattle.std.specs.Prelude.{◌≡◌, ℕ, ◌+◌, ◌<◌, Bool, true, false, Option, None, Some, option_map, List, [], ◌∷◌, ◌++◌, length, map, filter, flat_map, All}
-use Rattle.ntp_time.specs.declared.moment.Moment.{Moment}
+use Rattle.ntp_packet.specs.declared.moment.Moment.{Moment}
 use Rattle.ntp_service.specs.Registry.{Registry}
 use Rattle.ntp_reply.specs.Reference.{ReferenceState}
 use Rattle.ntp_service.specs.declared.event.Event.{Event}
@@ -9,13 +9,13 @@ use Rattle.ntp_service.specs.declared.observation.Observation.{Observation}
 use Rattle.ntp_service.specs.declared.observation.Observation.TheVariants.{Turn}
 use Rattle.ntp_service.specs.Sees.{Sees}
 use Rattle.ntp_service.specs.Headline.{StandsFor, Tells}
-use Rattle.ntp_service_serve.specs.declared.port.PortCounts.{PortCounts}
-use Rattle.ntp_service_serve.specs.Port.{Told, CountsMore}
-use Rattle.ntp_service_serve.specs.Made.{Made, turn_of, happened_in_turn, sent_in, has_arrived, has_departed, turn_outcome}
-use Rattle.ntp_service_serve.specs.Serving.{Makes}
-use Rattle.ntp_customer_files.specs.CommandsFile.{TakenLine, AreDue, lines_taken, happened_at_lines, line_observations}
+use Rattle.ntp_port.specs.declared.port.PortCounts.{PortCounts}
+use Rattle.ntp_port.specs.Port.{Told, CountsMore}
+use Rattle.ntp_port.specs.Made.{Made, turn_of, happened_in_turn, sent_in, has_arrived, has_departed, turn_outcome}
+use Rattle.ntp_port.specs.Serving.{Makes}
+use Rattle.ntp_admin.specs.CommandsFile.{TakenLine, AreDue, lines_taken, happened_at_lines, line_observations}
 use Rattle.ntp_server.specs.declared.server.Totals.{Totals}
-use Rattle.ntp_service_serve.specs.Sources.{Coming, Gives, CountsOn}
+use Rattle.ntp_port.specs.Sources.{Coming, Gives, CountsOn}
 
 -- a look at the commands: what the source was asked with, how many lines were applied before, the octets that it gave, if any, and the
 -- lines that were taken (profile)

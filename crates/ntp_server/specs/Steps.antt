@@ -1,6 +1,6 @@
 -- Not to be believed: for proofs. What one look, a wait and one turn do.
 use Rattle.std.specs.Prelude.{◌≡◌, ℕ, ◌+◌, Bool, true, false, Option, None, List, [], ◌∷◌, length, map, flat_map, if◌then◌else◌, All}
-use Rattle.ntp_time.specs.declared.moment.Moment.{Moment}
+use Rattle.ntp_packet.specs.declared.moment.Moment.{Moment}
 use Rattle.ntp_reply.specs.Reference.{ReferenceState}
 use Rattle.ntp_service.specs.declared.event.Event.{Event}
 use Rattle.ntp_service.specs.declared.outcome.Outcome.{Outcome}
@@ -9,12 +9,12 @@ use Rattle.ntp_service.specs.declared.observation.TurnOutcome.{TurnOutcome}
 use Rattle.ntp_service.specs.declared.observation.TurnOutcome.TheVariants.{NothingReceived, Answered}
 use Rattle.ntp_service.specs.Sees.{Sees}
 use Rattle.ntp_service.specs.Headline.{StandsFor, Tells}
-use Rattle.ntp_service_serve.specs.Port.{CountsMore}
-use Rattle.ntp_service_serve.specs.Made.{turn_outcome}
-use Rattle.ntp_service_serve.specs.Serving.{Makes}
-use Rattle.ntp_service_serve.specs.Sending.{was_sent, was_noted}
-use Rattle.ntp_customer_files.specs.CommandsFile.{happened_at_lines, line_observations}
-use Rattle.ntp_service_serve.specs.Sources.{Gives, CountsOn}
+use Rattle.ntp_port.specs.Port.{CountsMore}
+use Rattle.ntp_port.specs.Made.{turn_outcome}
+use Rattle.ntp_port.specs.Serving.{Makes}
+use Rattle.ntp_port.specs.Sending.{was_sent, was_noted}
+use Rattle.ntp_admin.specs.CommandsFile.{happened_at_lines, line_observations}
+use Rattle.ntp_port.specs.Sources.{Gives, CountsOn}
 use Rattle.ntp_server.specs.Rounds.{Look, Round, Parts, AreDueInTurn, HasLooks, AsksRight, receipt_in, happened_in_round, round_observations}
 
 -- what looks were asked with, and what they gave

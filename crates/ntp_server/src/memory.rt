@@ -2,10 +2,10 @@
 ghost use Rattle.std.specs.Prelude.{◌≡◌, ◌≤◌, ◌<◌, ◌++◌, Some, None, false, [], ◌∷◌, map, option_map, vec_len, vec_capacity, IfOk, if◌then◌else◌};
 ghost use Rattle.ntp_service.specs.declared.observation.Observation.{Observation};
 
+use ntp_packet::Moment;
+use ntp_port::{CommandsSource, ReferenceSource};
 use ntp_reply::Reference;
 use ntp_service::{Command, LineOutcome, NoMemory, Observation, Observer, TurnOutcome};
-use ntp_service_serve::{CommandsSource, ReferenceSource};
-use ntp_time::Moment;
 use std::alloc::{Allocator, Global};
 
 /// A commands file in memory: each look gives the next of a list, and nothing once the list has run out (profile).

@@ -1,9 +1,9 @@
 //! Who is shown a server while it serves.
 ghost use Rattle.std.specs.Prelude.{Option, None, List, [], ◌∷◌};
-ghost use Rattle.ntp_time.specs.declared.moment.Moment.{Moment};
+ghost use Rattle.ntp_packet.specs.declared.moment.Moment.{Moment};
 ghost use Rattle.ntp_service.specs.Sees.{Sees};
 
-use ntp_time::Moment;
+use ntp_packet::Moment;
 
 /// Is shown a server `S` as it is, between its turns and while nothing comes (profile).
 ///

@@ -1,17 +1,17 @@
 //! A server, turn by turn.
 ghost use Rattle.std.specs.Prelude.{◌≡◌, ◌+◌, ◌-◌, ◌≤◌, ◌<◌, ◌^◌, None, option_map, IfOk, is_err};
 ghost use Rattle.std.specs.Result.{result_ok};
-ghost use Rattle.ntp_service_serve.specs.Port.{most_received_octets, failed_calls, CountsReceive, Receives};
+ghost use Rattle.ntp_port.specs.Port.{most_received_octets, failed_calls, CountsReceive, Receives};
 ghost use Rattle.ntp_server.specs.Steps.{arrivals_in, replies_in, departures_in};
 
 use crate::reporter::{NoReports, Reporter};
-use ntp_customer_files::apply_commands;
-use ntp_service::{Arrival, Observer, Sending, Service, TurnOutcome};
-use ntp_service_serve::{
+use ntp_admin::apply_commands;
+use ntp_packet::Moment;
+use ntp_port::{
     CommandsSource, DatagramRoom, MOST_RECEIVED_OCTETS, PortFault, ReferenceSource, TimedPort,
     answer_received,
 };
-use ntp_time::Moment;
+use ntp_service::{Arrival, Observer, Sending, Service, TurnOutcome};
 use std::alloc::Allocator;
 
 // So many waits in one turn no number of 64 bits counts.

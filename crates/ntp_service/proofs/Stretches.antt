@@ -4,7 +4,7 @@ use Rattle.std.proofs.lemmas.Bool.Decides.{nat_tests}
 use Rattle.std.proofs.lemmas.List.Elements.{All-head, All-tail}
 use Rattle.std.proofs.lemmas.List.Sums.{sum_by-cons}
 use Rattle.std.specs.Prelude.{if◌then◌else◌}
-use Rattle.ntp_time.specs.Moment.{window_of}
+use Rattle.ntp_packet.specs.Moment.{window_of}
 use Rattle.ntp_service.specs.Registry.{Registry}
 use Rattle.ntp_reply.specs.Life.{Life}
 use Rattle.ntp_reply.specs.Replies.{occasion_of}

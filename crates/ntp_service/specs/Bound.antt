@@ -1,7 +1,7 @@
 -- How many replies an address gets in one window.
 use Rattle.std.specs.Prelude.{◌≡◌, ◌≢◌, ℕ, ◌+◌, ◌≤◌, ◌==◌, ◌&&◌, Bool, true, false, Option, Some, None, List, ◌++◌, map, All, AllPairs, filter_map, count_by}
 use Rattle.std.specs.Option.{option_map_or}
-use Rattle.ntp_time.specs.Moment.{window_of}
+use Rattle.ntp_packet.specs.Moment.{window_of}
 use Rattle.ntp_service.specs.declared.address.Address.{Address}
 use Rattle.ntp_reply.specs.Life.{Life, enrolment_in}
 use Rattle.ntp_reply.specs.Verdict.{refusals_sent}

@@ -1,8 +1,8 @@
 //! What happens to a service, one step at a time.
 
 use crate::{Address, Command, Octets};
+use ntp_packet::{Moment, Stamp};
 use ntp_reply::Reference;
-use ntp_time::{Moment, Stamp};
 use std::alloc::{Allocator, Global};
 
 /// One event. Each names one address.

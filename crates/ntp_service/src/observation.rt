@@ -1,8 +1,8 @@
 //! What comes of the lines of commands and of the turns of a server.
 
 use crate::{Address, Command, LineFault, Refusal};
+use ntp_packet::Moment;
 use ntp_reply::Answer;
-use ntp_time::Moment;
 
 /// What is known of a datagram beside its octets.
 #[derive(Clone, Copy, Debug, PartialEq, Eq)]

@@ -10,8 +10,8 @@ ghost use Rattle.ntp_service.specs.Headline.{StandsFor, TellsOne, IsTaken, comma
 ghost use Rattle.ntp_service.specs.Forgery.{is_genuine, genuine};
 
 use crate::{Address, Command, Customer, Event, Outcome, Refusal, Register};
+use ntp_packet::{Moment, Stamp};
 use ntp_reply::{Answer, Reason, Reference, answer_octets, depart};
-use ntp_time::{Moment, Stamp};
 use std::alloc::{Allocator, Global};
 use std::marker::Model;
 

@@ -5,8 +5,7 @@ ghost use Rattle.std.specs.Prelude.{◌≤◌};
 use crate::packets::{moment, packet, stamps};
 use ntp_client::{Client, Distrust, Sample, Taken};
 use ntp_mac::{Algorithm, Key, Reply};
-use ntp_packet::Malformed;
-use ntp_time::Stamp;
+use ntp_packet::{Malformed, Stamp};
 use std::process::Abort;
 use std::test::Fail;
 

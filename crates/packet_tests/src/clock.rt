@@ -6,9 +6,8 @@ use ntp_client::{
     reference_where_read, state_in_force,
 };
 use ntp_mac::{Algorithm, Key, Reply, seal};
-use ntp_packet::{Header, read_header};
+use ntp_packet::{Header, Short, Stamp, read_header};
 use ntp_reply::{BadReference, Reference};
-use ntp_time::{Short, Stamp};
 use std::process::Abort;
 use std::test::Fail;
 

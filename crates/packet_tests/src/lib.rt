@@ -1,5 +1,4 @@
-//! Tests of the crates from time up to a client and the clock that it follows: `ntp_time`, `ntp_customer`, `ntp_packet`, `ntp_mac`
-//! and `ntp_client`. They stand here since a crate with tests is proved twice.
+//! Tests of packets, keys, customers, their register and its files, and of a client: worked cases, and memory that is refused.
 #![tactic(auto)]
 
 #[cfg(test)]
@@ -9,11 +8,23 @@ mod client;
 #[cfg(test)]
 mod clock;
 #[cfg(test)]
+mod customer_files;
+#[cfg(test)]
 mod mac;
+#[cfg(test)]
+mod meeting;
 #[cfg(test)]
 mod packets;
 #[cfg(test)]
 mod plain_reader;
+#[cfg(test)]
+mod refused_memory;
+#[cfg(test)]
+mod register;
+#[cfg(test)]
+mod register_file;
+#[cfg(test)]
+mod register_text;
 #[cfg(test)]
 mod request;
 #[cfg(test)]

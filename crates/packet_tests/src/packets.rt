@@ -1,6 +1,6 @@
 //! What tests of several crates share: moments, and packets of version 4 that are signed with the key number 7.
 
-use ntp_time::{Moment, Stamp};
+use ntp_packet::{Moment, Stamp};
 
 /// The moment of era 0 with a stamp.
 pub(crate) fn moment(stamp: u64) -> Moment {

@@ -3,7 +3,7 @@
 
 use crate::packets::moment;
 use ntp_customer::{Slot, Slots};
-use ntp_time::Stamp;
+use ntp_packet::Stamp;
 use std::alloc::Global;
 use std::test::Fail;
 

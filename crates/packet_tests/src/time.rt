@@ -1,6 +1,6 @@
 //! Stamps across an era, moments of Unix's count, and stamps that are free.
 
-use ntp_time::{Moment, Stamp, TimeFault, difference, fresh, near};
+use ntp_packet::{Moment, Stamp, TimeFault, difference, fresh, near};
 
 /// Stamps late and early in an era, and its half.
 const LATE: u64 = 0xffff_ffff_0000_0000;

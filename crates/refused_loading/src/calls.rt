@@ -2,9 +2,9 @@
 
 use crate::judging::Judged;
 use ntp_admin::{
-    Command, LineFault, RegisterFault, parse_command, read_reference, read_register, words,
+    Command, LineFault, LoadFault, Loaded, RegisterFault, load_register, parse_command,
+    read_reference, read_register, words,
 };
-use ntp_customer_files::{LoadFault, Loaded, load_register};
 use ntp_service::Refusal;
 use std::alloc::Global;
 

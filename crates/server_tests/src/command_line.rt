@@ -1,12 +1,11 @@
 //! The lines that tell faults, which no clause says; that each job is found at all; and replays that are refused memory.
 
-use labntp_command_line::{Job, job, replay_status};
-use ntp_admin::RegisterFault;
-use ntp_customer_files::{
-    DONE, IO_FAILED, LoadFault, MEMORY_OUT, USAGE_REFUSED, load_status, unread_status, usage_status,
+use labntp_jobs::{Job, Watched, job, replay_status};
+use ntp_admin::{
+    DONE, IO_FAILED, LoadFault, MEMORY_OUT, RegisterFault, USAGE_REFUSED, load_status,
+    unread_status, usage_status,
 };
 use ntp_service::{LineFault, Refusal};
-use ntp_service_replay::Watched;
 use std::alloc::{Allocator, Global};
 use std::io::{self, ErrorKind, Read, Write};
 use std::process::Abort;

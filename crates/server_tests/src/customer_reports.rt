@@ -2,12 +2,12 @@
 
 use ntp_admin::parse_command;
 use ntp_mac::Reply;
+use ntp_packet::{Moment, Stamp};
 use ntp_reply::{Answer, Reason};
 use ntp_reports::{CustomerCounts, Kind, customer_line};
 use ntp_service::{
     Address, Arrival, Command, LineOutcome, Observer, Sending, Service, TurnOutcome,
 };
-use ntp_time::{Moment, Stamp};
 use std::alloc::{Allocator, Global};
 use std::process::Abort;
 use std::test::Fail;

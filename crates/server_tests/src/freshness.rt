@@ -1,11 +1,11 @@
 //! What comes of whole stretches of time, by a queue in memory whose datagrams and readings are written down here: each is
 //! reckoned by hand, in milliseconds.
 
-use ntp_freshness::{FreshPort, MemoryQueue, QueueWatch};
-use ntp_server::{MemoryCommands, MemoryObserver, Server};
-use ntp_service_serve::{
-    FixedReference, MOST_RECEIVED_OCTETS, MemoryPort, Port, PortFault, TimedPort, Turn,
+use ntp_port::{
+    FixedReference, FreshPort, MOST_RECEIVED_OCTETS, MemoryPort, MemoryQueue, Port, PortFault,
+    QueueWatch, TimedPort, Turn,
 };
+use ntp_server::{MemoryCommands, MemoryObserver, Server};
 use std::alloc::{AllocError, Global};
 use std::test::Fail;
 use test_support::{

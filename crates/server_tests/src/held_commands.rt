@@ -2,9 +2,10 @@
 //! and that octets which are what is kept take none.
 
 use crate::looks::commands;
-use ntp_customer_files::AdmitFault;
-use ntp_server::{AdmittedCommands, MemoryCommands};
-use ntp_service_serve::CommandsSource;
+use ntp_admin::AdmitFault;
+use ntp_host::AdmittedCommands;
+use ntp_port::CommandsSource;
+use ntp_server::MemoryCommands;
 use std::alloc::{Allocator, Global};
 use std::process::Abort;
 use std::test::Fail;

@@ -1,8 +1,8 @@
 //! What no contract says: that good lines are answered, that only what is wrong is a fault, and how often a reader or a writer
 //! is called.
 use crate::faulty::Faulty;
+use labntp_jobs::{ReplayFault, ReplayFaultKind, Watched, replay};
 use ntp_service::LineFault;
-use ntp_service_replay::{ReplayFault, ReplayFaultKind, Watched, replay};
 use std::alloc::Global;
 use std::io::{ErrorKind, Read, Write};
 use std::process::Abort;

@@ -1,7 +1,7 @@
 //! What is written, and each call once with its answer.
 
 use ntp_mac::Reply;
-use ntp_packet::Malformed;
+use ntp_packet::{Malformed, Short, Stamp};
 use ntp_reply::{Answer, Reason};
 use ntp_reports::{
     AnswerLines, Ask, Belief, Both, ClockGauges, Counting, Counts, FileGauges, Gauges, Kind,
@@ -10,7 +10,6 @@ use ntp_reports::{
 use ntp_service::{
     Arrival, Command, LineFault, LineOutcome, Observer, Refusal, Sending, TurnOutcome,
 };
-use ntp_time::{Short, Stamp};
 use std::alloc::Global;
 use std::io::Write;
 use std::process::Abort;

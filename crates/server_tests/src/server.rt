@@ -3,21 +3,21 @@
 //! state is given time, and when a reporter is shown the server. The digests are those of Python's `hashlib.md5` over the
 //! key `key` and the octets before the key number, and of `hashlib.sha1` with the key `new`.
 ghost use Rattle.std.specs.Prelude.{◌≡◌, ◌<◌, ◌^◌};
-ghost use Rattle.ntp_service_serve.specs.Port.{failed_calls};
+ghost use Rattle.ntp_port.specs.Port.{failed_calls};
 
 use crate::looks::commands;
 use ntp_admin::parse_command;
 use ntp_mac::Reply;
+use ntp_packet::{Moment, Stamp};
+use ntp_port::{
+    DatagramRoom, FixedReference, MemoryPort, Port, PortCounts, PortFault, ReferenceSource,
+    TimedPort,
+};
 use ntp_reply::{Answer, Reason, Reference};
 use ntp_server::{
     MemoryCommands, MemoryObserver, MemoryStates, NoReports, Reporter, Server, Totals,
 };
 use ntp_service::{Address, Arrival, LineOutcome, Observation, Sending, Service, TurnOutcome};
-use ntp_service_serve::{
-    DatagramRoom, FixedReference, MemoryPort, Port, PortCounts, PortFault, ReferenceSource,
-    TimedPort,
-};
-use ntp_time::{Moment, Stamp};
 use std::alloc::{Allocator, Global};
 use std::process::Abort;
 use std::test::Fail;

@@ -2,9 +2,9 @@
 
 use crate::plain_calls::ordered;
 use ntp_admin::parse_command;
+use ntp_packet::{Moment, Short, Stamp};
 use ntp_reply::Reference;
 use ntp_service::{Address, Service};
-use ntp_time::{Moment, Short, Stamp};
 use std::alloc::Allocator;
 use std::test::Fail;
 

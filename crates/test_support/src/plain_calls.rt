@@ -3,9 +3,9 @@
 
 use crate::customer_and_clock::CUSTOMER;
 use ntp_admin::{Command, Event, NoMemory, Outcome};
+use ntp_packet::Moment;
 use ntp_reply::{Answer, Reference};
 use ntp_service::{Refusal, Service};
-use ntp_time::Moment;
 use std::alloc::Allocator;
 
 /// What a command is answered.

@@ -2,7 +2,7 @@
 
 use crate::customer_and_clock::{CUSTOMER, moment};
 use ntp_admin::Octets;
-use ntp_service_serve::{Incoming, Turn};
+use ntp_port::{Incoming, Turn};
 use std::alloc::Allocator;
 use std::test::Fail;
 

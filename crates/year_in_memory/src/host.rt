@@ -1,7 +1,7 @@
 //! A host in memory: files, and clocks that show what they are told.
 
 use crate::files::{Disk, MemoryFile};
-use ntp_time::Moment;
+use ntp_packet::Moment;
 use std::alloc::Allocator;
 use std::cell::Cell;
 use std::fs::{Files, Metadata, OpenOptions};

@@ -1,15 +1,14 @@
 //! What the model says that a daemon does.
 
 use crate::script::{Happening, Script};
-use ntp_admin::refusal_word;
-use ntp_customer_files::fault_word;
+use ntp_admin::{fault_word, refusal_word};
 use ntp_mac::Reply;
+use ntp_port::Sent;
 use ntp_reply::Answer;
 use ntp_reports::Counts;
 use ntp_service::{
     Address, Arrival, LineFault, LineOutcome, Outcome, Sending, Service, TurnOutcome,
 };
-use ntp_service_serve::Sent;
 use std::alloc::Global;
 use std::io::Write;
 use std::test::Fail;

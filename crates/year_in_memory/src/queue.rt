@@ -1,16 +1,15 @@
 //! The daemon's port in memory, whose clock moves its host's.
 ghost use Rattle.std.specs.Prelude.{Some};
-ghost use Rattle.ntp_service_serve.specs.Memory.{told_by, memory_counts};
+ghost use Rattle.ntp_port.specs.Memory.{told_by, memory_counts};
 
 use crate::files::{COMMANDS, Place};
 use crate::host::MemoryHost;
 use crate::script::DueLine;
 use labntpd_assembly::DaemonPort;
-use labntpd_host::HostClocks;
-use ntp_freshness::{MemoryQueue, QueuedPort};
+use ntp_host::HostClocks;
+use ntp_packet::Moment;
+use ntp_port::{Arrival, DatagramRoom, MemoryQueue, Port, PortFault, QueuedPort, Sent, TimedPort};
 use ntp_service::Address;
-use ntp_service_serve::{Arrival, DatagramRoom, Port, PortFault, Sent, TimedPort};
-use ntp_time::Moment;
 use std::io;
 
 /// A queue in memory whose clock the clocks of its host show too. As time passes, lines are appended to the commands file, each once its

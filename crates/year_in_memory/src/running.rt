@@ -1,6 +1,6 @@
 //! The assembly of the daemon, run over parts in memory.
 ghost use Rattle.std.specs.Prelude.{◌≡◌};
-ghost use Rattle.ntp_service_serve.specs.Port.{failed_calls};
+ghost use Rattle.ntp_port.specs.Port.{failed_calls};
 
 use crate::files::{ANSWERS, COMMANDS, Disk, LOG, MemoryFile};
 use crate::host::MemoryHost;
@@ -11,14 +11,14 @@ use labntpd_assembly::{
     Assembly, Begun, DaemonClock, DaemonObserver, DaemonPort, Host, Parts, ReportingObserver,
     ServeFault, observer,
 };
-use labntpd_configuration::{Configuration, read_configuration};
-use labntpd_host::{BoundAt, ClockSource, HostClocks, Log, LogForm, emptied_file};
-use ntp_freshness::{FreshPort, MemoryQueue, QueueWatch};
+use labntpd_files::{Configuration, read_configuration};
+use ntp_host::{
+    BoundAt, ClockSource, HeldCommands, HostClocks, Log, LogForm, begin_commands, emptied_file,
+};
+use ntp_port::{FreshPort, MemoryPort, MemoryQueue, Port, QueueWatch};
 use ntp_reply::Reference;
 use ntp_reports::{AnswerLines, Counts, CustomerCounts};
-use ntp_server::{HeldCommands, begin_commands};
 use ntp_service::Service;
-use ntp_service_serve::{MemoryPort, Port};
 use std::alloc::Global;
 use std::cell::Cell;
 use std::fs::Files;

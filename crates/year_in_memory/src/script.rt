@@ -3,10 +3,10 @@
 use crate::host::{SECOND, moment_at};
 use ntp_admin::{is_passed_over, parse_command};
 use ntp_mac::Reply;
+use ntp_packet::{Moment, Stamp};
+use ntp_port::{Incoming, MOST_RECEIVED_OCTETS, Turn};
 use ntp_reply::{Answer, Reference};
 use ntp_service::{Address, Arrival, Event, LineFault, Octets, Service};
-use ntp_service_serve::{Incoming, MOST_RECEIVED_OCTETS, Turn};
-use ntp_time::{Moment, Stamp};
 use std::alloc::Global;
 use std::test::Fail;
 

@@ -1,7 +1,7 @@
 use Rattle.std.proofs.Common.{◌≡◌, Some, None, List, sym, ap, ◌∙◌}
 use Rattle.std.specs.Prelude.{is_some, find, position, slice_get}
 use Rattle.std.specs.Option.{option_copied_mut}
-use Rattle.ntp_time.specs.Fresh.{fresh}
+use Rattle.ntp_packet.specs.Fresh.{fresh}
 use Rattle.ntp_customer.specs.declared.slot.Slot.{Slot}
 use Rattle.ntp_customer.specs.Exchanges.{AreSaved, is_unused_at, receives, with_unused, with_departure}
 use Rattle.ntp_customer.proofs.Changes.{find-at_position, find-from_no_position, written-at_place, unchanged-from_none}

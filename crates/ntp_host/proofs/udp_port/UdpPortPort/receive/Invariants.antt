@@ -1,5 +1,5 @@
 use Rattle.std.proofs.Common.{◌≡◌, false}
-use Rattle.ntp_service_serve.specs.Port.{CountsReceive}
+use Rattle.ntp_port.specs.Port.{CountsReceive}
 use Rattle.ntp_host.proofs.udp_port.UdpPortPort.receive.Given as goal
 
 abbrev pub invariant-loop : goal.invariant-loop

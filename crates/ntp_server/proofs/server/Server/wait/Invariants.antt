@@ -1,5 +1,5 @@
 use Rattle.std.proofs.Common.{◌≡◌, ◌-◌, ◌^◌, false, length}
-use Rattle.ntp_service_serve.specs.Port.{CountsReceive, DropsAny}
+use Rattle.ntp_port.specs.Port.{CountsReceive, DropsAny}
 use Rattle.ntp_server.specs.Steps.{Waits}
 use Rattle.ntp_server.specs.Parts.{parts_of}
 use Rattle.ntp_server.proofs.server.Server.wait.Given as goal

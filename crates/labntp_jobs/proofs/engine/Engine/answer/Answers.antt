@@ -1,0 +1,25 @@
+use Rattle.std.proofs.Common.{[]}
+use Rattle.std.proofs.KnownBytes.{Appends-nil}
+use Rattle.std.proofs.lemmas.Result.{on_ok_weaker, IfErr-weaker}
+use Rattle.labntp_jobs.proofs.LinesReplayed.{Answers-passed, Answers-event, Halts-event}
+use Rattle.labntp_jobs.proofs.engine.Engine.answer.Goals as goal
+
+pub returns-in-Err-clause-past_reading : goal.returns-in-Err-clause-past_reading
+returns-in-Err-clause-past_reading g c = c.in-Err.ensures.past_reading _
+
+pub returns-in-Ok-None-clause-ok : goal.returns-in-Ok-None-clause-ok
+returns-in-Ok-None-clause-ok g c =
+    let line = rw c.deref.ensures.value at (rw c.in-Ok-None.field-0-is at c.in-Ok-None.ensures.ok) in
+    ([], Answers-passed _ _ line.0 line.1, Appends-nil _)
+
+pub returns-in-Ok-Some-clause-ok : goal.returns-in-Ok-Some-clause-ok
+returns-in-Ok-Some-clause-ok g c =
+    let line = rw c.deref.ensures.value at (rw c.in-Ok-Some.field-0-is at c.in-Ok-Some.ensures.ok) in
+    on_ok_weaker c.write_answer.result
+    (λ wrote. (_, Answers-event _ _ _ _ _ line.0 line.1 line.2 c.apply-outcome.ensures, wrote)) c.write_answer.ensures.ok
+
+pub returns-in-Ok-Some-clause-err : goal.returns-in-Ok-Some-clause-err
+returns-in-Ok-Some-clause-err g c =
+    let line = rw c.deref.ensures.value at (rw c.in-Ok-Some.field-0-is at c.in-Ok-Some.ensures.ok) in
+    IfErr-weaker c.write_answer.result _ _
+    (λ kind h. (h.0, Halts-event kind _ _ _ _ _ _ line.0 line.1 line.2 c.apply-outcome.ensures h.1, h.2)) c.write_answer.ensures.err

@@ -1,0 +1,13 @@
+use Rattle.std.proofs.Common.{◌≡◌, ◌-◌, ◌≤◌, length, take}
+use Rattle.labntp_jobs.specs.Watched.{has_failed, Wrote}
+use Rattle.labntp_jobs.proofs.watch.Watched.write_all.Given as goal
+
+abbrev pub invariant-loop-at : goal.invariant-loop-at
+invariant-loop-at g l = record {
+  within : l.at ≤ length l.octets;
+  well : has_failed l.self ≡ has_failed l.fn.self;
+  written : Wrote g.W.Write.contents l.fn.self l.self (take l.at l.octets);
+}
+
+abbrev pub decreases-loop-at : goal.decreases-loop-at
+decreases-loop-at g l = length l.octets - l.at

@@ -1,0 +1,70 @@
+//! What a replay ends with.
+ghost use Rattle.std.specs.Prelude.{◌≡◌, ◌⊎◌, ℕ, List, true, false, IfSome};
+ghost use Rattle.labntp_jobs.specs.Replay.{most_reads};
+ghost use Rattle.labntp_jobs.specs.Watched.{inner_of, has_failed, read_count, Wrote};
+ghost use Rattle.labntp_jobs.specs.Ends.{Ends, status_of};
+
+use crate::{ReplayFault, ReplayFaultKind, Watched, replay};
+use ntp_admin::{DONE, IO_FAILED, TEXT_FAULTY, fault_word, memory_status, write_status};
+use ntp_service::LineFault;
+use std::alloc::Allocator;
+use std::io::{Read, Write};
+
+/// Replays a script from a reader to a writer. A fault is told in one line to `faults`, where a failed write
+/// is passed over.
+///
+/// Gives the exit status: 0 only where the whole script was replayed, 1 only where its text has a fault, 3 only
+/// where a read or a write failed or the reads ran out, and 4 for want of memory.
+pub fn replay_status<A: Allocator + Copy, R: Read, W: Write, F: Write>(
+    alloc: A,
+    reader: &mut Watched<R>,
+    writer: &mut Watched<W>,
+    faults: &mut F,
+) -> u8
+    requires reader_well { has_failed reader.old ≡ false }
+    requires unread { read_count reader.old ≡ 0 }
+    requires writer_well { has_failed writer.old ≡ false }
+
+    // What the status says of the script, and what was written.
+    ensures ends { IfSome (R.remaining (inner_of reader.old)) (λ text. (written : List ℕ)
+        × Ends A text written result × Wrote W.contents writer.old writer.new written) }
+
+    // Whatever the reader and the writer tell.
+    ensures done { result ≡ 0 → (has_failed reader.new ≡ false) × (has_failed writer.new ≡ false) }
+    ensures failed { result ≡ 3 → (has_failed reader.new ≡ true) ⊎ (read_count reader.new ≡ most_reads) ⊎ (has_failed writer.new ≡ true) }
+{
+    match replay(alloc, reader, writer) {
+        Ok(()) => DONE,
+        Err(fault) => tell(fault, faults),
+    }
+}
+
+// Tells a fault, and gives its status.
+fn tell<F: Write>(fault: ReplayFault, faults: &mut F) -> u8
+    ensures { result ≡ status_of fault.kind }
+{
+    let line = fault.line;
+    match fault.kind {
+        ReplayFaultKind::Line(LineFault::NoMemory) | ReplayFaultKind::NoMemory => {
+            memory_status(faults)
+        }
+        ReplayFaultKind::Line(line_fault) => {
+            let word = fault_word(line_fault);
+            let _ = writeln!(faults, "line {line}: {word}");
+            TEXT_FAULTY
+        }
+        ReplayFaultKind::LineLong => {
+            let _ = writeln!(faults, "line {line}: long");
+            TEXT_FAULTY
+        }
+        ReplayFaultKind::NotUtf8 => {
+            let _ = writeln!(faults, "line {line}: not utf-8");
+            TEXT_FAULTY
+        }
+        ReplayFaultKind::Read => {
+            let _ = writeln!(faults, "read");
+            IO_FAILED
+        }
+        ReplayFaultKind::Write => write_status(faults),
+    }
+}

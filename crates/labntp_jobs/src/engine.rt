@@ -1,0 +1,144 @@
+//! The engine of a replay: octets in, answer lines out.
+ghost use Rattle.std.specs.Prelude.{◌≡◌, ◌≢◌, ℕ, ◌+◌, ◌≤◌, ◌<◌, ◌^◌, List, [], ◌∷◌, ◌++◌, length, vec_len, All, OnOk, IfOk, IfErr};
+ghost use Rattle.labntp_jobs.specs.Script.{most_line_octets, lines_of};
+ghost use Rattle.labntp_jobs.specs.Lines.{IsPastReading};
+ghost use Rattle.labntp_jobs.specs.Watched.{has_failed, Wrote};
+
+use crate::faults::{ReplayFault, ReplayFaultKind};
+use crate::lines::{judge, write_answer};
+use crate::watch::Watched;
+use ntp_service::Service;
+use std::alloc::Allocator;
+use std::io::Write;
+
+// How many octets a line has at most, without its line feed (profile).
+const MOST_LINE_OCTETS: usize = 4096;
+
+/// A service that is fed a script, and has the line that has begun.
+#[derive(Drop)]
+pub(crate) struct Engine<A: Allocator> {
+    service: Service<A>,
+    // The octets of the line that has begun.
+    line: Vec<u8, A>,
+    // How many lines are done.
+    done: u64,
+    ghost within: { vec_len line ≤ most_line_octets },
+    ghost unbroken: { All (λ x. x ≢ 10) line.items },
+}
+
+impl<A: Allocator + Copy> Engine<A> {
+    ghost use Rattle.labntp_jobs.specs.Engine.{Answers, Halts, IsUnfed, Fed, Stops};
+
+    // An engine with no customers.
+    pub(crate) fn new(alloc: A) -> Engine<A>
+        ensures { IsUnfed result }
+    {
+        Engine {
+            service: Service::new(alloc),
+            line: Vec::new(alloc),
+            done: 0,
+        }
+    }
+
+    // The fault that names the line behind those that are done.
+    pub(crate) fn fault(&self, kind: ReplayFaultKind) -> ReplayFault
+        requires { self.now.done + 1 < 2 ^ 64 }
+        ensures { result ≡ record { line = self.now.done + 1; kind = kind } }
+    {
+        ReplayFault {
+            line: self.done + 1,
+            kind,
+        }
+    }
+
+    // Answers the line that has begun, and leaves it as it is.
+    fn answer<W: Write>(&mut self, writer: &mut Watched<W>) -> Result<(), ReplayFaultKind>
+        ensures ok { OnOk result ((written : List ℕ) × Answers A self.old.service (self.old.line.items ∷ []) written self.new.service
+            × Wrote W.contents writer.old writer.new written) }
+        ensures well { OnOk result (has_failed writer.new ≡ has_failed writer.old) }
+        ensures same { self.new.done ≡ self.old.done }
+        ensures err { IfErr result (λ kind. (part : List ℕ) × Halts A kind self.old.service (self.old.line.items ∷ []) part
+            × Wrote W.contents writer.old writer.new part) }
+        ensures past_reading { IfErr result (IsPastReading (has_failed writer.new)) }
+    {
+        let alloc = self.service.allocator();
+        match judge(alloc, &self.line) {
+            Err(kind) => Err(kind),
+            Ok(None) => Ok(()),
+            Ok(Some(event)) => {
+                let outcome = self.service.apply(&event);
+                write_answer(alloc, &outcome, writer)
+            }
+        }
+    }
+
+    // Takes one octet.
+    fn take_octet<W: Write>(
+        &mut self,
+        octet: u8,
+        writer: &mut Watched<W>,
+    ) -> Result<(), ReplayFaultKind>
+        requires { self.old.done + 1 < 2 ^ 64 }
+        ensures ok { OnOk result ((written : List ℕ) × Fed self.old self.new (octet ∷ []) written
+            × Wrote W.contents writer.old writer.new written) }
+        ensures well { OnOk result (has_failed writer.new ≡ has_failed writer.old) }
+        ensures bound { self.new.done ≤ self.old.done + 1 }
+        ensures err { IfErr result (λ kind. (written : List ℕ) × Stops kind self.old self.new (octet ∷ []) written
+            × Wrote W.contents writer.old writer.new written) }
+        ensures past_reading { IfErr result (IsPastReading (has_failed writer.new)) }
+    {
+        if octet == b'\n' {
+            self.answer(writer)?;
+            self.line.clear();
+            self.done += 1;
+            return Ok(());
+        }
+        if self.line.len() == MOST_LINE_OCTETS {
+            return Err(ReplayFaultKind::LineLong);
+        }
+        match self.line.push(octet) {
+            Ok(()) => Ok(()),
+            Err(_) => Err(ReplayFaultKind::NoMemory),
+        }
+    }
+
+    // Takes octets, one after another.
+    pub(crate) fn feed<W: Write>(
+        &mut self,
+        octets: &[u8],
+        writer: &mut Watched<W>,
+    ) -> Result<(), ReplayFaultKind>
+        requires { self.old.done + length octets.now < 2 ^ 64 }
+        ensures ok { OnOk result ((written : List ℕ) × Fed self.old self.new octets.now written
+            × Wrote W.contents writer.old writer.new written) }
+        ensures well { OnOk result (has_failed writer.new ≡ has_failed writer.old) }
+        ensures bound { self.new.done ≤ self.old.done + length octets.now }
+        ensures err { IfErr result (λ kind. (written : List ℕ) × Stops kind self.old self.new octets.now written
+            × Wrote W.contents writer.old writer.new written) }
+        ensures past_reading { IfErr result (IsPastReading (has_failed writer.new)) }
+    {
+        for octet in octets {
+            self.take_octet(*octet, writer)?;
+        }
+        Ok(())
+    }
+
+    // Answers the last line, where no line feed ended it.
+    pub(crate) fn finish<W: Write>(
+        &mut self,
+        writer: &mut Watched<W>,
+    ) -> Result<(), ReplayFaultKind>
+        ensures ok { OnOk result ((written : List ℕ) × Answers A self.old.service (lines_of self.old.line.items) written self.new.service
+            × Wrote W.contents writer.old writer.new written) }
+        ensures well { OnOk result (has_failed writer.new ≡ has_failed writer.old) }
+        ensures same { self.new.done ≡ self.old.done }
+        ensures err { IfErr result (λ kind. (part : List ℕ) × Halts A kind self.old.service (lines_of self.old.line.items) part
+            × Wrote W.contents writer.old writer.new part) }
+        ensures past_reading { IfErr result (IsPastReading (has_failed writer.new)) }
+    {
+        if self.line.is_empty() {
+            return Ok(());
+        }
+        self.answer(writer)
+    }
+}

@@ -1,0 +1,133 @@
+//! Who is enrolled.
+
+use crate::differing::differences;
+use crate::places::FilesNamed;
+use crate::reported::{Reported, reported_in, reported_text};
+use crate::standing::{Standing, standing_at};
+use crate::table::write_table;
+use labntpd_assembly::{configuration_at, start_lines};
+use labntpd_files::Configuration;
+use ntp_admin::{DONE, memory_status, write_status};
+use ntp_reports::customer_line;
+use std::alloc::{AllocError, Global};
+use std::io::Write;
+
+/// Tells who is enrolled, and gives the exit status. A fault is told in one line.
+pub fn customers_status(rt: &HostRuntime, files: FilesNamed<'_>, json: bool) -> u8 {
+    match listed(rt, files, json) {
+        Ok(()) => DONE,
+        Err(status) => status,
+    }
+}
+
+// Tells who is enrolled.
+fn listed(rt: &HostRuntime, files: FilesNamed<'_>, json: bool) -> Result<(), u8> {
+    match files {
+        FilesNamed::Each { register, commands } => listed_by(rt, register, commands, json),
+        FilesNamed::Configured(path) => {
+            let configuration = configuration_at(rt, rt.alloc(), path, &mut start_lines(rt))?;
+            listed_for(rt, &configuration, json)
+        }
+    }
+}
+
+// Tells whom the files alone have.
+fn listed_by(
+    rt: &HostRuntime,
+    register: &str,
+    commands: Option<&str>,
+    json: bool,
+) -> Result<(), u8> {
+    let text = lines_by(rt, register, commands)?;
+    write_lines(rt, text.as_str(), json)
+}
+
+// Tells whom the daemon has, and in which its file and the others differ; where it has no file, whom the others have.
+fn listed_for(rt: &HostRuntime, configuration: &Configuration, json: bool) -> Result<(), u8> {
+    let register = configuration.register.as_str();
+    let commands = configuration.commands.as_str();
+    match reported_by(rt, configuration)? {
+        Some(text) => {
+            write_lines(rt, text.as_str(), json)?;
+            compare(rt, text.as_str(), register, commands);
+            Ok(())
+        }
+        None => listed_by(rt, register, Some(commands), json),
+    }
+}
+
+// The text of the daemon's customers file, if one is named and there.
+fn reported_by(rt: &HostRuntime, configuration: &Configuration) -> Result<Option<String>, u8> {
+    match &configuration.customers {
+        Some(path) => reported_text(rt, path.as_str()),
+        None => Ok(None),
+    }
+}
+
+// Writes the lines of customers, as they are or as a table.
+fn write_lines(rt: &HostRuntime, text: &str, json: bool) -> Result<(), u8> {
+    let written = if json {
+        rt.stdout().write_all(text.as_bytes())
+    } else {
+        write_table(rt, text)?
+    };
+    match written {
+        Ok(()) => Ok(()),
+        Err(_) => Err(write_status(&mut start_lines(rt))),
+    }
+}
+
+// Tells in which the daemon's file and the others differ. Where these have a fault, that is told.
+fn compare(rt: &HostRuntime, text: &str, register: &str, commands: &str) {
+    let mut faults = start_lines(rt);
+    let Ok(daemon) = reported_in(rt, text) else {
+        return;
+    };
+    let Ok(files) = standing_at(rt, rt.alloc(), register, Some(commands), &mut faults) else {
+        return;
+    };
+    tell_differences(rt, &daemon, &files);
+}
+
+// Tells each difference between the daemon's customers and those of the files.
+fn tell_differences(rt: &HostRuntime, daemon: &[Reported], files: &Standing) {
+    let mut faults = start_lines(rt);
+    match differences(rt.alloc(), daemon, files) {
+        Ok(lines) => {
+            for line in lines.as_str().lines() {
+                let _ = writeln!(faults, "{line}");
+            }
+        }
+        Err(_) => {
+            memory_status(&mut faults);
+        }
+    }
+}
+
+// The lines of the customers by their files alone.
+fn lines_by(rt: &HostRuntime, register: &str, commands: Option<&str>) -> Result<String, u8> {
+    let mut faults = start_lines(rt);
+    let standing = standing_at(rt, rt.alloc(), register, commands, &mut faults)?;
+    match customer_lines(rt.alloc(), &standing) {
+        Ok(text) => Ok(text),
+        Err(_) => Err(memory_status(&mut faults)),
+    }
+}
+
+// The line of each customer.
+fn customer_lines(alloc: Global, standing: &Standing) -> Result<String, AllocError> {
+    let mut octets = Vec::new(alloc);
+    for place in 0..standing.counts.len() {
+        let Some((address, report)) = standing.counts.nth(place) else {
+            break;
+        };
+        if let Some(customer) = standing.service.customer(*address) {
+            let line = customer_line(alloc, *address, customer, report)?;
+            octets.extend_from_slice(&line)?;
+        }
+    }
+    match String::from_utf8(octets) {
+        Ok(text) => Ok(text),
+        Err(_) => Ok(String::new(alloc)),
+    }
+}

@@ -1,0 +1,22 @@
+//! What a fault gives: it is told in one line, and gives the exit status.
+
+use labntpd_assembly::start_lines;
+use ntp_admin::{failed_status, memory_status};
+use std::alloc::AllocError;
+use std::io;
+
+/// What was made; else the exit status for want of memory.
+pub fn made<T>(rt: &HostRuntime, made: Result<T, AllocError>) -> Result<T, u8> {
+    match made {
+        Ok(made) => Ok(made),
+        Err(_) => Err(memory_status(&mut start_lines(rt))),
+    }
+}
+
+/// What the system gave under a name, as a path; else the exit status of its error.
+pub fn judged<T>(rt: &HostRuntime, name: &str, answer: io::Result<T>) -> Result<T, u8> {
+    match answer {
+        Ok(given) => Ok(given),
+        Err(error) => Err(failed_status(name, &error, &mut start_lines(rt))),
+    }
+}

@@ -1,0 +1,229 @@
+//! A change of a customer: one line of commands, appended while no other clerk appends, and the daemon's answer to it.
+
+use crate::commands_file::HeldFile;
+use crate::customer_file::{listening, text_for, usual_path, write_new};
+use crate::deciding::{Decided, decide};
+use crate::faults::{judged, made};
+use crate::ordered::{Change, Ordered};
+use crate::retiring::is_wanted;
+use crate::waiting::{GOOD, answer_in_time, is_answered};
+use labntpd_assembly::{configuration_at, start_lines};
+use labntpd_files::Configuration;
+use ntp_admin::{Command, DONE, IO_FAILED, TEXT_FAULTY, write_status};
+use std::alloc::{AllocError, Global};
+use std::fmt::Display;
+use std::fs;
+use std::io::{self, Write};
+
+/// Makes a change, tells what came of it, and gives the exit status. A fault is told in one line.
+pub fn order_status(rt: &HostRuntime, asked: &Ordered<'_>) -> u8 {
+    match ordered(rt, asked) {
+        Ok(status) | Err(status) => status,
+    }
+}
+
+// Makes a change, or only shows its line.
+fn ordered(rt: &HostRuntime, asked: &Ordered<'_>) -> Result<u8, u8> {
+    let configuration = configuration_at(rt, rt.alloc(), asked.config, &mut start_lines(rt))?;
+    if asked.dry_run {
+        return only_shown(rt, asked, &configuration);
+    }
+    match confirmed(rt, asked, &configuration)? {
+        Some(asked) => carried_out(rt, &asked, &configuration),
+        None => Ok(TEXT_FAULTY),
+    }
+}
+
+// Shows the line of a change.
+fn only_shown(
+    rt: &HostRuntime,
+    asked: &Ordered<'_>,
+    configuration: &Configuration,
+) -> Result<u8, u8> {
+    show(rt, &decide(rt, asked, configuration)?)?;
+    Ok(DONE)
+}
+
+// Makes a change that is confirmed, and waits for the answer to it.
+fn carried_out(
+    rt: &HostRuntime,
+    asked: &Ordered<'_>,
+    configuration: &Configuration,
+) -> Result<u8, u8> {
+    let files = made(rt, answers_files(rt.alloc(), asked, configuration))?;
+    let appended = append(rt, asked, configuration, &files)?;
+    tell_appended(rt, &appended)?;
+    let number = appended.decided.number;
+    if appended.is_answered {
+        return Ok(not_answered(rt, number));
+    }
+    match made(
+        rt,
+        answer_in_time(rt, rt.alloc(), &files, number, asked.wait),
+    )? {
+        Some(answer) => told_answer(rt, &appended, answer.as_str()),
+        None => Ok(not_answered(rt, number)),
+    }
+}
+
+// A line that was appended.
+#[derive(Drop)]
+struct Appended {
+    decided: Decided,
+    // The path of what the customer gets, if it gets a key.
+    given: Option<String>,
+    // Whether an answer to a line of its number stood there before, which is none to it.
+    is_answered: bool,
+}
+
+// Appends the line of a change, while no other clerk appends.
+fn append(
+    rt: &HostRuntime,
+    asked: &Ordered<'_>,
+    configuration: &Configuration,
+    files: &[&str],
+) -> Result<Appended, u8> {
+    let path = configuration.commands.as_str();
+    let mut held = judged(rt, path, HeldFile::hold(rt, path))?;
+    let decided = decide(rt, asked, configuration)?;
+    let is_answered = made(rt, is_answered(rt, rt.alloc(), files, decided.number))?;
+    let given = give(rt, asked, configuration, &decided)?;
+    judged(rt, path, append_line(rt, &mut held, &decided, &given))?;
+    Ok(Appended {
+        decided,
+        given,
+        is_answered,
+    })
+}
+
+// Appends a line to the commands file, and has the system store it. Where it is not appended, what was written for the customer goes.
+fn append_line(
+    rt: &HostRuntime,
+    held: &mut HeldFile,
+    decided: &Decided,
+    given: &Option<String>,
+) -> io::Result<()> {
+    match held.append(decided.octets, decided.line.as_str()) {
+        Ok(()) => held.store(),
+        Err(error) => {
+            take_back(rt, given);
+            Err(error)
+        }
+    }
+}
+
+// A change, once it is confirmed: a clerk is asked before a key is retired, while others may append.
+fn confirmed<'a>(
+    rt: &HostRuntime,
+    asked: &Ordered<'a>,
+    configuration: &Configuration,
+) -> Result<Option<Ordered<'a>>, u8> {
+    if !matches!(asked.change, Change::Retire { asks: true, .. }) {
+        return Ok(Some(*asked));
+    }
+    let Command::Retire { number, .. } = decide(rt, asked, configuration)?.command else {
+        return Ok(Some(*asked));
+    };
+    if !is_wanted(rt, configuration, asked.address, number)? {
+        return Ok(None);
+    }
+    let change = Change::Retire {
+        number: Some(number),
+        asks: false,
+    };
+    Ok(Some(Ordered { change, ..*asked }))
+}
+
+// Shows the line, without its key.
+fn show(rt: &HostRuntime, decided: &Decided) -> Result<(), u8> {
+    let (number, shown) = (decided.number, decided.shown.as_str());
+    tell(rt, format_args!("line {number}: {shown}"))
+}
+
+/// Writes to standard output; where that fails, the exit status.
+pub fn tell<D: Display + Drop>(rt: &HostRuntime, said: D) -> Result<(), u8> {
+    match write!(rt.stdout(), "{said}") {
+        Ok(()) => Ok(()),
+        Err(_) => Err(write_status(&mut start_lines(rt))),
+    }
+}
+
+// The paths of the answers files in which an answer is waited for.
+fn answers_files<'a>(
+    alloc: Global,
+    asked: &Ordered<'a>,
+    configuration: &'a Configuration,
+) -> Result<Vec<&'a str>, AllocError> {
+    let mut paths = Vec::new(alloc);
+    match (asked.answers, &configuration.answers) {
+        (Some(word), _) => {
+            for path in word.split(',') {
+                paths.push(path)?;
+            }
+        }
+        (None, Some(path)) => paths.push(path.as_str())?,
+        (None, None) => {}
+    }
+    Ok(paths)
+}
+
+// Writes what the customer gets, if it gets a key, and gives the path.
+fn give(
+    rt: &HostRuntime,
+    asked: &Ordered<'_>,
+    configuration: &Configuration,
+    decided: &Decided,
+) -> Result<Option<String>, u8> {
+    let (Some(number), Some(key)) = (decided.command.number_wanted(), decided.key) else {
+        return Ok(None);
+    };
+    let path = match asked.output {
+        Some(path) => String::from_str(rt.alloc(), path),
+        None => usual_path(rt.alloc(), asked.address, number),
+    };
+    let path = made(rt, path)?;
+    let server = asked.server.or(listening(configuration));
+    let text = made(rt, text_for(rt.alloc(), asked.address, number, key, server))?;
+    judged(
+        rt,
+        path.as_str(),
+        write_new(rt, path.as_str(), text.as_str()),
+    )?;
+    Ok(Some(path))
+}
+
+// Takes back what the customer does not get.
+fn take_back(rt: &HostRuntime, given: &Option<String>) {
+    if let Some(path) = given {
+        let _ = fs::remove_file(rt, path.as_str());
+    }
+}
+
+// Tells which line was appended, and where that stands which the customer gets.
+fn tell_appended(rt: &HostRuntime, appended: &Appended) -> Result<(), u8> {
+    show(rt, &appended.decided)?;
+    match &appended.given {
+        None => Ok(()),
+        Some(path) => tell(rt, format_args!("for the customer: {path}\n")),
+    }
+}
+
+// Tells the answer of the daemon, and gives the exit status.
+fn told_answer(rt: &HostRuntime, appended: &Appended, answer: &str) -> Result<u8, u8> {
+    let number = appended.decided.number;
+    tell(rt, format_args!("line {number}: {answer}\n"))?;
+    if answer == GOOD {
+        return Ok(DONE);
+    }
+    take_back(rt, &appended.given);
+    Ok(TEXT_FAULTY)
+}
+
+// Tells that no answer came, and gives the exit status.
+fn not_answered(rt: &HostRuntime, number: u64) -> u8 {
+    let _ = writeln!(
+        start_lines(rt),
+        "line {number}: no answer; where labntpd does not run, it carries the line out at its next start"
+    );
+    IO_FAILED
+}

@@ -1,0 +1,27 @@
+//! The lines that are told before the daemon serves.
+
+use ntp_admin::failed_status;
+use ntp_host::{LogForm, StartLines, form_for};
+use std::env;
+use std::io::{self, Stderr};
+
+/// What is told on standard error before the daemon serves.
+pub fn start_lines(rt: &HostRuntime) -> StartLines<Stderr> {
+    StartLines::new(rt.stderr(), log_form(rt))
+}
+
+/// How lines of the log begin.
+pub fn log_form(rt: &HostRuntime) -> LogForm {
+    match env::var(rt, "JOURNAL_STREAM") {
+        Ok(stream) => form_for(rt, stream.as_str()),
+        Err(_) => LogForm::Plain,
+    }
+}
+
+/// What a call of this name gave, or the exit status where it failed, which is told.
+pub(crate) fn judged<T>(rt: &HostRuntime, name: &str, answer: io::Result<T>) -> Result<T, u8> {
+    match answer {
+        Ok(made) => Ok(made),
+        Err(error) => Err(failed_status(name, &error, &mut start_lines(rt))),
+    }
+}

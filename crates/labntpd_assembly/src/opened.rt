@@ -1,0 +1,70 @@
+//! What the daemon works with beside its socket: who answers lines of commands, and where the clock's state comes from.
+
+use crate::lines::judged;
+use crate::prepared::Beginning;
+use labntpd_files::{ClockSource as ConfiguredClock, Configuration, Listen};
+use ntp_host::{ClockSource, FollowedClock, HostClocks, emptied_file};
+use ntp_port::QueueWatch;
+use ntp_reports::AnswerLines;
+use std::alloc::Global;
+use std::fs::File;
+use std::io::{self, LineWriter};
+use std::net::{Ipv4Addr, SocketAddrV4, UdpSocket};
+
+/// Who answers lines of commands, into a file that is made empty, where the configuration names one. Each line is written in one piece.
+pub fn answers_file(
+    rt: &HostRuntime,
+    alloc: Global,
+    configuration: &Configuration,
+) -> Result<Option<AnswerLines<LineWriter<File>>>, u8> {
+    match &configuration.answers {
+        None => Ok(None),
+        Some(path) => {
+            let file = judged(rt, path.as_str(), emptied_file(rt, path.as_str()))?;
+            let lines = judged(rt, path.as_str(), LineWriter::new(alloc, file))?;
+            Ok(Some(AnswerLines::new(lines)))
+        }
+    }
+}
+
+/// Where the state of the clock comes from.
+pub fn clock_source<'a>(
+    rt: &'a HostRuntime,
+    clocks: &'a HostClocks,
+    configuration: &Configuration,
+    beginning: &mut Beginning,
+) -> Result<ClockSource<'a, &'a HostRuntime>, u8> {
+    let ConfiguredClock::Daemon(daemon) = &configuration.clock else {
+        return Ok(ClockSource::Fixed(beginning.loaded.reference));
+    };
+    let address = daemon.source.socket_address();
+    let Some(follower) = beginning.follower.take() else {
+        return Ok(ClockSource::Fixed(beginning.loaded.reference));
+    };
+    let socket = judged(rt, "clock.source", connected(rt, address))?;
+    let followed = FollowedClock::new(socket, rt, clocks, follower);
+    Ok(ClockSource::Followed(followed))
+}
+
+// A socket that is connected to an address and does not wait.
+fn connected(rt: &HostRuntime, address: SocketAddrV4) -> io::Result<UdpSocket> {
+    let socket = UdpSocket::bind(rt, SocketAddrV4::new(Ipv4Addr::UNSPECIFIED, 0))?;
+    socket.connect(address)?;
+    socket.set_nonblocking(true)?;
+    Ok(socket)
+}
+
+/// What is known of the queue of a socket that is opened from now on.
+pub fn watch_from_now(
+    rt: &HostRuntime,
+    clocks: &HostClocks,
+    configuration: &Configuration,
+) -> QueueWatch {
+    let mut watch = QueueWatch::new(configuration.longest_wait);
+    let now = clocks.read(&rt);
+    // What stands in the queue of a socket that was handed down may have come long ago.
+    if matches!(configuration.listen, Listen::Bound(_)) {
+        watch.saw(0, now);
+    }
+    watch
+}

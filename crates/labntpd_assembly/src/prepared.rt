@@ -1,0 +1,219 @@
+//! What a server begins with, read from its files.
+
+use crate::places::{judge_places, tell_readers};
+use crate::register_faults::register_status;
+use labntpd_files::{
+    ClockDaemon, ClockSource, Configuration, ConfigurationFault, key_in_file, read_configuration,
+};
+use ntp_admin::{
+    Loaded, MOST_FILE_OCTETS, TEXT_FAULTY, failed_status, load_register, memory_status,
+    read_register,
+};
+use ntp_client::{ClockLimits, Follower};
+use ntp_host::{StartLines, read_regular_file};
+use ntp_packet::Short;
+use ntp_reports::CustomerCounts;
+use ntp_service::Command;
+use sha2::{Digest, Sha256};
+use std::alloc::Global;
+use std::fs::Files;
+use std::io::Write;
+
+/// How many octets a configuration file and a key file have at most (profile).
+const MOST_SMALL_FILE_OCTETS: u32 = 65_536;
+
+/// What is wanted in the file of the clock's key.
+pub const KEY_LINE_WANTED: &str = "one line of 2 to 64 hexadecimal digits is wanted";
+
+/// A configuration, and what a server begins with by it.
+#[derive(Drop)]
+pub struct Prepared {
+    pub configuration: Configuration,
+    pub beginning: Beginning,
+}
+
+/// What a server begins with.
+#[derive(Drop)]
+pub struct Beginning {
+    pub loaded: Loaded,
+    /// How many customers the register file enrols.
+    pub customers: u64,
+    /// What is reported of each of them, where the configuration asks for it.
+    pub reports: Option<CustomerCounts>,
+    /// Who follows the host's clock daemon, where it is asked.
+    pub follower: Option<Follower>,
+    /// The SHA-256 digests of the configuration file and of the register file.
+    pub digests: [[u8; 32]; 2],
+}
+
+/// A register file that was read.
+#[derive(Drop)]
+pub struct ReadRegister {
+    /// The service that has its customers, and the state of the clock that it names.
+    pub loaded: Loaded,
+    /// Its enrolments, in file order.
+    pub commands: Vec<Command>,
+    /// The SHA-256 digest of its octets.
+    pub digest: [u8; 32],
+}
+
+/// Reads the configuration file at a path, and the register and the key file that it names. A fault is told in one line to `faults`,
+/// where a failed write is passed over, and gives the exit status. Files with keys that others may read are told too.
+pub fn prepare<R: Files, F: Write + Drop>(
+    files: &R,
+    alloc: Global,
+    path: &str,
+    faults: &mut StartLines<F>,
+) -> Result<Prepared, u8> {
+    let text = small_text(files, alloc, path, faults)?;
+    let configuration = configuration_in(alloc, path, text.as_str(), faults)?;
+    judge_places(files, alloc, path, &configuration, faults)?;
+    let follower = match &configuration.clock {
+        ClockSource::Fixed => None,
+        ClockSource::Daemon(daemon) => Some(follower(files, alloc, daemon, faults)?),
+    };
+    let register_path = configuration.register.as_str();
+    let register = register_at(files, alloc, register_path, faults)?;
+    tell_readers(files, register_path, faults);
+    tell_readers(files, configuration.commands.as_str(), faults);
+    let reports = reports_of(alloc, &configuration, &register.commands);
+    if reports.as_ref().is_some_and(|reports| reports.has_missed()) {
+        return Err(memory_status(faults));
+    }
+    Ok(Prepared {
+        configuration,
+        beginning: Beginning {
+            customers: register.commands.len() as u64,
+            reports,
+            loaded: register.loaded,
+            follower,
+            digests: [Sha256::digest(text.as_bytes()), register.digest],
+        },
+    })
+}
+
+/// The configuration of the file at a path, and nothing that it names. A fault is told in one line to `faults`, and gives the exit
+/// status.
+pub fn configuration_at<R: Files, F: Write>(
+    files: &R,
+    alloc: Global,
+    path: &str,
+    faults: &mut F,
+) -> Result<Configuration, u8> {
+    let text = small_text(files, alloc, path, faults)?;
+    configuration_in(alloc, path, text.as_str(), faults)
+}
+
+/// The register file at a path. A fault is told in one line to `faults`, and gives the exit status.
+pub fn register_at<R: Files, F: Write>(
+    files: &R,
+    alloc: Global,
+    path: &str,
+    faults: &mut F,
+) -> Result<ReadRegister, u8> {
+    let register = match read_regular_file(files, alloc, path, MOST_FILE_OCTETS as u32) {
+        Ok(octets) => octets,
+        Err(error) => return Err(failed_status(path, &error, faults)),
+    };
+    let loaded = match load_register(alloc, &register) {
+        Ok(loaded) => loaded,
+        Err(fault) => return Err(register_status(alloc, path, &register, fault, faults)),
+    };
+    let Some(commands) = commands_in(alloc, &register) else {
+        return Err(memory_status(faults));
+    };
+    Ok(ReadRegister {
+        loaded,
+        commands,
+        digest: Sha256::digest(&register),
+    })
+}
+
+// The configuration of a text.
+fn configuration_in<F: Write>(
+    alloc: Global,
+    path: &str,
+    text: &str,
+    faults: &mut F,
+) -> Result<Configuration, u8> {
+    match read_configuration(alloc, text) {
+        Ok(configuration) => Ok(configuration),
+        Err(ConfigurationFault::NoMemory) => Err(memory_status(faults)),
+        Err(fault) => {
+            let _ = writeln!(faults, "{path}: {fault}");
+            Err(TEXT_FAULTY)
+        }
+    }
+}
+
+// The enrolments of a register file that was loaded; none where memory ran out.
+fn commands_in(alloc: Global, register: &[u8]) -> Option<Vec<Command>> {
+    let text = str::from_utf8(register).ok()?;
+    read_register(alloc, text).ok()
+}
+
+// What is reported of the customers that these commands enrolled, where a configuration asks for it.
+fn reports_of(
+    alloc: Global,
+    configuration: &Configuration,
+    commands: &[Command],
+) -> Option<CustomerCounts> {
+    if configuration.customers.is_none() {
+        return None;
+    }
+    let mut reports = CustomerCounts::new(alloc);
+    for command in commands {
+        reports.enrolled_at_start(command);
+    }
+    Some(reports)
+}
+
+// Who follows the clock daemon of a configuration, with the key of its key file.
+fn follower<R: Files, F: Write + Drop>(
+    files: &R,
+    alloc: Global,
+    daemon: &ClockDaemon,
+    faults: &mut StartLines<F>,
+) -> Result<Follower, u8> {
+    let path = daemon.key_file.as_str();
+    let text = small_text(files, alloc, path, faults)?;
+    let Some(key) = key_in_file(&text, daemon.algorithm) else {
+        let _ = writeln!(faults, "{path}: {KEY_LINE_WANTED}");
+        return Err(TEXT_FAULTY);
+    };
+    let limits = ClockLimits {
+        valid_for: daemon.valid_for,
+        most_root_distance: Short(daemon.most_root_distance),
+        most_reference_age: u64::from(daemon.most_reference_age),
+        most_step: daemon.most_step,
+    };
+    tell_readers(files, path, faults);
+    Ok(Follower::new(key, daemon.number.get(), limits))
+}
+
+/// The text of a file that has at most 65,536 octets. A fault is told in one line to `faults`, and gives the exit status.
+pub fn small_text<R: Files, F: Write>(
+    files: &R,
+    alloc: Global,
+    path: &str,
+    faults: &mut F,
+) -> Result<String, u8> {
+    let octets = match read_regular_file(files, alloc, path, MOST_SMALL_FILE_OCTETS) {
+        Ok(octets) => octets,
+        Err(error) => return Err(failed_status(path, &error, faults)),
+    };
+    if octets.len() > MOST_SMALL_FILE_OCTETS as usize {
+        let _ = writeln!(
+            faults,
+            "{path}: at most {MOST_SMALL_FILE_OCTETS} octets are wanted"
+        );
+        return Err(TEXT_FAULTY);
+    }
+    match String::from_utf8(octets) {
+        Ok(text) => Ok(text),
+        Err(_) => {
+            let _ = writeln!(faults, "{path}: this is no UTF-8");
+            Err(TEXT_FAULTY)
+        }
+    }
+}

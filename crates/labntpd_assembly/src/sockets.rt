@@ -1,0 +1,103 @@
+//! The sockets of the daemon, opened or handed down.
+
+use crate::lines::{judged, start_lines};
+use labntpd_files::{Configuration, Listen};
+use ntp_admin::IO_FAILED;
+use ntp_host::{
+    BoundAt, LONGEST_WAIT, SOCKETS_ROOM, bound, inherited, is_of_other_protocol, receive_buffer,
+    set_receive_buffer, set_send_buffer,
+};
+use std::alloc::Global;
+use std::io::{self, ErrorKind, Write};
+use std::net::{SocketAddr, SocketAddrV4, UdpSocket};
+use std::os::unix::fs::MetadataExt;
+use std::time::Duration;
+use std::{env, fs, process};
+
+/// The socket that was handed down, among what this process has open (proc(5)).
+const INHERITED: &str = "/proc/self/fd/3";
+
+/// The socket that is bound as the configuration says, or that was handed down.
+pub fn open_socket(rt: &HostRuntime, alloc: Global, listen: Listen) -> Result<UdpSocket, u8> {
+    let made = match listen {
+        Listen::Bound(endpoint) => bind(rt, endpoint.socket_address()),
+        Listen::Inherited => handed_down(rt, alloc),
+    };
+    judged(rt, "listen", made)
+}
+
+/// Gives the socket its time limit and its buffers, and tells what is known of it.
+pub fn set_up(
+    rt: &HostRuntime,
+    socket: &UdpSocket,
+    configuration: &Configuration,
+) -> Result<BoundAt, u8> {
+    let limit = Duration::from_millis(u64::from(LONGEST_WAIT));
+    judged(rt, "listen", socket.set_read_timeout(Some(limit)))?;
+    // A socket that was handed down keeps its buffers, which may be larger than this process could have them made.
+    if matches!(configuration.listen, Listen::Bound(_)) {
+        let set = set_receive_buffer(socket, configuration.receive_buffer);
+        judged(rt, "receive_buffer", set)?;
+        let set = set_send_buffer(socket, configuration.send_buffer);
+        judged(rt, "send_buffer", set)?;
+    }
+    let buffer = judged(rt, "receive_buffer", receive_buffer(socket))?;
+    match judged(rt, "listen", socket.local_addr())? {
+        SocketAddr::V4(local) => Ok(BoundAt { local, buffer }),
+        SocketAddr::V6(_) => {
+            let _ = writeln!(start_lines(rt), "listen: an IPv4 socket is wanted");
+            Err(IO_FAILED)
+        }
+    }
+}
+
+// A socket at an address, where none was handed down to this process: that one would never be read.
+fn bind(rt: &HostRuntime, address: SocketAddrV4) -> io::Result<UdpSocket> {
+    match env::var(rt, "LISTEN_FDS") {
+        Ok(_) if is_ours(rt) => {
+            let fault = "a socket was handed down (LISTEN_FDS): \"inherited\" is wanted";
+            Err(io::Error::new(ErrorKind::InvalidInput, fault))
+        }
+        _ => bound(rt, address),
+    }
+}
+
+// The socket that was handed down to this process, and to no other.
+fn handed_down(rt: &HostRuntime, alloc: Global) -> io::Result<UdpSocket> {
+    if !is_ours(rt) {
+        let fault = "LISTEN_PID, the number of this process, is wanted: no socket is there";
+        return Err(io::Error::new(ErrorKind::InvalidInput, fault));
+    }
+    if !is_number(rt, "LISTEN_FDS", 1) {
+        let fault = "LISTEN_FDS = 1, for one socket that was handed down, is wanted";
+        return Err(io::Error::new(ErrorKind::InvalidInput, fault));
+    }
+    let socket = inherited()?;
+    if is_other(rt, alloc)? {
+        let fault = "a UDP socket is wanted";
+        return Err(io::Error::new(ErrorKind::InvalidInput, fault));
+    }
+    Ok(socket)
+}
+
+// Whether the kernel lists the socket that was handed down among those that are none of UDP.
+fn is_other(rt: &HostRuntime, alloc: Global) -> io::Result<bool> {
+    let mut room = Vec::with_capacity(alloc, SOCKETS_ROOM)?;
+    match fs::metadata(rt, INHERITED) {
+        Ok(metadata) => Ok(is_of_other_protocol(rt, metadata.ino(), &mut room)),
+        Err(_) => Ok(false),
+    }
+}
+
+// Whether what the environment says of sockets is meant for this process.
+fn is_ours(rt: &HostRuntime) -> bool {
+    is_number(rt, "LISTEN_PID", process::id(rt.process()))
+}
+
+// Whether a word of the environment is this number.
+fn is_number(rt: &HostRuntime, name: &str, number: u32) -> bool {
+    match env::var(rt, name) {
+        Ok(word) => word.parse() == Ok(number),
+        Err(_) => false,
+    }
+}

@@ -1,0 +1,11 @@
+pub mod Keys
+pub mod Values
+pub mod Settings
+pub mod Document
+pub mod KeyFile
+pub mod Faults
+pub mod Members
+pub mod KeyText
+pub mod Shown
+pub mod HardlyMeant
+pub mod CommandWords

@@ -1,0 +1,22 @@
+-- Which words are shown: no key of three octets or more.
+use Rattle.std.specs.Prelude.{ℕ, ◌==◌, ◌&&◌, ◌||◌, Bool, nat_le, nat_lt, List, length}
+use Rattle.std.specs.List.{list_all, filter}
+use Rattle.std.specs.Char.{is_ascii_digit}
+use Rattle.labntpd_files.specs.KeyText.{is_hexadecimal}
+
+-- how many octets are hexadecimal digits, and how many are dots
+abbrev pub digit_count : List ℕ → ℕ
+digit_count octets = length (filter is_hexadecimal octets)
+
+abbrev pub dot_count : List ℕ → ℕ
+dot_count octets = length (filter (λ octet. octet == 46) octets)
+
+-- what an address may be meant by, with a port: three dots and few octets (profile)
+abbrev pub is_of_address : List ℕ → Bool
+is_of_address octets = nat_le (length octets) 21 && nat_le 3 (dot_count octets)
+
+-- a word that may be shown (profile)
+abbrev pub is_plain : List ℕ → Bool
+is_plain word =
+    is_of_address word
+    || (nat_le (length word) 40 && (nat_lt (digit_count word) 6 && (nat_lt (digit_count word) (length word) || list_all is_ascii_digit word)))

@@ -1,0 +1,72 @@
+//! What is wrong with a configuration file.
+
+use crate::Setting;
+use std::alloc::AllocError;
+use std::fmt;
+
+/// The first thing that is wrong with a configuration file (profile): with its text, with the keys of its top level and
+/// then of `[clock]`, each in the order of their octets, then with a setting, in their order; or want of memory.
+#[derive(Drop)]
+pub enum ConfigurationFault {
+    /// The text is no TOML document, which shows in this line, counted from 1.
+    Toml { line: u64 },
+    /// There is no such key at the top level.
+    Unknown { key: String },
+    /// There is no such key in the table `[clock]`.
+    UnknownOfClock { key: String },
+    /// The setting is missing.
+    Missing { setting: Setting },
+    /// The setting has a value that is not wanted.
+    Wanted { setting: Setting },
+    /// Memory ran out.
+    NoMemory,
+}
+
+impl From<AllocError> for ConfigurationFault {
+    ghost use Rattle.std.specs.Prelude.{◌≡◌};
+    ghost use Rattle.labntpd_files.specs.declared.fault.ConfigurationFault.TheVariants.{NoMemory};
+
+    ghost from_gives = { λ _ fault. fault ≡ NoMemory };
+
+    fn from(_: AllocError) -> ConfigurationFault {
+        ConfigurationFault::NoMemory
+    }
+}
+
+/// The fault in one line, without a line feed.
+impl fmt::Display for ConfigurationFault {
+    fn fmt<W: fmt::Write>(&self, f: &mut fmt::Formatter<W>) -> fmt::Result {
+        match self {
+            ConfigurationFault::Toml { line } => write!(f, "line {line}: this is no TOML"),
+            ConfigurationFault::Unknown { key } => {
+                write_key(f, key.as_str())?;
+                f.write_str(": there is no such key")
+            }
+            ConfigurationFault::UnknownOfClock { key } => {
+                f.write_str("clock.")?;
+                write_key(f, key.as_str())?;
+                f.write_str(": there is no such key")
+            }
+            ConfigurationFault::Missing { setting } => {
+                write!(f, "{setting}: this key is missing: {}", setting.wanted())
+            }
+            ConfigurationFault::Wanted { setting } => write!(f, "{setting}: {}", setting.wanted()),
+            ConfigurationFault::NoMemory => f.write_str("memory ran out"),
+        }
+    }
+}
+
+// A key from the file. It may have any character, so those that could end the line or steer a terminal are escaped.
+fn write_key<W: fmt::Write>(f: &mut fmt::Formatter<W>, key: &str) -> fmt::Result {
+    if key.is_empty() {
+        return f.write_str("\"\"");
+    }
+    for character in key.chars() {
+        if character.is_ascii_graphic() {
+            f.write_char(character)?;
+        } else {
+            write!(f, "\\u{{{:x}}}", u32::from(character))?;
+        }
+    }
+    Ok(())
+}

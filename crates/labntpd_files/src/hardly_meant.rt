@@ -1,0 +1,114 @@
+//! What is no fault, but hardly meant.
+ghost use Rattle.std.specs.Prelude.{◌≡◌};
+ghost use Rattle.labntpd_files.specs.HardlyMeant.{hostless, key_warning, budget_warning};
+
+use ntp_mac::{Algorithm, Key};
+use ntp_service::Address;
+use std::fmt;
+
+/// Fewer octets than a key should have (profile).
+const FEW_OCTETS: usize = 16;
+
+/// The greatest budget that the rule of `examples/labntpd.nft` lets pass: 200 datagrams a second for 64 seconds.
+const DOOR_BUDGET: u16 = 12_800;
+
+/// Why no host sends from an address.
+#[derive(Clone, Copy, Debug, PartialEq, Eq)]
+pub enum NoHost {
+    /// Network 0 (RFC 1122, 3.2.1.3).
+    ThisNetwork,
+    /// A group (RFC 5771).
+    Multicast,
+    /// Networks 240 to 255 (RFC 1112, 4).
+    Reserved,
+    /// All hosts of a link (RFC 919, 7).
+    Broadcast,
+}
+
+/// What is hardly meant at a customer.
+#[derive(Clone, Copy, Debug, PartialEq, Eq)]
+pub enum HardlyMeant {
+    /// No host sends from the address.
+    Address(NoHost),
+    /// The key has few octets.
+    ShortKey(usize),
+    /// The key is for MD5.
+    Md5,
+    /// Two queries may fall into one window of 64 seconds.
+    SmallBudget,
+    /// The kernel's rule lets fewer queries pass.
+    LargeBudget(u16),
+}
+
+/// Why no host sends from an address, if none does.
+pub fn hostless(address: Address) -> Option<NoHost>
+    ensures { result ≡ hostless address }
+{
+    let Address([first, second, third, fourth]) = address;
+    if first == 0 {
+        Some(NoHost::ThisNetwork)
+    } else if first < 224 {
+        None
+    } else if first < 240 {
+        Some(NoHost::Multicast)
+    } else if first == 255 && second == 255 && third == 255 && fourth == 255 {
+        Some(NoHost::Broadcast)
+    } else {
+        Some(NoHost::Reserved)
+    }
+}
+
+/// What is hardly meant at a key: few octets, else that it is for MD5.
+pub fn key_warning(key: &Key) -> Option<HardlyMeant>
+    ensures { result ≡ key_warning key.now }
+{
+    let count = key.octet_count();
+    if count < FEW_OCTETS {
+        Some(HardlyMeant::ShortKey(count))
+    } else if key.algorithm() == Algorithm::Md5 {
+        Some(HardlyMeant::Md5)
+    } else {
+        None
+    }
+}
+
+/// What is hardly meant with a budget: 1, and what is more than the rule of `examples/labntpd.nft` lets pass.
+pub fn budget_warning(budget: u16) -> Option<HardlyMeant>
+    ensures { result ≡ budget_warning budget }
+{
+    if budget <= 1 {
+        Some(HardlyMeant::SmallBudget)
+    } else if budget > DOOR_BUDGET {
+        Some(HardlyMeant::LargeBudget(budget))
+    } else {
+        None
+    }
+}
+
+impl fmt::Display for HardlyMeant {
+    fn fmt<W: fmt::Write>(&self, f: &mut fmt::Formatter<W>) -> fmt::Result {
+        match self {
+            HardlyMeant::Address(NoHost::ThisNetwork) => {
+                f.write_str("no host sends from network 0")
+            }
+            HardlyMeant::Address(NoHost::Multicast) => {
+                f.write_str("no host sends from a multicast address")
+            }
+            HardlyMeant::Address(NoHost::Reserved) => {
+                f.write_str("no host sends from network 240/4, which is reserved")
+            }
+            HardlyMeant::Address(NoHost::Broadcast) => {
+                f.write_str("no host sends from the broadcast address")
+            }
+            HardlyMeant::ShortKey(count) => write!(f, "the key has fewer than 16 octets: {count}"),
+            HardlyMeant::Md5 => f.write_str("the key is for MD5, the weaker algorithm"),
+            HardlyMeant::SmallBudget => f.write_str(
+                "budget 1: of a client that asks each 64 seconds two queries may fall into one window",
+            ),
+            HardlyMeant::LargeBudget(budget) => write!(
+                f,
+                "budget {budget}: the rule of examples/labntpd.nft lets 12800 queries pass in 64 seconds"
+            ),
+        }
+    }
+}

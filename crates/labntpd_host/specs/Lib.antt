@@ -1,2 +1,0 @@
-pub mod FixedClock
-pub mod Reading

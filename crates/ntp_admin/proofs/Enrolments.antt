@@ -1,0 +1,56 @@
+-- Commands that are done one after another.
+use Rattle.std.proofs.Common.{◌≡◌, ℕ, ◌+◌, ◌<◌, List, [], ◌∷◌, ◌++◌, length, take, drop, get_or, arith, refl, sym, ap, ◌∙◌}
+use Rattle.std.specs.declared.alloc.Global.{Global}
+use Rattle.std.proofs.lemmas.List.{map-append, drop_more, take-append-drop, length-take-le}
+use Rattle.ntp_service.specs.Registry.{Registry}
+use Rattle.ntp_service.specs.declared.refusal.Refusal.{Refusal}
+use Rattle.ntp_service.specs.declared.command.Command.{Command}
+use Rattle.ntp_service.specs.declared.event.Event.{Event}
+use Rattle.ntp_service.specs.declared.event.Event.TheVariants as event
+use Rattle.ntp_service.specs.declared.outcome.Outcome.{Outcome}
+use Rattle.ntp_service.specs.declared.outcome.Outcome.TheVariants as outcome
+use Rattle.ntp_service.specs.Headline.{StandsFor, TellsOne, Tells, kept}
+use Rattle.ntp_service.proofs.Runs.{Tells-nil, Tells-push}
+use Rattle.ntp_admin.specs.Loading.{orders, all_done, Enrols, IsRefused}
+
+-- a service was given commands and nothing before them, and each was done
+pub record Enrolled (commands : List Command) (service : Registry) : Type 0 where
+  pub tells : Tells {A = Global} [] (all_done commands) service
+
+pub Enrolled-none : (service : Registry) → StandsFor {A = Global} service [] → Enrolled [] service
+Enrolled-none service stands = record { tells = Tells-nil [] service stands }
+
+pub Enrolled-tells : (commands : List Command) (service : Registry) → Enrolled commands service → Enrols commands service
+Enrolled-tells commands service e = e.tells
+
+-- what was done strikes nothing out
+kept-done : (commands : List Command) → kept {A = Global} (all_done commands) ≡ orders commands
+kept-done [] = refl
+kept-done (c ∷ commands) = ap (λ es. event.Command c ∷ es) (kept-done commands)
+
+-- one command more
+pub Enrolled-more : (commands : List Command) (c : Command) (old new : Registry) → Enrolled commands old
+    → ((history : List (Event Global)) → StandsFor old history → TellsOne history (event.Command c) outcome.Done new)
+    → Enrolled (commands ++ c ∷ []) new
+Enrolled-more commands c old new e tells = record {
+  tells = rw (map-append {B = Event Global × Outcome} (λ x. (event.Command x, outcome.Done)) commands (c ∷ []))
+      (Tells-push [] (all_done commands) old new (event.Command c) outcome.Done e.tells (λ stands. tells _ stands));
+}
+
+-- the command behind those that were done is refused
+pub Enrolled-refused : (commands : List Command) (place : ℕ) (c : Command) (refusal : Refusal) (old new : Registry)
+    → Enrolled (take place commands) old → place < length commands → c ≡ get_or commands place c
+    → ((history : List (Event Global)) → StandsFor old history → TellsOne history (event.Command c) (outcome.Refused refusal) new)
+    → IsRefused commands place refusal
+Enrolled-refused commands place c refusal old new e inside is tells = record {
+  before = take place commands;
+  command = c;
+  after = drop (place + 1) commands;
+  whole = sym (take-append-drop place commands) ∙ ap (λ l. take place commands ++ l)
+      (drop_more commands place c inside ∙ ap (λ x. x ∷ drop (place + 1) commands) (sym is));
+  at = length-take-le place commands (omega arith);
+  service = old;
+  enrols = Enrolled-tells (take place commands) old e;
+  left = new;
+  refused = rw (← kept-done (take place commands)) (tells _ e.tells.stands);
+}

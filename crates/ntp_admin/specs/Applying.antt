@@ -1,0 +1,41 @@
+-- Not to be believed: for proofs. What becomes of a text, of its lines, and of one of them.
+use Rattle.std.specs.Prelude.{◌≡◌, ℕ, max, List, [], ◌∷◌, ◌++◌, length, drop, Option, Some, Result, Ok, Err}
+use Rattle.ntp_service.specs.declared.refusal.Refusal.{Refusal}
+use Rattle.ntp_service.specs.Registry.{Registry}
+use Rattle.ntp_service.specs.declared.command.Command.{Command}
+use Rattle.ntp_service.specs.declared.event.Event.{Event}
+use Rattle.ntp_service.specs.declared.line_fault.LineFault.{LineFault}
+use Rattle.ntp_service.specs.declared.observation.LineOutcome.{LineOutcome}
+use Rattle.ntp_service.specs.declared.observation.Observation.{Observation}
+use Rattle.ntp_service.specs.declared.observation.Observation.TheVariants as observation
+use Rattle.ntp_service.specs.Sees.{Sees}
+use Rattle.ntp_service.specs.Headline.{StandsFor, Tells}
+use Rattle.ntp_admin.specs.CommandsFile.{complete_lines, reading_of, TakenLine, happened_read, observed_read, lines_taken, CarriesOut}
+
+-- what an observer is told of a line that is read so, before it is carried out
+abbrev pub told_before : Result Command LineFault → List Observation
+told_before (Ok command) = observation.Command command ∷ []
+told_before (Err fault) = []
+
+-- what a line that is read so comes to
+abbrev pub ComesTo : (A : Type 0) → Result Command LineFault → LineOutcome → Registry → Registry → Type 0
+ComesTo A read outcome old new = (result : Result (Unit {0}) Refusal)
+    × ((number : ℕ) → observed_read number (Some read) result ≡ told_before read ++ observation.Line number outcome ∷ [])
+    × ((history : List (Event A)) → StandsFor old history → Tells history (happened_read (Some read) result) new)
+
+-- the line with a number was taken
+abbrev pub AppliesLine : (A : Type 0) → ℕ → List ℕ → Registry → Registry → Option (List Observation) → Option (List Observation) → Type 0
+AppliesLine A number line old new seen told = (result : Result (Unit {0}) Refusal)
+    × Sees seen told (observed_read number (reading_of line) result)
+    × ((history : List (Event A)) → StandsFor old history → Tells history (happened_read (reading_of line) result) new)
+
+-- lines were taken, with `before` lines in front of them
+abbrev pub Applies :
+    (A : Type 0) → ℕ → List (List ℕ) → Registry → Registry → Option (List Observation) → Option (List Observation) → Type 0
+Applies A before lines old new seen told = (taken : List TakenLine) × (lines_taken taken ≡ lines) × CarriesOut A before taken old new seen told
+
+-- the lines of a text that are due were taken
+abbrev pub AppliesText :
+    (A : Type 0) → ℕ → List ℕ → ℕ → Registry → Registry → Option (List Observation) → Option (List Observation) → Type 0
+AppliesText A applied text after old new seen told = (after ≡ max applied (length (complete_lines text)))
+    × Applies A applied (drop applied (complete_lines text)) old new seen told

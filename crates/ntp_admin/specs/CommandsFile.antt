@@ -1,0 +1,111 @@
+-- What a commands file orders.
+use Rattle.std.specs.Prelude.{◌≡◌, ℕ, ◌+◌, ◌-◌, max, List, [], ◌∷◌, ◌++◌, length, map, flat_map, take, drop, if◌then◌else◌, Option, None, Some, Result, Ok, Err, codes}
+use Rattle.std.specs.Fmt.{decimal}
+use Rattle.ntp_service.specs.declared.refusal.Refusal.{Refusal}
+use Rattle.ntp_service.specs.Registry.{Registry}
+use Rattle.ntp_admin.specs.Words.{words, parts}
+use Rattle.ntp_admin.specs.Spells.{command_in, is_passed_over}
+use Rattle.ntp_admin.specs.Answers.{refusal_text, line_feed}
+use Rattle.ntp_service.specs.declared.command.Command.{Command}
+use Rattle.ntp_service.specs.declared.event.Event.{Event}
+use Rattle.ntp_service.specs.declared.event.Event.TheVariants as event
+use Rattle.ntp_service.specs.declared.line_fault.LineFault.{LineFault}
+use Rattle.ntp_service.specs.declared.line_fault.LineFault.TheVariants as line_fault
+use Rattle.ntp_service.specs.declared.outcome.Outcome.{Outcome}
+use Rattle.ntp_service.specs.declared.observation.LineOutcome.{LineOutcome}
+use Rattle.ntp_service.specs.declared.observation.LineOutcome.TheVariants.{Done, Refused, Faulty}
+use Rattle.ntp_service.specs.declared.observation.Observation.{Observation}
+use Rattle.ntp_service.specs.declared.observation.Observation.TheVariants as observation
+use Rattle.ntp_service.specs.Sees.{Sees}
+use Rattle.ntp_service.specs.Headline.{StandsFor, Tells, command_outcome}
+use Rattle.ntp_admin.specs.FileText.{IsText}
+
+-- all but the last
+abbrev pub all_but_last : {X : Type 0} → List X → List X
+all_but_last xs = take (length xs - 1) xs
+
+-- the lines that a line feed ends: what stands between line feeds, without the last such piece (profile)
+abbrev pub complete_lines : List ℕ → List (List ℕ)
+complete_lines text = all_but_last (parts 10 text)
+
+-- what a line is read as: nothing where it is passed over, else a command, or the first fault (profile)
+abbrev pub reading_of : List ℕ → Option (Result Command LineFault)
+reading_of line = if is_passed_over line then None else Some (command_in (words line))
+
+-- the lines of a file that are due, where `applied` are applied, and how many are applied once they were taken: of a text, its complete
+-- lines behind those; of other octets none (profile)
+abbrev pub AreDue : ℕ → List ℕ → List (List ℕ) → ℕ → Type 0
+AreDue applied octets lines after =
+    (IsText octets → (lines ≡ drop applied (complete_lines octets)) × (after ≡ max applied (length (complete_lines octets))))
+    × ((IsText octets → ⊥) → (lines ≡ []) × (after ≡ applied))
+
+-- a line that was taken, and what its command came to, which says nothing where it is none (profile)
+pub record TakenLine : Type 0 where
+  pub line : List ℕ
+  pub result : Result (Unit {0}) Refusal
+
+-- what happened at a line that is read so: its command, if it is one, with what it came to (profile)
+abbrev pub happened_read : {A : Type 0} → Option (Result Command LineFault) → Result (Unit {0}) Refusal → List (Event A × Outcome)
+happened_read (Some (Ok command)) result = (event.Command command, command_outcome result) ∷ []
+happened_read other result = []
+
+-- what a command came to (profile)
+abbrev pub carried_out : Result (Unit {0}) Refusal → LineOutcome
+carried_out (Ok done) = Done
+carried_out (Err refusal) = Refused refusal
+
+-- what an observer is told of a line with a number, read so: its command first, if it is one, and then what became of it (profile)
+abbrev pub observed_read : ℕ → Option (Result Command LineFault) → Result (Unit {0}) Refusal → List Observation
+observed_read number None result = []
+observed_read number (Some (Ok command)) result = observation.Command command ∷ observation.Line number (carried_out result) ∷ []
+observed_read number (Some (Err fault)) result = observation.Line number (Faulty fault) ∷ []
+
+-- what happened at lines that were taken, in their order (profile)
+abbrev pub happened_at_lines : {A : Type 0} → List TakenLine → List (Event A × Outcome)
+happened_at_lines taken = flat_map (λ t. happened_read (reading_of t.line) t.result) taken
+
+-- what an observer is told of them, where `before` lines stand before the first (profile)
+abbrev pub line_observations : ℕ → List TakenLine → List Observation
+line_observations before [] = []
+line_observations before (t ∷ taken) = observed_read (before + 1) (reading_of t.line) t.result ++ line_observations (before + 1) taken
+
+-- the lines that were taken
+abbrev pub lines_taken : List TakenLine → List (List ℕ)
+lines_taken taken = map (λ t. t.line) taken
+
+-- lines were carried out, each once: whatever history the service stood for, it tells what happened at them, and the observer is told
+-- what became of each (profile)
+pub record CarriesOut (A : Type 0) (before : ℕ) (taken : List TakenLine) (old new : Registry) (seen told : Option (List Observation)) : Type 0 where
+  pub observed : Sees seen told (line_observations before taken)
+  pub tells : (history : List (Event A)) → StandsFor old history → Tells history (happened_at_lines taken) new
+
+-- the lines that are due in a file's octets were carried out (profile)
+pub record CarriesOutDue (A : Type 0) (applied : ℕ) (octets : List ℕ) (after : ℕ) (old new : Registry) (seen told : Option (List Observation)) : Type 0 where
+  pub taken : List TakenLine
+  pub due : AreDue applied octets (lines_taken taken) after
+  pub done : CarriesOut A applied taken old new seen told
+
+-- the word for what is wrong with a line that is no command (profile)
+abbrev pub line_fault_text : LineFault → List ℕ
+line_fault_text line_fault.Word = codes "word"
+line_fault_text line_fault.Count = codes "count"
+line_fault_text line_fault.Address = codes "address"
+line_fault_text line_fault.Number = codes "number"
+line_fault_text line_fault.Algorithm = codes "algorithm"
+line_fault_text line_fault.KeyText = codes "key"
+line_fault_text line_fault.Budget = codes "budget"
+line_fault_text line_fault.NoMemory = codes "memory"
+line_fault_text line_fault.Moment = codes "moment"
+line_fault_text line_fault.Stamp = codes "stamp"
+line_fault_text line_fault.Reference = codes "reference"
+line_fault_text line_fault.Hex = codes "hex"
+
+-- the line that tells of a fault of the commands file (profile)
+abbrev pub fault_line : ℕ → List ℕ → List ℕ
+fault_line number word = codes "commands: line " ++ decimal number ++ codes ": " ++ word ++ line_feed
+
+-- what is written of a line of commands: nothing where it was carried out (profile)
+abbrev pub line_text : ℕ → LineOutcome → List ℕ
+line_text number Done = []
+line_text number (Refused refusal) = fault_line number (refusal_text refusal)
+line_text number (Faulty fault) = fault_line number (line_fault_text fault)

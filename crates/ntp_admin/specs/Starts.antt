@@ -1,0 +1,26 @@
+-- Exit statuses of a server that failed to start.
+use Rattle.std.specs.Prelude.{ℕ}
+use Rattle.ntp_service.specs.declared.refusal.Refusal.{Refusal}
+use Rattle.ntp_service.specs.declared.refusal.Refusal.TheVariants as refusal
+use Rattle.ntp_service.specs.declared.line_fault.LineFault.TheVariants as line_fault
+use Rattle.ntp_admin.specs.declared.fault.RegisterFault.{RegisterFault}
+use Rattle.ntp_admin.specs.declared.fault.RegisterFault.TheVariants as register_fault
+use Rattle.ntp_admin.specs.declared.loading.LoadFault.{LoadFault}
+use Rattle.ntp_admin.specs.declared.loading.LoadFault.TheVariants as load_fault
+
+-- the status for a fault of a register file: 4 for want of memory, else 1 (profile)
+abbrev pub register_status : RegisterFault → ℕ
+register_status register_fault.NoMemory = 4
+register_status (register_fault.Entry place line_fault.NoMemory) = 4
+register_status other = 1
+
+-- the status for a refused enrolment: the same (profile)
+abbrev pub refusal_status : Refusal → ℕ
+refusal_status refusal.NoMemory = 4
+refusal_status other = 1
+
+-- the status for what stopped a server that failed to start: 3 where its register file could not be read (profile)
+abbrev pub load_status : LoadFault → ℕ
+load_status load_fault.Read = 3
+load_status (load_fault.Register fault) = register_status fault
+load_status (load_fault.Refused place why) = refusal_status why

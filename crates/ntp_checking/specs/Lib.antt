@@ -1,5 +1,0 @@
-pub mod Members
-pub mod KeyText
-pub mod Shown
-pub mod HardlyMeant
-pub mod CommandWords

@@ -1,0 +1,12 @@
+pub mod AnswerLines
+pub mod Held
+pub mod Joined
+pub mod Spelled
+pub mod CommandLines
+pub mod KeyText
+pub mod SameKeys
+pub mod SameTerms
+pub mod Standings
+pub mod Amended
+pub mod Windows
+pub mod Passing

@@ -1,0 +1,128 @@
+-- What is written of a number, an address and a key is read as it.
+use Rattle.std.proofs.Common.{◌≡◌, ℕ, zero, suc, ◌*◌, ◌^◌, ◌<◌, ◌≤◌, ◌==◌, ◌&&◌, ◌||◌, true, false, List, [], ◌∷◌, length, Some, None, refl, ap, subst, sym, ◌∙◌, arith, rules, lit<}
+use Rattle.std.specs.Prelude.{map, not, slice_index, nat_le, if◌then◌else◌}
+use Rattle.std.specs.Result.{result_ok}
+use Rattle.std.specs.List.{join_with_byte, list_all}
+use Rattle.std.specs.Char.{is_ascii_digit}
+use Rattle.std.specs.Fmt.{decimal}
+use Rattle.std.specs.Str.Parse.{digits_value}
+use Rattle.std.specs.declared.num.NonZeroU16.{NonZeroU16}
+use Rattle.std.proofs.lemmas.Bool.Decides.{nat_tests}
+use Rattle.std.proofs.lemmas.Fmt.{digits_decimal, digits_value-decimal, decimal_nonempty, first_decimal, decimal_digit}
+use Rattle.std.proofs.lemmas.Str.Parse.{IsNumeralModel, numerals_by_value}
+use Rattle.std.proofs.lemmas.List.Sums.{list_all-from_AllPass}
+use Rattle.hex.specs.Hex.{encode_lower, lower_digits, IsBytes, is_hex_digit}
+use Rattle.hex.proofs.HexLemmas.{decode_of-encode_lower, decode_of-ok, length-encode_with}
+use Rattle.ntp_service.specs.declared.address.Address.{Address}
+use Rattle.ntp_admin.specs.Words.{is_decimal, decimal_in, number_in, key_in, hex_in, address_in, address_from, non_zero, ◌>>=◌}
+use Rattle.ntp_admin.proofs.Numbers.{new-non_zero}
+use Rattle.ntp_clerk.specs.declared.new_key.NewKey.{NewKey}
+use Rattle.ntp_clerk.specs.CommandText.{address_text, number_text, AreKeyOctets, IsAddress, IsNewKey, IsNumber}
+use Rattle.ntp_clerk.proofs.Joined.{lacks, lacks-by, lacks-joined, parts-joined}
+
+own : IsNumeralModel (λ ds. list_all is_ascii_digit ds ≡ true) (digits_value 10)
+own = numerals_by_value _ (search rules)
+
+-- digits alone
+pub lacks-decimal : (c n : ℕ) → is_ascii_digit c ≡ false → n < 2 ^ 64 → lacks c (decimal n) ≡ true
+lacks-decimal c n other fits = lacks-by is_ascii_digit c other (decimal n) (digits_decimal own n fits)
+
+-- no zero in front of others
+leading : (n : ℕ) → n < 2 ^ 64 → (not (slice_index (decimal n) 0 == 48) || (length (decimal n) == 1)) ≡ true
+leading zero fits = subst (λ ds. (not (slice_index ds 0 == 48) || (length ds == 1)) ≡ true) (sym (decimal_digit 0 (lit< tt))) refl
+leading (suc n) fits = let first = first_decimal (suc n) (omega arith) fits in grind (arith, nat_tests)
+
+decimal-is : (n : ℕ) → n < 2 ^ 64 → is_decimal (decimal n) ≡ true
+decimal-is n fits =
+    let all = digits_decimal own n fits in
+    let some = decimal_nonempty n fits in
+    let front = leading n fits in
+    grind (arith, nat_tests)
+
+-- a number
+pub reads-decimal : (least most n : ℕ) → least ≤ n → n ≤ most → n < 2 ^ 64 → decimal_in least most (decimal n) ≡ Some n
+reads-decimal least most n low high fits =
+    let is = decimal-is n fits in
+    let value = digits_value-decimal own n fits in
+    grind (arith, nat_tests)
+
+pub reads-number : (number : NonZeroU16) → IsNumber number → number_in (number_text number) ≡ Some number
+reads-number number fits =
+    ap (λ found. found >>= non_zero) (reads-decimal 1 65535 number.value (number.ok) (omega arith) (omega arith))
+    ∙ sym (new-non_zero number.value (Some number) refl)
+
+-- an address
+reads-octets : (octets : List ℕ) → length octets ≡ 4 → IsBytes octets → address_in (join_with_byte 46 (map decimal octets)) ≡ Some (record { 0 = octets })
+reads-octets [] four bytes = absurd (omega arith)
+reads-octets (a ∷ []) four bytes = absurd (omega arith)
+reads-octets (a ∷ b ∷ []) four bytes = absurd (omega arith)
+reads-octets (a ∷ b ∷ c ∷ []) four bytes = absurd (omega arith)
+reads-octets (a ∷ b ∷ c ∷ d ∷ e ∷ others) four bytes = absurd (omega arith)
+reads-octets (a ∷ b ∷ c ∷ d ∷ []) four bytes =
+    let ra = reads-decimal 0 255 a (omega arith) (omega (arith, bytes 0)) (omega (arith, bytes 0)) in
+    let rb = reads-decimal 0 255 b (omega arith) (omega (arith, bytes 1)) (omega (arith, bytes 1)) in
+    let rc = reads-decimal 0 255 c (omega arith) (omega (arith, bytes 2)) (omega (arith, bytes 2)) in
+    let rd = reads-decimal 0 255 d (omega arith) (omega (arith, bytes 3)) (omega (arith, bytes 3)) in
+    ap address_from
+    (parts-joined 46 (decimal a) (decimal b ∷ decimal c ∷ decimal d ∷ []) (
+      lacks-decimal 46 a refl (omega (arith, bytes 0)),
+      (
+        lacks-decimal 46 b refl (omega (arith, bytes 1)),
+        (
+          lacks-decimal 46 c refl (omega (arith, bytes 2)),
+          (
+            lacks-decimal 46 d refl (omega (arith, bytes 3)),
+            tt,
+          ),
+        ),
+      ),
+    ))
+    ∙ rw (ra, rb, rc, rd) refl
+
+pub reads-address : (address : Address) → IsAddress address → address_in (address_text address) ≡ Some address
+unfolding address_text
+reads-address address is = reads-octets address.0 is.0 is.1
+
+lacks-octets : (x : ℕ) → is_ascii_digit x ≡ false → not (46 == x) ≡ true → (octets : List ℕ) → length octets ≡ 4 → IsBytes octets
+    → lacks x (join_with_byte 46 (map decimal octets)) ≡ true
+lacks-octets x other dot [] four bytes = absurd (omega arith)
+lacks-octets x other dot (a ∷ []) four bytes = absurd (omega arith)
+lacks-octets x other dot (a ∷ b ∷ []) four bytes = absurd (omega arith)
+lacks-octets x other dot (a ∷ b ∷ c ∷ []) four bytes = absurd (omega arith)
+lacks-octets x other dot (a ∷ b ∷ c ∷ d ∷ e ∷ others) four bytes = absurd (omega arith)
+lacks-octets x other dot (a ∷ b ∷ c ∷ d ∷ []) four bytes =
+    lacks-joined x 46 dot (decimal a) (decimal b ∷ decimal c ∷ decimal d ∷ []) (
+      lacks-decimal x a other (omega (arith, bytes 0)),
+      (
+        lacks-decimal x b other (omega (arith, bytes 1)),
+        (
+          lacks-decimal x c other (omega (arith, bytes 2)),
+          (
+            lacks-decimal x d other (omega (arith, bytes 3)),
+            tt,
+          ),
+        ),
+      ),
+    )
+
+pub lacks-address : (x : ℕ) → is_ascii_digit x ≡ false → not (46 == x) ≡ true → (address : Address) → IsAddress address
+    → lacks x (address_text address) ≡ true
+unfolding address_text
+lacks-address x other dot address is = lacks-octets x other dot address.0 is.0 is.1
+
+-- a key
+pub lacks-digits : (c : ℕ) (octets : List ℕ) → is_hex_digit c ≡ false → IsBytes octets → lacks c (encode_lower octets) ≡ true
+lacks-digits c octets other bytes =
+    let read = decode_of-ok (encode_lower octets) octets (decode_of-encode_lower octets bytes) in
+    lacks-by is_hex_digit c other (encode_lower octets) (list_all-from_AllPass is_hex_digit (encode_lower octets) read.1)
+
+pub reads-key : (octets : List ℕ) → AreKeyOctets octets → key_in (encode_lower octets) ≡ Some octets
+reads-key octets is =
+    let whole = decode_of-encode_lower octets is.2 in
+    let twice : length (encode_lower octets) ≡ 2 * length octets = omega (arith, length-encode_with lower_digits octets) in
+    let fits : (nat_le 2 (length (encode_lower octets)) && nat_le (length (encode_lower octets)) 64) ≡ true = grind (arith, nat_tests, is.0, is.1) in
+    ap (λ b. if b then hex_in (encode_lower octets) else None) fits ∙ ap result_ok whole
+
+-- a new key is a key
+pub new-key : (key : NewKey) → IsNewKey key → AreKeyOctets key.octets
+new-key key is = (omega (arith, is.0), omega (arith, is.0), is.1)

@@ -1,0 +1,32 @@
+-- The kernel's limit on a rate of packets, a token bucket (Linux, net/netfilter/nft_limit.c). Moments are in nanoseconds.
+use Rattle.std.specs.Prelude.{ℕ, ◌+◌, ◌-◌, ◌*◌, ◌/◌, ◌≤◌, min, Bool, not, if◌then◌else◌, nat_lt, List, [], ◌∷◌}
+use Rattle.ntp_clerk.specs.declared.limit.Limit.{Limit}
+
+-- a minute
+abbrev pub minute_nanos : ℕ
+minute_nanos = 60000000000
+
+-- what a packet takes out of the bucket, in tokens: one comes with each nanosecond (nft_limit_pkts_init)
+abbrev pub packet_cost : Limit → ℕ
+packet_cost limit = minute_nanos / limit.rate
+
+-- how many tokens the bucket has where it is full, as at its first packet (nft_limit_init)
+abbrev pub most_tokens : Limit → ℕ
+most_tokens limit = packet_cost limit * limit.burst
+
+-- which packets pass that come at these moments, by the tokens at an earlier one (nft_limit_eval): a packet that finds too few takes none
+unfoldable pub passing : ℕ → ℕ → ℕ → ℕ → List ℕ → List Bool
+passing cost most tokens last [] = []
+passing cost most tokens last (now ∷ later) =
+    let filled = min most (tokens + (now - last)) in
+    let left = if nat_lt filled cost then filled else filled - cost in
+    not (nat_lt filled cost) ∷ passing cost most left now later
+
+-- which packets of a source pass a limit, whose bucket is full at a moment before them
+abbrev pub passing_limit : Limit → ℕ → List ℕ → List Bool
+passing_limit limit begun moments = passing (packet_cost limit) (most_tokens limit) (most_tokens limit) begun moments
+
+-- no moment lies before an earlier one
+unfoldable pub InOrder : ℕ → List ℕ → Type 0
+InOrder last [] = Unit {0}
+InOrder last (now ∷ later) = (last ≤ now) × InOrder now later

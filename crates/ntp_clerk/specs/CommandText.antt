@@ -1,0 +1,90 @@
+-- How a command is written.
+use Rattle.std.specs.Prelude.{◌≡◌, ◌<◌, ◌≤◌, ◌^◌, ℕ, List, [], ◌∷◌, ◌++◌, codes, map, length, Option, None, Some, IfSome}
+use Rattle.std.specs.Option.{option_map_or}
+use Rattle.std.specs.List.{join_with_byte}
+use Rattle.std.specs.Fmt.{decimal}
+use Rattle.std.specs.Int.NonZero.{non_zero_u16_get}
+use Rattle.std.specs.declared.num.NonZeroU16.{NonZeroU16}
+use Rattle.hex.specs.Hex.{IsBytes}
+use Rattle.ntp_mac.specs.Key.{SymmetricKey, most_key_octets}
+use Rattle.ntp_mac.specs.declared.key.Algorithm.{Algorithm}
+use Rattle.ntp_mac.specs.declared.key.Algorithm.TheVariants.{Md5, Sha1}
+use Rattle.ntp_service.specs.declared.address.Address.{Address}
+use Rattle.ntp_admin.specs.Words.{parts}
+use Rattle.ntp_admin.specs.Spells.{SpellsCommand}
+use Rattle.ntp_admin.specs.Named.{number_named, verb_of, verb_text}
+use Rattle.ntp_service.specs.Commands.{address_named}
+use Rattle.ntp_service.specs.declared.command.Command.{Command}
+use Rattle.ntp_service.specs.declared.command.Command.TheVariants as command
+use Rattle.ntp_clerk.specs.declared.new_key.NewKey.{NewKey}
+
+-- a new key
+abbrev pub key_of : NewKey → SymmetricKey
+key_of key = record { algorithm = key.algorithm; octets = key.octets }
+
+-- an address: its numbers, with dots between them (profile)
+unfoldable pub address_text : Address → List ℕ
+address_text address = join_with_byte 46 (map decimal address.0)
+
+-- the word for an algorithm (profile)
+abbrev pub algorithm_text : Algorithm → List ℕ
+algorithm_text Md5 = codes "md5"
+algorithm_text Sha1 = codes "sha1"
+
+-- the numbers of keys and budgets
+abbrev pub number_text : NonZeroU16 → List ℕ
+number_text number = decimal (non_zero_u16_get number)
+
+-- the budget that a command names, and its key, if it names one
+abbrev pub budget_named : Command → Option NonZeroU16
+budget_named (command.Enrol address number key budget) = Some budget
+budget_named (command.Budget address budget) = Some budget
+budget_named other = None
+
+abbrev pub key_named : Command → Option SymmetricKey
+key_named (command.Enrol address number key budget) = Some key
+key_named (command.Rollover address number key) = Some key
+key_named other = None
+
+-- a number with a space before it, where there is one (profile)
+abbrev pub number_behind : Option NonZeroU16 → List ℕ
+number_behind number = option_map_or (λ n. codes " " ++ number_text n) number []
+
+-- a key's algorithm and this word for the key, with a space before each, where there is one (profile)
+abbrev pub key_behind : List ℕ → Option SymmetricKey → List ℕ
+key_behind key_word key = option_map_or (λ k. codes " " ++ algorithm_text k.algorithm ++ codes " " ++ key_word) key []
+
+-- a command, with this word for its key: its verb and its address, and what it names of a number, a key and a budget (profile)
+unfoldable pub command_text : List ℕ → Command → List ℕ
+command_text key_word c =
+    verb_text (verb_of c) ++ (codes " " ++ (address_text (address_named c) ++ (number_behind (number_named c)
+    ++ (key_behind key_word (key_named c) ++ number_behind (budget_named c)))))
+
+-- what the code's types hold: four octets are an address, and sixteen bits a number; and the octets of a key are from 1 to 32, those of a
+-- new one 20
+abbrev pub IsAddress : Address → Type 0
+IsAddress address = (length address.0 ≡ 4) × IsBytes address.0
+
+abbrev pub IsNumber : NonZeroU16 → Type 0
+IsNumber number = non_zero_u16_get number < 2 ^ 16
+
+abbrev pub IsNewKey : NewKey → Type 0
+IsNewKey key = (length key.octets ≡ 20) × IsBytes key.octets
+
+abbrev pub AreKeyOctets : List ℕ → Type 0
+AreKeyOctets octets = (1 ≤ length octets) × (length octets ≤ most_key_octets) × IsBytes octets
+
+abbrev pub IsCommand : Command → Type 0
+IsCommand c = IsAddress (address_named c) × IfSome (number_named c) IsNumber × IfSome (budget_named c) IsNumber
+
+-- the key of a command has these octets, if it has a key
+abbrev pub HasOctets : Command → List ℕ → Type 0
+HasOctets c octets = IfSome (key_named c) (λ key. (key.octets ≡ octets) × AreKeyOctets octets)
+
+-- a word that stands for each key, so that none is shown (profile)
+abbrev pub hidden_key : List ℕ
+hidden_key = codes "KEY"
+
+-- a text is one line with its line feed, and the line says a command
+abbrev pub WritesCommand : List ℕ → Command → Type 0
+WritesCommand text c = (line : List ℕ) × (parts 10 text ≡ line ∷ [] ∷ []) × SpellsCommand line c

@@ -1,0 +1,13 @@
+pub mod Numbers
+pub mod CommandText
+pub mod Grants
+pub mod AnswersFile
+pub mod Alike
+pub mod Recovery
+pub mod Wide
+pub mod Capture
+pub mod Link
+pub mod Datagram
+pub mod Bucket
+pub mod Door
+pub mod Statement

@@ -1,0 +1,157 @@
+//! How commands are written.
+ghost use Rattle.std.specs.Prelude.{◌≡◌, ◌++◌, true, IfOk, IfSome, IsSome, string_bytes};
+ghost use Rattle.std.specs.Bool.{OnTrue};
+ghost use Rattle.hex.specs.Hex.{encode_lower};
+ghost use Rattle.ntp_admin.specs.Answers.{line_feed};
+ghost use Rattle.ntp_clerk.specs.CommandText.{address_text, algorithm_text, budget_named, command_text, hidden_key, key_behind, key_named, number_behind, AreKeyOctets, HasOctets, IsAddress, IsCommand, IsNumber, WritesCommand};
+
+use ntp_admin::{Verb, number_named};
+use ntp_mac::{Algorithm, Key};
+use ntp_service::{Address, Command};
+use std::alloc::{AllocError, Global};
+use std::num::NonZero;
+
+/// The line of a command, with its line feed, where its key has these octets or it has none: what is read from it is the command. Else
+/// nothing. The memory for it is taken from `alloc`.
+pub fn command_line(
+    alloc: Global,
+    command: &Command,
+    octets: &[u8],
+) -> Result<Option<String>, AllocError>
+    ensures command { IfOk result (λ line. IfSome line (λ text. WritesCommand (string_bytes text) command.now)) }
+    ensures line { HasOctets command.now octets.now → IfOk result (λ line. IsSome line) }
+{
+    if !has_octets(command, octets) {
+        return Ok(None);
+    }
+    let line = line_of(alloc, command, octets)?;
+    Ok(Some(line))
+}
+
+// Whether the key of a command has these octets, if it has a key.
+fn has_octets(command: &Command, octets: &[u8]) -> bool
+    ensures has { OnTrue result (HasOctets command.now octets.now) }
+    ensures whole { HasOctets command.now octets.now → result ≡ true }
+{
+    match key_named(command) {
+        Some(key) => is_of(&key, octets),
+        None => true,
+    }
+}
+
+// Whether a key has these octets.
+fn is_of(key: &Key, octets: &[u8]) -> bool
+    ensures same { OnTrue result (key.now.octets ≡ octets.now) }
+    ensures fit { OnTrue result (AreKeyOctets octets.now) }
+    ensures whole { key.now.octets ≡ octets.now → AreKeyOctets octets.now → result ≡ true }
+{
+    match Key::new(key.algorithm(), octets) {
+        Ok(made) => made == *key,
+        Err(_) => false,
+    }
+}
+
+// The line of a command, whose key has these octets, if it has a key.
+fn line_of(alloc: Global, command: &Command, octets: &[u8]) -> Result<String, AllocError>
+    requires { HasOctets command.now octets.now }
+    ensures { IfOk result (λ text. WritesCommand (string_bytes text) command.now) }
+{
+    let text = line_text(alloc, command, octets)?;
+    Ok(text)
+}
+
+// The text of this line.
+fn line_text(alloc: Global, command: &Command, octets: &[u8]) -> Result<String, AllocError>
+    ensures text { IfOk result (λ text. string_bytes text ≡ command_text (encode_lower octets.now) command.now ++ line_feed) }
+    ensures command { IfOk result (λ _. IsCommand command.now) }
+{
+    let digits = hex::encode(alloc, octets)?;
+    let text = text_of(alloc, command, digits.as_str())?;
+    format!(in alloc; "{text}\n")
+}
+
+/// The line of a command as anybody may see it: `KEY` stands in the place of the key. The memory for it is taken from `alloc`.
+pub fn command_shown(alloc: Global, command: &Command) -> Result<String, AllocError>
+    ensures { IfOk result (λ text. string_bytes text ≡ command_text hidden_key command.now ++ line_feed) }
+{
+    let text = text_of(alloc, command, "KEY")?;
+    format!(in alloc; "{text}\n")
+}
+
+// The text of a command, with this word for its key.
+#[tactic(auto, unfolding(crate::specs::CommandText::command_text))]
+fn text_of(alloc: Global, command: &Command, key_word: &str) -> Result<String, AllocError>
+    ensures text { IfOk result (λ text. string_bytes text ≡ command_text key_word.now command.now) }
+    ensures command { IfOk result (λ _. IsCommand command.now) }
+{
+    let verb = Verb::of(command).word();
+    let address = address_word(alloc, command.address())?;
+    let number = number_behind(alloc, number_named(command))?;
+    let key = key_behind(alloc, key_named(command), key_word)?;
+    let budget = number_behind(alloc, budget_named(command))?;
+    format!(in alloc; "{verb} {address}{number}{key}{budget}")
+}
+
+// The budget that a command names, if it names one.
+fn budget_named(command: &Command) -> Option<NonZero<u16>>
+    ensures { result ≡ budget_named command.now }
+{
+    match command {
+        Command::Enrol { budget, .. } | Command::Budget { budget, .. } => Some(*budget),
+        _ => None,
+    }
+}
+
+// The key that a command names, if it names one.
+fn key_named(command: &Command) -> Option<Key>
+    ensures { result ≡ key_named command.now }
+{
+    match command {
+        Command::Enrol { key, .. } | Command::Rollover { key, .. } => Some(*key),
+        _ => None,
+    }
+}
+
+// The word of an address.
+#[tactic(auto, unfolding(crate::specs::CommandText::address_text))]
+fn address_word(alloc: Global, address: Address) -> Result<String, AllocError>
+    ensures word { IfOk result (λ text. string_bytes text ≡ address_text address) }
+    ensures octets { IsAddress address }
+{
+    let Address([a, b, c, d]) = address;
+    format!(in alloc; "{a}.{b}.{c}.{d}")
+}
+
+// A number with a space before it, where there is one.
+fn number_behind(alloc: Global, number: Option<NonZero<u16>>) -> Result<String, AllocError>
+    ensures text { IfOk result (λ text. string_bytes text ≡ number_behind number) }
+    ensures bits { IfSome number IsNumber }
+{
+    match number {
+        Some(number) => format!(in alloc; " {number}"),
+        None => Ok(String::new(alloc)),
+    }
+}
+
+// A key's algorithm and this word for the key, with a space before each, where there is one.
+fn key_behind(alloc: Global, key: Option<Key>, key_word: &str) -> Result<String, AllocError>
+    ensures { IfOk result (λ text. string_bytes text ≡ key_behind key_word.now key) }
+{
+    match key {
+        Some(key) => {
+            let algorithm = algorithm_word(key.algorithm());
+            format!(in alloc; " {algorithm} {key_word}")
+        }
+        None => Ok(String::new(alloc)),
+    }
+}
+
+// The word of an algorithm.
+pub(crate) fn algorithm_word(algorithm: Algorithm) -> &'static str
+    ensures { result.now ≡ algorithm_text algorithm }
+{
+    match algorithm {
+        Algorithm::Md5 => "md5",
+        Algorithm::Sha1 => "sha1",
+    }
+}

@@ -1,5 +1,0 @@
-mod LinesCut
-mod SameLines
-pub mod LinesTaken
-mod LinesApplied
-mod Enrolments

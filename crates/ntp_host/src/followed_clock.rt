@@ -1,0 +1,300 @@
+//! The state of the clock, from the register file or from the host's clock daemon.
+
+use crate::moment_now;
+use crate::queued_udp::HostClocks;
+use ntp_client::{
+    Distrust, Follower, Reading, Taken, is_read, reference_unsynchronised, reference_where_read,
+};
+use ntp_packet::Moment;
+use ntp_port::ReferenceSource;
+use ntp_reply::Reference;
+use std::net::UdpSocket;
+use std::os::fd::AsRawFd;
+use std::time::Clock;
+
+/// How long an answer is looked for in each turn, and ends a wait, in nanoseconds: 20 thousandths of a second (profile).
+const PATIENCE: u64 = 20_000_000;
+
+/// How often an answer is looked for later, in nanoseconds: each hundredth of a second (profile).
+const LATER_PERIOD: u64 = 10_000_000;
+
+/// How many datagrams are taken at one look at most (profile).
+const MOST_ANSWERS: usize = 8;
+
+/// How long the reading of both clocks may take, in nanoseconds: a hundred-thousandth of a second; and how often they are read at most to
+/// find such a reading (profile).
+const LONGEST_READING: u64 = 10_000;
+
+const MOST_READINGS: usize = 8;
+
+/// The host's clock daemon, which is asked once a second for the state of its clock (RFC 5905, 7.3).
+///
+/// Its socket never waits. An answer is looked for in each turn, and a wait for datagrams ends when it comes; after 20
+/// thousandths of a second it is looked for each hundredth, so that a daemon that does not answer costs little.
+#[derive(Drop)]
+pub struct FollowedClock<'a, C: Clock + Copy + Drop> {
+    socket: UdpSocket,
+    clock: C,
+    clocks: &'a HostClocks,
+    follower: Follower,
+    // When the daemon was asked last, if it was since the host's clock was set.
+    asked: Option<u64>,
+    is_outstanding: bool,
+    // When an answer was looked for last, and when the host's clock was last seen to be set; 0 where it never was.
+    looked: u64,
+    set_at: u64,
+    has_answered: bool,
+    // Whether the last answer said that its clock is not synchronised.
+    is_unsynchronised: bool,
+}
+
+// A reading of both clocks, and how long it took, in nanoseconds.
+#[derive(Clone, Copy)]
+struct TimedReading {
+    reading: Reading,
+    took: u64,
+}
+
+impl<'a, C: Clock + Copy + Drop> FollowedClock<'a, C> {
+    /// A daemon that was not asked yet, by a socket that is connected to it and does not wait.
+    pub fn new(
+        socket: UdpSocket,
+        clock: C,
+        clocks: &'a HostClocks,
+        follower: Follower,
+    ) -> FollowedClock<'a, C> {
+        FollowedClock {
+            socket,
+            clock,
+            clocks,
+            follower,
+            asked: None,
+            is_outstanding: false,
+            looked: 0,
+            set_at: 0,
+            has_answered: false,
+            is_unsynchronised: false,
+        }
+    }
+
+    /// What was learned of the daemon.
+    pub fn follower(&self) -> &Follower {
+        &self.follower
+    }
+
+    /// Whether the daemon has told the state of its clock at all, were it that this is not synchronised.
+    pub fn has_answered(&self) -> bool {
+        self.has_answered
+    }
+
+    /// Whether the daemon's last answer said that its clock is not synchronised.
+    pub fn is_unsynchronised(&self) -> bool {
+        self.is_unsynchronised
+    }
+
+    // What both clocks show together; nothing where the host's could not be read. Where the process was held up between their
+    // readings, they are read again.
+    fn reading(&self) -> Option<Reading> {
+        let mut best = self.timed_reading();
+        for _ in 1..MOST_READINGS {
+            if best.took <= LONGEST_READING {
+                break;
+            }
+            let next = self.timed_reading();
+            if next.took < best.took {
+                best = next;
+            }
+        }
+        Some(best.reading).filter(|it| is_read(it.clock))
+    }
+
+    // Reads the host's clock between two readings of the ticks.
+    fn timed_reading(&self) -> TimedReading {
+        let before = self.clocks.read(&self.clock);
+        let clock = moment_now(&self.clock);
+        let took = self.clocks.read(&self.clock).saturating_sub(before);
+        let ticks = before.saturating_add(took / 2);
+        TimedReading {
+            reading: Reading { clock, ticks },
+            took,
+        }
+    }
+
+    // Whether the host's clock was seen to be set since the reading that the daemon's last answer rests on.
+    fn is_set_since_update(&self) -> bool {
+        match self.follower.learned() {
+            Some(answer) => answer.base.ticks < self.set_at,
+            None => false,
+        }
+    }
+
+    // Looks whether the host's clock was set, where a reading shows it. That may be one in which the process was held up, so the clocks
+    // are read anew, and the new reading takes its place: else it would tell as much less than the clock was set by. So it is as long as
+    // that is told.
+    fn glance(&mut self, shown: Reading) -> Reading {
+        let is_doubtful = self.follower.is_set_since(shown) || self.is_set_since_update();
+        if !is_read(shown.clock) || !is_doubtful {
+            return shown;
+        }
+        let Some(now) = self.reading() else {
+            return shown;
+        };
+        self.look(now);
+        now
+    }
+
+    // Looks whether the host's clock was set. Where it was, no answer is waited for, and the daemon is asked again at once.
+    fn look(&mut self, now: Reading) {
+        if self.follower.look(now) {
+            self.set_at = now.ticks;
+            self.asked = None;
+            self.expect_nothing();
+        }
+    }
+
+    // No answer is waited for.
+    fn expect_nothing(&mut self) {
+        self.is_outstanding = false;
+        self.clocks.expected.set(-1);
+    }
+
+    // Asks where it is time to, and takes what has come.
+    fn exchange(&mut self, ticks: u64) {
+        match self.asked {
+            Some(asked) if ticks.saturating_sub(asked) < self.follower.period(ticks) => {
+                self.look_for_answer(ticks, ticks.saturating_sub(asked));
+            }
+            _ => self.ask(ticks),
+        }
+    }
+
+    // Takes what has come `since` nanoseconds after the question, where an answer is waited for and it is time to look for it.
+    fn look_for_answer(&mut self, ticks: u64, since: u64) {
+        if !self.is_outstanding || !self.is_time_to_look(ticks, since) {
+            return;
+        }
+        self.looked = ticks;
+        self.take_answers();
+        if self.is_outstanding && since >= PATIENCE {
+            self.clocks.expected.set(-1);
+        }
+    }
+
+    // Whether it is time to look for an answer, `since` nanoseconds after the question.
+    fn is_time_to_look(&self, ticks: u64, since: u64) -> bool {
+        since < PATIENCE || ticks.saturating_sub(self.looked) >= LATER_PERIOD
+    }
+
+    // Sends a question. One that cannot be sent is sent again when the next one is due.
+    fn ask(&mut self, ticks: u64) {
+        // What came too late for the last question is taken before it is given up.
+        self.take_answers();
+        self.asked = Some(ticks);
+        self.expect_nothing();
+        let Some(now) = self.reading() else {
+            return;
+        };
+        let request = self.follower.request(now);
+        if self.socket.send(request.octets()).is_ok() {
+            self.is_outstanding = true;
+            self.clocks.expected.set(self.socket.as_raw_fd());
+        }
+    }
+
+    // Takes what has come, until an answer is among it.
+    fn take_answers(&mut self) {
+        let mut octets = [0; 256];
+        for _ in 0..MOST_ANSWERS {
+            let Ok(length) = self.socket.recv(&mut octets) else {
+                return;
+            };
+            let Some(now) = self.reading() else {
+                return;
+            };
+            self.look(now);
+            let taken = self.follower.take(&octets[..length], now);
+            if is_answer(taken) {
+                if taken != Taken::Rate {
+                    self.has_answered = true;
+                    self.is_unsynchronised = !matches!(taken, Taken::Sample(_));
+                }
+                self.expect_nothing();
+                return;
+            }
+        }
+    }
+}
+
+// Whether octets were taken for the daemon's answer to the question.
+fn is_answer(taken: Taken) -> bool {
+    matches!(
+        taken,
+        Taken::Sample(_) | Taken::Rate | Taken::Refused(Distrust::Unsynchronised)
+    )
+}
+
+impl<'a, C: Clock + Copy + Drop> ReferenceSource for FollowedClock<'a, C> {
+    /// The state that the daemon's last answer gives by now.
+    fn in_force(&mut self, receipt: Option<Moment>) -> Reference {
+        let ticks = self.clocks.ticks.get();
+        let Some(clock) = receipt else {
+            self.exchange(ticks);
+            return reference_unsynchronised();
+        };
+        // The ticks were read just after the receipt, and before anything that the exchange does.
+        let now = self.glance(Reading { clock, ticks });
+        self.exchange(ticks);
+        self.follower.in_force(now)
+    }
+
+    fn tend(&mut self) {
+        let ticks = self.clocks.read(&self.clock);
+        let clock = moment_now(&self.clock);
+        self.glance(Reading { clock, ticks });
+        self.exchange(ticks);
+    }
+}
+
+/// Where the state of the clock comes from.
+#[derive(Drop)]
+pub enum ClockSource<'a, C: Clock + Copy + Drop> {
+    /// From the register file, for ever.
+    Fixed(Reference),
+    /// From the host's clock daemon.
+    Followed(FollowedClock<'a, C>),
+}
+
+impl<'a, C: Clock + Copy + Drop> ClockSource<'a, C> {
+    /// The state of the clock by a reading of the host's clocks.
+    pub fn state(&self, now: Reading) -> Reference {
+        let state = match self {
+            ClockSource::Fixed(reference) => *reference,
+            ClockSource::Followed(followed) => followed.follower.in_force(now),
+        };
+        reference_where_read(now.clock, state)
+    }
+}
+
+impl<'a, C: Clock + Copy + Drop> ReferenceSource for ClockSource<'a, C> {
+    ghost use Rattle.ntp_host.specs.FixedClock.{clock_coming};
+
+    ghost coming = { clock_coming };
+
+    /// The state that replies tell: of a turn whose clock could not be read, that of an unsynchronised one.
+    fn in_force(&mut self, receipt: Option<Moment>) -> Reference {
+        let state = match self {
+            ClockSource::Fixed(reference) => *reference,
+            ClockSource::Followed(followed) => followed.in_force(receipt),
+        };
+        match receipt {
+            Some(clock) => reference_where_read(clock, state),
+            None => state,
+        }
+    }
+
+    fn tend(&mut self) {
+        if let ClockSource::Followed(followed) = self {
+            followed.tend();
+        }
+    }
+}

@@ -1,9 +1,0 @@
-use Rattle.std.proofs.Common.{◌++◌, ap₂, subst}
-use Rattle.std.proofs.lemmas.Bool.{OnTrue_at}
-use Rattle.ntp_keeping.specs.Alike.{LeaveTheSame}
-use Rattle.ntp_keeping.proofs.folding.fold.Goals as goal
-
-pub returns : goal.returns
-returns c =
-    let same = OnTrue_at c.if-not-branch.false c.in_ok-make_the_same.ensures in
-    subst (λ all. LeaveTheSame c.args.history.now all) (ap₂ (λ xs ys. xs ++ ys) c.deref.ensures.value c.deref-2.ensures.value) same

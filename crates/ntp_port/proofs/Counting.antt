@@ -1,0 +1,122 @@
+-- The counts of turns.
+use Rattle.std.proofs.Common.{◌≡◌, ℕ, ◌+◌, ◌≤◌, Bool, true, false, Option, List, [], ◌∷◌, ◌++◌, length, refl, sym, ap, ◌∙◌, subst, append-nil, length-append, arith}
+use Rattle.std.proofs.lemmas.Grind.{flat_map-append}
+use Rattle.std.specs.Prelude.{Result, flat_map}
+use Rattle.ntp_service.specs.Registry.{Registry}
+use Rattle.ntp_reply.specs.Reference.{ReferenceState}
+use Rattle.ntp_reply.specs.declared.answers.Answer.{Answer}
+use Rattle.ntp_reply.specs.declared.answers.Answer.TheVariants as answer
+use Rattle.ntp_service.specs.declared.observation.Arrival.{Arrival}
+use Rattle.ntp_service.specs.declared.observation.TurnOutcome.{TurnOutcome}
+use Rattle.ntp_service.specs.declared.observation.TurnOutcome.TheVariants.{NothingReceived, Answered}
+use Rattle.ntp_service.specs.Headline.{Tells}
+use Rattle.ntp_service.proofs.Runs.{Tells-nil, Tells-append}
+use Rattle.ntp_port.specs.declared.port.PortCounts.{PortCounts}
+use Rattle.ntp_port.specs.declared.port.PortFault.{PortFault}
+use Rattle.ntp_port.specs.declared.serving.Served.{Served}
+use Rattle.ntp_port.specs.Port.{IncomingValue, Readings, Told}
+use Rattle.ntp_port.specs.Made.{Made, Missed, Received, happened_in_turn, sent_in, has_arrived, has_departed, sending_of, turn_outcome}
+use Rattle.ntp_port.specs.Serving.{ServeMakes}
+use Rattle.ntp_port.specs.Sending.{counted, was_sent, was_noted}
+use Rattle.ntp_port.proofs.Taking.{TakesTurn}
+use Rattle.ntp_port.proofs.ManyTurns.{sent_of, if_so, count-more, Makes-nil, Makes-append}
+
+pub at-most-one : (b : Bool) → if_so b ≤ 1
+at-most-one true = omega arith
+at-most-one false = omega arith
+
+-- a turn counts one at most
+pub record CountsOne (c d : Served) : Type 0 where
+  pub arrivals : d.arrivals ≤ c.arrivals + 1
+  pub sent : d.sent ≤ c.sent + 1
+  pub departed : d.departed ≤ c.departed + 1
+
+pub counts-one : (o : TurnOutcome) (c : Served) → CountsOne c (counted o c)
+counts-one NothingReceived c = record { arrivals = omega arith; sent = omega arith; departed = omega arith }
+counts-one (Answered x a sending) c = record {
+  arrivals = omega arith;
+  sent = omega (arith, at-most-one (was_sent sending));
+  departed = omega (arith, at-most-one (was_noted sending));
+}
+
+pub sent-one : (d : IncomingValue) (clock : Readings) (sends : Bool) (a : Answer) (noted : Bool)
+    → if_so (was_sent (sending_of a sends noted)) ≡ length (sent_in (Received d clock sends a noted))
+sent-one d clock true (answer.Time reply saved) true = refl
+sent-one d clock true (answer.Time reply saved) false = refl
+sent-one d clock true (answer.Rate reply) noted = refl
+sent-one d clock true (answer.Deny reply) noted = refl
+sent-one d clock true (answer.Nak reply) noted = refl
+sent-one d clock true (answer.Silent why) noted = refl
+sent-one d clock false (answer.Time reply saved) noted = refl
+sent-one d clock false (answer.Rate reply) noted = refl
+sent-one d clock false (answer.Deny reply) noted = refl
+sent-one d clock false (answer.Nak reply) noted = refl
+sent-one d clock false (answer.Silent why) noted = refl
+
+pub noted-one : (d : IncomingValue) (clock : Readings) (sends : Bool) (a : Answer) (noted : Bool)
+    → was_noted (sending_of a sends noted) ≡ has_departed (Received d clock sends a noted)
+noted-one d clock true (answer.Time reply saved) true = refl
+noted-one d clock true (answer.Time reply saved) false = refl
+noted-one d clock true (answer.Rate reply) noted = refl
+noted-one d clock true (answer.Deny reply) noted = refl
+noted-one d clock true (answer.Nak reply) noted = refl
+noted-one d clock true (answer.Silent why) noted = refl
+noted-one d clock false (answer.Time reply saved) noted = refl
+noted-one d clock false (answer.Rate reply) noted = refl
+noted-one d clock false (answer.Deny reply) noted = refl
+noted-one d clock false (answer.Nak reply) noted = refl
+noted-one d clock false (answer.Silent why) noted = refl
+
+-- what a turn counts
+record Counted (m : Made) (c d : Served) : Type 0 where
+  arrivals : d.arrivals ≡ c.arrivals + if_so (has_arrived m)
+  sent : d.sent ≡ c.sent + length (sent_in m)
+  departed : d.departed ≡ c.departed + if_so (has_departed m)
+
+counted-made : (m : Made) (c : Served) → Counted m c (counted (turn_outcome m) c)
+counted-made (Missed clock sends) c = record { arrivals = omega arith; sent = omega arith; departed = omega arith }
+counted-made (Received d clock sends a noted) c = record {
+  arrivals = refl;
+  sent = ap (λ n. c.sent + n) (sent-one d clock sends a noted);
+  departed = ap (λ b. c.departed + if_so b) (noted-one d clock sends a noted);
+}
+
+sent-more : (made : List Made) (m : Made) → length (sent_of (made ++ m ∷ [])) ≡ length (sent_of made) + length (sent_in m)
+sent-more made m = ap length (flat_map-append sent_in made (m ∷ [])) ∙ length-append (sent_of made) (sent_of (m ∷ []))
+    ∙ ap (λ l. length (sent_of made) + length l) (append-nil (sent_in m))
+
+-- ---- the turns of a server
+pub ServeMakes-nil : (A : Type 0) (reference : ReferenceState) (may : Bool) (t : Option Told) (a : PortCounts) (s : Registry)
+    → ServeMakes A reference may 0 t t a a s s (record { arrivals = 0; sent = 0; departed = 0 })
+ServeMakes-nil A reference may t a s = record {
+  made = [];
+  each = refl;
+  port = Makes-nil may a t;
+  arrivals = refl;
+  sent = refl;
+  departed = refl;
+  tells = λ history stands. Tells-nil history s stands;
+}
+
+pub ServeMakes-turn : (A : Type 0) (reference : ReferenceState) (may : Bool) (n : ℕ) (t u v : Option Told) (a b i c : PortCounts)
+    (s r q : Registry) (served : Served) (x : Result Arrival PortFault) (buffer : List ℕ) (o : TurnOutcome)
+    → ServeMakes A reference may n t u a b s r served → TakesTurn A reference may x buffer u v b i c r q o
+    → ServeMakes A reference may (n + 1) t v a c s q (counted o served)
+ServeMakes-turn A reference may n t u v a b i c s r q served x buffer o p taken =
+    let k = taken.turn in
+    let m = k.made in
+    let one : Counted m served (counted o served) = subst (λ z. Counted m served (counted z served)) (sym k.comes_to) (counted-made m served) in
+    record {
+      made = p.made ++ m ∷ [];
+      each = omega (arith, p.each, length-append p.made (m ∷ []));
+      port = Makes-append may p.made (m ∷ []) a b c t u v p.port taken.port;
+      arrivals = omega (arith, p.arrivals, one.arrivals, count-more has_arrived p.made m);
+      sent = omega (arith, p.sent, one.sent, sent-more p.made m);
+      departed = omega (arith, p.departed, one.departed, count-more has_departed p.made m);
+      tells = λ history stands.
+          subst (λ l. Tells history l q)
+          (ap (λ l. flat_map (happened_in_turn reference) p.made ++ l) (sym (append-nil (happened_in_turn reference m)))
+          ∙ sym (flat_map-append (happened_in_turn reference) p.made (m ∷ [])))
+          (Tells-append history (flat_map (happened_in_turn reference) p.made) (happened_in_turn reference m) r q
+          (p.tells history stands) (λ on. k.tells _ on));
+    }

@@ -1,0 +1,110 @@
+-- What is kept goes on to be that of a history.
+use Rattle.std.proofs.Common.{◌≡◌, ℕ, zero, suc, ◌+◌, ◌-◌, ◌≤◌, inl, inr, List, [], ◌∷◌, ◌++◌, refl, sym, ap, subst, ◌∙◌, arith}
+use Rattle.std.specs.Prelude.{All}
+use Rattle.ntp_port.specs.declared.queue_event.QueueEvent.{QueueEvent}
+use Rattle.ntp_port.specs.declared.queue_event.QueueEvent.TheVariants.{Held, Looked, Taken, Read}
+use Rattle.ntp_port.specs.declared.queue_watch.QueueWatch.{QueueWatch}
+use Rattle.ntp_port.specs.Freshness.{takes, moment_of, IsInOrder, WasCounted, oldest_look}
+use Rattle.ntp_port.specs.Watch.{Watches, Counts, IsWaiting, longest_of}
+use Rattle.ntp_port.specs.Fresh.{StandsFor, LooksAgain, Dropped, AreStale, history_dropped, counted_on}
+use Rattle.ntp_port.proofs.Watching.{looked-more}
+
+All-cons : {X : Type 0} (P : X → Type 0) (x : X) (xs : List X) → P x → All P xs → All P (x ∷ xs)
+All-cons P x xs here rest zero d below = here
+All-cons P x xs here rest (suc k) d below = rest k d (omega arith)
+
+-- when it may be looked again stays in time
+LooksAgain-more : (longest next : ℕ) (event : QueueEvent) (history : List QueueEvent) → IsInOrder (event ∷ history)
+    → LooksAgain longest history next → LooksAgain longest (event ∷ history) next
+LooksAgain-more longest next event history ordered (inl at_once) = inl at_once
+LooksAgain-more longest next event history ordered (inr looked) = inr (looked-more next (oldest_look longest) event history ordered looked)
+
+-- an event that is no take leaves what was counted
+Counts-quiet : (watch : QueueWatch) (event : QueueEvent) (history : List QueueEvent)
+    → ((since : List QueueEvent) → takes (event ∷ since) ≡ takes since) → Counts watch history → Counts watch (event ∷ history)
+Counts-quiet watch event history quiet counts =
+    λ waits. let x = counts waits in (event ∷ x.0, x.1, x.2, ap (λ xs. event ∷ xs) x.3, omega (arith, quiet x.0, x.4))
+
+-- and a take leaves one less
+pub Counts-took : (watch after : QueueWatch) (history : List QueueEvent) (at : ℕ) → after.seen ≡ watch.seen
+    → after.waiting ≡ watch.waiting - 1 → Counts watch history → Counts after (Taken at ∷ history)
+Counts-took watch after history at seen less counts =
+    λ waits. let x = counts (omega (arith, waits, less)) in (
+      Taken at ∷ x.0,
+      x.1,
+      x.2,
+      ap (λ xs. Taken at ∷ xs) x.3 ∙ ap (λ n. Taken at ∷ (x.0 ++ Held x.2 n ∷ x.1)) (sym seen),
+      omega (arith, less, waits, x.4),
+    )
+
+-- the next datagram is one of those
+pub counts-one : (watch : QueueWatch) (history : List QueueEvent) → IsWaiting watch → Counts watch history → WasCounted history
+counts-one watch history waits counts =
+    let x = counts waits in (x.0, x.1, x.2, watch.seen, x.3, omega (arith, waits, x.4))
+
+-- an event of now
+StandsFor-event : (watch after : QueueWatch) (reading next : ℕ) (history : List QueueEvent) (event : QueueEvent) → moment_of event ≡ reading
+    → longest_of after ≡ longest_of watch → StandsFor watch reading next history → Watches after (event ∷ history)
+    → Counts after (event ∷ history) → StandsFor after reading next (event ∷ history)
+StandsFor-event watch after reading next history event now longest stands watches counts =
+    let ordered : IsInOrder (event ∷ history) = ((λ k d below. omega (arith, now, stands.past k d below)), stands.ordered) in
+    record {
+      watches = watches;
+      counts = counts;
+      looks_again = LooksAgain-more (longest_of after) next event history ordered
+          (subst (λ n. LooksAgain n history next) (sym longest) stands.looks_again);
+      ordered = ordered;
+      past = All-cons (λ e. moment_of e ≤ reading) event history (omega (arith, now)) stands.past;
+    }
+
+pub StandsFor-Held : (watch after : QueueWatch) (reading next count : ℕ) (history : List QueueEvent) → longest_of after ≡ longest_of watch
+    → StandsFor watch reading next history → Watches after (Held count reading ∷ history) → Counts after (Held count reading ∷ history)
+    → StandsFor after reading next (Held count reading ∷ history)
+StandsFor-Held watch after reading next count history longest stands watches counts =
+    StandsFor-event watch after reading next history (Held count reading) refl longest stands watches counts
+
+pub StandsFor-Looked : (watch : QueueWatch) (reading next : ℕ) (history : List QueueEvent) → StandsFor watch reading next history
+    → StandsFor watch reading next (Looked reading ∷ history)
+StandsFor-Looked watch reading next history stands = StandsFor-event watch watch reading next history (Looked reading) refl refl stands
+    stands.watches (Counts-quiet watch (Looked reading) history (λ since. refl) stands.counts)
+
+pub StandsFor-Taken : (watch after : QueueWatch) (reading next : ℕ) (history : List QueueEvent) → longest_of after ≡ longest_of watch
+    → StandsFor watch reading next history → Watches after (Taken reading ∷ history) → Counts after (Taken reading ∷ history)
+    → StandsFor after reading next (Taken reading ∷ history)
+StandsFor-Taken watch after reading next history longest stands watches counts =
+    StandsFor-event watch after reading next history (Taken reading) refl longest stands watches counts
+
+pub StandsFor-Read : (watch : QueueWatch) (reading now next : ℕ) (history : List QueueEvent) → reading ≤ now
+    → StandsFor watch reading next history → StandsFor watch now next (Read now ∷ history)
+StandsFor-Read watch reading now next history later stands =
+    let past : All (λ e. moment_of e ≤ now) history = λ k d below. omega (arith, later, stands.past k d below) in
+    let ordered : IsInOrder (Read now ∷ history) = (past, stands.ordered) in
+    record {
+      watches = stands.watches;
+      counts = Counts-quiet watch (Read now) history (λ since. refl) stands.counts;
+      looks_again = LooksAgain-more (longest_of watch) next (Read now) history ordered stands.looks_again;
+      ordered = ordered;
+      past = All-cons (λ e. moment_of e ≤ now) (Read now) history (omega arith) past;
+    }
+
+-- it may be looked again at another moment
+pub StandsFor-next : (watch : QueueWatch) (reading next later : ℕ) (history : List QueueEvent) → LooksAgain (longest_of watch) history later
+    → StandsFor watch reading next history → StandsFor watch reading later history
+StandsFor-next watch reading next later history looks stands = record {
+  watches = stands.watches;
+  counts = stands.counts;
+  looks_again = looks;
+  ordered = stands.ordered;
+  past = stands.past;
+}
+
+-- these, and then those
+pub AreStale-append : (longest : ℕ) (h k m : List QueueEvent) (first second : List Dropped) → AreStale longest h first k
+    → AreStale longest k second m → AreStale longest h (first ++ second) m
+AreStale-append longest h k m [] second a b = subst (λ xs. AreStale longest xs second m) a b
+AreStale-append longest h k m (one ∷ first) second a b =
+    (a.0, AreStale-append longest (history_dropped one h) k m first second a.1 b)
+
+-- are counted
+pub counted-append : (s t v m n : ℕ) → t ≡ counted_on s m → v ≡ counted_on t n → v ≡ counted_on s (m + n)
+counted-append s t v m n first second = omega (arith, first, second)

@@ -1,0 +1,286 @@
+-- One turn, by the calls that were made in it.
+use Rattle.std.proofs.Common.{◌≡◌, ℕ, ◌+◌, ◌≤◌, Bool, true, false, Option, None, Some, Result, Ok, Err, List, [], ◌∷◌, ◌++◌, length, drop, refl, sym, ap, ◌∙◌, subst, append-nil, arith, rules}
+use Rattle.std.specs.Prelude.{nat_le, not, is_err, is_some, option_to_list, map, if◌then◌else◌}
+use Rattle.ntp_packet.specs.declared.moment.Moment.{Moment}
+use Rattle.ntp_packet.specs.declared.stamp.Stamp.{Stamp}
+use Rattle.ntp_mac.specs.Mac.{most_reply_octets}
+use Rattle.ntp_service.specs.declared.address.Address.{Address}
+use Rattle.ntp_service.specs.Registry.{Registry}
+use Rattle.ntp_reply.specs.declared.answers.Answer.{Answer}
+use Rattle.ntp_reply.specs.declared.answers.Answer.TheVariants as answer
+use Rattle.ntp_service.specs.declared.observation.Sending.TheVariants.{NoReply, NotSent, Sent as WasSent, Noted, NotNoted}
+use Rattle.ntp_service.specs.declared.event.Event.{Event}
+use Rattle.ntp_service.specs.declared.event.Event.TheVariants as event
+use Rattle.ntp_service.specs.Model.{departure_outcome}
+use Rattle.ntp_service.specs.Headline.{StandsFor, TellsOne}
+use Rattle.ntp_service.proofs.Runs.{Tells-nil, Tells-one}
+use Rattle.ntp_port.specs.declared.memory_port.Sent.{Sent}
+use Rattle.ntp_port.specs.declared.port.PortCounts.{PortCounts}
+use Rattle.ntp_port.specs.declared.port.PortFault.{PortFault}
+use Rattle.ntp_port.specs.declared.port.PortFault.TheVariants.{Send}
+use Rattle.ntp_port.specs.Sequence.{firsts}
+use Rattle.ntp_port.specs.Port.{IncomingValue, Readings, later, TurnValue, no_turn, Told, counted_send, NowTells, SendTells}
+use Rattle.ntp_port.specs.Made.{Made, Received, turn_of, reply_in, departing, sent_in, sending_of, is_unsent}
+use Rattle.ntp_port.specs.Serving.{FollowsList, Follows}
+use Rattle.ntp_port.specs.Sending.{saved_in, turn_with, HasBegun, IsInTurn, SendingMakes}
+
+-- one turn, at any port
+abbrev pub FollowsOne : Made → Option Told → Option Told → Type 0
+FollowsOne m t u = Follows (turn_of m ∷ []) (m ∷ []) t u
+
+-- no send failed
+pub counted-none : (k : PortCounts) → k ≡ counted_send false k
+counted-none k = let none : k.failed_sends ≡ k.failed_sends + 0 = omega arith in ap (λ n. record k { failed_sends = n }) none
+
+-- at a port that tells its turns
+pub follows-one : (m : Made) (rest : List TurnValue) (old new : Told) → old.coming ≡ turn_of m ∷ rest → new.coming ≡ rest
+    → new.sent ≡ old.sent ++ sent_in m → FollowsList (turn_of m ∷ []) (m ∷ []) old new
+follows-one m rest old new here coming sent = record {
+  next = sym (ap (firsts no_turn 1) here);
+  coming = coming ∙ sym (ap (drop 1) here);
+  sent = sent ∙ ap (λ l. old.sent ++ l) (sym (append-nil (sent_in m)));
+}
+
+-- ---- what becomes of the reply of an answer
+undeparting-silence : (sends : Bool) (a : Answer) → reply_in a ≡ None → departing sends a ≡ []
+undeparting-silence true (answer.Silent why) e = refl
+undeparting-silence false (answer.Silent why) e = refl
+undeparting-silence sends (answer.Time reply saved) e = cc
+undeparting-silence sends (answer.Rate reply) e = cc
+undeparting-silence sends (answer.Deny reply) e = cc
+undeparting-silence sends (answer.Nak reply) e = cc
+
+undeparting : (a : Answer) → saved_in a ≡ None → departing true a ≡ []
+undeparting (answer.Time reply saved) e = cc
+undeparting (answer.Rate reply) e = refl
+undeparting (answer.Deny reply) e = refl
+undeparting (answer.Nak reply) e = refl
+undeparting (answer.Silent why) e = refl
+
+departing-time : (a : Answer) (saved : Stamp) → saved_in a ≡ Some saved → departing true a ≡ saved ∷ []
+departing-time (answer.Time reply stamp) saved e = ap option_to_list e
+departing-time (answer.Rate reply) saved e = cc
+departing-time (answer.Deny reply) saved e = cc
+departing-time (answer.Nak reply) saved e = cc
+departing-time (answer.Silent why) saved e = cc
+
+sending-silence : (sends : Bool) (a : Answer) (noted : Bool) → reply_in a ≡ None → NoReply ≡ sending_of a sends noted
+sending-silence sends (answer.Silent why) noted e = refl
+sending-silence sends (answer.Time reply saved) noted e = cc
+sending-silence sends (answer.Rate reply) noted e = cc
+sending-silence sends (answer.Deny reply) noted e = cc
+sending-silence sends (answer.Nak reply) noted e = cc
+
+sending-failed : (a : Answer) (noted : Bool) (reply : List ℕ) → reply_in a ≡ Some reply → NotSent ≡ sending_of a false noted
+sending-failed (answer.Time reply saved) noted r e = refl
+sending-failed (answer.Rate reply) noted r e = refl
+sending-failed (answer.Deny reply) noted r e = refl
+sending-failed (answer.Nak reply) noted r e = refl
+sending-failed (answer.Silent why) noted r e = cc
+
+sending-sent : (a : Answer) (noted : Bool) (reply : List ℕ) → reply_in a ≡ Some reply → saved_in a ≡ None → WasSent ≡ sending_of a true noted
+sending-sent (answer.Time reply saved) noted r e h = cc
+sending-sent (answer.Rate reply) noted r e h = refl
+sending-sent (answer.Deny reply) noted r e h = refl
+sending-sent (answer.Nak reply) noted r e h = refl
+sending-sent (answer.Silent why) noted r e h = cc
+
+sending-time : (a : Answer) (noted : Bool) (saved : Stamp) → saved_in a ≡ Some saved → (if noted then Noted else NotNoted) ≡ sending_of a true noted
+sending-time (answer.Time reply stamp) noted saved e = refl
+sending-time (answer.Rate reply) noted saved e = cc
+sending-time (answer.Deny reply) noted saved e = cc
+sending-time (answer.Nak reply) noted saved e = cc
+sending-time (answer.Silent why) noted saved e = cc
+
+-- what a port tells in a turn, once it tried to send a reply
+abbrev pub tried_in : List TurnValue → TurnValue → List Sent → Told
+tried_in rest turn sent = record { coming = rest; present = turn; clock = later turn.clock; has_tried_send = true; sent = sent }
+
+-- a reply to where a datagram came from
+abbrev pub sent_back : IncomingValue → Option (List ℕ) → List Sent
+sent_back d replies = map (λ reply. record { address = d.address; port = d.port; reply = reply }) (option_to_list replies)
+
+-- and where it was sent
+abbrev pub if_sent : Bool → List Sent → IncomingValue → List ℕ → List Sent
+if_sent good sent from reply = if good then sent ++ sent_back from (Some reply) else sent
+
+-- a datagram and the first reading of the clock
+module _ (from : IncomingValue) (transmit : Moment) where
+  pub record HasTriedOne (good : Bool) (reply : List ℕ) (old new : Told) (clock : Readings) (rest : List TurnValue) : Type 0 where
+    pub first : clock false 0 ≡ transmit
+    pub coming : old.coming ≡ turn_with from clock good ∷ rest
+    pub after : new ≡ tried_in rest (turn_with from clock good) (if_sent good old.sent from reply)
+
+  -- a port is in a turn, and tried to send a reply
+  abbrev pub HasTried : Bool → List ℕ → Option Told → Option Told → Type 0
+  HasTried good reply None w = Unit {0}
+  HasTried good reply (Some old) None = ⊥
+  HasTried good reply (Some old) (Some new) = (clock : Readings) × (rest : List TurnValue) × HasTriedOne good reply old new clock rest
+
+  tried-one : (reply : List ℕ) (old mid new : Told) (sent : Result (Unit {0}) PortFault) (clock : Readings) (sends : Bool)
+      (rest : List TurnValue) → nat_le (length reply) most_reply_octets ≡ true → HasBegun old mid from transmit clock sends rest
+      → SendTells (Some mid) (Some new) from.address from.port reply sent → HasTried (not (is_err sent)) reply (Some old) (Some new)
+  tried-one reply old mid new sent clock sends rest fits b told =
+      by_sends sends b.coming (subst (λ m. SendTells (Some m) (Some new) from.address from.port reply sent) b.after told)
+    where
+      by_sends : (sends : Bool) → old.coming ≡ turn_with from clock sends ∷ rest
+          → SendTells (Some (record {
+            coming = rest;
+            present = turn_with from clock sends;
+            clock = later clock;
+            has_tried_send = false;
+            sent = old.sent;
+          })) (Some new) from.address from.port reply sent → HasTried (not (is_err sent)) reply (Some old) (Some new)
+      by_sends false coming p = rw p.0 (clock, rest, record { first = b.first; coming = coming; after = p.1 })
+      by_sends true coming p =
+          let good : sent ≡ Ok tt = p.0 ∙ ap (λ (z : Bool). if z then Ok tt else Err Send) fits in
+          rw good (
+            clock,
+            rest,
+            record {
+              first = b.first;
+              coming = coming;
+              after = p.1 ∙ ap (λ z. tried_in rest (turn_with from clock true) (if_sent z old.sent from reply)) fits;
+            },
+          )
+
+  pub tried : (reply : List ℕ) (t v w : Option Told) (sent : Result (Unit {0}) PortFault) (address : Address) (port : ℕ)
+      → length reply ≤ most_reply_octets → from.address ≡ address → from.port ≡ port
+      → IsInTurn t v from transmit → SendTells v w address port reply sent → HasTried (not (is_err sent)) reply t w
+  tried reply None v w sent address port few e h i p = tt
+  tried reply (Some old) None w sent address port few e h i p = absurd i
+  tried reply (Some old) (Some mid) None sent address port few e h i p = absurd p
+  tried reply (Some old) (Some mid) (Some new) sent address port few e h i p =
+      tried-one reply old mid new sent i.0 i.1 i.2 (search rules) i.3
+      (subst (λ q. SendTells (Some mid) (Some new) from.address q reply sent) (sym h)
+      (subst (λ q. SendTells (Some mid) (Some new) q port reply sent) (sym e) p))
+
+  -- the answer to the datagram
+  module _ (a : Answer) where
+    abbrev pub made_of : Readings → Bool → Bool → Made
+    made_of clock sends noted = Received from clock sends a noted
+
+    -- ---- there is no reply
+    nothing-sent : (clock : Readings) (sends : Bool) → reply_in a ≡ None → sent_in (made_of clock sends false) ≡ []
+    nothing-sent clock true none = ap (sent_back from) none
+    nothing-sent clock false none = refl
+
+    follows-silent : (t u : Option Told) → reply_in a ≡ None → IsInTurn t u from transmit
+        → (clock : Readings) × (sends : Bool) × (clock false 0 ≡ transmit) × FollowsOne (made_of clock sends false) t u
+    follows-silent None u none i = (λ tried n. transmit, false, refl, tt)
+    follows-silent (Some old) None none i = absurd i
+    follows-silent (Some old) (Some new) none i = (
+      i.0,
+      i.1,
+      i.3.first,
+      follows-one (made_of i.0 i.1 false) i.2 old new i.3.coming (ap (λ (z : Told). z.coming) i.3.after)
+          (ap (λ (z : Told). z.sent) i.3.after ∙ sym (append-nil old.sent) ∙ ap (λ l. old.sent ++ l) (sym (nothing-sent i.0 i.1 none))),
+    )
+
+    silent-sent : (clock : Readings) (sends : Bool) → reply_in a ≡ None → is_unsent (made_of clock sends false) ≡ false
+    silent-sent clock true none = refl
+    silent-sent clock false none = ap is_some none
+
+    pub makes-no-reply : (A : Type 0) (t u : Option Told) (k l : PortCounts) (s : Registry) → reply_in a ≡ None → l ≡ k
+        → IsInTurn t u from transmit → SendingMakes A a from transmit t u k l s s NoReply
+    makes-no-reply A t u k l s none count i =
+        let p = follows-silent t u none i in
+        let gone : departing p.1 a ≡ [] = undeparting-silence p.1 a none in
+        let well : is_unsent (made_of p.0 p.1 false) ≡ false = silent-sent p.0 p.1 none in
+        record {
+          clock = p.0;
+          first = p.2;
+          sends = p.1;
+          noted = false;
+          comes_to = sending-silence p.1 a false none;
+          port = p.3;
+          counts = count ∙ counted-none k ∙ ap (λ b. counted_send b k) (sym well);
+          tells = λ history stands. rw gone (Tells-nil history s stands);
+        }
+
+    -- ---- there is one
+    module _ (reply : List ℕ) (is : reply_in a ≡ Some reply) where
+      tried-sent : (old : List Sent) (good noted : Bool) (clock : Readings)
+          → if_sent good old from reply ≡ old ++ sent_in (made_of clock good noted)
+      tried-sent old true noted clock = ap (λ r. old ++ sent_back from r) (sym is)
+      tried-sent old false noted clock = sym (append-nil old)
+
+      follows-tried : (good noted : Bool) (t w : Option Told) → HasTried good reply t w
+          → (clock : Readings) × (clock false 0 ≡ transmit) × FollowsOne (made_of clock good noted) t w
+      follows-tried good noted None w p = (λ tried n. transmit, refl, tt)
+      follows-tried good noted (Some old) None p = absurd p
+      follows-tried good noted (Some old) (Some new) p = (
+        p.0,
+        p.2.first,
+        follows-one (made_of p.0 good noted) p.1 old new p.2.coming (ap (λ (z : Told). z.coming) p.2.after)
+            (ap (λ (z : Told). z.sent) p.2.after ∙ tried-sent old.sent good noted p.0),
+      )
+
+      follows-departed : (noted : Bool) (t w z : Option Told) (moment : Moment) → HasTried true reply t w → NowTells w z moment
+          → (clock : Readings) × (clock false 0 ≡ transmit) × (clock true 1 ≡ moment) × FollowsOne (made_of clock true noted) t z
+      follows-departed noted None w z moment p k = (λ tried n. if tried then moment else transmit, refl, refl, tt)
+      follows-departed noted (Some old) None z moment p k = absurd p
+      follows-departed noted (Some old) (Some mid) None moment p k = absurd k
+      follows-departed noted (Some old) (Some mid) (Some new) moment p k =
+          let shown : moment ≡ p.0 true 1 = k.0 ∙ ap (λ (x : Told). x.clock x.has_tried_send 0) p.2.after in
+          let after = k.1 ∙ ap (λ (x : Told). record x { clock = later x.clock }) p.2.after in (
+            p.0,
+            p.2.first,
+            sym shown,
+            follows-one (made_of p.0 true noted) p.1 old new p.2.coming (ap (λ (x : Told). x.coming) after)
+                (ap (λ (x : Told). x.sent) after ∙ tried-sent old.sent true noted p.0),
+          )
+
+      pub makes-not-sent : (A : Type 0) (t w : Option Told) (k l : PortCounts) (s : Registry) (sent : Result (Unit {0}) PortFault)
+          → is_err sent ≡ true → l ≡ counted_send (is_err sent) k → HasTried (not (is_err sent)) reply t w
+          → SendingMakes A a from transmit t w k l s s NotSent
+      makes-not-sent A t w k l s sent failed count p =
+          let q = follows-tried false false t w (subst (λ b. HasTried (not b) reply t w) failed p) in
+          record {
+            clock = q.0;
+            first = q.1;
+            sends = false;
+            noted = false;
+            comes_to = sending-failed a false reply is;
+            port = q.2;
+            counts = count ∙ ap (λ b. counted_send b k) (failed ∙ sym (ap is_some is));
+            tells = λ history stands. Tells-nil history s stands;
+          }
+
+      pub makes-sent : (A : Type 0) (t w : Option Told) (k l : PortCounts) (s : Registry) (sent : Result (Unit {0}) PortFault)
+          → is_err sent ≡ false → saved_in a ≡ None → l ≡ counted_send (is_err sent) k → HasTried (not (is_err sent)) reply t w
+          → SendingMakes A a from transmit t w k l s s WasSent
+      makes-sent A t w k l s sent good unsaved count p =
+          let q = follows-tried true false t w (subst (λ b. HasTried (not b) reply t w) good p) in
+          record {
+            clock = q.0;
+            first = q.1;
+            sends = true;
+            noted = false;
+            comes_to = sending-sent a false reply is unsaved;
+            port = q.2;
+            counts = count ∙ ap (λ b. counted_send b k) good;
+            tells = λ history stands. rw (undeparting a unsaved) (Tells-nil history s stands);
+          }
+
+      pub makes-departed : (A : Type 0) (t w z : Option Told) (k l : PortCounts) (s r : Registry) (sent : Result (Unit {0}) PortFault)
+          (saved : Stamp) (moment : Moment) (noted : Bool) (address : Address) → is_err sent ≡ false → saved_in a ≡ Some saved → l ≡ counted_send (is_err sent) k
+          → from.address ≡ address → HasTried (not (is_err sent)) reply t w → NowTells w z moment
+          → ((history : List (Event A)) → StandsFor s history
+          → TellsOne history (event.Departed address saved moment) (departure_outcome noted) r)
+          → SendingMakes A a from transmit t z k l s r (if noted then Noted else NotNoted)
+      makes-departed A t w z k l s r sent saved moment noted address good was count e p reads told =
+          let q = follows-departed noted t w z moment (subst (λ b. HasTried (not b) reply t w) good p) reads in
+          record {
+            clock = q.0;
+            first = q.1;
+            sends = true;
+            noted = noted;
+            comes_to = sending-time a noted saved was;
+            port = q.3;
+            counts = count ∙ ap (λ b. counted_send b k) good;
+            tells = λ history stands.
+                rw (departing-time a saved was) (Tells-one history (event.Departed from.address saved (q.0 true 1)) (departure_outcome noted) r
+                (subst (λ m. TellsOne history (event.Departed from.address saved m) (departure_outcome noted) r) (sym q.2)
+                (subst (λ x. TellsOne history (event.Departed x saved moment) (departure_outcome noted) r) (sym e) (told history stands))));
+          }

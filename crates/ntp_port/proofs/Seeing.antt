@@ -1,0 +1,98 @@
+-- What a port tells over several calls.
+use Rattle.std.proofs.Common.{◌≡◌, ℕ, ◌≤◌, max, Bool, true, false, List, [], ◌∷◌, ◌++◌, Option, None, Some, Result, Ok, Err, refl, sym, ap, subst, ◌∙◌, arith, append_assoc}
+use Rattle.ntp_service.specs.declared.observation.Arrival.{Arrival}
+use Rattle.ntp_port.specs.declared.port.PortFault.{PortFault}
+use Rattle.ntp_port.specs.declared.queue_event.QueueEvent.{QueueEvent}
+use Rattle.ntp_port.specs.declared.queue_event.QueueEvent.TheVariants.{Read}
+use Rattle.ntp_port.specs.Queue.{last_reading, SeesMore, ReadsClock, Tells, seen_in_count, seen_in_look, seen_in_wait, seen_in_drop}
+use Rattle.ntp_port.specs.Fresh.{IsSeenFrom}
+
+-- nothing was seen
+SeesMore-none : (q : Option (List QueueEvent)) → SeesMore q q []
+SeesMore-none None = tt
+SeesMore-none (Some told) = refl
+
+-- these, and then those
+SeesMore-append : (q r s : Option (List QueueEvent)) (first second : List QueueEvent) → SeesMore q r first → SeesMore r s second
+    → SeesMore q s (second ++ first)
+SeesMore-append q r None first second a b = tt
+SeesMore-append q None (Some s) first second a b = absurd b
+SeesMore-append None (Some r) (Some s) first second a b = absurd a
+SeesMore-append (Some q) (Some r) (Some s) first second a b =
+    b ∙ ap (λ xs. second ++ xs) a ∙ sym (append_assoc second first q)
+
+pub IsSeenFrom-same : (reading : ℕ) (q : Option (List QueueEvent)) (history : List QueueEvent) → IsSeenFrom reading reading q q history history
+IsSeenFrom-same reading q history shown = (shown, ([], refl, SeesMore-none q))
+
+pub IsSeenFrom-more : (a b c : ℕ) (q r s : Option (List QueueEvent)) (h k m : List QueueEvent) → IsSeenFrom a b q r h k → IsSeenFrom b c r s k m
+    → IsSeenFrom a c q s h m
+IsSeenFrom-more a b c q r s h k m first second shown =
+    let x = first shown in
+    let y = second x.0 in
+    (y.0, (y.1.0 ++ x.1.0, y.1.1 ∙ ap (λ xs. y.1.0 ++ xs) x.1.1 ∙ sym (append_assoc y.1.0 x.1.0 h), SeesMore-append q r s x.1.0 y.1.0 x.1.2 y.1.2))
+
+-- a call that reads no clock saw this
+seen-in_call : (reading : ℕ) (q r : Option (List QueueEvent)) (seen : ℕ → List QueueEvent) (h : List QueueEvent)
+    → ((shown : ℕ) (told : List QueueEvent) → last_reading (seen shown ++ told) ≡ last_reading told)
+    → Tells q r seen → IsSeenFrom reading reading q r h (seen reading ++ h)
+seen-in_call reading q None seen h keeps tells shown = (tt, (seen reading, refl, tt))
+seen-in_call reading None (Some r) seen h keeps tells shown = absurd tells
+seen-in_call reading (Some q) (Some r) seen h keeps tells shown =
+    let told : r ≡ seen reading ++ q = tells ∙ ap (λ n. seen n ++ q) shown in
+    (ap last_reading told ∙ keeps reading q ∙ shown, (seen reading, refl, told))
+
+pub seen-in_count : (reading : ℕ) (q r : Option (List QueueEvent)) (count : ℕ) (h : List QueueEvent) → Tells q r (seen_in_count count)
+    → IsSeenFrom reading reading q r h (seen_in_count count reading ++ h)
+seen-in_count reading q r count h tells = seen-in_call reading q r (seen_in_count count) h (λ shown told. refl) tells
+
+keeps-look : (b : Bool) (shown : ℕ) (told : List QueueEvent) → last_reading (seen_in_look b shown ++ told) ≡ last_reading told
+keeps-look true shown told = refl
+keeps-look false shown told = refl
+
+pub seen-in_look : (reading : ℕ) (q r : Option (List QueueEvent)) (b : Bool) (h : List QueueEvent) → Tells q r (seen_in_look b)
+    → IsSeenFrom reading reading q r h (seen_in_look b reading ++ h)
+seen-in_look reading q r b h tells = seen-in_call reading q r (seen_in_look b) h (keeps-look b) tells
+
+keeps-drop : (b : Bool) (shown : ℕ) (told : List QueueEvent) → last_reading (seen_in_drop b shown ++ told) ≡ last_reading told
+keeps-drop true shown told = refl
+keeps-drop false shown told = refl
+
+pub seen-in_drop : (reading : ℕ) (q r : Option (List QueueEvent)) (b : Bool) (h : List QueueEvent) → Tells q r (seen_in_drop b)
+    → IsSeenFrom reading reading q r h (seen_in_drop b reading ++ h)
+seen-in_drop reading q r b h tells = seen-in_call reading q r (seen_in_drop b) h (keeps-drop b) tells
+
+keeps-wait : (received : Option (Result Arrival PortFault)) (shown : ℕ) (told : List QueueEvent)
+    → last_reading (seen_in_wait received shown ++ told) ≡ last_reading told
+keeps-wait None shown told = refl
+keeps-wait (Some (Ok arrival)) shown told = refl
+keeps-wait (Some (Err fault)) shown told = refl
+
+seen-in_wait : (reading : ℕ) (q r : Option (List QueueEvent)) (received : Option (Result Arrival PortFault)) (h : List QueueEvent)
+    → Tells q r (seen_in_wait received) → IsSeenFrom reading reading q r h (seen_in_wait received reading ++ h)
+seen-in_wait reading q r received h tells = seen-in_call reading q r (seen_in_wait received) h (keeps-wait received) tells
+
+-- so it is where what it gave is known
+seen-in_known_wait : (reading : ℕ) (q r : Option (List QueueEvent)) (received given : Option (Result Arrival PortFault)) (h : List QueueEvent)
+    → received ≡ given → Tells q r (seen_in_wait received) → IsSeenFrom reading reading q r h (seen_in_wait given reading ++ h)
+seen-in_known_wait reading q r received given h is tells =
+    subst (λ x. IsSeenFrom reading reading q r h (seen_in_wait x reading ++ h)) is (seen-in_wait reading q r received h tells)
+
+-- a reading of a clock that did not go back
+seen-in_reading : (reading now shows : ℕ) (q r : Option (List QueueEvent)) (h : List QueueEvent) → (reading ≤ shows → now ≡ shows)
+    → ReadsClock q r shows → IsSeenFrom reading now q r h (Read now ∷ h)
+seen-in_reading reading now shows q None h later tells shown = (tt, (Read now ∷ [], refl, tt))
+seen-in_reading reading now shows None (Some r) h later tells shown = absurd tells
+seen-in_reading reading now shows (Some q) (Some r) h later tells shown =
+    let same : now ≡ shows = later (omega (arith, shown, tells.0)) in
+    let told : r ≡ Read now ∷ q = tells.1 ∙ ap (λ n. Read n ∷ q) (sym same) in
+    (ap last_reading told, (Read now ∷ [], refl, told))
+
+-- a look, a wait and a reading, one after another
+pub seen-in_take : (a before now shows : ℕ) (q r s u : Option (List QueueEvent)) (received given : Option (Result Arrival PortFault))
+    (h k : List QueueEvent) → IsSeenFrom a before q r h k → received ≡ given → Tells r s (seen_in_wait received) → now ≡ max shows before
+    → ReadsClock s u shows → IsSeenFrom a now q u h (Read now ∷ (seen_in_wait given before ++ k))
+seen-in_take a before now shows q r s u received given h k looked is waited latest read =
+    let known = seen_in_wait given before ++ k in
+    IsSeenFrom-more a before now q s u h known (Read now ∷ known)
+    (IsSeenFrom-more a before before q r s h k known looked (seen-in_known_wait before r s received given k is waited))
+    (seen-in_reading before now shows s u known (λ below. omega (arith, latest, below)) read)

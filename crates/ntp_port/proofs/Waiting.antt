@@ -1,0 +1,178 @@
+-- Calls that pass on nothing, and then one more.
+use Rattle.std.proofs.Common.{◌≡◌, ℕ, ◌+◌, ◌<◌, ◌⊎◌, inl, inr, List, [], ◌∷◌, ◌++◌, length, Option, None, Some, Result, Ok, Err, refl, sym, ap, subst, ◌∙◌, arith, append_assoc, length-append}
+use Rattle.ntp_service.specs.declared.observation.Arrival.{Arrival}
+use Rattle.ntp_port.specs.declared.port.PortFault.{PortFault}
+use Rattle.ntp_port.specs.declared.queue_event.QueueEvent.{QueueEvent}
+use Rattle.ntp_port.specs.declared.queue_event.QueueEvent.TheVariants.{Held, Looked, Taken, Read}
+use Rattle.ntp_port.specs.Freshness.{takes, MayBeAnswered, WasLookedAt, WasCounted, oldest_look}
+use Rattle.ntp_port.specs.Watch.{longest_of}
+use Rattle.ntp_port.specs.Fresh.{Take, history_before, history_after, Dropped, InHand, Swept, history_dropped, IsStale, AreStale, WasAsked, PassesOn, Kept, ReceivesFresh, PassesOnFresh}
+use Rattle.ntp_port.proofs.Seeing.{IsSeenFrom-more}
+use Rattle.ntp_port.proofs.Keeping.{AreStale-append, counted-append}
+use Rattle.ntp_port.proofs.Dropping.{DropsTurns-on, DropsTurns-append}
+
+takes-append : (xs ys : List QueueEvent) → takes (xs ++ ys) ≡ takes xs + takes ys
+takes-append [] ys = omega arith
+takes-append (Taken at ∷ xs) ys = omega (arith, takes-append xs ys)
+takes-append (Held count at ∷ xs) ys = takes-append xs ys
+takes-append (Looked at ∷ xs) ys = takes-append xs ys
+takes-append (Read at ∷ xs) ys = takes-append xs ys
+
+pub quiet-append : (xs ys : List QueueEvent) → takes xs ≡ 0 → takes ys ≡ 0 → takes (xs ++ ys) ≡ 0
+quiet-append xs ys p q = omega (arith, takes-append xs ys, p, q)
+
+-- a take before which more was seen
+earlier : Take → (seen : List QueueEvent) → takes seen ≡ 0 → Take
+earlier take seen quiet =
+    record { seen = take.seen ++ seen; quiet = quiet-append take.seen seen take.quiet quiet; at = take.at; now = take.now }
+
+history_before-earlier : (take : Take) (seen history : List QueueEvent) (quiet : takes seen ≡ 0)
+    → history_before (earlier take seen quiet) history ≡ history_before take (seen ++ history)
+unfolding earlier
+history_before-earlier take seen history quiet = append_assoc take.seen seen history
+
+history_after-earlier : (take : Take) (seen history : List QueueEvent) (quiet : takes seen ≡ 0)
+    → history_after (earlier take seen quiet) history ≡ history_after take (seen ++ history)
+unfolding earlier
+history_after-earlier take seen history quiet = ap (λ xs. Read take.now ∷ (Taken take.at ∷ xs)) (append_assoc take.seen seen history)
+
+-- one that was dropped, before which more was seen
+earlier_dropped : Dropped → (seen : List QueueEvent) → takes seen ≡ 0 → Dropped
+earlier_dropped (InHand take) seen quiet = InHand (earlier take seen quiet)
+earlier_dropped (Swept events calm at) seen quiet = Swept (events ++ seen) (quiet-append events seen calm quiet) at
+
+history_dropped-earlier : (one : Dropped) (seen history : List QueueEvent) (quiet : takes seen ≡ 0)
+    → history_dropped (earlier_dropped one seen quiet) history ≡ history_dropped one (seen ++ history)
+unfolding earlier_dropped
+history_dropped-earlier (InHand take) seen history quiet = history_after-earlier take seen history quiet
+history_dropped-earlier (Swept events calm at) seen history quiet = ap (λ xs. Taken at ∷ xs) (append_assoc events seen history)
+
+IsStale-earlier : (longest : ℕ) (one : Dropped) (seen history : List QueueEvent) (quiet : takes seen ≡ 0)
+    → IsStale longest (seen ++ history) one → IsStale longest history (earlier_dropped one seen quiet)
+unfolding earlier_dropped earlier
+IsStale-earlier longest (InHand take) seen history quiet stale =
+    let before = history_before-earlier take seen history quiet in (
+      λ may. stale.0 (subst (λ xs. MayBeAnswered longest xs take.now) before may),
+      subst (λ xs. WasLookedAt (oldest_look longest) xs take.at) (sym before) stale.1,
+    )
+IsStale-earlier longest (Swept events calm at) seen history quiet stale =
+    let before : (events ++ seen) ++ history ≡ events ++ (seen ++ history) = append_assoc events seen history in (
+      λ may. stale.0 (subst (λ xs. MayBeAnswered longest xs at) before may),
+      subst WasCounted (sym before) stale.1,
+    )
+
+-- what is passed on, where more was seen before
+PassesOn-earlier : (longest : ℕ) (seen history after : List QueueEvent) (result : Option (Result Arrival PortFault)) → takes seen ≡ 0
+    → PassesOn longest (seen ++ history) result after → PassesOn longest history result after
+unfolding earlier
+PassesOn-earlier longest seen history after None quiet passed =
+    (passed.0 ++ seen, quiet-append passed.0 seen passed.1 quiet, passed.2 ∙ sym (append_assoc passed.0 seen history))
+PassesOn-earlier longest seen history after (Some (Err fault)) quiet passed =
+    (passed.0 ++ seen, quiet-append passed.0 seen passed.1 quiet, passed.2 ∙ sym (append_assoc passed.0 seen history))
+PassesOn-earlier longest seen history after (Some (Ok arrival)) quiet passed = (
+  earlier passed.0 seen quiet,
+  subst (λ xs. MayBeAnswered longest xs passed.0.now) (sym (history_before-earlier passed.0 seen history quiet)) passed.1,
+  passed.2 ∙ sym (history_after-earlier passed.0 seen history quiet),
+)
+
+-- whether the queue was found empty, where more was seen before
+WasAsked-earlier : (seen history after : List QueueEvent) (result : Option (Result Arrival PortFault))
+    → WasAsked 0 (seen ++ history) result after → WasAsked 0 history result after
+WasAsked-earlier seen history after (Some received) asked = tt
+WasAsked-earlier seen history after None asked = λ none.
+    let x = asked none in
+    (x.0, x.1 ++ seen, x.2, x.3 ∙ ap (λ xs. x.0 ++ Held 0 x.2 ∷ xs) (sym (append_assoc x.1 seen history)))
+
+-- what is dropped, and then passed on, where more was seen before
+record Goes (longest : ℕ) (history after : List QueueEvent) (count : ℕ) (result : Option (Result Arrival PortFault)) : Type 0 where
+  dropped : List Dropped
+  between : List QueueEvent
+  stale : AreStale longest history dropped between
+  passed_on : PassesOn longest between result after
+  asked : WasAsked count between result after
+  as_many : length dropped ≡ count
+
+Goes-earlier : (longest : ℕ) (seen history between after : List QueueEvent) (dropped : List Dropped)
+    (result : Option (Result Arrival PortFault)) → takes seen ≡ 0 → AreStale longest (seen ++ history) dropped between
+    → PassesOn longest between result after → WasAsked (length dropped) between result after
+    → Goes longest history after (length dropped) result
+unfolding earlier
+Goes-earlier longest seen history between after [] result quiet stale passed asked = record {
+  dropped = [];
+  between = history;
+  stale = refl;
+  passed_on = PassesOn-earlier longest seen history after result quiet (subst (λ xs. PassesOn longest xs result after) stale passed);
+  asked = WasAsked-earlier seen history after result (subst (λ xs. WasAsked 0 xs result after) stale asked);
+  as_many = refl;
+}
+Goes-earlier longest seen history between after (one ∷ dropped) result quiet stale passed asked = record {
+  dropped = earlier_dropped one seen quiet ∷ dropped;
+  between = between;
+  stale = (
+    IsStale-earlier longest one seen history quiet stale.0,
+    subst (λ xs. AreStale longest xs dropped between) (sym (history_dropped-earlier one seen history quiet)) stale.1,
+  );
+  passed_on = passed;
+  asked = asked;
+  as_many = refl;
+}
+
+WasAsked-more : (m n : ℕ) (history after : List QueueEvent) (result : Option (Result Arrival PortFault)) → WasAsked n history result after
+    → WasAsked (m + n) history result after
+WasAsked-more m n history after (Some received) asked = tt
+WasAsked-more m n history after None asked = λ none. asked (omega (arith, none))
+
+-- nothing was passed on, and then this
+ReceivesFresh-more : (a b c : Kept) (m n : ℕ) (h k l : List QueueEvent) (result : Option (Result Arrival PortFault))
+    → longest_of b.watch ≡ longest_of a.watch → ReceivesFresh a b m h k None → ReceivesFresh b c n k l result
+    → ReceivesFresh a c (m + n) h l result
+ReceivesFresh-more a b c m n h k l result longest first second =
+    let nothing = first.passed_on in
+    let stale : AreStale (longest_of a.watch) (nothing.0 ++ first.between) second.dropped second.between =
+    subst (λ xs. AreStale (longest_of a.watch) xs second.dropped second.between) nothing.2
+    (subst (λ w. AreStale w k second.dropped second.between) longest second.stale) in
+    let goes = Goes-earlier (longest_of a.watch) nothing.0 first.between second.between l second.dropped result nothing.1 stale
+    (subst (λ w. PassesOn w second.between result l) longest second.passed_on)
+    (subst (λ n. WasAsked n second.between result l) (sym second.as_many) second.asked) in
+    record {
+      dropped = first.dropped ++ goes.dropped;
+      between = goes.between;
+      stale = AreStale-append (longest_of a.watch) h first.between goes.between first.dropped goes.dropped first.stale goes.stale;
+      passed_on = goes.passed_on;
+      asked = WasAsked-more m n goes.between l result (subst (λ x. WasAsked x goes.between result l) second.as_many goes.asked);
+      as_many = omega (arith, length-append first.dropped goes.dropped, first.as_many, goes.as_many, second.as_many);
+      seen = IsSeenFrom-more a.reading b.reading c.reading a.history b.history c.history h k l first.seen second.seen;
+    }
+
+Passes-more : (a b c : Kept) (result : Option (Result Arrival PortFault)) (datagram later : List ℕ) → PassesOnFresh a b None datagram
+    → PassesOnFresh b c result later → PassesOnFresh a c result later
+Passes-more a b c result datagram later first second = record {
+  dropped = first.dropped + second.dropped;
+  counted = counted-append a.stale b.stale c.stale first.dropped second.dropped first.counted second.counted;
+  turns = (
+    second.turns.0,
+    DropsTurns-append first.dropped second.dropped a.told first.turns.0 second.turns.0 first.turns.1
+        (DropsTurns-on second.dropped first.turns.0 b.told second.turns.0 first.turns.2 second.turns.1),
+    second.turns.2,
+  );
+  longest = second.longest ∙ first.longest;
+  fresh = λ history stands.
+      let x = first.fresh history stands in
+      let y = second.fresh x.0 x.1 in
+      (y.0, y.1, ReceivesFresh-more a b c first.dropped second.dropped history x.0 y.0 result first.longest x.2 y.2);
+}
+
+-- after so many calls nothing was passed on: nothing yet, after none
+abbrev pub HasWaited : ℕ → Kept → Kept → List ℕ → Type 0
+HasWaited count old new datagram = ((count ≡ 0) × (old ≡ new)) ⊎ PassesOnFresh old new None datagram
+
+-- and then this
+pub Passes-after : (count : ℕ) (a b c : Kept) (result : Option (Result Arrival PortFault)) (datagram later : List ℕ) → HasWaited count a b datagram
+    → PassesOnFresh b c result later → PassesOnFresh a c result later
+Passes-after count a b c result datagram later (inl none) second = subst (λ k. PassesOnFresh k c result later) (sym none.1) second
+Passes-after count a b c result datagram later (inr first) second = Passes-more a b c result datagram later first second
+
+-- nothing, after some
+pub Passes-nothing : (count : ℕ) (a b : Kept) (datagram : List ℕ) → 0 < count → HasWaited count a b datagram → PassesOnFresh a b None datagram
+Passes-nothing count a b datagram some (inl none) = absurd (omega (arith, none.0, some))
+Passes-nothing count a b datagram some (inr passes) = passes

@@ -1,0 +1,140 @@
+-- What a port does that passes on only what may be answered.
+use Rattle.std.specs.Prelude.{◌≡◌, ℕ, ◌+◌, ◌-◌, ◌^◌, ◌≤◌, ◌⊎◌, min, Option, None, Some, Result, Ok, Err, List, [], ◌∷◌, ◌++◌, length, All}
+use Rattle.ntp_service.specs.declared.observation.Arrival.{Arrival}
+use Rattle.ntp_port.specs.declared.port.PortFault.{PortFault}
+use Rattle.ntp_port.specs.Port.{Told}
+use Rattle.ntp_port.specs.declared.queue_event.QueueEvent.{QueueEvent}
+use Rattle.ntp_port.specs.declared.queue_event.QueueEvent.TheVariants.{Held, Taken, Read}
+use Rattle.ntp_port.specs.declared.queue_watch.QueueWatch.{QueueWatch}
+use Rattle.ntp_port.specs.Freshness.{takes, moment_of, IsInOrder, MayBeAnswered, WasLookedAt, WasCounted, oldest_look}
+use Rattle.ntp_port.specs.Queue.{last_reading, SeesMore}
+use Rattle.ntp_port.specs.Watch.{Watches, Counts, longest_of}
+use Rattle.ntp_port.specs.Passing.{PassesTurns}
+
+-- when the queue may be looked at again: at once (0), or at most `oldest_look longest` after the last look (profile)
+abbrev pub LooksAgain : ℕ → List QueueEvent → ℕ → Type 0
+LooksAgain longest history next = (next ≡ 0) ⊎ WasLookedAt (oldest_look longest) history next
+
+-- what is kept, with the last reading of the clock and with when the queue may be looked at again, is that of a history whose events are
+-- in order and no later than that reading (profile)
+pub record StandsFor (watch : QueueWatch) (reading next_look : ℕ) (history : List QueueEvent) : Type 0 where
+  pub watches : Watches watch history
+  pub counts : Counts watch history
+  pub looks_again : LooksAgain (longest_of watch) history next_look
+  pub ordered : IsInOrder history
+  pub past : All (λ event. moment_of event ≤ reading) history
+
+-- a datagram that was taken: what was seen since the take before it, newest first, which is no take; from when on the call ran that took
+-- it; and what the clock showed once it was in hand (profile)
+pub record Take : Type 0 where
+  pub seen : List QueueEvent
+  pub quiet : takes seen ≡ 0
+  pub at : ℕ
+  pub now : ℕ
+
+-- the history just before the take, and with it (profile)
+abbrev pub history_before : Take → List QueueEvent → List QueueEvent
+history_before take history = take.seen ++ history
+
+abbrev pub history_after : Take → List QueueEvent → List QueueEvent
+history_after take history = Read take.now ∷ (Taken take.at ∷ history_before take history)
+
+-- a datagram that was dropped: one that was taken; or one that was swept out, with what was seen since the take before it, newest first,
+-- which is no take, and with what the clock had shown when the call began that swept it out (profile)
+pub data Dropped : Type 0 where
+  InHand : Take → Dropped
+  Swept : (seen : List QueueEvent) → takes seen ≡ 0 → ℕ → Dropped
+
+-- the history with it (profile)
+abbrev pub history_dropped : Dropped → List QueueEvent → List QueueEvent
+history_dropped (InHand take) history = history_after take history
+history_dropped (Swept seen quiet at) history = Taken at ∷ (seen ++ history)
+
+-- it may not be answered, once it is in hand, and the queue was looked at in time before it was taken; or already when the call begins
+-- that sweeps it out, and it may be one of those that a look counted (profile)
+abbrev pub IsStale : ℕ → List QueueEvent → Dropped → Type 0
+IsStale longest history (InHand take) =
+    (MayBeAnswered longest (history_before take history) take.now → ⊥) × WasLookedAt (oldest_look longest) (history_before take history) take.at
+IsStale longest history (Swept seen quiet at) = (MayBeAnswered longest (seen ++ history) at → ⊥) × WasCounted (seen ++ history)
+
+-- these were dropped, one after another, and none of them may be answered (profile)
+abbrev pub AreStale : ℕ → List QueueEvent → List Dropped → List QueueEvent → Type 0
+AreStale longest history [] after = after ≡ history
+AreStale longest history (dropped ∷ more) after =
+    IsStale longest history dropped × AreStale longest (history_dropped dropped history) more after
+
+-- nothing was taken (profile)
+abbrev pub NothingTaken : List QueueEvent → List QueueEvent → Type 0
+NothingTaken history after = (seen : List QueueEvent) × (takes seen ≡ 0) × (after ≡ seen ++ history)
+
+-- the queue was found empty by a call that ran after the history (profile)
+abbrev pub FoundEmpty : List QueueEvent → List QueueEvent → Type 0
+FoundEmpty history after =
+    (since : List QueueEvent) × (seen : List QueueEvent) × (at : ℕ) × (after ≡ since ++ Held 0 at ∷ (seen ++ history))
+
+-- where nothing is passed on and none was dropped, the queue was found empty (profile)
+abbrev pub WasAsked : ℕ → List QueueEvent → Option (Result Arrival PortFault) → List QueueEvent → Type 0
+WasAsked count history None after = count ≡ 0 → FoundEmpty history after
+WasAsked count history (Some received) after = Unit {0}
+
+-- what is passed on: a datagram that may be answered, or nothing that was taken (profile)
+abbrev pub PassesOn : ℕ → List QueueEvent → Option (Result Arrival PortFault) → List QueueEvent → Type 0
+PassesOn longest history (Some (Ok arrival)) after =
+    (take : Take) × MayBeAnswered longest (history_before take history) take.now × (after ≡ history_after take history)
+PassesOn longest history (Some (Err fault)) after = NothingTaken history after
+PassesOn longest history None after = NothingTaken history after
+
+-- `count` plus `more`, up to the most that a count can be (profile)
+abbrev pub counted_on : ℕ → ℕ → ℕ
+counted_on count more = min (count + more) (2 ^ 64 - 1)
+
+-- the last reading is the last one that a port tells, where it tells that
+abbrev pub IsShown : ℕ → Option (List QueueEvent) → Type 0
+IsShown reading None = Unit {0}
+IsShown reading (Some told) = last_reading told ≡ reading
+
+-- a port saw just what the history has more, where it tells that (profile)
+abbrev pub IsSeen : Option (List QueueEvent) → Option (List QueueEvent) → List QueueEvent → List QueueEvent → Type 0
+IsSeen old new history after = (more : List QueueEvent) × (after ≡ more ++ history) × SeesMore old new more
+
+-- `IsSeen`, given that `reading` is the last one that the port told; afterwards `now` is
+abbrev pub IsSeenFrom : ℕ → ℕ → Option (List QueueEvent) → Option (List QueueEvent) → List QueueEvent → List QueueEvent → Type 0
+IsSeenFrom reading now old new history after = IsShown reading old → IsShown now new × IsSeen old new history after
+
+-- what a port keeps that passes on only what may be answered, and what the port below it tells of its turns and of its queue (profile)
+pub record Kept : Type 0 where
+  pub watch : QueueWatch
+  pub reading : ℕ
+  pub next_look : ℕ
+  pub stale : ℕ
+  pub told : Option Told
+  pub history : Option (List QueueEvent)
+
+abbrev pub kept : QueueWatch → ℕ → ℕ → ℕ → Option Told → Option (List QueueEvent) → Kept
+kept watch reading next_look stale told history =
+    record { watch = watch; reading = reading; next_look = next_look; stale = stale; told = told; history = history }
+
+-- it is that of a history
+abbrev pub Stands : Kept → List QueueEvent → Type 0
+Stands k history = StandsFor k.watch k.reading k.next_look history
+
+-- `count` datagrams that may not be answered were taken from the queue of the port below and dropped, and then `result` was passed on:
+-- nothing only where some were dropped, or the queue was found empty (profile)
+pub record ReceivesFresh (old new : Kept) (count : ℕ) (history after : List QueueEvent) (result : Option (Result Arrival PortFault)) : Type 0 where
+  pub dropped : List Dropped
+  pub between : List QueueEvent
+  pub stale : AreStale (longest_of old.watch) history dropped between
+  pub passed_on : PassesOn (longest_of old.watch) between result after
+  pub asked : WasAsked count between result after
+  pub as_many : length dropped ≡ count
+  pub seen : IsSeenFrom old.reading new.reading old.history new.history history after
+
+-- some datagrams were dropped and counted, and what is passed on is the next one, as the port below told it. For each history that `old`
+-- stands for, `new` stands for one that goes on from it, with as many dropped (profile)
+pub record PassesOnFresh (old new : Kept) (result : Option (Result Arrival PortFault)) (datagram : List ℕ) : Type 0 where
+  pub dropped : ℕ
+  pub counted : new.stale ≡ counted_on old.stale dropped
+  pub turns : PassesTurns dropped old.told new.told result datagram
+  pub longest : longest_of new.watch ≡ longest_of old.watch
+  pub fresh : (history : List QueueEvent) → Stands old history
+      → (after : List QueueEvent) × Stands new after × ReceivesFresh old new dropped history after result

@@ -1,0 +1,14 @@
+pub mod Sequence
+pub mod Sources
+pub mod Port
+pub mod Memory
+pub mod Made
+pub mod Serving
+pub mod Sending
+pub mod Freshness
+pub mod Queue
+pub mod Watch
+pub mod Passing
+pub mod Fresh
+pub mod Next
+pub mod MemoryQueue

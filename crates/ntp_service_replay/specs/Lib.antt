@@ -1,5 +1,0 @@
-pub mod Watched
-pub mod Script
-pub mod Replay
-pub mod Lines
-pub mod Engine

@@ -1,8 +1,0 @@
-pub mod Sequences
-pub mod Dropping
-pub mod ManyTurns
-pub mod Taking
-mod OneTurn
-mod Answering
-pub mod Counting
-mod Receiving

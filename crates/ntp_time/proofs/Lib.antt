@@ -1,2 +1,0 @@
-pub mod Freshness
-pub mod Signed

@@ -1,4 +1,0 @@
-pub mod Fresh
-pub mod Moment
-pub mod Unix
-pub mod Difference

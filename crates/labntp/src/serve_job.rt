@@ -17,7 +17,7 @@ use std::net::{Ipv4Addr, Net, SocketAddrV4, UdpSocket};
 use std::time::{Clock, Duration};
 
 /// Longest wait for a datagram, in thousandths of a second: a command that is written while nobody asks is carried out
-/// that soon (profile).
+/// that soon.
 const LONGEST_WAIT: u64 = 100;
 
 /// Serves the customers of a register file over UDP port `port` of 127.0.0.1, for `turns` turns. In each turn the

@@ -6,7 +6,7 @@ use Rattle.labntp_jobs.specs.declared.engine.Engine.{Engine}
 use Rattle.labntp_jobs.specs.declared.faults.ReplayFaultKind.{ReplayFaultKind}
 use Rattle.labntp_jobs.specs.declared.faults.ReplayFaultKind.TheVariants.{NoMemory, LineLong}
 use Rattle.labntp_jobs.specs.Script.{most_line_octets, lines_of}
-use Rattle.labntp_jobs.specs.Engine.{Answers, Halts, Fed, Stops}
+use Rattle.labntp_jobs.specs.Engine.{AnswersLines, Halts, Fed, Stops}
 use Rattle.labntp_jobs.proofs.LineFeeds.{IsUnbroken, lines_of-ended, lines_of-begun}
 use Rattle.labntp_jobs.proofs.LinesReplayed.{Answers-nil, Answers-append, Halts-more}
 
@@ -62,13 +62,13 @@ module _ {A : Type 0} where
   Fed-octet old new octet same longer done = record {
     lines = [];
     split = λ more. ap lines_of (sym (append_assoc old.line.items (octet ∷ []) more) ∙ ap (λ l. l ++ more) (sym longer));
-    answers = subst (λ s. Answers A old.service [] [] s) (sym same) (Answers-nil old.service);
+    answers = subst (λ s. AnswersLines A old.service [] [] s) (sym same) (Answers-nil old.service);
     counted = done ∙ sym (add-zero old.done);
   }
 
   -- a line feed, at which the line that has begun was answered
   pub Fed-line : (old new : Engine A) (octet : ℕ) (written : List ℕ) → octet ≡ 10
-      → Answers A old.service (old.line.items ∷ []) written new.service
+      → AnswersLines A old.service (old.line.items ∷ []) written new.service
       → new.line.items ≡ [] → new.done ≡ old.done + 1 → Fed old new (octet ∷ []) written
   Fed-line old new octet written e answers empty one = record {
     lines = old.line.items ∷ [];

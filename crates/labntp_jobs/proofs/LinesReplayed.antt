@@ -15,7 +15,7 @@ use Rattle.ntp_service.specs.Headline.{StandsFor, TellsOne}
 use Rattle.labntp_jobs.specs.Script.{IsReadable, event_lines}
 use Rattle.labntp_jobs.specs.Replay.{Replays, Causes}
 use Rattle.labntp_jobs.specs.Lines.{CutsShort}
-use Rattle.labntp_jobs.specs.Engine.{Answers, Halts}
+use Rattle.labntp_jobs.specs.Engine.{AnswersLines, Halts}
 use Rattle.ntp_service.proofs.Runs.{Tells-nil, Tells-push}
 
 -- two lists that agree place by place, each with one member more
@@ -88,11 +88,11 @@ module _ {A : Type 0} where
   }
 
   -- ---- whatever was replayed before
-  pub Answers-nil : (s : Registry) → Answers A s [] [] s
+  pub Answers-nil : (s : Registry) → AnswersLines A s [] [] s
   Answers-nil s = record { replays = λ before so_far r. rw (append-nil before, append-nil so_far) r }
 
-  pub Answers-append : (old mid new : Registry) (xs ys : List (List ℕ)) (v w : List ℕ) → Answers A old xs v mid → Answers A mid ys w new
-      → Answers A old (xs ++ ys) (v ++ w) new
+  pub Answers-append : (old mid new : Registry) (xs ys : List (List ℕ)) (v w : List ℕ) → AnswersLines A old xs v mid → AnswersLines A mid ys w new
+      → AnswersLines A old (xs ++ ys) (v ++ w) new
   Answers-append old mid new xs ys v w p q = record {
     replays = λ before so_far r.
         subst (λ lines. Replays A lines (so_far ++ (v ++ w)) new) (append_assoc before xs ys)
@@ -100,11 +100,11 @@ module _ {A : Type 0} where
         (q.replays (before ++ xs) (so_far ++ v) (p.replays before so_far r)));
   }
 
-  pub Answers-passed : (s : Registry) (line : List ℕ) → IsReadable line → is_passed_over line ≡ true → Answers A s (line ∷ []) [] s
+  pub Answers-passed : (s : Registry) (line : List ℕ) → IsReadable line → is_passed_over line ≡ true → AnswersLines A s (line ∷ []) [] s
   Answers-passed s line readable passed = record { replays = λ before so_far r. replays-passed before so_far line s r readable passed }
 
   pub Answers-event : (old new : Registry) (line : List ℕ) (e : Event A) (o : Outcome) → IsReadable line
-      → is_passed_over line ≡ false → Spells line e → Takes old e o new → Answers A old (line ∷ []) (outcome_text o) new
+      → is_passed_over line ≡ false → Spells line e → Takes old e o new → AnswersLines A old (line ∷ []) (outcome_text o) new
   Answers-event old new line e o readable event spells step =
       record { replays = λ before so_far r. replays-event before so_far line old new e o r readable event spells step }
 

@@ -7,7 +7,7 @@ use Rattle.labntp_jobs.specs.declared.faults.ReplayFaultKind.{ReplayFaultKind}
 use Rattle.labntp_jobs.specs.declared.faults.ReplayFaultKind.TheVariants.{Read}
 use Rattle.labntp_jobs.specs.Script.{lines_of}
 use Rattle.labntp_jobs.specs.Replay.{Replays, StopsAt}
-use Rattle.labntp_jobs.specs.Engine.{Answers, Halts, IsUnfed, Fed, Stops}
+use Rattle.labntp_jobs.specs.Engine.{AnswersLines, Halts, IsUnfed, Fed, Stops}
 use Rattle.labntp_jobs.proofs.LinesReplayed.{Answers-append, replays-nothing}
 
 module _ {A : Type 0} where
@@ -18,13 +18,13 @@ module _ {A : Type 0} where
       ap lines_of begins ∙ ap (λ l. lines_of (l ++ (octets ++ rest))) (sym unfed.line) ∙ f.split rest
 
   -- what an engine that took nothing yet answers, was replayed
-  unfed-replays : (e : Engine A) (lines : List (List ℕ)) (w : List ℕ) (s : Registry) → IsUnfed e → Answers A e.service lines w s
+  unfed-replays : (e : Engine A) (lines : List (List ℕ)) (w : List ℕ) (s : Registry) → IsUnfed e → AnswersLines A e.service lines w s
       → Replays A lines w s
   unfed-replays e lines w s unfed answers = answers.replays [] [] (replays-nothing e.service unfed.stands)
 
   -- all was fed and answered
   pub whole-ok : (a b : Option (List ℕ)) (e d : Engine A) (octets v w : List ℕ) (s : Registry) (P : List ℕ → Type 0)
-      → IsUnfed e → Fed e d octets v → Consumes a b octets → IsAtEnd b → Answers A d.service (lines_of d.line.items) w s → P (v ++ w)
+      → IsUnfed e → Fed e d octets v → Consumes a b octets → IsAtEnd b → AnswersLines A d.service (lines_of d.line.items) w s → P (v ++ w)
       → IfSome a (λ text. (written : List ℕ) × (service : Registry) × Replays A (lines_of text) written service × P written)
   whole-ok None b e d octets v w s P unfed f p end answers h = tt
   whole-ok (Some text) None e d octets v w s P unfed f p end answers h = absurd p

@@ -9,12 +9,12 @@ use Rattle.labntp_jobs.specs.declared.faults.ReplayFaultKind.TheVariants.{Line, 
 use Rattle.labntp_jobs.specs.Script.{lines_of}
 use Rattle.labntp_jobs.specs.Replay.{Replays, StopsAt}
 
--- the status for the fault of a line: 1, and 4 for want of memory (profile)
+-- the status for the fault of a line: 1, and 4 for want of memory
 abbrev pub line_status : LineFault → ℕ
 line_status line_fault.NoMemory = 4
 line_status other = 1
 
--- the status for what stopped a replay: 1 for the text, 3 for a read or a write, 4 for want of memory (profile)
+-- the status for what stopped a replay: 1 for the text, 3 for a read or a write, 4 for want of memory
 abbrev pub status_of : ReplayFaultKind → ℕ
 status_of (Line fault) = line_status fault
 status_of Read = 3
@@ -23,7 +23,7 @@ status_of NoMemory = 4
 status_of other = 1
 
 -- a replay of a text ends with a status, and wrote this: with 0 only where the whole text was replayed, and else with that
--- of a fault that stopped it (profile)
+-- of a fault that stopped it
 abbrev pub Ends : (A : Type 0) → List ℕ → List ℕ → ℕ → Type 0
 Ends A text written status =
     ((status ≡ 0) × (service : Registry) × Replays A (lines_of text) written service)

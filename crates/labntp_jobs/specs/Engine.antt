@@ -8,7 +8,7 @@ use Rattle.labntp_jobs.specs.Script.{lines_of}
 use Rattle.labntp_jobs.specs.Replay.{Replays, Causes}
 
 -- whatever lines were replayed before, these then are too
-pub record Answers (A : Type 0) (old : Registry) (lines : List (List ℕ)) (written : List ℕ) (new : Registry) : Type 0 where
+pub record AnswersLines (A : Type 0) (old : Registry) (lines : List (List ℕ)) (written : List ℕ) (new : Registry) : Type 0 where
   pub replays : (before : List (List ℕ)) (so_far : List ℕ) → Replays A before so_far old
       → Replays A (before ++ lines) (so_far ++ written) new
 
@@ -27,7 +27,7 @@ pub record IsUnfed {A : Type 0} (e : Engine A) : Type 0 where
 pub record Fed {A : Type 0} (old new : Engine A) (octets written : List ℕ) : Type 0 where
   pub lines : List (List ℕ)
   pub split : (more : List ℕ) → lines_of (old.line.items ++ (octets ++ more)) ≡ lines ++ lines_of (new.line.items ++ more)
-  pub answers : Answers A old.service lines written new.service
+  pub answers : AnswersLines A old.service lines written new.service
   pub counted : new.done ≡ old.done + length lines
 
 -- fed these octets, the engine stopped, and had written this; whatever octets follow, the fault is why the line
@@ -39,6 +39,6 @@ pub record Stops {A : Type 0} (kind : ReplayFaultKind) (old new : Engine A) (oct
   pub service : Registry
   pub split : (more : List ℕ) → (others : List (List ℕ))
       × (lines_of (old.line.items ++ (octets ++ more)) ≡ lines ++ others) × Halts A kind service others part
-  pub answers : Answers A old.service lines so_far service
+  pub answers : AnswersLines A old.service lines so_far service
   pub counted : new.done ≡ old.done + length lines
   pub wrote : written ≡ so_far ++ part

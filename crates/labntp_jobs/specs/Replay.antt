@@ -13,7 +13,7 @@ use Rattle.labntp_jobs.specs.declared.faults.ReplayFaultKind.TheVariants.{Line, 
 use Rattle.ntp_service.specs.Headline.{Tells}
 use Rattle.labntp_jobs.specs.Script.{most_line_octets, IsReadable, event_lines}
 
--- how many reads of a text there are at most (profile)
+-- how many reads of a text there are at most
 abbrev pub most_reads : ℕ
 most_reads = 2 ^ 32 - 1
 

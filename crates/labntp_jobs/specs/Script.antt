@@ -2,7 +2,7 @@
 use Rattle.std.specs.Prelude.{ℕ, ◌≤◌, ◌==◌, Bool, true, not, List, [], ◌∷◌, length, filter, if◌then◌else◌, IsUtf8}
 use Rattle.ntp_admin.specs.Spells.{is_passed_over}
 
--- how many octets a line has at most, without its line feed (profile)
+-- how many octets a line has at most, without its line feed
 abbrev pub most_line_octets : ℕ
 most_line_octets = 4096
 
@@ -11,12 +11,12 @@ abbrev pub begin_line : ℕ → List (List ℕ) → List (List ℕ)
 begin_line x [] = (x ∷ []) ∷ []
 begin_line x (line ∷ lines) = (x ∷ line) ∷ lines
 
--- the lines of a text: each ends at a line feed, and what follows the last one is a line unless it is empty (profile)
+-- the lines of a text: each ends at a line feed, and what follows the last one is a line unless it is empty
 abbrev pub lines_of : List ℕ → List (List ℕ)
 lines_of [] = []
 lines_of (x ∷ xs) = if x == 10 then [] ∷ lines_of xs else begin_line x (lines_of xs)
 
--- a line that a replay takes (profile)
+-- a line that a replay takes
 pub record IsReadable (line : List ℕ) : Type 0 where
   pub within : length line ≤ most_line_octets
   pub text : IsUtf8 line

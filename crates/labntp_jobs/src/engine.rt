@@ -11,7 +11,7 @@ use ntp_service::Service;
 use std::alloc::Allocator;
 use std::io::Write;
 
-// How many octets a line has at most, without its line feed (profile).
+// How many octets a line has at most, without its line feed.
 const MOST_LINE_OCTETS: usize = 4096;
 
 /// A service that is fed a script, and has the line that has begun.
@@ -27,7 +27,7 @@ pub(crate) struct Engine<A: Allocator> {
 }
 
 impl<A: Allocator + Copy> Engine<A> {
-    ghost use Rattle.labntp_jobs.specs.Engine.{Answers, Halts, IsUnfed, Fed, Stops};
+    ghost use Rattle.labntp_jobs.specs.Engine.{AnswersLines, Halts, IsUnfed, Fed, Stops};
 
     // An engine with no customers.
     pub(crate) fn new(alloc: A) -> Engine<A>
@@ -51,9 +51,9 @@ impl<A: Allocator + Copy> Engine<A> {
         }
     }
 
-    // Answers the line that has begun, and leaves it as it is.
+    // AnswersLines the line that has begun, and leaves it as it is.
     fn answer<W: Write>(&mut self, writer: &mut Watched<W>) -> Result<(), ReplayFaultKind>
-        ensures ok { OnOk result ((written : List ℕ) × Answers A self.old.service (self.old.line.items ∷ []) written self.new.service
+        ensures ok { OnOk result ((written : List ℕ) × AnswersLines A self.old.service (self.old.line.items ∷ []) written self.new.service
             × Wrote W.contents writer.old writer.new written) }
         ensures well { OnOk result (has_failed writer.new ≡ has_failed writer.old) }
         ensures same { self.new.done ≡ self.old.done }
@@ -123,12 +123,12 @@ impl<A: Allocator + Copy> Engine<A> {
         Ok(())
     }
 
-    // Answers the last line, where no line feed ended it.
+    // AnswersLines the last line, where no line feed ended it.
     pub(crate) fn finish<W: Write>(
         &mut self,
         writer: &mut Watched<W>,
     ) -> Result<(), ReplayFaultKind>
-        ensures ok { OnOk result ((written : List ℕ) × Answers A self.old.service (lines_of self.old.line.items) written self.new.service
+        ensures ok { OnOk result ((written : List ℕ) × AnswersLines A self.old.service (lines_of self.old.line.items) written self.new.service
             × Wrote W.contents writer.old writer.new written) }
         ensures well { OnOk result (has_failed writer.new ≡ has_failed writer.old) }
         ensures same { self.new.done ≡ self.old.done }

@@ -2,7 +2,7 @@
 
 use ntp_service::LineFault;
 
-/// Why a replay stopped (profile). Of what is wrong with one line, `LineLong` is found first, then `NotUtf8`, and
+/// Why a replay stopped. Of what is wrong with one line, `LineLong` is found first, then `NotUtf8`, and
 /// then `Line`.
 #[derive(Clone, Copy, Debug, PartialEq, Eq)]
 pub enum ReplayFaultKind {

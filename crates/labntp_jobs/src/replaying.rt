@@ -15,7 +15,7 @@ use std::io::{Read, Write};
 // How many octets are read at once, at most.
 const CHUNK: usize = 4096;
 
-// How many reads there are at most (profile).
+// How many reads there are at most.
 const MOST_READS: u32 = 4_294_967_295;
 
 /// Applies a script to a service that begins with no customers. The answer to each line is written before the

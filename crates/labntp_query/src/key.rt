@@ -6,7 +6,7 @@ use ntp_host::read_regular_file;
 use ntp_mac::Key;
 use ntp_query::{KeyFileFault, KeyLineFault, key_in_text, spaced};
 
-/// How many octets a key file has at most (profile).
+/// How many octets a key file has at most.
 const MOST_OCTETS: u32 = 65_536;
 
 /// The key that is asked for. A fault is told in one line, and gives the exit status.

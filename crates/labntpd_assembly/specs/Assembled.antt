@@ -13,7 +13,7 @@ use Rattle.ntp_server.specs.Rounds.{Parts}
 use Rattle.ntp_server.specs.declared.server.Server.{Server}
 
 -- what the parts of a daemon tell, by what each does: its port, what that counted; its commands, as
--- `EachMillisecond` asks for them; its states, how often their source was given time; its observer. Its reporter tells nothing (profile)
+-- `EachMillisecond` asks for them; its states, how often their source was given time; its observer. Its reporter tells nothing
 abbrev pub daemon_told : {P C S O A : Type 0} → (P → Option Told) → (P → PortCounts) → (C → Option (Coming (Option (List ℕ))))
     → (S → Option (Coming ReferenceState)) → (S → Option ℕ) → (O → Option (List Observation)) → Server P (EachMillisecond C) S O A → Parts
 daemon_told told counts commands states tended seen daemon =

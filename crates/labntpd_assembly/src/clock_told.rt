@@ -13,7 +13,7 @@ const SECOND_NANOS: i128 = 1_000_000_000;
 /// The leap indicator of an unsynchronised clock (RFC 5905, 7.3).
 const UNSYNCHRONISED_LEAP: u8 = 3;
 
-/// A source of a daemon's clock's state that also tells what the log and the statistics tell of it (profile).
+/// A source of a daemon's clock's state that also tells what the log and the statistics tell of it.
 pub trait DaemonClock: ReferenceSource {
     /// The state of the clock by a reading of the host's clocks.
     fn state(&self, now: Reading) -> Reference;

@@ -8,10 +8,10 @@ use std::alloc::{AllocError, Global};
 use std::fs::{self, Files};
 use std::io::{self, Write};
 
-/// How many seconds lie between two writings where nothing changed (profile).
+/// How many seconds lie between two writings where nothing changed.
 const PERIOD: u64 = 60;
 
-/// How many seconds later a writing is tried again that failed (profile).
+/// How many seconds later a writing is tried again that failed.
 const PATIENCE: u64 = 10;
 
 // A file that is being written, and how many customers were written of.

@@ -7,7 +7,7 @@ use std::alloc::Global;
 use std::fs::Files;
 use std::{fmt, io};
 
-/// The commands of a daemon, and what its log and its statistics tell of their file (profile).
+/// The commands of a daemon, and what its log and its statistics tell of their file.
 pub trait DaemonCommands: CommandsSource<Global> {
     /// What is wrong with the file by now, if anything.
     fn fault(&self) -> Option<FileFault>;
@@ -16,7 +16,7 @@ pub trait DaemonCommands: CommandsSource<Global> {
     fn octets(&self) -> usize;
 }
 
-/// A file that is read again and again (profile).
+/// A file that is read again and again.
 pub trait ReadAgain {
     /// Why it cannot be read by now, if it cannot.
     fn read_fault(&self) -> Option<io::Error>;

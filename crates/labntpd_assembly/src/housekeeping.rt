@@ -22,7 +22,7 @@ use std::fs::Files;
 use std::io::{self, Write};
 use std::time::{Clock, SystemTime, UNIX_EPOCH};
 
-/// A second, in nanoseconds; and how many seconds lie between two writings of the statistics and between two totals (profile).
+/// A second, in nanoseconds; and how many seconds lie between two writings of the statistics and between two totals.
 const SECOND_NANOS: u64 = 1_000_000_000;
 
 const STATISTICS_PERIOD: u64 = 10;
@@ -30,14 +30,14 @@ const STATISTICS_PERIOD: u64 = 10;
 const TOTALS_PERIOD: u64 = 3_600;
 
 /// How many customers are written at once beside datagrams, each hundredth of a second at most, so that a large file holds up none for
-/// long; and how many after a wait in which none came (profile).
+/// long; and how many after a wait in which none came.
 const PIECE: usize = 64;
 
 const PIECE_PERIOD: u64 = 10_000_000;
 
 const IDLE_PIECE: usize = 1_024;
 
-/// After how many seconds a clock's daemon that has not answered yet is told as such (profile).
+/// After how many seconds a clock's daemon that has not answered yet is told as such.
 const CLOCK_PATIENCE: u64 = 2;
 
 /// How much room the statistics have, in octets.

@@ -9,7 +9,7 @@ use ntp_reports::{AnswerLines, Both, Counting, Counts, CustomerCounts};
 use ntp_service::Observer;
 use std::io::{self, Write};
 
-/// Who is told what a daemon does, and tells the log and the statistics of it (profile).
+/// Who is told what a daemon does, and tells the log and the statistics of it.
 pub trait DaemonObserver: Observer {
     // What it has counted.
     ghost counted: { Self → Counts };
@@ -31,7 +31,7 @@ pub trait DaemonObserver: Observer {
     fn log_lines_dropped(&self) -> u64;
 }
 
-/// Who logs lines of commands, and counts the customers (profile).
+/// Who logs lines of commands, and counts the customers.
 pub trait LogObserver: Observer {
     /// How many customers are enrolled.
     fn customers(&self) -> u64;

@@ -8,7 +8,7 @@ use std::alloc::Global;
 use std::fs::Files;
 use std::time::Clock;
 
-/// A port of a daemon: its datagrams wait in a queue, and none of its replies waits for room in the send buffer (profile).
+/// A port of a daemon: its datagrams wait in a queue, and none of its replies waits for room in the send buffer.
 pub trait DaemonPort: QueuedPort {
     /// How many replies were not sent since they would have waited for room, as far as the number can count.
     fn would_wait(&self) -> u64;

@@ -19,7 +19,7 @@ use std::alloc::Global;
 use std::fs::Files;
 use std::io::Write;
 
-/// How many octets a configuration file and a key file have at most (profile).
+/// How many octets a configuration file and a key file have at most.
 const MOST_SMALL_FILE_OCTETS: u32 = 65_536;
 
 /// What is wanted in the file of the clock's key.

@@ -2,10 +2,10 @@
 
 use ntp_host::pause;
 
-/// How many receives fail one after another before each is followed by a pause (profile).
+/// How many receives fail one after another before each is followed by a pause.
 const MOST_IN_A_ROW: u64 = 100;
 
-/// How long a pause lasts, in thousandths of a second (profile).
+/// How long a pause lasts, in thousandths of a second.
 const PAUSE_MILLISECONDS: i32 = 30;
 
 /// Failed receives, one after another, as at a socket that somebody has shut down.

@@ -6,9 +6,9 @@ use Rattle.toml.specs.View.{members_view}
 use Rattle.toml.proofs.Views.{Entry}
 use Rattle.labntpd_files.specs.declared.setting.Setting.{Setting}
 use Rattle.labntpd_files.specs.Keys.{is_among, unknown_in}
-use Rattle.labntpd_files.specs.Settings.{key_count}
+use Rattle.labntpd_files.specs.Settings.{member_count}
 
-pub key_count-view : (es : List Entry) → key_count (members_view es) ≡ length es
+pub key_count-view : (es : List Entry) → member_count (members_view es) ≡ length es
 key_count-view [] = refl
 key_count-view (e ∷ es) = ap suc (key_count-view es)
 

@@ -4,7 +4,7 @@ use Rattle.std.specs.Str.{bytes_eq}
 use Rattle.ntp_service.specs.declared.line_fault.LineFault.{LineFault}
 use Rattle.ntp_service.specs.declared.line_fault.LineFault.TheVariants as fault
 
--- the place of the word, counted from 0, behind a first word, by the forms of the commands: a budget is the last word of two (profile)
+-- the place of the word, counted from 0, behind a first word, by the forms of the commands: a budget is the last word of two
 abbrev pub faulty_place : List ℕ → LineFault → Option ℕ
 faulty_place first fault.Word = Some 0
 faulty_place first fault.Address = Some 1

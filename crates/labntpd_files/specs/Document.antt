@@ -49,29 +49,29 @@ settings_of configuration = record {
 abbrev pub unknown_of_clock : Members → Option (List ℕ)
 unknown_of_clock document = get_member (codes "clock") document >>= as_table >>= unknown_in clock_keys
 
--- every key of the document is one (profile)
+-- every key of the document is one
 pub record HasKnownKeys (document : Members) : Type 0 where
   pub top : unknown_in top_keys document ≡ None
   pub clock : unknown_of_clock document ≡ None
 
--- the first key that is none, those of the top level before those of `[clock]` (profile)
+-- the first key that is none, those of the top level before those of `[clock]`
 abbrev pub HasUnknownKey : Members → ConfigurationFault → Type 0
 HasUnknownKey document (fault.Unknown key) = unknown_in top_keys document ≡ Some (string_bytes key)
 HasUnknownKey document (fault.UnknownOfClock key) = (unknown_in top_keys document ≡ None) × (unknown_of_clock document ≡ Some (string_bytes key))
 HasUnknownKey document other = ⊥
 
--- what a text says: it is a document of known keys, and these are its settings (TOML 1.1; profile)
+-- what a text says: it is a document of known keys, and these are its settings (TOML 1.1)
 pub record Says (text : List ℕ) (configuration : Configuration) : Type 0 where
   pub document : Members
   pub parsed : parse_document text ≡ Some document
   pub known : HasKnownKeys document
   pub settings : settings_in document ≡ Ok (settings_of configuration)
 
--- the first fault of a document: its unknown keys come before its settings (profile)
+-- the first fault of a document: its unknown keys come before its settings
 abbrev pub HasConfigurationFault : Members → ConfigurationFault → Type 0
 HasConfigurationFault document why = HasUnknownKey document why ⊎ (HasKnownKeys document × (settings_in document ≡ Err why))
 
--- the first fault of a text: it is no document, in whichever line that shows, or its document has that fault (TOML 1.1; profile)
+-- the first fault of a text: it is no document, in whichever line that shows, or its document has that fault (TOML 1.1)
 abbrev pub FaultOf : Option Members → ConfigurationFault → Type 0
 FaultOf None why = (line : ℕ) × (why ≡ fault.Toml line)
 FaultOf (Some document) why = HasConfigurationFault document why

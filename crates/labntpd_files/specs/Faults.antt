@@ -8,17 +8,17 @@ use Rattle.labntpd_files.specs.declared.setting.Setting.{Setting}
 use Rattle.labntpd_files.specs.declared.setting.Setting.TheVariants as setting
 use Rattle.ntp_admin.specs.Words.{◌>>=◌}
 use Rattle.labntpd_files.specs.Keys.{key_of}
-use Rattle.labntpd_files.specs.Settings.{required, optional, with_default, is_fixed, key_count, nanoseconds, short_units}
+use Rattle.labntpd_files.specs.Settings.{required, optional, with_default, is_fixed, member_count, nanoseconds, short_units}
 use Rattle.labntpd_files.specs.Values.{listen_of, endpoint_of, path_of, whole_of, number_of, algorithm_of, seconds_of}
 
--- the fault of the clock's source: where it is fixed, that it has a further key beside it (profile)
+-- the fault of the clock's source: where it is fixed, that it has a further key beside it
 abbrev pub source_fault : Members → Option ConfigurationFault
 source_fault clock =
     if is_fixed (get_member (codes "source") clock)
-    then (if key_count clock == 1 then None else Some (fault.Wanted setting.Source))
+    then (if member_count clock == 1 then None else Some (fault.Wanted setting.Source))
     else result_err (required setting.Source endpoint_of clock)
 
--- the fault of a setting in its table, as the first fault of a file is told that has no other one (profile)
+-- the fault of a setting in its table, as the first fault of a file is told that has no other one
 abbrev pub setting_fault : Setting → Members → Option ConfigurationFault
 setting_fault setting.Listen table = result_err (required setting.Listen listen_of table)
 setting_fault setting.Register table = result_err (required setting.Register path_of table)

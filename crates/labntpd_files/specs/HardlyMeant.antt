@@ -23,7 +23,7 @@ hostless_octets other = None
 abbrev pub hostless : Address → Option NoHost
 hostless address = hostless_octets address.0
 
--- a key that is warned of: one of fewer than 16 octets, else one for MD5 (profile)
+-- a key that is warned of: one of fewer than 16 octets, else one for MD5
 abbrev pub algorithm_warning : Algorithm → Option HardlyMeant
 algorithm_warning Md5 = Some meant.Md5
 algorithm_warning Sha1 = None
@@ -31,7 +31,7 @@ algorithm_warning Sha1 = None
 abbrev pub key_warning : SymmetricKey → Option HardlyMeant
 key_warning key = if nat_lt (length key.octets) 16 then Some (meant.ShortKey (length key.octets)) else algorithm_warning key.algorithm
 
--- a budget that is warned of: 1, and one above 12,800 (profile)
+-- a budget that is warned of: 1, and one above 12,800
 abbrev pub budget_warning : ℕ → Option HardlyMeant
 budget_warning budget =
     if nat_le budget 1 then Some meant.SmallBudget

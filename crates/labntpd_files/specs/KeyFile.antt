@@ -11,6 +11,6 @@ first_line [] = []
 first_line (octet ∷ []) = if octet == 10 then [] else octet ∷ []
 first_line (octet ∷ next ∷ others) = octet ∷ first_line (next ∷ others)
 
--- a key for an algorithm: one line with its octets in hexadecimal digits (profile)
+-- a key for an algorithm: one line with its octets in hexadecimal digits
 abbrev pub key_in_file : List ℕ → Algorithm → Option SymmetricKey
 key_in_file text algorithm = option_map (λ octets. record { algorithm = algorithm; octets = octets }) (key_in (first_line text))

@@ -6,7 +6,7 @@ use Rattle.toml.specs.Data.{Members, no_members, member}
 use Rattle.labntpd_files.specs.declared.setting.Setting.{Setting}
 use Rattle.labntpd_files.specs.declared.setting.Setting.TheVariants.{Listen, Register, Commands, Answers, Statistics, Customers, ReceiveBuffer, SendBuffer, LongestWait, Clock, Source, Number, Algorithm, KeyFile, ValidFor, MostRootDistance, MostReferenceAge, MostStep}
 
--- the key of a setting, in its table (profile)
+-- the key of a setting, in its table
 abbrev pub key_of : Setting → List ℕ
 key_of Listen = codes "listen"
 key_of Register = codes "register"
@@ -27,7 +27,7 @@ key_of MostRootDistance = codes "most_root_distance"
 key_of MostReferenceAge = codes "most_reference_age"
 key_of MostStep = codes "most_step"
 
--- the keys of the top level, and those of the table `[clock]` (profile)
+-- the keys of the top level, and those of the table `[clock]`
 abbrev pub top_keys : List Setting
 top_keys = Listen ∷ Register ∷ Commands ∷ Answers ∷ Statistics ∷ Customers ∷ ReceiveBuffer ∷ SendBuffer ∷ LongestWait ∷ Clock ∷ []
 

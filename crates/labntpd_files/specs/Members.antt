@@ -10,7 +10,7 @@ use Rattle.labntpd_files.specs.declared.member.Member.TheVariants as m
 use Rattle.labntpd_files.specs.declared.member.Wrong.{Wrong}
 use Rattle.labntpd_files.specs.declared.member.Wrong.TheVariants as wrong
 
--- the key of a member of a customer (profile)
+-- the key of a member of a customer
 abbrev pub key_of : Member → List ℕ
 key_of m.Address = codes "address"
 key_of m.Number = codes "number"
@@ -31,7 +31,7 @@ is_address value = is_some (as_str value >>= address_in)
 abbrev pub is_key : Data → Bool
 is_key value = is_some (as_str value >>= key_in)
 
--- whether a value is what is wanted at a key (profile)
+-- whether a value is what is wanted at a key
 abbrev pub is_right : Member → Data → Bool
 is_right m.Address value = is_address value
 is_right m.Number value = is_some (number_of value)

@@ -15,13 +15,13 @@ use Rattle.labntpd_files.specs.declared.setting.Setting.TheVariants as setting
 use Rattle.labntpd_files.specs.Keys.{key_of}
 use Rattle.labntpd_files.specs.Values.{listen_of, endpoint_of, path_of, whole_of, number_of, algorithm_of, seconds_of}
 
--- a setting that has to stand there (profile)
+-- a setting that has to stand there
 abbrev pub required : {X : Type 0} → Setting → (Data → Option X) → Members → Result X ConfigurationFault
 required s read document = do
   value ← ok_or (get_member (key_of s) document) (fault.Missing s)
   ok_or (read value) (fault.Wanted s)
 
--- a setting that stands for something where it is not there (profile)
+-- a setting that stands for something where it is not there
 abbrev pub or_else : {X : Type 0} → X → Setting → (Data → Option X) → Option Data → Result X ConfigurationFault
 or_else default s read None = Ok default
 or_else default s read (Some value) = ok_or (read value) (fault.Wanted s)
@@ -29,7 +29,7 @@ or_else default s read (Some value) = ok_or (read value) (fault.Wanted s)
 abbrev pub with_default : {X : Type 0} → X → Setting → (Data → Option X) → Members → Result X ConfigurationFault
 with_default default s read document = or_else default s read (get_member (key_of s) document)
 
--- a setting that may be left out (profile)
+-- a setting that may be left out
 abbrev pub optional : {X : Type 0} → Setting → (Data → Option X) → Members → Result (Option X) ConfigurationFault
 optional s read = with_default None s (λ value. option_map Some (read value))
 
@@ -40,7 +40,7 @@ nanoseconds = 1000000000
 abbrev pub short_units : ℕ
 short_units = 65536
 
--- what the table `[clock]` says of a daemon; the code's `ClockSettings` borrows its path (profile)
+-- what the table `[clock]` says of a daemon; the code's `ClockSettings` borrows its path
 pub record Daemon : Type 0 where
   pub source : Endpoint
   pub number : NonZeroU16
@@ -51,7 +51,7 @@ pub record Daemon : Type 0 where
   pub most_reference_age : ℕ
   pub most_step : ℕ
 
--- the daemon that keeps the host's clock: spans of time in nanoseconds, the root distance in 2^-16 s, the age in seconds (profile)
+-- the daemon that keeps the host's clock: spans of time in nanoseconds, the root distance in 2^-16 s, the age in seconds
 abbrev pub daemon_in : Members → Result Daemon ConfigurationFault
 daemon_in clock = do
   source ← required setting.Source endpoint_of clock
@@ -74,23 +74,23 @@ daemon_in clock = do
   })
 
 -- how many keys a table has
-abbrev pub key_count : Members → ℕ
-key_count no_members = 0
-key_count (member name value others) = suc (key_count others)
+abbrev pub member_count : Members → ℕ
+member_count no_members = 0
+member_count (member name value others) = suc (member_count others)
 
 -- whether the source of a clock is fixed
 abbrev pub is_fixed : Option Data → Bool
 is_fixed None = false
 is_fixed (Some value) = option_map_or (bytes_eq (codes "fixed")) (as_str value) false
 
--- the clock: none where the source is fixed, and then there is no other key (profile)
+-- the clock: none where the source is fixed, and then there is no other key
 abbrev pub clock_in : Members → Result (Option Daemon) ConfigurationFault
 clock_in clock =
     if is_fixed (get_member (codes "source") clock)
-    then (if key_count clock == 1 then Ok None else Err (fault.Wanted setting.Source))
+    then (if member_count clock == 1 then Ok None else Err (fault.Wanted setting.Source))
     else daemon_in clock >>= (λ daemon. Ok (Some daemon))
 
--- what a configuration file says; the code's `Settings` borrows its paths (profile)
+-- what a configuration file says; the code's `Settings` borrows its paths
 pub record Settings : Type 0 where
   pub listen : Listen
   pub register : List ℕ
@@ -103,7 +103,7 @@ pub record Settings : Type 0 where
   pub longest_wait : ℕ
   pub clock : Option Daemon
 
--- the settings of a document, each in its range, or the first fault in this order (profile)
+-- the settings of a document, each in its range, or the first fault in this order
 abbrev pub settings_in : Members → Result Settings ConfigurationFault
 settings_in document = do
   listen ← required setting.Listen listen_of document
@@ -130,14 +130,14 @@ settings_in document = do
     clock = clock;
   })
 
--- the ranges of the numbers for a daemon: nanoseconds, 2^-16 s, seconds, nanoseconds (profile)
+-- the ranges of the numbers for a daemon: nanoseconds, 2^-16 s, seconds, nanoseconds
 pub record HasDaemonRanges (daemon : Daemon) : Type 0 where
   pub valid_for : (2000000000 ≤ daemon.valid_for) × (daemon.valid_for ≤ 3600000000000)
   pub most_root_distance : (1 ≤ daemon.most_root_distance) × (daemon.most_root_distance ≤ 1048576)
   pub most_reference_age : (1 ≤ daemon.most_reference_age) × (daemon.most_reference_age ≤ 1000000)
   pub most_step : (1 ≤ daemon.most_step) × (daemon.most_step ≤ 3600000000000)
 
--- the ranges of the numbers of a configuration: octets, nanoseconds, and those for a daemon (profile)
+-- the ranges of the numbers of a configuration: octets, nanoseconds, and those for a daemon
 pub record HasRanges (settings : Settings) : Type 0 where
   pub receive_buffer : (65536 ≤ settings.receive_buffer) × (settings.receive_buffer ≤ 1073741823)
   pub send_buffer : (65536 ≤ settings.send_buffer) × (settings.send_buffer ≤ 1073741823)

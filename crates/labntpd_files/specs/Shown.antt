@@ -11,11 +11,11 @@ digit_count octets = length (filter is_hexadecimal octets)
 abbrev pub dot_count : List ℕ → ℕ
 dot_count octets = length (filter (λ octet. octet == 46) octets)
 
--- what an address may be meant by, with a port: three dots and few octets (profile)
+-- what an address may be meant by, with a port: three dots and few octets
 abbrev pub is_of_address : List ℕ → Bool
 is_of_address octets = nat_le (length octets) 21 && nat_le 3 (dot_count octets)
 
--- a word that may be shown (profile)
+-- a word that may be shown
 abbrev pub is_plain : List ℕ → Bool
 is_plain word =
     is_of_address word

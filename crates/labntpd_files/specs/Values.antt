@@ -13,7 +13,7 @@ use Rattle.labntpd_files.specs.declared.configuration.Endpoint.{Endpoint}
 use Rattle.labntpd_files.specs.declared.configuration.Listen.{Listen}
 use Rattle.labntpd_files.specs.declared.configuration.Listen.TheVariants.{Bound, Inherited}
 
--- an address and a UDP port from 1 to 65,535, with a colon between them (profile)
+-- an address and a UDP port from 1 to 65,535, with a colon between them
 abbrev pub endpoint_in : List ℕ → Option Endpoint
 endpoint_in text = do
   address ← address_in (before_first (λ octet. octet == 58) text)
@@ -23,14 +23,14 @@ endpoint_in text = do
 abbrev pub endpoint_of : Data → Option Endpoint
 endpoint_of value = as_str value >>= endpoint_in
 
--- where datagrams are received: an endpoint, or `inherited` (profile)
+-- where datagrams are received: an endpoint, or `inherited`
 abbrev pub listen_in : List ℕ → Option Listen
 listen_in text = if bytes_eq text (codes "inherited") then Some Inherited else endpoint_in text >>= (λ endpoint. Some (Bound endpoint))
 
 abbrev pub listen_of : Data → Option Listen
 listen_of value = as_str value >>= listen_in
 
--- a path: a text that is not empty (profile)
+-- a path: a text that is not empty
 abbrev pub path_of : Data → Option (List ℕ)
 path_of value = as_str value >>= (λ path. if nat_lt 0 (length path) then Some path else None)
 
@@ -64,6 +64,6 @@ units_of units (integer (pos seconds)) = Some (seconds * units)
 units_of units (float seconds) = Some (rounded units seconds)
 units_of units other = None
 
--- the same, where it is from `least` to `most` units (profile)
+-- the same, where it is from `least` to `most` units
 abbrev pub seconds_of : ℕ → ℕ → ℕ → Data → Option ℕ
 seconds_of units least most value = units_of units value >>= in_range least most

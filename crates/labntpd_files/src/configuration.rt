@@ -5,7 +5,7 @@ use ntp_service::Address;
 use std::net::{Ipv4Addr, SocketAddrV4};
 use std::num::NonZero;
 
-/// What a configuration file says. Each number is in the range that its key has (profile).
+/// What a configuration file says. Each number is in the range that its key has.
 #[derive(Drop)]
 pub struct Configuration {
     /// Where datagrams are received.

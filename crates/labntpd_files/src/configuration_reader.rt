@@ -11,7 +11,7 @@ use crate::{ClockDaemon, ClockSource, Configuration, ConfigurationFault, Setting
 use std::alloc::{AllocError, Global};
 use toml::Table;
 
-/// The keys of the top level, and those of the table `[clock]` (profile).
+/// The keys of the top level, and those of the table `[clock]`.
 pub const KEYS: [Setting; 10] = [
     Setting::Listen,
     Setting::Register,
@@ -36,7 +36,7 @@ pub const CLOCK_KEYS: [Setting; 8] = [
     Setting::MostStep,
 ];
 
-/// What the text of a configuration file says (TOML 1.1; profile), or the first fault in it: no document, a key that is
+/// What the text of a configuration file says (TOML 1.1), or the first fault in it: no document, a key that is
 /// none, then the settings in the order of `Setting`; or want of memory.
 pub fn read_configuration(alloc: Global, text: &str) -> Result<Configuration, ConfigurationFault>
     ensures only { IfOk result (Says text.now) }

@@ -4,7 +4,7 @@ use crate::Setting;
 use std::alloc::AllocError;
 use std::fmt;
 
-/// The first thing that is wrong with a configuration file (profile): with its text, with the keys of its top level and
+/// The first thing that is wrong with a configuration file: with its text, with the keys of its top level and
 /// then of `[clock]`, each in the order of their octets, then with a setting, in their order; or want of memory.
 #[derive(Drop)]
 pub enum ConfigurationFault {

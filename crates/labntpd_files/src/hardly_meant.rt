@@ -6,7 +6,7 @@ use ntp_mac::{Algorithm, Key};
 use ntp_service::Address;
 use std::fmt;
 
-/// Fewer octets than a key should have (profile).
+/// Fewer octets than a key should have.
 const FEW_OCTETS: usize = 16;
 
 /// The greatest budget that the rule of `examples/labntpd.nft` lets pass: 200 datagrams a second for 64 seconds.

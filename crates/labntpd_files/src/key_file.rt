@@ -6,7 +6,7 @@ use ntp_admin::words;
 use ntp_mac::{Algorithm, Key};
 
 /// The key for an algorithm that the text of a key file has: one line of 2 to 64 hexadecimal digits, an even number,
-/// with a line feed behind it or without (profile).
+/// with a line feed behind it or without.
 pub fn key_in_file(text: &str, algorithm: Algorithm) -> Option<Key>
     ensures { result ≡ key_in_file text.now algorithm }
 {

@@ -5,7 +5,7 @@ ghost use Rattle.labntpd_files.specs.KeyText.{is_hexadecimal, is_wrong_count, ke
 
 use std::fmt;
 
-/// How many digits a key has at most (profile).
+/// How many digits a key has at most.
 const MOST_DIGITS: usize = 64;
 
 /// What is wrong with the digits of a key. It has none of them.

@@ -4,7 +4,7 @@ ghost use Rattle.labntpd_files.specs.Keys.{key_of};
 
 use std::fmt;
 
-/// A key of a configuration file, in the order in which they are documented and looked at (profile). Those from
+/// A key of a configuration file, in the order in which they are documented and looked at. Those from
 /// `Source` on stand in the table `[clock]`.
 #[derive(Clone, Copy)]
 pub enum Setting {

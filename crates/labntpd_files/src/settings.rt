@@ -3,7 +3,7 @@ ghost use Rattle.std.specs.Prelude.{◌≡◌, ◌≤◌, IfOk, Some, None, Ok, 
 ghost use Rattle.toml.specs.Data.{get_member, as_table};
 ghost use Rattle.toml.specs.View.{view, table_view};
 ghost use Rattle.labntpd_files.specs.Keys.{key_of};
-ghost use Rattle.labntpd_files.specs.Settings.{required, optional, with_default, is_fixed, key_count, clock_in, daemon_in, settings_in, HasDaemonRanges, HasRanges};
+ghost use Rattle.labntpd_files.specs.Settings.{required, optional, with_default, is_fixed, member_count, clock_in, daemon_in, settings_in, HasDaemonRanges, HasRanges};
 ghost use Rattle.labntpd_files.specs.Values.{listen_of, endpoint_of, number_of, algorithm_of, path_of, whole_of, seconds_of};
 ghost use Rattle.labntpd_files.specs.Faults.{source_fault, setting_fault, path_at};
 
@@ -372,7 +372,7 @@ pub fn value_at(table: &Table, setting: Setting) -> Option<&Value>
 
 // How many keys a table has.
 fn key_count(table: &Table) -> usize
-    ensures { result ≡ key_count (table_view table.now) }
+    ensures { result ≡ member_count (table_view table.now) }
 {
     table.len()
 }

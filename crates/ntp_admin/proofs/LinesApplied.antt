@@ -19,7 +19,7 @@ use Rattle.ntp_service.proofs.Seen.{Sees-nil, Sees-append}
 use Rattle.ntp_service.specs.Headline.{StandsFor, TellsOne, command_outcome}
 use Rattle.ntp_service.proofs.Runs.{Tells-nil, Tells-one}
 use Rattle.ntp_admin.specs.FileText.{IsText}
-use Rattle.ntp_admin.specs.CommandsFile.{complete_lines, reading_of, TakenLine, carried_out, observed_read, CarriesOutDue}
+use Rattle.ntp_admin.specs.CommandsFile.{complete_lines, line_reading, TakenLine, carried_out, observed_read, CarriesOutDue}
 use Rattle.ntp_admin.specs.Applying.{told_before, ComesTo, AppliesLine, Applies}
 use Rattle.ntp_admin.proofs.LinesTaken.{CarriesOut-none, CarriesOut-more}
 
@@ -111,7 +111,7 @@ module _ (A : Type 0) (old mid new : Registry) (seen halfway told : Option (List
           map-append (λ x. x.line) a.lines.0 (t ∷ []) ∙ ap (λ ls. ls ++ line ∷ []) a.lines.1
               ∙ sym (drop-append-le applied a.done (line ∷ []) (omega (arith, a.counted))),
           CarriesOut-more A applied a.lines.0 t old mid new seen halfway told a.lines.2
-              (subst (λ n. Sees halfway told (observed_read n (reading_of line) carried.0)) (sym (place due)) carried.1) carried.2,
+              (subst (λ n. Sees halfway told (observed_read n (line_reading line) carried.0)) (sym (place due)) carried.1) carried.2,
         );
       }
 

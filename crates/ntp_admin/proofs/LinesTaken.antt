@@ -8,14 +8,14 @@ use Rattle.ntp_service.specs.Sees.{Sees}
 use Rattle.ntp_service.proofs.Seen.{Sees-nil, Sees-append}
 use Rattle.ntp_service.specs.Headline.{StandsFor, Tells}
 use Rattle.ntp_service.proofs.Runs.{Tells-nil, Tells-append}
-use Rattle.ntp_admin.specs.CommandsFile.{reading_of, TakenLine, happened_read, observed_read, happened_at_lines, line_observations, CarriesOut}
+use Rattle.ntp_admin.specs.CommandsFile.{line_reading, TakenLine, happened_read, observed_read, happened_at_lines, line_observations, CarriesOut}
 
 -- ---- some lines and then others
 pub line_observations-append : (before : ℕ) (xs ys : List TakenLine)
     → line_observations before (xs ++ ys) ≡ line_observations before xs ++ line_observations (before + length xs) ys
 line_observations-append before [] ys = let count : before ≡ before + 0 = omega arith in ap (λ n. line_observations n ys) count
 line_observations-append before (x ∷ xs) ys =
-    let first = observed_read (before + 1) (reading_of x.line) x.result in
+    let first = observed_read (before + 1) (line_reading x.line) x.result in
     let later = line_observations (before + 1) xs in
     let count : before + 1 + length xs ≡ before + length (x ∷ xs) = omega arith in
     ap (λ l. first ++ l) (line_observations-append (before + 1) xs ys)
@@ -25,15 +25,15 @@ line_observations-append before (x ∷ xs) ys =
 -- ---- one line more
 module _ (taken : List TakenLine) (t : TakenLine) where
   happened-more : {A : Type 0}
-      → happened_at_lines {A = A} (taken ++ t ∷ []) ≡ happened_at_lines taken ++ happened_read (reading_of t.line) t.result
-  happened-more {A} = flat_map-append (λ x. happened_read (reading_of x.line) x.result) taken (t ∷ [])
-      ∙ ap (λ l. happened_at_lines {A = A} taken ++ l) (append-nil (happened_read (reading_of t.line) t.result))
+      → happened_at_lines {A = A} (taken ++ t ∷ []) ≡ happened_at_lines taken ++ happened_read (line_reading t.line) t.result
+  happened-more {A} = flat_map-append (λ x. happened_read (line_reading x.line) x.result) taken (t ∷ [])
+      ∙ ap (λ l. happened_at_lines {A = A} taken ++ l) (append-nil (happened_read (line_reading t.line) t.result))
 
   line_observations-more : (before : ℕ) → line_observations before (taken ++ t ∷ [])
-      ≡ line_observations before taken ++ observed_read (before + length taken + 1) (reading_of t.line) t.result
+      ≡ line_observations before taken ++ observed_read (before + length taken + 1) (line_reading t.line) t.result
   line_observations-more before = line_observations-append before taken (t ∷ [])
       ∙ ap (λ os. line_observations before taken ++ os)
-      (append-nil (observed_read (before + length taken + 1) (reading_of t.line) t.result))
+      (append-nil (observed_read (before + length taken + 1) (line_reading t.line) t.result))
 
 -- no line was carried out
 pub CarriesOut-none : (A : Type 0) (before : ℕ) (s : Registry) (seen : Option (List Observation)) → CarriesOut A before [] s s seen seen
@@ -42,8 +42,8 @@ CarriesOut-none A before s seen = record { observed = Sees-nil seen; tells = λ 
 -- and then one more
 pub CarriesOut-more : (A : Type 0) (before : ℕ) (taken : List TakenLine) (t : TakenLine) (old mid new : Registry)
     (seen halfway told : Option (List Observation)) → CarriesOut A before taken old mid seen halfway
-    → Sees halfway told (observed_read (before + length taken + 1) (reading_of t.line) t.result)
-    → ((history : List (Event A)) → StandsFor mid history → Tells history (happened_read (reading_of t.line) t.result) new)
+    → Sees halfway told (observed_read (before + length taken + 1) (line_reading t.line) t.result)
+    → ((history : List (Event A)) → StandsFor mid history → Tells history (happened_read (line_reading t.line) t.result) new)
     → CarriesOut A before (taken ++ t ∷ []) old new seen told
 CarriesOut-more A before taken t old mid new seen halfway told c observed tells = record {
   observed = subst (λ os. Sees seen told os) (sym (line_observations-more taken t before))

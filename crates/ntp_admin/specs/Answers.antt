@@ -15,11 +15,11 @@ use Rattle.ntp_reply.specs.declared.answers.Reason.TheVariants as reason
 use Rattle.ntp_service.specs.declared.outcome.Outcome.{Outcome}
 use Rattle.ntp_service.specs.declared.outcome.Outcome.TheVariants as outcome
 
--- a stamp: 16 digits (profile)
+-- a stamp: 16 digits
 unfoldable pub stamp_text : Stamp → List ℕ
 stamp_text stamp = encode_lower (to_be_bytes w64 stamp.0)
 
--- why octets are no packet, with the place of the fault (profile)
+-- why octets are no packet, with the place of the fault
 abbrev pub malformed_text : Malformed → List ℕ
 malformed_text malformed.Short = codes "short"
 malformed_text malformed.Long = codes "long"
@@ -28,7 +28,7 @@ malformed_text (malformed.FieldUnaligned place) = codes "field-unaligned " ++ de
 malformed_text (malformed.FieldPastEnd place) = codes "field-past-end " ++ decimal place
 malformed_text (malformed.Rest place) = codes "rest " ++ decimal place
 
--- why there is no reply (profile)
+-- why there is no reply
 abbrev pub reason_text : Reason → List ℕ
 reason_text reason.Unregistered = codes "unregistered"
 reason_text (reason.Malformed fault) = malformed_text fault
@@ -38,7 +38,7 @@ reason_text reason.Bare = codes "bare"
 reason_text reason.Muted = codes "muted"
 reason_text reason.OverBudget = codes "over-budget"
 
--- the answer to a datagram, a reply's octets in lower-case hexadecimal (profile)
+-- the answer to a datagram, a reply's octets in lower-case hexadecimal
 abbrev pub answer_text : Answer → List ℕ
 answer_text (answer.Time reply saved) = codes "time " ++ stamp_text saved ++ codes " " ++ encode_lower reply
 answer_text (answer.Rate reply) = codes "rate " ++ encode_lower reply
@@ -46,7 +46,7 @@ answer_text (answer.Deny reply) = codes "deny " ++ encode_lower reply
 answer_text (answer.Nak reply) = codes "nak " ++ encode_lower reply
 answer_text (answer.Silent why) = codes "silent " ++ reason_text why
 
--- why a command was refused (profile)
+-- why a command was refused
 abbrev pub refusal_text : Refusal → List ℕ
 refusal_text refusal.AlreadyEnrolled = codes "already-enrolled"
 refusal_text refusal.KeyTaken = codes "key-taken"
@@ -61,7 +61,7 @@ refusal_text refusal.NotHeld = codes "not-held"
 abbrev pub line_feed : List ℕ
 line_feed = 10 ∷ []
 
--- the line of an outcome (profile)
+-- the line of an outcome
 unfoldable pub outcome_text : Outcome → List ℕ
 outcome_text (outcome.Datagram answer) = answer_text answer ++ line_feed
 outcome_text outcome.Noted = codes "noted" ++ line_feed

@@ -10,7 +10,7 @@ use Rattle.ntp_service.specs.declared.observation.Observation.{Observation}
 use Rattle.ntp_service.specs.declared.observation.Observation.TheVariants as observation
 use Rattle.ntp_service.specs.Sees.{Sees}
 use Rattle.ntp_service.specs.Headline.{StandsFor, Tells}
-use Rattle.ntp_admin.specs.CommandsFile.{complete_lines, reading_of, TakenLine, happened_read, observed_read, lines_taken, CarriesOut}
+use Rattle.ntp_admin.specs.CommandsFile.{complete_lines, line_reading, TakenLine, happened_read, observed_read, lines_taken, CarriesOut}
 
 -- what an observer is told of a line that is read so, before it is carried out
 abbrev pub told_before : Result Command LineFault → List Observation
@@ -26,8 +26,8 @@ ComesTo A read outcome old new = (result : Result (Unit {0}) Refusal)
 -- the line with a number was taken
 abbrev pub AppliesLine : (A : Type 0) → ℕ → List ℕ → Registry → Registry → Option (List Observation) → Option (List Observation) → Type 0
 AppliesLine A number line old new seen told = (result : Result (Unit {0}) Refusal)
-    × Sees seen told (observed_read number (reading_of line) result)
-    × ((history : List (Event A)) → StandsFor old history → Tells history (happened_read (reading_of line) result) new)
+    × Sees seen told (observed_read number (line_reading line) result)
+    × ((history : List (Event A)) → StandsFor old history → Tells history (happened_read (line_reading line) result) new)
 
 -- lines were taken, with `before` lines in front of them
 abbrev pub Applies :

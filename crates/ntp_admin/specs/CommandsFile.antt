@@ -24,68 +24,68 @@ use Rattle.ntp_admin.specs.FileText.{IsText}
 abbrev pub all_but_last : {X : Type 0} → List X → List X
 all_but_last xs = take (length xs - 1) xs
 
--- the lines that a line feed ends: what stands between line feeds, without the last such piece (profile)
+-- the lines that a line feed ends: what stands between line feeds, without the last such piece
 abbrev pub complete_lines : List ℕ → List (List ℕ)
 complete_lines text = all_but_last (parts 10 text)
 
--- what a line is read as: nothing where it is passed over, else a command, or the first fault (profile)
-abbrev pub reading_of : List ℕ → Option (Result Command LineFault)
-reading_of line = if is_passed_over line then None else Some (command_in (words line))
+-- what a line is read as: nothing where it is passed over, else a command, or the first fault
+abbrev pub line_reading : List ℕ → Option (Result Command LineFault)
+line_reading line = if is_passed_over line then None else Some (command_in (words line))
 
 -- the lines of a file that are due, where `applied` are applied, and how many are applied once they were taken: of a text, its complete
--- lines behind those; of other octets none (profile)
+-- lines behind those; of other octets none
 abbrev pub AreDue : ℕ → List ℕ → List (List ℕ) → ℕ → Type 0
 AreDue applied octets lines after =
     (IsText octets → (lines ≡ drop applied (complete_lines octets)) × (after ≡ max applied (length (complete_lines octets))))
     × ((IsText octets → ⊥) → (lines ≡ []) × (after ≡ applied))
 
--- a line that was taken, and what its command came to, which says nothing where it is none (profile)
+-- a line that was taken, and what its command came to, which says nothing where it is none
 pub record TakenLine : Type 0 where
   pub line : List ℕ
   pub result : Result (Unit {0}) Refusal
 
--- what happened at a line that is read so: its command, if it is one, with what it came to (profile)
+-- what happened at a line that is read so: its command, if it is one, with what it came to
 abbrev pub happened_read : {A : Type 0} → Option (Result Command LineFault) → Result (Unit {0}) Refusal → List (Event A × Outcome)
 happened_read (Some (Ok command)) result = (event.Command command, command_outcome result) ∷ []
 happened_read other result = []
 
--- what a command came to (profile)
+-- what a command came to
 abbrev pub carried_out : Result (Unit {0}) Refusal → LineOutcome
 carried_out (Ok done) = Done
 carried_out (Err refusal) = Refused refusal
 
--- what an observer is told of a line with a number, read so: its command first, if it is one, and then what became of it (profile)
+-- what an observer is told of a line with a number, read so: its command first, if it is one, and then what became of it
 abbrev pub observed_read : ℕ → Option (Result Command LineFault) → Result (Unit {0}) Refusal → List Observation
 observed_read number None result = []
 observed_read number (Some (Ok command)) result = observation.Command command ∷ observation.Line number (carried_out result) ∷ []
 observed_read number (Some (Err fault)) result = observation.Line number (Faulty fault) ∷ []
 
--- what happened at lines that were taken, in their order (profile)
+-- what happened at lines that were taken, in their order
 abbrev pub happened_at_lines : {A : Type 0} → List TakenLine → List (Event A × Outcome)
-happened_at_lines taken = flat_map (λ t. happened_read (reading_of t.line) t.result) taken
+happened_at_lines taken = flat_map (λ t. happened_read (line_reading t.line) t.result) taken
 
--- what an observer is told of them, where `before` lines stand before the first (profile)
+-- what an observer is told of them, where `before` lines stand before the first
 abbrev pub line_observations : ℕ → List TakenLine → List Observation
 line_observations before [] = []
-line_observations before (t ∷ taken) = observed_read (before + 1) (reading_of t.line) t.result ++ line_observations (before + 1) taken
+line_observations before (t ∷ taken) = observed_read (before + 1) (line_reading t.line) t.result ++ line_observations (before + 1) taken
 
 -- the lines that were taken
 abbrev pub lines_taken : List TakenLine → List (List ℕ)
 lines_taken taken = map (λ t. t.line) taken
 
 -- lines were carried out, each once: whatever history the service stood for, it tells what happened at them, and the observer is told
--- what became of each (profile)
+-- what became of each
 pub record CarriesOut (A : Type 0) (before : ℕ) (taken : List TakenLine) (old new : Registry) (seen told : Option (List Observation)) : Type 0 where
   pub observed : Sees seen told (line_observations before taken)
   pub tells : (history : List (Event A)) → StandsFor old history → Tells history (happened_at_lines taken) new
 
--- the lines that are due in a file's octets were carried out (profile)
+-- the lines that are due in a file's octets were carried out
 pub record CarriesOutDue (A : Type 0) (applied : ℕ) (octets : List ℕ) (after : ℕ) (old new : Registry) (seen told : Option (List Observation)) : Type 0 where
   pub taken : List TakenLine
   pub due : AreDue applied octets (lines_taken taken) after
   pub done : CarriesOut A applied taken old new seen told
 
--- the word for what is wrong with a line that is no command (profile)
+-- the word for what is wrong with a line that is no command
 abbrev pub line_fault_text : LineFault → List ℕ
 line_fault_text line_fault.Word = codes "word"
 line_fault_text line_fault.Count = codes "count"
@@ -100,11 +100,11 @@ line_fault_text line_fault.Stamp = codes "stamp"
 line_fault_text line_fault.Reference = codes "reference"
 line_fault_text line_fault.Hex = codes "hex"
 
--- the line that tells of a fault of the commands file (profile)
+-- the line that tells of a fault of the commands file
 abbrev pub fault_line : ℕ → List ℕ → List ℕ
 fault_line number word = codes "commands: line " ++ decimal number ++ codes ": " ++ word ++ line_feed
 
--- what is written of a line of commands: nothing where it was carried out (profile)
+-- what is written of a line of commands: nothing where it was carried out
 abbrev pub line_text : ℕ → LineOutcome → List ℕ
 line_text number Done = []
 line_text number (Refused refusal) = fault_line number (refusal_text refusal)

@@ -10,12 +10,12 @@ use Rattle.ntp_service.specs.declared.line_fault.LineFault.{LineFault}
 use Rattle.ntp_service.specs.declared.line_fault.LineFault.TheVariants as fault
 use Rattle.ntp_admin.specs.Form.{Entry}
 
--- a key number or a budget: from 1 to 65,535 (profile)
+-- a key number or a budget: from 1 to 65,535
 abbrev pub non_zero_whole : ℤ → Option NonZeroU16
 non_zero_whole (pos n) = if nat_le n 65535 then non_zero n else None
 non_zero_whole (negsuc n) = None
 
--- the enrolment of a customer, its texts as the words of a line, or the first fault in this order (profile)
+-- the enrolment of a customer, its texts as the words of a line, or the first fault in this order
 abbrev pub enrolment_command : Entry → Result Command LineFault
 enrolment_command entry = do
   a ← ok_or (address_in entry.address) fault.Address

@@ -16,7 +16,7 @@ text_at name table = get_member name table >>= as_str
 abbrev pub whole_at : List ℕ → Members → Option ℤ
 whole_at name table = get_member name table >>= as_integer
 
--- what a register file has: the text of its reference, and its customers (profile)
+-- what a register file has: the text of its reference, and its customers
 pub record Top : Type 0 where
   pub reference : List ℕ
   pub customers : Items
@@ -26,14 +26,14 @@ abbrev pub customers_from : ℕ → Option Data → Option Items
 customers_from keys None = if keys == 1 then Some no_items else None
 customers_from keys (Some value) = if keys == 2 then as_array value else None
 
--- the top level: `reference`, a text, and it may have `customer`, an array; it has no other key (profile)
+-- the top level: `reference`, a text, and it may have `customer`, an array; it has no other key
 abbrev pub top_of : Members → Option Top
 top_of table = do
   reference ← text_at (codes "reference") table
   customers ← customers_from (key_count table) (get_member (codes "customer") table)
   Some (record { reference = reference; customers = customers })
 
--- what a customer has; the code's `Entry` borrows its texts (profile)
+-- what a customer has; the code's `Entry` borrows its texts
 pub record Entry : Type 0 where
   pub address : List ℕ
   pub number : ℤ
@@ -41,7 +41,7 @@ pub record Entry : Type 0 where
   pub key : List ℕ
   pub budget : ℤ
 
--- what a table has at the keys of a customer: three texts and two whole numbers (profile)
+-- what a table has at the keys of a customer: three texts and two whole numbers
 abbrev pub values_in : Members → Option Entry
 values_in table = do
   address ← text_at (codes "address") table
@@ -51,10 +51,10 @@ values_in table = do
   budget ← whole_at (codes "budget") table
   Some (record { address = address; number = number; algorithm = algorithm; key = key; budget = budget })
 
--- a customer's table: it has those five keys, and no other, since no key stands there twice (profile)
+-- a customer's table: it has those five keys, and no other, since no key stands there twice
 abbrev pub entry_in : Members → Option Entry
 entry_in table = if key_count table == 5 then values_in table else None
 
--- a customer: a table (profile)
+-- a customer: a table
 abbrev pub entry_of : Data → Option Entry
 entry_of customer = as_table customer >>= entry_in

@@ -17,19 +17,19 @@ use Rattle.ntp_admin.specs.declared.loading.LoadFault.{LoadFault}
 use Rattle.ntp_admin.specs.declared.loading.LoadFault.TheVariants as load_fault
 use Rattle.ntp_admin.specs.FileText.{IsText}
 
--- the events that commands are (profile)
+-- the events that commands are
 abbrev pub orders : {A : Type 0} → List Command → List (Event A)
 orders commands = map event.Command commands
 
--- for each command, that it was done (profile)
+-- for each command, that it was done
 abbrev pub all_done : {A : Type 0} → List Command → List (Event A × Outcome)
 all_done commands = map (λ command. (event.Command command, outcome.Done)) commands
 
--- a service was given commands and nothing before them, and each was done (profile)
+-- a service was given commands and nothing before them, and each was done
 abbrev pub Enrols : List Command → Registry → Type 0
 Enrols commands service = Tells {A = Global} [] (all_done commands) service
 
--- what a register file gives: its reference state, and a service with its customers enrolled, in file order (profile)
+-- what a register file gives: its reference state, and a service with its customers enrolled, in file order
 pub record Loads (octets : List ℕ) (reference : ReferenceState) (service : Registry) : Type 0 where
   pub text : IsText octets
   pub state : state_in octets ≡ Ok reference
@@ -37,7 +37,7 @@ pub record Loads (octets : List ℕ) (reference : ReferenceState) (service : Reg
   pub read : register_in octets ≡ Ok commands
   pub enrols : Enrols commands service
 
--- the command at a place, counted from 0, is refused, and those before it are done (profile)
+-- the command at a place, counted from 0, is refused, and those before it are done
 pub record IsRefused (commands : List Command) (place : ℕ) (refusal : Refusal) : Type 0 where
   pub before : List Command
   pub command : Command
@@ -54,17 +54,17 @@ abbrev pub IsRefusedAt : List Command → LoadFault → Type 0
 IsRefusedAt commands (load_fault.Refused place refusal) = IsRefused commands place refusal
 IsRefusedAt commands other = ⊥
 
--- the fault of the reference, or else that of the customers (profile)
+-- the fault of the reference, or else that of the customers
 abbrev pub HasRegisterFault : List ℕ → RegisterFault → Type 0
 HasRegisterFault text fault =
     (state_in text ≡ Err fault) ⊎ ((reference : ReferenceState) × (state_in text ≡ Ok reference) × (register_in text ≡ Err fault))
 
--- the file's fault; want of memory can come whatever the file says (profile)
+-- the file's fault; want of memory can come whatever the file says
 abbrev pub HasFaultOrNoMemory : List ℕ → RegisterFault → Type 0
 HasFaultOrNoMemory text NoMemory = Unit {0}
 HasFaultOrNoMemory text fault = HasRegisterFault text fault
 
--- the first reason, in this order, why a register file gives no service (profile)
+-- the first reason, in this order, why a register file gives no service
 abbrev pub LoadFails : List ℕ → LoadFault → Type 0
 LoadFails octets load_fault.Read = ¬ IsText octets
 LoadFails octets (load_fault.Register fault) = IsText octets × HasFaultOrNoMemory octets fault

@@ -13,7 +13,7 @@ use Rattle.ntp_admin.specs.Enrolment.{enrolment_command}
 use Rattle.ntp_admin.specs.declared.fault.RegisterFault.{RegisterFault}
 use Rattle.ntp_admin.specs.declared.fault.RegisterFault.TheVariants as fault
 
--- the top level of the document that a text is (TOML 1.1; profile)
+-- the top level of the document that a text is (TOML 1.1)
 abbrev pub top_in : List ℕ → Result Top RegisterFault
 top_in text = do
   document ← ok_or (parse_document text) fault.Toml
@@ -24,13 +24,13 @@ abbrev pub at_place : ℕ → Result Command LineFault → Result Command Regist
 at_place place (Ok command) = Ok command
 at_place place (Err why) = Err (fault.Entry place why)
 
--- the customer at a place, counted from 0: its form comes before its values (profile)
+-- the customer at a place, counted from 0: its form comes before its values
 abbrev pub customer_in : ℕ → Data → Result Command RegisterFault
 customer_in place customer = do
   entry ← ok_or (entry_of customer) fault.Shape
   at_place place (enrolment_command entry)
 
--- the customers from a place on, in file order (profile)
+-- the customers from a place on, in file order
 abbrev pub customers_in : ℕ → Items → Result (List Command) RegisterFault
 customers_in place no_items = Ok []
 customers_in place (item customer others) = do
@@ -38,13 +38,13 @@ customers_in place (item customer others) = do
   rest ← customers_in (suc place) others
   Ok (first ∷ rest)
 
--- the commands of a register file: an enrolment for each customer (profile)
+-- the commands of a register file: an enrolment for each customer
 abbrev pub register_in : List ℕ → Result (List Command) RegisterFault
 register_in text = do
   top ← top_in text
   customers_in 0 top.customers
 
--- the reference state of a register file (profile)
+-- the reference state of a register file
 abbrev pub state_in : List ℕ → Result ReferenceState RegisterFault
 state_in text = do
   top ← top_in text

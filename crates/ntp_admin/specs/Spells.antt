@@ -11,12 +11,12 @@ use Rattle.ntp_service.specs.declared.event.Event.TheVariants as event
 use Rattle.ntp_service.specs.declared.line_fault.LineFault.{LineFault}
 use Rattle.ntp_service.specs.declared.line_fault.LineFault.TheVariants as fault
 
--- whether a line is no event: it is empty, or begins with `#` (profile)
+-- whether a line is no event: it is empty, or begins with `#`
 abbrev pub is_passed_over : List ℕ → Bool
 is_passed_over [] = true
 is_passed_over (x ∷ xs) = x == 35
 
--- the words behind `enrol` (profile)
+-- the words behind `enrol`
 abbrev pub enrol_in : List (List ℕ) → Result Command LineFault
 enrol_in (address ∷ number ∷ algorithm ∷ key ∷ budget ∷ []) = do
   a ← ok_or (address_in address) fault.Address
@@ -27,14 +27,14 @@ enrol_in (address ∷ number ∷ algorithm ∷ key ∷ budget ∷ []) = do
   Ok (command.Enrol a n (record { algorithm = h; octets = k }) b)
 enrol_in other = Err fault.Count
 
--- the word behind `revoke` (profile)
+-- the word behind `revoke`
 abbrev pub revoke_in : List (List ℕ) → Result Command LineFault
 revoke_in (address ∷ []) = do
   a ← ok_or (address_in address) fault.Address
   Ok (command.Revoke a)
 revoke_in other = Err fault.Count
 
--- the words behind `budget` (profile)
+-- the words behind `budget`
 abbrev pub new_budget_in : List (List ℕ) → Result Command LineFault
 new_budget_in (address ∷ budget ∷ []) = do
   a ← ok_or (address_in address) fault.Address
@@ -42,7 +42,7 @@ new_budget_in (address ∷ budget ∷ []) = do
   Ok (command.Budget a b)
 new_budget_in other = Err fault.Count
 
--- the words behind `rollover` (profile)
+-- the words behind `rollover`
 abbrev pub rollover_in : List (List ℕ) → Result Command LineFault
 rollover_in (address ∷ number ∷ algorithm ∷ key ∷ []) = do
   a ← ok_or (address_in address) fault.Address
@@ -52,7 +52,7 @@ rollover_in (address ∷ number ∷ algorithm ∷ key ∷ []) = do
   Ok (command.Rollover a n (record { algorithm = h; octets = k }))
 rollover_in other = Err fault.Count
 
--- the words behind `retire` (profile)
+-- the words behind `retire`
 abbrev pub retire_in : List (List ℕ) → Result Command LineFault
 retire_in (address ∷ number ∷ []) = do
   a ← ok_or (address_in address) fault.Address
@@ -60,7 +60,7 @@ retire_in (address ∷ number ∷ []) = do
   Ok (command.Retire a n)
 retire_in other = Err fault.Count
 
--- a command, by its first word (profile)
+-- a command, by its first word
 unfoldable pub command_in : List (List ℕ) → Result Command LineFault
 command_in [] = Err fault.Word
 command_in (first ∷ others) =
@@ -71,7 +71,7 @@ command_in (first ∷ others) =
     else if bytes_eq first (codes "retire") then retire_in others
     else Err fault.Word
 
--- the words behind `datagram` (profile)
+-- the words behind `datagram`
 abbrev pub datagram_in : {A : Type 0} → List (List ℕ) → Result (Event A) LineFault
 datagram_in (address ∷ receipt ∷ transmit ∷ reference ∷ octets ∷ []) = do
   a ← ok_or (address_in address) fault.Address
@@ -82,7 +82,7 @@ datagram_in (address ∷ receipt ∷ transmit ∷ reference ∷ octets ∷ []) =
   Ok (event.Datagram a r t s o)
 datagram_in other = Err fault.Count
 
--- the words behind `departed` (profile)
+-- the words behind `departed`
 abbrev pub departed_in : {A : Type 0} → List (List ℕ) → Result (Event A) LineFault
 departed_in (address ∷ receive ∷ moment ∷ []) = do
   a ← ok_or (address_in address) fault.Address
@@ -91,12 +91,12 @@ departed_in (address ∷ receive ∷ moment ∷ []) = do
   Ok (event.Departed a s m)
 departed_in other = Err fault.Count
 
--- whether the first word is `datagram` (profile)
+-- whether the first word is `datagram`
 abbrev pub is_datagram : List (List ℕ) → Bool
 is_datagram [] = false
 is_datagram (first ∷ others) = bytes_eq first (codes "datagram")
 
--- an event, by its first word (profile)
+-- an event, by its first word
 unfoldable pub event_in : {A : Type 0} → List (List ℕ) → Result (Event A) LineFault
 event_in [] = Err fault.Word
 event_in (first ∷ others) =
@@ -106,18 +106,18 @@ event_in (first ∷ others) =
       c ← command_in (first ∷ others)
       Ok (event.Command c)
 
--- the line's words are the command's (profile)
+-- the line's words are the command's
 abbrev pub SpellsCommand : List ℕ → Command → Type 0
 SpellsCommand line c = command_in (words line) ≡ Ok c
 
--- the first fault of a line that should be a command (profile)
+-- the first fault of a line that should be a command
 abbrev pub HasCommandFault : List ℕ → LineFault → Type 0
 HasCommandFault line f = command_in (words line) ≡ Err f
 
--- the line's words are the event's (profile)
+-- the line's words are the event's
 abbrev pub Spells : {A : Type 0} → List ℕ → Event A → Type 0
 Spells line e = event_in (words line) ≡ Ok e
 
--- the first fault of a line that should be an event in memory of this allocator, which makes no difference (profile)
+-- the first fault of a line that should be an event in memory of this allocator, which makes no difference
 abbrev pub HasLineFault : Type 0 → List ℕ → LineFault → Type 0
 HasLineFault A line f = event_in {A = A} (words line) ≡ Err f

@@ -8,18 +8,18 @@ use Rattle.ntp_admin.specs.declared.fault.RegisterFault.TheVariants as register_
 use Rattle.ntp_admin.specs.declared.loading.LoadFault.{LoadFault}
 use Rattle.ntp_admin.specs.declared.loading.LoadFault.TheVariants as load_fault
 
--- the status for a fault of a register file: 4 for want of memory, else 1 (profile)
+-- the status for a fault of a register file: 4 for want of memory, else 1
 abbrev pub register_status : RegisterFault → ℕ
 register_status register_fault.NoMemory = 4
 register_status (register_fault.Entry place line_fault.NoMemory) = 4
 register_status other = 1
 
--- the status for a refused enrolment: the same (profile)
+-- the status for a refused enrolment: the same
 abbrev pub refusal_status : Refusal → ℕ
 refusal_status refusal.NoMemory = 4
 refusal_status other = 1
 
--- the status for what stopped a server that failed to start: 3 where its register file could not be read (profile)
+-- the status for what stopped a server that failed to start: 3 where its register file could not be read
 abbrev pub load_status : LoadFault → ℕ
 load_status load_fault.Read = 3
 load_status (load_fault.Register fault) = register_status fault

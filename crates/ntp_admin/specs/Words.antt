@@ -18,11 +18,11 @@ use Rattle.ntp_mac.specs.declared.key.Algorithm.TheVariants.{Md5, Sha1}
 use Rattle.ntp_service.specs.declared.address.Address.{Address}
 use Rattle.ntp_reply.specs.Reference.{ReferenceState, is_reference}
 
--- the parts of a text that stand between separators; an empty text is one empty part (profile)
+-- the parts of a text that stand between separators; an empty text is one empty part
 abbrev pub parts : ℕ → List ℕ → List (List ℕ)
 parts separator text = slice_split (λ c. c == separator) text
 
--- the words of a line: what stands between its spaces (profile)
+-- the words of a line: what stands between its spaces
 abbrev pub words : List ℕ → List (List ℕ)
 words line = parts 32 line
 
@@ -32,16 +32,16 @@ abbrev pub ◌>>=◌ : {X Y : Type 0} → Option X → (X → Option Y) → Opti
 Some x >>= f = f x
 None >>= f = None
 
--- digits and no sign, one digit at least, and no zero in front of others (profile)
+-- digits and no sign, one digit at least, and no zero in front of others
 abbrev pub is_decimal : List ℕ → Bool
 is_decimal word = list_all is_ascii_digit word && nat_lt 0 (length word) && (not (slice_index word 0 == 48) || (length word == 1))
 
--- the number that a decimal word writes, where it is from `least` to `most` (profile)
+-- the number that a decimal word writes, where it is from `least` to `most`
 abbrev pub decimal_in : ℕ → ℕ → List ℕ → Option ℕ
 decimal_in least most word =
     let n = digits_value 10 word in if is_decimal word && nat_le least n && nat_le n most then Some n else None
 
--- four numbers from 0 to 255 (profile)
+-- four numbers from 0 to 255
 abbrev pub address_from : List (List ℕ) → Option Address
 address_from (first ∷ second ∷ third ∷ fourth ∷ []) = do
   a ← decimal_in 0 255 first
@@ -51,7 +51,7 @@ address_from (first ∷ second ∷ third ∷ fourth ∷ []) = do
   Some (record { 0 = a ∷ b ∷ c ∷ d ∷ [] })
 address_from other = None
 
--- an address: its numbers, with dots between them (profile)
+-- an address: its numbers, with dots between them
 abbrev pub address_in : List ℕ → Option Address
 address_in word = address_from (parts 46 word)
 
@@ -60,15 +60,15 @@ abbrev pub non_zero : ℕ → Option NonZeroU16
 non_zero zero = None
 non_zero (suc n) = Some (record { value = suc n; ok = zero-lt-suc n })
 
--- a key number or a budget: from 1 to 65,535 (profile)
+-- a key number or a budget: from 1 to 65,535
 abbrev pub number_in : List ℕ → Option NonZeroU16
 number_in word = decimal_in 1 65535 word >>= non_zero
 
--- a digest algorithm (profile)
+-- a digest algorithm
 abbrev pub algorithm_in : List ℕ → Option Algorithm
 algorithm_in word = if bytes_eq word (codes "md5") then Some Md5 else if bytes_eq word (codes "sha1") then Some Sha1 else None
 
--- the octets that a word spells in hexadecimal digits of either case, two for each (profile)
+-- the octets that a word spells in hexadecimal digits of either case, two for each
 abbrev pub hex_in : List ℕ → Option (List ℕ)
 hex_in word = result_ok (decode_of word)
 
@@ -76,11 +76,11 @@ hex_in word = result_ok (decode_of word)
 abbrev pub sized_hex_in : ℕ → List ℕ → Option (List ℕ)
 sized_hex_in octets word = result_ok (decode_sized word octets)
 
--- the octets of a key: 1 to 32 (profile)
+-- the octets of a key: 1 to 32
 abbrev pub key_in : List ℕ → Option (List ℕ)
 key_in word = if nat_le 2 (length word) && nat_le (length word) 64 then hex_in word else None
 
--- the octets of a datagram: one at least, or `-` for none (profile)
+-- the octets of a datagram: one at least, or `-` for none
 abbrev pub octets_in : List ℕ → Option (List ℕ)
 octets_in word = if bytes_eq word (codes "-") then Some [] else if nat_lt 0 (length word) then hex_in word else None
 
@@ -91,11 +91,11 @@ short_of octets = record { 0 = from_be_bytes w32 octets }
 abbrev pub stamp_of : List ℕ → Stamp
 stamp_of octets = record { 0 = from_be_bytes w64 octets }
 
--- a stamp: 16 digits (profile)
+-- a stamp: 16 digits
 abbrev pub stamp_in : List ℕ → Option Stamp
 stamp_in word = option_map stamp_of (sized_hex_in 8 word)
 
--- an era and a stamp (profile)
+-- an era and a stamp
 abbrev pub moment_from : List (List ℕ) → Option Moment
 moment_from (era ∷ stamp ∷ []) = do
   e ← decimal_in 0 (2 ^ 32 - 1) era
@@ -103,11 +103,11 @@ moment_from (era ∷ stamp ∷ []) = do
   Some (record { era = e; stamp = s })
 moment_from other = None
 
--- a moment: its era and its stamp, with a colon between them (profile)
+-- a moment: its era and its stamp, with a colon between them
 abbrev pub moment_in : List ℕ → Option Moment
 moment_in word = moment_from (parts 58 word)
 
--- a reference state as 23 octets, the precision in two's complement (profile)
+-- a reference state as 23 octets, the precision in two's complement
 abbrev pub state_of : List ℕ → ReferenceState
 state_of octets = record {
   leap = slice_index octets 0;
@@ -119,7 +119,7 @@ state_of octets = record {
   reference = stamp_of (slice_range octets 15 23);
 }
 
--- a reference state: 46 digits (profile)
+-- a reference state: 46 digits
 abbrev pub reference_in : List ℕ → Option ReferenceState
 reference_in word = do
   octets ← sized_hex_in 23 word

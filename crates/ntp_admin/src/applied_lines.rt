@@ -8,7 +8,7 @@ use crate::file_text::{MOST_FILE_OCTETS, text_of};
 use std::alloc::{Allocator, Global};
 use std::marker::Model;
 
-/// Why the octets of a commands file are not admitted (profile).
+/// Why the octets of a commands file are not admitted.
 #[derive(Clone, Copy, Debug, PartialEq, Eq)]
 pub enum AdmitFault {
     /// They are more than `MOST_FILE_OCTETS`.

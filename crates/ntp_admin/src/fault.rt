@@ -2,7 +2,7 @@
 
 use ntp_service::LineFault;
 
-/// The first thing that is wrong with a register file (profile): with its text, with its top level, then with its
+/// The first thing that is wrong with a register file: with its text, with its top level, then with its
 /// customers in file order, of each its form and then its values; where the reference state is asked for, with its
 /// text and its top level, then with the reference.
 #[derive(Clone, Copy, Debug, PartialEq, Eq)]

@@ -2,7 +2,7 @@
 ghost use Rattle.std.specs.Prelude.{◌≡◌, IfSome, IfNone};
 ghost use Rattle.ntp_admin.specs.FileText.{IsText};
 
-/// How many octets a register file, and a commands file, have at most (profile).
+/// How many octets a register file, and a commands file, have at most.
 pub const MOST_FILE_OCTETS: usize = 1_048_576;
 
 /// The text of a file that has these octets, where they are not too many and are UTF-8. It takes no memory.

@@ -16,7 +16,7 @@ pub struct Loaded {
     pub service: Service,
 }
 
-/// Why a register file gives no service (profile): the first of these, in this order.
+/// Why a register file gives no service: the first of these, in this order.
 #[derive(Clone, Copy, Debug, PartialEq, Eq)]
 pub enum LoadFault {
     /// It could not be read, has more than 1,048,576 octets, or is not UTF-8.

@@ -8,7 +8,7 @@ use crate::words;
 use ntp_service::{Command, Event, LineFault};
 use std::alloc::Allocator;
 
-/// Whether a line is no event and no command: it is empty, or begins with `#` (profile).
+/// Whether a line is no event and no command: it is empty, or begins with `#`.
 pub fn is_passed_over(line: &[u8]) -> bool
     ensures { result ≡ is_passed_over line.now }
 {

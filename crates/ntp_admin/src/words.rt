@@ -14,7 +14,7 @@ use ntp_service::{Address, LineFault, Octets};
 use std::alloc::Allocator;
 use std::num::NonZero;
 
-/// How many octets spell a reference state (profile).
+/// How many octets spell a reference state.
 const REFERENCE_OCTETS: usize = 23;
 
 // Whether a word is digits alone, with no zero in front of others.

@@ -8,7 +8,7 @@ use Rattle.ntp_clerk.specs.declared.recovery.Seen.{Seen}
 use Rattle.ntp_clerk.specs.declared.recovery.Seen.TheVariants as seen
 use Rattle.ntp_clerk.specs.declared.recovery.Amendment.{Amendment}
 use Rattle.ntp_clerk.specs.declared.recovery.Amendment.TheVariants.{Keep, Revoke}
-use Rattle.ntp_clerk.specs.Recovery.{Look, amended, look, look_after, look_at, seen_key, AreApart}
+use Rattle.ntp_clerk.specs.Recovery.{SeenEnrolment, amended, look, look_after, look_at, seen_key, AreApart}
 
 all-kept : (keys : List SeenKey) → keys ≡ filter (λ k. not false) keys
 all-kept [] = refl
@@ -22,7 +22,7 @@ retired-seen number (k ∷ keys) = decided (not (k.number == number)) (filter (�
     decided true some seen e = ap (λ ks. seen_key k ∷ ks) e
     decided false some seen e = e
 
-abbrev made : List SeenKey → ℕ → Look
+abbrev made : List SeenKey → ℕ → SeenEnrolment
 made keys budget = record { keys = keys; budget = budget }
 
 with-keys : (a b : List SeenKey) (budget : ℕ) → a ≡ b → Some (made a budget) ≡ Some (made b budget)
@@ -58,7 +58,7 @@ if-two : (keys : List NumberedKey) (older : SeenKey) (newer : Option SeenKey) �
 if-two keys older None apart e = tt
 if-two keys older (Some newer) apart e = two-keys keys older newer apart e
 
-keys-of-some : (a b : Look) → Some a ≡ Some b → a.keys ≡ b.keys
+keys-of-some : (a b : SeenEnrolment) → Some a ≡ Some b → a.keys ≡ b.keys
 keys-of-some a b e = let same : a ≡ b = cc in ap (λ l. l.keys) same
 
 apart-in : (files : Seen) (c : CustomerState) (o : Option Account) → IfSome o IsAccount → look_at (record c { account = o }) ≡ look files → AreApart files

@@ -11,22 +11,22 @@ use Rattle.ntp_service.specs.declared.outcome.Outcome.{Outcome}
 use Rattle.ntp_service.specs.Headline.{Tells}
 use Rattle.ntp_service.specs.Split.{HadMemory}
 
--- what an address has: nothing where it was never enrolled, else its enrolment, and none where it is revoked (profile)
+-- what an address has: nothing where it was never enrolled, else its enrolment, and none where it is revoked
 abbrev pub standing_at : Registry → Address → Option (Option Enrolment)
 standing_at r address = option_map enrolment_at (customer_at r address)
 
 -- two services have the same customers, with the same keys and budgets; the same addresses are revoked, and each number has the same
--- holder. What was counted is left aside (profile)
+-- holder. What was counted is left aside
 pub record HaveTheSame (one other : Registry) : Type 0 where
   pub standings : (address : Address) → standing_at one address ≡ standing_at other address
   pub holders : (number : ℕ) → holder_of one number ≡ holder_of other number
 
--- a service with no customers was given commands, had memory for each, and came to this (profile)
+-- a service with no customers was given commands, had memory for each, and came to this
 abbrev pub ComesOf : List Command → Registry → Type 0
 ComesOf commands service =
     (happened : List (Event Global × Outcome)) × (map (λ p. p.0) happened ≡ map event.Command commands) × HadMemory happened × Tells [] happened service
 
--- two lists of commands leave the same customers (profile)
+-- two lists of commands leave the same customers
 abbrev pub LeaveTheSame : List Command → List Command → Type 0
 LeaveTheSame one other = (a : Registry) × (b : Registry) × ComesOf one a × ComesOf other b × HaveTheSame a b
 

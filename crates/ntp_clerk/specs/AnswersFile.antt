@@ -4,7 +4,6 @@ use Rattle.std.specs.List.{starts_with}
 use Rattle.ntp_admin.specs.Words.{parts}
 
 -- what stands behind a label in the first line that begins with it; the last of the parts is no line, since no line feed ends it
--- (profile)
 unfoldable pub answer_in : List ℕ → List (List ℕ) → Option (List ℕ)
 answer_in label [] = None
 answer_in label (last ∷ []) = None

@@ -22,11 +22,11 @@ use Rattle.ntp_clerk.specs.declared.new_key.NewKey.{NewKey}
 abbrev pub key_of : NewKey → SymmetricKey
 key_of key = record { algorithm = key.algorithm; octets = key.octets }
 
--- an address: its numbers, with dots between them (profile)
+-- an address: its numbers, with dots between them
 unfoldable pub address_text : Address → List ℕ
 address_text address = join_with_byte 46 (map decimal address.0)
 
--- the word for an algorithm (profile)
+-- the word for an algorithm
 abbrev pub algorithm_text : Algorithm → List ℕ
 algorithm_text Md5 = codes "md5"
 algorithm_text Sha1 = codes "sha1"
@@ -46,15 +46,15 @@ key_named (command.Enrol address number key budget) = Some key
 key_named (command.Rollover address number key) = Some key
 key_named other = None
 
--- a number with a space before it, where there is one (profile)
+-- a number with a space before it, where there is one
 abbrev pub number_behind : Option NonZeroU16 → List ℕ
 number_behind number = option_map_or (λ n. codes " " ++ number_text n) number []
 
--- a key's algorithm and this word for the key, with a space before each, where there is one (profile)
+-- a key's algorithm and this word for the key, with a space before each, where there is one
 abbrev pub key_behind : List ℕ → Option SymmetricKey → List ℕ
 key_behind key_word key = option_map_or (λ k. codes " " ++ algorithm_text k.algorithm ++ codes " " ++ key_word) key []
 
--- a command, with this word for its key: its verb and its address, and what it names of a number, a key and a budget (profile)
+-- a command, with this word for its key: its verb and its address, and what it names of a number, a key and a budget
 unfoldable pub command_text : List ℕ → Command → List ℕ
 command_text key_word c =
     verb_text (verb_of c) ++ (codes " " ++ (address_text (address_named c) ++ (number_behind (number_named c)
@@ -81,7 +81,7 @@ IsCommand c = IsAddress (address_named c) × IfSome (number_named c) IsNumber ×
 abbrev pub HasOctets : Command → List ℕ → Type 0
 HasOctets c octets = IfSome (key_named c) (λ key. (key.octets ≡ octets) × AreKeyOctets octets)
 
--- a word that stands for each key, so that none is shown (profile)
+-- a word that stands for each key, so that none is shown
 abbrev pub hidden_key : List ℕ
 hidden_key = codes "KEY"
 

@@ -11,7 +11,7 @@ use Rattle.ntp_clerk.specs.Bucket.{passing_limit, InOrder}
 abbrev pub window_nanos : ℕ
 window_nanos = window_seconds * 1000000000
 
--- how many datagrams of a window are answered at most: `budget` get the time, one gets RATE, and the others are refused (profile)
+-- how many datagrams of a window are answered at most: `budget` get the time, one gets RATE, and the others are refused
 abbrev pub most_answered : ℕ → ℕ
 most_answered budget = budget + 1 + refusals_sent
 
@@ -32,7 +32,7 @@ LetsPass limit most = (begun before : ℕ) (moments : List ℕ) → InOrder begu
 abbrev pub LetsEachPass : Limit → ℕ → Type 0
 LetsEachPass limit group = (budget : ℕ) → budget ≤ group → LetsPass limit (most_answered budget)
 
--- the greatest budget whose limit customers get: no budget is greater (profile)
+-- the greatest budget whose limit customers get: no budget is greater
 abbrev pub greatest_group : ℕ
 greatest_group = 2 ^ 16
 

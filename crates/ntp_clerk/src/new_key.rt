@@ -4,7 +4,7 @@ ghost use Rattle.ntp_clerk.specs.CommandText.{key_of};
 
 use ntp_mac::{Algorithm, Key};
 
-/// How many octets a key has that is made here (profile).
+/// How many octets a key has that is made here.
 pub const NEW_KEY_OCTETS: usize = 20;
 
 /// A key that is made for a customer. It is a secret: `command_line` and `customer_text` write it, and nothing else.

@@ -7,6 +7,6 @@ use Rattle.ntp_packet.specs.Unix.{second_nanos, IsUnixTime}
 abbrev pub IsMomentOf : Moment → ℕ → Type 0
 IsMomentOf m nanos = IsUnixTime m (pos (nanos / second_nanos)) (nanos % second_nanos)
 
--- what a clock reads as that cannot be read: stamp 0 of era 0 (profile)
+-- what a clock reads as that cannot be read: stamp 0 of era 0
 abbrev pub unread : Moment
 unread = record { era = 0; stamp = record { 0 = 0 } }

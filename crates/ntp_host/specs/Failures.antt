@@ -3,6 +3,6 @@ use Rattle.std.specs.Prelude.{ℕ}
 use Rattle.ntp_port.specs.Port.{failed_calls}
 use Rattle.ntp_host.specs.declared.udp_port.UdpPort.{UdpPort}
 
--- how many calls failed (profile)
+-- how many calls failed
 abbrev pub udp_failures : {C : Type 0} → UdpPort C → ℕ
 udp_failures p = failed_calls p.counts

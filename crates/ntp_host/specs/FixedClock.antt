@@ -7,12 +7,12 @@ use Rattle.ntp_port.specs.Sources.{Coming}
 use Rattle.ntp_host.specs.declared.followed_clock.ClockSource.{ClockSource}
 use Rattle.ntp_host.specs.declared.followed_clock.ClockSource.TheVariants.{Fixed, Followed}
 
--- a state as it is given: with a datagram's receipt, that where this was read (profile)
+-- a state as it is given: with a datagram's receipt, that where this was read
 abbrev pub given_with : ReferenceState → Option Moment → ReferenceState
 given_with state None = state
 given_with state (Some receipt) = where_read receipt state
 
--- what a source of a clock's state will give: a fixed one its state, as it is given; one that follows a daemon does not tell (profile)
+-- what a source of a clock's state will give: a fixed one its state, as it is given; one that follows a daemon does not tell
 abbrev pub clock_coming : {C : Type 0} → ClockSource C → Option (Coming ReferenceState)
 clock_coming (Fixed state) = Some (map (given_with state))
 clock_coming (Followed clock) = None

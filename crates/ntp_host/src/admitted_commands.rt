@@ -13,7 +13,7 @@ use ntp_port::CommandsSource;
 use std::alloc::{Allocator, Global};
 
 /// A source of commands that hands on what another one gives only where it begins with the complete lines of what it handed on
-/// before, or of what was read at the start (profile).
+/// before, or of what was read at the start.
 ///
 /// It keeps a copy of what it handed on last.
 #[derive(Drop)]

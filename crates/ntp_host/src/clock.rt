@@ -7,13 +7,13 @@ use ntp_packet::{Moment, Stamp};
 use std::io;
 use std::time::{Clock, SystemTime, UNIX_EPOCH};
 
-/// Stands in for a clock that fails or is out of range (profile).
+/// Stands in for a clock that fails or is out of range.
 const UNREAD: Moment = Moment {
     era: 0,
     stamp: Stamp(0),
 };
 
-/// The moment that the clock shows; stamp 0 of era 0 where it cannot be read (profile).
+/// The moment that the clock shows; stamp 0 of era 0 where it cannot be read.
 pub fn moment_now<C: Clock>(clock: &C) -> Moment {
     let reading = SystemTime::now(clock);
     moment_of(&reading)

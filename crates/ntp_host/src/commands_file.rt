@@ -9,10 +9,10 @@ use std::alloc::Allocator;
 use std::fs::{self, Files, OpenFile};
 use std::io::{self, Read};
 
-/// Period after which the metadata of the open file is asked for again (profile).
+/// Period after which the metadata of the open file is asked for again.
 const METADATA_PERIOD: u64 = MILLISECOND;
 
-/// Period after which what stands at its path is asked for again, in units of 2^-32 seconds: a tenth of a second (profile).
+/// Period after which what stands at its path is asked for again, in units of 2^-32 seconds: a tenth of a second.
 const PATH_PERIOD: u64 = 429_496_729;
 
 /// The commands file of a server.

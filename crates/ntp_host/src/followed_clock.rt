@@ -12,17 +12,17 @@ use std::net::UdpSocket;
 use std::os::fd::AsRawFd;
 use std::time::Clock;
 
-/// How long an answer is looked for in each turn, and ends a wait, in nanoseconds: 20 thousandths of a second (profile).
+/// How long an answer is looked for in each turn, and ends a wait, in nanoseconds: 20 thousandths of a second.
 const PATIENCE: u64 = 20_000_000;
 
-/// How often an answer is looked for later, in nanoseconds: each hundredth of a second (profile).
+/// How often an answer is looked for later, in nanoseconds: each hundredth of a second.
 const LATER_PERIOD: u64 = 10_000_000;
 
-/// How many datagrams are taken at one look at most (profile).
+/// How many datagrams are taken at one look at most.
 const MOST_ANSWERS: usize = 8;
 
 /// How long the reading of both clocks may take, in nanoseconds: a hundred-thousandth of a second; and how often they are read at most to
-/// find such a reading (profile).
+/// find such a reading.
 const LONGEST_READING: u64 = 10_000;
 
 const MOST_READINGS: usize = 8;

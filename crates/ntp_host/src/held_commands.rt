@@ -9,7 +9,7 @@ use std::alloc::Global;
 use std::fs::Files;
 use std::io::Write;
 
-/// From how many octets on a commands file is told to be nearly full: 80 in 100 of the most (profile).
+/// From how many octets on a commands file is told to be nearly full: 80 in 100 of the most.
 const NEARLY_FULL_OCTETS: usize = 838_860;
 
 /// A commands file that is held to what was applied of it.

@@ -12,7 +12,7 @@ pub const SOCKETS_ROOM: usize = 65_536;
 const MOST_PARTS: u32 = 16;
 
 /// How many octets of a receive buffer a queued datagram takes at least, as Linux counts them: 576 for what it keeps of each
-/// datagram, and its headers (profile).
+/// datagram, and its headers.
 const LEAST_QUEUED_OCTETS: u32 = 640;
 
 /// What the kernel tells of the queue of a socket.

@@ -11,7 +11,7 @@ use std::alloc::Allocator;
 pub(crate) const MILLISECOND: u64 = 4_294_967;
 
 /// A source of commands that is asked with a receipt at most once in a thousandth of a second, so that looks at it cost nothing
-/// in between (profile).
+/// in between.
 ///
 /// Time is told by the receipts of the datagrams. The source is asked where a thousandth of a second or more has passed
 /// since the last receipt with which it was asked, where the clock was set back, and always where no datagram waits. In

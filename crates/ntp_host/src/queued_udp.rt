@@ -2,7 +2,7 @@
 
 ghost use Rattle.std.specs.Prelude.{◌≡◌, ◌-◌, ◌≤◌, ◌<◌, ◌^◌, None, IfOk, IfErr, IfSome, IfNone, false, is_err};
 ghost use Rattle.ntp_port.specs.Port.{most_received_octets, failed_calls, CountsReceive, CountsWait, Receives, DropsAny};
-ghost use Rattle.ntp_host.specs.Reading.{IsBetween, Reads};
+ghost use Rattle.ntp_host.specs.Reading.{IsBetween, ReadsOnce};
 
 use crate::UdpPort;
 use crate::kernel_queue::{most_datagrams, queue_state};
@@ -19,7 +19,7 @@ use std::os::fd::AsRawFd;
 use std::time::Clock;
 
 /// How long one wait for a datagram lasts at most, in thousandths of a second: so soon is a command carried out that is written
-/// while nobody asks, and so old is what is known of the queue when the program is stopped then (profile).
+/// while nobody asks, and so old is what is known of the queue when the program is stopped then.
 pub const LONGEST_WAIT: u16 = 20;
 
 /// What the parts of the daemon tell each other of the host's clocks.
@@ -177,7 +177,7 @@ impl<'a, P: TimedPort, C: Clock + Copy + Drop, R: Files> Port for QueuedUdp<'a, 
     /// it shows now, which is nearer to the departure than either.
     fn now(&mut self) -> Moment
         ensures counts { self.new.counts ≡ self.old.counts }
-        ensures below { Reads self.old.has_sent self.old.shown (P.told self.old.port) (P.told self.new.port) result }
+        ensures below { ReadsOnce self.old.has_sent self.old.shown (P.told self.old.port) (P.told self.new.port) result }
     {
         let now = self.port.now();
         if self.has_sent {

@@ -12,7 +12,7 @@ use Rattle.ntp_customer.specs.Past.{Past}
 use Rattle.ntp_reply.specs.declared.occasion.Occasion.{Occasion}
 use Rattle.ntp_reply.specs.Kind.{Signed, octets_kind, kind_of}
 use Rattle.ntp_reply.specs.Verdict.{kind_answer, verdict}
-use Rattle.ntp_meeting.specs.Meeting.{Waits, SharesKey, request_octets}
+use Rattle.ntp_meeting.specs.Meeting.{WaitsForReply, SharesKey, request_octets}
 use Rattle.ntp_meeting.proofs.Headers.{IsHeader-query}
 use Rattle.ntp_meeting.proofs.Readings.{sealed_packet, signed-sealed, read-sealed}
 
@@ -24,7 +24,7 @@ signed-kind key number q e held =
     rw (held, (is-signed key number (sealed_packet key number (query_fields q))).1 (signed-sealed key number (query_fields q))) refl
 
 -- a request is a signed query, where the key is shared
-pub request-kind : (c : ClientState) (q : Outstanding) (past : Past) → Waits c q → SharesKey past c
+pub request-kind : (c : ClientState) (q : Outstanding) (past : Past) → WaitsForReply c q → SharesKey past c
     → kind_of past (request_octets c q) ≡ Signed c.key c.number (query_fields q)
 request-kind c q past waits shares =
     ap (λ enrolment. octets_kind enrolment (reading_of (request_octets c q))) shares.enrolled
@@ -32,11 +32,11 @@ request-kind c q past waits shares =
     ∙ signed-kind c.key c.number q shares.enrolment shares.key
 
 -- and its answer is that to one
-pub request-answer : (c : ClientState) (q : Outstanding) (past : Past) (o : Occasion) → Waits c q → SharesKey past c
+pub request-answer : (c : ClientState) (q : Outstanding) (past : Past) (o : Occasion) → WaitsForReply c q → SharesKey past c
     → verdict (Some past) o (request_octets c q) ≡ kind_answer past o (Signed c.key c.number (query_fields q))
 request-answer c q past o waits shares = ap (kind_answer past o) (request-kind c q past waits shares)
 
 -- the request that a client makes waits
 pub made-waits : (c : ClientState) (now : Moment) → c.number < 2 ^ 32
-    → IfSome c.sampled (λ e. (e.receive.0 < 2 ^ 64) × (e.arrival.0 < 2 ^ 64)) → Waits (after_query c now) (next_query c now)
+    → IfSome c.sampled (λ e. (e.receive.0 < 2 ^ 64) × (e.arrival.0 < 2 ^ 64)) → WaitsForReply (after_query c now) (next_query c now)
 made-waits c now number fit = record { outstanding = refl; header = IsHeader-query c.sampled now fit; number = number }

@@ -24,7 +24,7 @@ use Rattle.ntp_reply.specs.Kind.{Signed}
 use Rattle.ntp_reply.specs.Exchanged.{matched, stamps_of}
 use Rattle.ntp_reply.specs.Verdict.{kind_answer, after_kind, verdict, after_datagram, window_at}
 use Rattle.ntp_reply.specs.declared.answers.Answer.TheVariants as answer
-use Rattle.ntp_meeting.specs.Meeting.{Waits, SharesKey, FitsPacket, request_octets}
+use Rattle.ntp_meeting.specs.Meeting.{WaitsForReply, SharesKey, FitsPacket, request_octets}
 use Rattle.ntp_meeting.proofs.Readings.{sealed_packet, read-sealed}
 use Rattle.ntp_meeting.proofs.Stamps.{receive-fits, transmit-fits}
 use Rattle.ntp_meeting.proofs.Headers.{IsHeader-reply}
@@ -42,7 +42,7 @@ time-header past o q None state_fits is fits =
 time-header past o q (Some x) state_fits is fits =
     (IsHeader-reply o.reference q (query_fields q).receive _ x.transmit state_fits is is.receive (receive-fits past o) fits, refl)
 
-module _ (c : ClientState) (q : Outstanding) (past : Past) (o : Occasion) (reply : List ℕ) (saved : Stamp) (waits : Waits c q)
+module _ (c : ClientState) (q : Outstanding) (past : Past) (o : Occasion) (reply : List ℕ) (saved : Stamp) (waits : WaitsForReply c q)
     (shares : SharesKey past c) (answered : verdict (Some past) o (request_octets c q) ≡ answer.Time reply saved) where
   signed-answer : kind_answer past o (Signed c.key c.number (query_fields q)) ≡ answer.Time reply saved
   signed-answer = sym (request-answer c q past o waits shares) ∙ answered

@@ -29,7 +29,7 @@ use Rattle.ntp_reply.specs.Replies.{reply_fields, basic_fields, kiss_fields, sho
 use Rattle.ntp_reply.specs.declared.occasion.Occasion.{Occasion}
 use Rattle.ntp_reply.specs.declared.kiss.Kiss.TheVariants.{Rate, Deny}
 use Rattle.ntp_reply.specs.Exchanged.{stamps_of}
-use Rattle.ntp_meeting.specs.Meeting.{Waits, FitsPacket}
+use Rattle.ntp_meeting.specs.Meeting.{WaitsForReply, FitsPacket}
 use Rattle.ntp_meeting.proofs.Stamps.{receive-known, receive-fits, transmit-fits}
 use Rattle.ntp_meeting.proofs.Headers.{IsHeader-reply, IsHeader-kiss}
 use Rattle.ntp_meeting.proofs.Readings.{packet, sealed_packet, signed-sealed, read-header, read-nak, read-sealed}
@@ -43,7 +43,7 @@ basic-taken c q octets r at there read mode version is =
     ∙ ap decided (paired-taken c.key c.number q r at Basic mode version (basic-pairing q r.header.origin is))
 
 -- a RATE is taken for one
-pub rate-taken : (c : ClientState) (q : Outstanding) (at : Moment) → Waits c q
+pub rate-taken : (c : ClientState) (q : Outstanding) (at : Moment) → WaitsForReply c q
     → taken_for c (sealed c.key c.number (kiss_fields Rate (query_fields q))) at ≡ taken.Rate
 rate-taken c q at waits =
     let h : HeaderFields = kiss_fields Rate (query_fields q) in
@@ -52,14 +52,14 @@ rate-taken c q at waits =
     ∙ ap decided (signed-taken c.key c.number Basic r (sample_of q Basic h at) (signed-sealed c.key c.number h))
 
 -- a DENY is taken for one
-pub deny-taken : (c : ClientState) (q : Outstanding) (at : Moment) → Waits c q → taken_for c (header_octets (kiss_fields Deny (query_fields q))) at ≡ taken.Deny
+pub deny-taken : (c : ClientState) (q : Outstanding) (at : Moment) → WaitsForReply c q → taken_for c (header_octets (kiss_fields Deny (query_fields q))) at ≡ taken.Deny
 deny-taken c q at waits =
     let h : HeaderFields = kiss_fields Deny (query_fields q) in
     let r : RequestValue = packet h NoTail in
     basic-taken c q _ r at waits.outstanding (read-header h (IsHeader-kiss Deny q waits.header)) refl refl refl
 
 -- a crypto-NAK is taken for one
-pub nak-taken : (c : ClientState) (q : Outstanding) (past : Past) (o : Occasion) (at : Moment) → Waits c q → FitsPacket o.reference
+pub nak-taken : (c : ClientState) (q : Outstanding) (past : Past) (o : Occasion) (at : Moment) → WaitsForReply c q → FitsPacket o.reference
     → taken_for c (header_octets (basic_fields o (query_fields q) (stamps_of past o)) ++ nak_octets) at ≡ taken.Nak
 nak-taken c q past o at waits fits =
     let h : HeaderFields = basic_fields o (query_fields q) (stamps_of past o) in
@@ -74,7 +74,7 @@ stamped past o q origin transmit = reply_fields o.reference (query_fields q) ori
 
 -- a signed reply of a pairing is taken for what its header says
 signed-reply : (c : ClientState) (q : Outstanding) (past : Past) (o : Occasion) (at : Moment) (p : Pairing) (origin transmit : Stamp)
-    → Waits c q → FitsPacket o.reference → origin.0 < 2 ^ 64 → transmit.0 < 2 ^ 64 → pairing_of q origin ≡ Some p
+    → WaitsForReply c q → FitsPacket o.reference → origin.0 < 2 ^ 64 → transmit.0 < 2 ^ 64 → pairing_of q origin ≡ Some p
     → taken_for c (sealed c.key c.number (stamped past o q origin transmit)) at
     ≡ decided (authentic_steps p (stamped past o q origin transmit) (sample_of q p (stamped past o q origin transmit) at))
 signed-reply c q past o at p origin transmit waits fits origin_fits transmit_fits paired =
@@ -94,7 +94,7 @@ stratum-synchronised r is clock =
 
 -- of such a clock, and with a transmit stamp of known time, for the sample of its pairing
 pub sample-taken : (c : ClientState) (q : Outstanding) (past : Past) (o : Occasion) (at : Moment) (p : Pairing) (origin transmit : Stamp)
-    → Waits c q → FitsPacket o.reference → o.reference.leap ≢ 3 → transmit.0 ≢ 0 → origin.0 < 2 ^ 64 → transmit.0 < 2 ^ 64
+    → WaitsForReply c q → FitsPacket o.reference → o.reference.leap ≢ 3 → transmit.0 ≢ 0 → origin.0 < 2 ^ 64 → transmit.0 < 2 ^ 64
     → pairing_of q origin ≡ Some p
     → taken_for c (sealed c.key c.number (stamped past o q origin transmit)) at
     ≡ taken.Sample (sample_of q p (stamped past o q origin transmit) at)
@@ -114,7 +114,7 @@ sample-taken c q past o at p origin transmit waits fits clock known origin_fits 
 
 -- of a clock that is unsynchronised, for that
 pub unsynchronised-taken : (c : ClientState) (q : Outstanding) (past : Past) (o : Occasion) (at : Moment) (p : Pairing)
-    (origin transmit : Stamp) → Waits c q → FitsPacket o.reference → o.reference.leap ≡ 3 → origin.0 < 2 ^ 64 → transmit.0 < 2 ^ 64
+    (origin transmit : Stamp) → WaitsForReply c q → FitsPacket o.reference → o.reference.leap ≡ 3 → origin.0 < 2 ^ 64 → transmit.0 < 2 ^ 64
     → pairing_of q origin ≡ Some p
     → taken_for c (sealed c.key c.number (stamped past o q origin transmit)) at ≡ taken.Refused distrust.Unsynchronised
 unsynchronised-taken c q past o at p origin transmit waits fits clock origin_fits transmit_fits paired =

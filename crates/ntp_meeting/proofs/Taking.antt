@@ -27,7 +27,7 @@ use Rattle.ntp_reply.specs.Kind.{kind_of}
 use Rattle.ntp_reply.specs.Exchanged.{matched, stamps_of}
 use Rattle.ntp_reply.specs.Verdict.{verdict}
 use Rattle.ntp_reply.specs.declared.answers.Answer.TheVariants as answer
-use Rattle.ntp_meeting.specs.Meeting.{Waits, SharesKey, FitsPacket, request_octets}
+use Rattle.ntp_meeting.specs.Meeting.{WaitsForReply, SharesKey, FitsPacket, request_octets}
 use Rattle.ntp_meeting.proofs.Readings.{read-header, read-sealed}
 use Rattle.ntp_meeting.proofs.Asked.{request-answer}
 use Rattle.ntp_meeting.proofs.Speaks.{kind-speaks}
@@ -37,7 +37,7 @@ use Rattle.ntp_meeting.proofs.Replies.{rate-taken, deny-taken, nak-taken, sample
 use Rattle.ntp_meeting.proofs.Stamps.{transmit-known, transmit-fits}
 use Rattle.ntp_meeting.proofs.Matches.{found-member, matched-apart, asked-match}
 
-module _ (c : ClientState) (q : Outstanding) (past : Past) (o : Occasion) (at : Moment) (waits : Waits c q) where
+module _ (c : ClientState) (q : Outstanding) (past : Past) (o : Occasion) (at : Moment) (waits : WaitsForReply c q) where
   -- a time reply with this exchange matched
   matched-reply : (reply : List ℕ) (saved : Stamp) (found : Option Slot) → SharesKey past c
       → matched (recent_of past) (query_fields q) ≡ found → verdict (Some past) o (request_octets c q) ≡ answer.Time reply saved
@@ -127,7 +127,7 @@ module _ (c : ClientState) (q : Outstanding) (past : Past) (o : Occasion) (at : 
       ∙ rate-taken c q at waits
 
 -- whatever the life of the address: a crypto-NAK is taken for one
-pub nak-met : (c : ClientState) (q : Outstanding) (life : Life) (o : Occasion) (reply : List ℕ) (at : Moment) → Waits c q
+pub nak-met : (c : ClientState) (q : Outstanding) (life : Life) (o : Occasion) (reply : List ℕ) (at : Moment) → WaitsForReply c q
     → FitsPacket o.reference → verdict life o (request_octets c q) ≡ answer.Nak reply → taken_for c reply at ≡ taken.Nak
 nak-met c q None o reply at waits state_fits is = absurd (cc)
 nak-met c q (Some past) o reply at waits state_fits is =
@@ -137,14 +137,14 @@ nak-met c q (Some past) o reply at waits state_fits is =
     ∙ nak-taken c q past o at waits state_fits
 
 -- a DENY is, whether the MAC of the request came or not
-pub deny-met : (c : ClientState) (q : Outstanding) (life : Life) (o : Occasion) (reply : List ℕ) (at : Moment) → Waits c q
+pub deny-met : (c : ClientState) (q : Outstanding) (life : Life) (o : Occasion) (reply : List ℕ) (at : Moment) → WaitsForReply c q
     → verdict life o (header_octets (query_fields q)) ≡ answer.Deny reply → taken_for c reply at ≡ taken.Deny
 deny-met c q life o reply at waits is =
     ap (λ octets. taken_for c octets at)
     (denied life o (header_octets (query_fields q)) _ reply (read-header (query_fields q) waits.header) is)
     ∙ deny-taken c q at waits
 
-pub revoked-met : (c : ClientState) (q : Outstanding) (life : Life) (o : Occasion) (reply : List ℕ) (at : Moment) → Waits c q
+pub revoked-met : (c : ClientState) (q : Outstanding) (life : Life) (o : Occasion) (reply : List ℕ) (at : Moment) → WaitsForReply c q
     → verdict life o (request_octets c q) ≡ answer.Deny reply → taken_for c reply at ≡ taken.Deny
 revoked-met c q life o reply at waits is =
     ap (λ octets. taken_for c octets at)

@@ -10,7 +10,7 @@ use Rattle.ntp_customer.specs.Past.{Past}
 use Rattle.ntp_reply.specs.Reference.{ReferenceState, IsReference}
 
 -- a request of a client waits for its reply; the fields of its header and the key number have the widths of the packet (RFC 5905, 7.3)
-pub record Waits (c : ClientState) (q : Outstanding) : Type 0 where
+pub record WaitsForReply (c : ClientState) (q : Outstanding) : Type 0 where
   pub outstanding : c.outstanding ≡ Some q
   pub header : IsHeader (query_fields q)
   pub number : c.number < 2 ^ 32
@@ -19,7 +19,7 @@ pub record Waits (c : ClientState) (q : Outstanding) : Type 0 where
 abbrev pub request_octets : ClientState → Outstanding → List ℕ
 request_octets c q = query_octets c.key c.number q
 
--- an address is enrolled, and its key with the number of a client is the client's (profile)
+-- an address is enrolled, and its key with the number of a client is the client's
 pub record SharesKey (past : Past) (c : ClientState) : Type 0 where
   pub enrolment : Enrolment
   pub enrolled : enrolment_at past ≡ Some enrolment

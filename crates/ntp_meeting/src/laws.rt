@@ -20,7 +20,7 @@ ghost use Rattle.ntp_reply.specs.Life.{Life, recent_of, recent_in};
 ghost use Rattle.ntp_reply.specs.Kind.{Signed, kind_of};
 ghost use Rattle.ntp_reply.specs.Exchanged.{matched, stamps_of, after_departure};
 ghost use Rattle.ntp_reply.specs.Verdict.{verdict, after_datagram, query_count, timed};
-ghost use Rattle.ntp_meeting.specs.Meeting.{Waits, SharesKey, FitsPacket, request_octets};
+ghost use Rattle.ntp_meeting.specs.Meeting.{WaitsForReply, SharesKey, FitsPacket, request_octets};
 
 use ntp_client::{Distrust, Sample, Taken};
 use ntp_reply::Answer;
@@ -34,10 +34,10 @@ use ntp_reply::Answer;
 /// - `served`: so it is answered with the time, while the budget has room.
 pub fn a_request_is_a_signed_query()
     ensures waits { (c : ClientState) (now : Moment) → c.number < 2 ^ 32
-        → IfSome c.sampled (λ e. (e.receive.0 < 2 ^ 64) × (e.arrival.0 < 2 ^ 64)) → Waits (after_query c now) (next_query c now) }
-    ensures signed { (c : ClientState) (q : Outstanding) (past : Past) → Waits c q → SharesKey past c
+        → IfSome c.sampled (λ e. (e.receive.0 < 2 ^ 64) × (e.arrival.0 < 2 ^ 64)) → WaitsForReply (after_query c now) (next_query c now) }
+    ensures signed { (c : ClientState) (q : Outstanding) (past : Past) → WaitsForReply c q → SharesKey past c
         → kind_of past (request_octets c q) ≡ Signed c.key c.number (query_fields q) }
-    ensures served { (c : ClientState) (q : Outstanding) (past : Past) (o : Occasion) → Waits c q → SharesKey past c
+    ensures served { (c : ClientState) (q : Outstanding) (past : Past) (o : Occasion) → WaitsForReply c q → SharesKey past c
         → query_count past o < budget_of past
         → verdict (Some past) o (request_octets c q) ≡ timed c.key c.number o (query_fields q) (recent_of past) }
 {}
@@ -60,7 +60,7 @@ pub fn a_time_reply_is_a_sample()
     ensures asked { (q : Outstanding) (saved : List Slot) → IsOutstanding q → AreSaved saved
         → matched saved (query_fields q) ≡ option_and_then (λ e. unused_at saved e.receive) q.earlier }
     ensures basic { (c : ClientState) (q : Outstanding) (past : Past) (o : Occasion) (reply : List ℕ) (saved : Stamp) (at : Moment)
-        → Waits c q → SharesKey past c → FitsPacket o.reference → o.reference.leap ≢ 3
+        → WaitsForReply c q → SharesKey past c → FitsPacket o.reference → o.reference.leap ≢ 3
         → matched (recent_of past) (query_fields q) ≡ None
         → verdict (Some past) o (request_octets c q) ≡ Answer.Time reply saved
         → taken_for c reply at ≡ Taken.Sample (record {
@@ -72,7 +72,7 @@ pub fn a_time_reply_is_a_sample()
         }) }
     ensures interleaved { (c : ClientState) (q : Outstanding) (past : Past) (o : Occasion) (reply : List ℕ) (saved : Stamp) (at : Moment)
         (carried : Exchange) (found : Slot)
-        → Waits c q → SharesKey past c → FitsPacket o.reference → o.reference.leap ≢ 3
+        → WaitsForReply c q → SharesKey past c → FitsPacket o.reference → o.reference.leap ≢ 3
         → q.earlier ≡ Some carried → matched (recent_of past) (query_fields q) ≡ Some found
         → AreSaved (recent_of past) → found.transmit.0 < 2 ^ 64
         → verdict (Some past) o (request_octets c q) ≡ Answer.Time reply saved
@@ -95,7 +95,7 @@ pub fn a_time_reply_is_a_sample()
 /// - `departed`: an exchange that it finds it also finds after a report of its departure, with the stamp of that.
 pub fn the_next_request_asks_about_the_exchange()
     ensures carried { (c : ClientState) (q : Outstanding) (past : Past) (o : Occasion) (reply : List ℕ) (saved : Stamp) (at : Moment)
-        (s : Sample) → Waits c q → SharesKey past c → FitsPacket o.reference
+        (s : Sample) → WaitsForReply c q → SharesKey past c → FitsPacket o.reference
         → IfSome (matched (recent_of past) (query_fields q)) (λ found. found.transmit.0 < 2 ^ 64)
         → verdict (Some past) o (request_octets c q) ≡ Answer.Time reply saved
         → after_taken c reply at (Taken.Sample s) ≡ record {
@@ -105,7 +105,7 @@ pub fn the_next_request_asks_about_the_exchange()
           sampled = Some (record { transmit = q.transmit; receive = saved; arrival = fresh at.stamp [] });
         } }
     ensures saved { (c : ClientState) (q : Outstanding) (past : Past) (o : Occasion) (reply : List ℕ) (saved : Stamp)
-        → Waits c q → SharesKey past c → verdict (Some past) o (request_octets c q) ≡ Answer.Time reply saved
+        → WaitsForReply c q → SharesKey past c → verdict (Some past) o (request_octets c q) ≡ Answer.Time reply saved
         → unused_at (recent_in (after_datagram (Some past) o (request_octets c q))) saved
         ≡ Some (new_exchange saved (stamps_of past o).transmit) }
     ensures departed { (past : Past) (receive : Stamp) (m : Moment) (found : Slot) → unused_at (recent_of past) receive ≡ Some found
@@ -126,19 +126,19 @@ pub fn the_next_request_asks_about_the_exchange()
 /// Nothing else is assumed of the life of the address.
 pub fn other_replies_are_taken_for_what_they_are()
     ensures rate { (c : ClientState) (q : Outstanding) (past : Past) (o : Occasion) (reply : List ℕ) (at : Moment)
-        → Waits c q → SharesKey past c → verdict (Some past) o (request_octets c q) ≡ Answer.Rate reply
+        → WaitsForReply c q → SharesKey past c → verdict (Some past) o (request_octets c q) ≡ Answer.Rate reply
         → taken_for c reply at ≡ Taken.Rate }
     ensures nak { (c : ClientState) (q : Outstanding) (life : Life) (o : Occasion) (reply : List ℕ) (at : Moment)
-        → Waits c q → FitsPacket o.reference → verdict life o (request_octets c q) ≡ Answer.Nak reply
+        → WaitsForReply c q → FitsPacket o.reference → verdict life o (request_octets c q) ≡ Answer.Nak reply
         → taken_for c reply at ≡ Taken.Nak }
     ensures deny { (c : ClientState) (q : Outstanding) (life : Life) (o : Occasion) (reply : List ℕ) (at : Moment)
-        → Waits c q → verdict life o (header_octets (query_fields q)) ≡ Answer.Deny reply
+        → WaitsForReply c q → verdict life o (header_octets (query_fields q)) ≡ Answer.Deny reply
         → taken_for c reply at ≡ Taken.Deny }
     ensures revoked { (c : ClientState) (q : Outstanding) (life : Life) (o : Occasion) (reply : List ℕ) (at : Moment)
-        → Waits c q → verdict life o (request_octets c q) ≡ Answer.Deny reply
+        → WaitsForReply c q → verdict life o (request_octets c q) ≡ Answer.Deny reply
         → taken_for c reply at ≡ Taken.Deny }
     ensures unsynchronised { (c : ClientState) (q : Outstanding) (past : Past) (o : Occasion) (reply : List ℕ) (saved : Stamp)
-        (at : Moment) → Waits c q → SharesKey past c → FitsPacket o.reference → o.reference.leap ≡ 3
+        (at : Moment) → WaitsForReply c q → SharesKey past c → FitsPacket o.reference → o.reference.leap ≡ 3
         → IsOutstanding q → AreSaved (recent_of past)
         → IfSome (matched (recent_of past) (query_fields q)) (λ found. found.transmit.0 < 2 ^ 64)
         → verdict (Some past) o (request_octets c q) ≡ Answer.Time reply saved

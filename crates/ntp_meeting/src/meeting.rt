@@ -22,7 +22,7 @@ pub enum LoopbackFault {
 
 /// Lets a server and a client meet `turns` times over two sockets of 127.0.0.1, one step after the other. The server
 /// has one customer, 127.0.0.1, with key number 1, the SHA-1 key `loopback` and a budget of 65,535; its clock's state is
-/// stratum 1, precision -20, identifier `LOOP`, and it was set at the start (profile).
+/// stratum 1, precision -20, identifier `LOOP`, and it was set at the start.
 ///
 /// Writes a line to `out` for what the client took each time: `basic`, `interleaved`, `rate`, `deny`, `nak` or `refused`.
 /// It takes memory for the one customer.

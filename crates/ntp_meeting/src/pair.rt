@@ -15,7 +15,7 @@ use std::net::{Net, SocketAddr, UdpSocket};
 use std::num::NonZero;
 use std::time::{Clock, Duration};
 
-/// How long the arrival of a datagram is waited for, in seconds (profile).
+/// How long the arrival of a datagram is waited for, in seconds.
 const LONGEST_WAIT: u64 = 5;
 
 /// The number of the one customer's key.

@@ -9,9 +9,9 @@ use Rattle.ntp_port.specs.declared.queue_watch.QueueWatch.{QueueWatch}
 use Rattle.ntp_port.specs.declared.fresh_port.Next.{Next}
 use Rattle.ntp_port.specs.declared.fresh_port.Next.TheVariants.{Stale}
 use Rattle.ntp_port.specs.Freshness.{MayBeAnswered, IsInOrder}
-use Rattle.ntp_port.specs.Queue.{Tells, seen_in_drop}
+use Rattle.ntp_port.specs.Queue.{TellsEvents, seen_in_drop}
 use Rattle.ntp_port.specs.Watch.{Watches, Counts, IsWaiting, longest_of}
-use Rattle.ntp_port.specs.Passing.{HandsOn}
+use Rattle.ntp_port.specs.Passing.{HandsOnTurn}
 use Rattle.ntp_port.specs.Fresh.{InHand, Swept, AreStale, counted_on, WasAsked, PassesOn, Kept, kept, PassesOnFresh}
 use Rattle.ntp_port.specs.Next.{ComesTo, drops_in, TakesNext, Drops}
 use Rattle.ntp_port.proofs.Seeing.{IsSeenFrom-same, IsSeenFrom-more, seen-in_drop}
@@ -80,7 +80,7 @@ pub Drops-swept : (watch after : QueueWatch) (reading next s v : ℕ) (t u : Opt
     → ((history : List QueueEvent) → Watches watch history → Watches after (Taken reading ∷ history))
     → ((history : List QueueEvent) → Counts watch history → Counts after (Taken reading ∷ history))
     → ((history : List QueueEvent) → Watches watch history → IsInOrder history → MayBeAnswered (longest_of watch) history reading → ⊥)
-    → DropTells t u true → Tells q r (seen_in_drop true) → v ≡ counted_on s 1
+    → DropTells t u true → TellsEvents q r (seen_in_drop true) → v ≡ counted_on s 1
     → Drops (kept watch reading next s t q) (kept after reading next v u r)
 Drops-swept watch after reading next s v t u q r longest waits watches counts not drops tells counted = record {
   count = 1;
@@ -99,7 +99,7 @@ Drops-swept watch after reading next s v t u q r longest waits watches counts no
 
 -- or none
 pub Drops-unswept : (watch : QueueWatch) (reading next s : ℕ) (t u : Option Told) (q r : Option (List QueueEvent)) → s ≤ 2 ^ 64 - 1
-    → DropTells t u false → Tells q r (seen_in_drop false) → Drops (kept watch reading next s t q) (kept watch reading next s u r)
+    → DropTells t u false → TellsEvents q r (seen_in_drop false) → Drops (kept watch reading next s t q) (kept watch reading next s u r)
 Drops-unswept watch reading next s t u q r fits drops tells = record {
   count = 0;
   counted = omega (arith, fits);
@@ -131,7 +131,7 @@ DropsMany-more least a b c d datagram many takes swept =
 
 -- and then this is passed on
 pub Passes-end : (a b c : Kept) (next : Next) (result : Option (Result Arrival PortFault)) (datagram : List ℕ) (drops : Drops a b)
-    → TakesNext b c next datagram → drops_in next ≡ 0 → HandsOn b.told c.told result datagram
+    → TakesNext b c next datagram → drops_in next ≡ 0 → HandsOnTurn b.told c.told result datagram
     → ((history after : List QueueEvent) → ComesTo (longest_of b.watch) history next after
     → PassesOn (longest_of b.watch) history result after × WasAsked drops.count history result after)
     → PassesOnFresh a c result datagram

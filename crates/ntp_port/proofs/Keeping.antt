@@ -6,7 +6,7 @@ use Rattle.ntp_port.specs.declared.queue_event.QueueEvent.TheVariants.{Held, Loo
 use Rattle.ntp_port.specs.declared.queue_watch.QueueWatch.{QueueWatch}
 use Rattle.ntp_port.specs.Freshness.{takes, moment_of, IsInOrder, WasCounted, oldest_look}
 use Rattle.ntp_port.specs.Watch.{Watches, Counts, IsWaiting, longest_of}
-use Rattle.ntp_port.specs.Fresh.{StandsFor, LooksAgain, Dropped, AreStale, history_dropped, counted_on}
+use Rattle.ntp_port.specs.Fresh.{KeepsHistory, LooksAgain, Dropped, AreStale, history_dropped, counted_on}
 use Rattle.ntp_port.proofs.Watching.{looked-more}
 
 All-cons : {X : Type 0} (P : X → Type 0) (x : X) (xs : List X) → P x → All P xs → All P (x ∷ xs)
@@ -44,8 +44,8 @@ counts-one watch history waits counts =
 
 -- an event of now
 StandsFor-event : (watch after : QueueWatch) (reading next : ℕ) (history : List QueueEvent) (event : QueueEvent) → moment_of event ≡ reading
-    → longest_of after ≡ longest_of watch → StandsFor watch reading next history → Watches after (event ∷ history)
-    → Counts after (event ∷ history) → StandsFor after reading next (event ∷ history)
+    → longest_of after ≡ longest_of watch → KeepsHistory watch reading next history → Watches after (event ∷ history)
+    → Counts after (event ∷ history) → KeepsHistory after reading next (event ∷ history)
 StandsFor-event watch after reading next history event now longest stands watches counts =
     let ordered : IsInOrder (event ∷ history) = ((λ k d below. omega (arith, now, stands.past k d below)), stands.ordered) in
     record {
@@ -58,24 +58,24 @@ StandsFor-event watch after reading next history event now longest stands watche
     }
 
 pub StandsFor-Held : (watch after : QueueWatch) (reading next count : ℕ) (history : List QueueEvent) → longest_of after ≡ longest_of watch
-    → StandsFor watch reading next history → Watches after (Held count reading ∷ history) → Counts after (Held count reading ∷ history)
-    → StandsFor after reading next (Held count reading ∷ history)
+    → KeepsHistory watch reading next history → Watches after (Held count reading ∷ history) → Counts after (Held count reading ∷ history)
+    → KeepsHistory after reading next (Held count reading ∷ history)
 StandsFor-Held watch after reading next count history longest stands watches counts =
     StandsFor-event watch after reading next history (Held count reading) refl longest stands watches counts
 
-pub StandsFor-Looked : (watch : QueueWatch) (reading next : ℕ) (history : List QueueEvent) → StandsFor watch reading next history
-    → StandsFor watch reading next (Looked reading ∷ history)
+pub StandsFor-Looked : (watch : QueueWatch) (reading next : ℕ) (history : List QueueEvent) → KeepsHistory watch reading next history
+    → KeepsHistory watch reading next (Looked reading ∷ history)
 StandsFor-Looked watch reading next history stands = StandsFor-event watch watch reading next history (Looked reading) refl refl stands
     stands.watches (Counts-quiet watch (Looked reading) history (λ since. refl) stands.counts)
 
 pub StandsFor-Taken : (watch after : QueueWatch) (reading next : ℕ) (history : List QueueEvent) → longest_of after ≡ longest_of watch
-    → StandsFor watch reading next history → Watches after (Taken reading ∷ history) → Counts after (Taken reading ∷ history)
-    → StandsFor after reading next (Taken reading ∷ history)
+    → KeepsHistory watch reading next history → Watches after (Taken reading ∷ history) → Counts after (Taken reading ∷ history)
+    → KeepsHistory after reading next (Taken reading ∷ history)
 StandsFor-Taken watch after reading next history longest stands watches counts =
     StandsFor-event watch after reading next history (Taken reading) refl longest stands watches counts
 
 pub StandsFor-Read : (watch : QueueWatch) (reading now next : ℕ) (history : List QueueEvent) → reading ≤ now
-    → StandsFor watch reading next history → StandsFor watch now next (Read now ∷ history)
+    → KeepsHistory watch reading next history → KeepsHistory watch now next (Read now ∷ history)
 StandsFor-Read watch reading now next history later stands =
     let past : All (λ e. moment_of e ≤ now) history = λ k d below. omega (arith, later, stands.past k d below) in
     let ordered : IsInOrder (Read now ∷ history) = (past, stands.ordered) in
@@ -89,7 +89,7 @@ StandsFor-Read watch reading now next history later stands =
 
 -- it may be looked again at another moment
 pub StandsFor-next : (watch : QueueWatch) (reading next later : ℕ) (history : List QueueEvent) → LooksAgain (longest_of watch) history later
-    → StandsFor watch reading next history → StandsFor watch reading later history
+    → KeepsHistory watch reading next history → KeepsHistory watch reading later history
 StandsFor-next watch reading next later history looks stands = record {
   watches = stands.watches;
   counts = stands.counts;

@@ -1,4 +1,4 @@
--- Looks at a queue.
+-- LooksAtQueue at a queue.
 use Rattle.std.proofs.Common.{◌≡◌, ℕ, ◌+◌, ◌<◌, ◌≤◌, inl, inr, List, [], ◌∷◌, ◌++◌, Option, None, Some, false, refl, sym, subst, ◌∙◌, arith, append_assoc}
 use Rattle.std.specs.Prelude.{◌/◌}
 use Rattle.ntp_port.specs.Port.{Told}
@@ -6,17 +6,17 @@ use Rattle.ntp_port.specs.declared.queue_event.QueueEvent.{QueueEvent}
 use Rattle.ntp_port.specs.declared.queue_event.QueueEvent.TheVariants.{Held, Looked}
 use Rattle.ntp_port.specs.declared.queue_watch.QueueWatch.{QueueWatch}
 use Rattle.ntp_port.specs.Freshness.{WasLookedAt, oldest_look}
-use Rattle.ntp_port.specs.Queue.{Tells, seen_in_count, seen_in_look}
+use Rattle.ntp_port.specs.Queue.{TellsEvents, seen_in_count, seen_in_look}
 use Rattle.ntp_port.specs.Watch.{Watches, Counts, longest_of}
 use Rattle.ntp_port.specs.Fresh.{LooksAgain, Stands, IsSeenFrom, Kept, kept}
-use Rattle.ntp_port.specs.Next.{Looks}
+use Rattle.ntp_port.specs.Next.{LooksAtQueue}
 use Rattle.ntp_port.proofs.Seeing.{IsSeenFrom-same, IsSeenFrom-more, seen-in_count, seen-in_look}
 use Rattle.ntp_port.proofs.Watching.{looked-later, looked-by, kept-looked}
 use Rattle.ntp_port.proofs.Keeping.{StandsFor-Held, StandsFor-Looked, StandsFor-next}
 use Rattle.ntp_port.proofs.Waiting.{quiet-append}
 
 -- none
-pub Looks-none : (k : Kept) → Looks k k None
+pub Looks-none : (k : Kept) → LooksAtQueue k k None
 Looks-none k = record {
   reading = refl;
   stale = refl;
@@ -27,7 +27,7 @@ Looks-none k = record {
 }
 
 -- none, where what is known is new enough
-pub Looks-known : (k : Kept) (before : ℕ) → (at : ℕ) × (k.watch.known ≡ Some at) × (k.reading < at + before) → Looks k k (Some before)
+pub Looks-known : (k : Kept) (before : ℕ) → (at : ℕ) × (k.watch.known ≡ Some at) × (k.reading < at + before) → LooksAtQueue k k (Some before)
 Looks-known k before known = record {
   reading = refl;
   stale = refl;
@@ -49,7 +49,7 @@ early longest reading next history before (inl at_once) = absurd (omega (arith, 
 early longest reading next history before (inr looked) =
     looked-by next reading (oldest_look longest) (oldest_look longest) history (omega (arith, before)) looked
 
-pub Looks-early : (k : Kept) → k.reading < k.next_look → Looks k k (Some (oldest_look (longest_of k.watch)))
+pub Looks-early : (k : Kept) → k.reading < k.next_look → LooksAtQueue k k (Some (oldest_look (longest_of k.watch)))
 Looks-early k before = record {
   reading = refl;
   stale = refl;
@@ -65,7 +65,7 @@ Looks-early k before = record {
 }
 
 -- one, and perhaps another one
-pub Looks-more : (a b c : Kept) (before : ℕ) → Looks a b (Some before) → Looks b c None → Looks a c (Some before)
+pub Looks-more : (a b c : Kept) (before : ℕ) → LooksAtQueue a b (Some before) → LooksAtQueue b c None → LooksAtQueue a c (Some before)
 Looks-more a b c before first second = record {
   reading = second.reading ∙ first.reading;
   stale = second.stale ∙ first.stale;
@@ -88,7 +88,7 @@ Looks-more a b c before first second = record {
 }
 
 -- a look need not be told of
-pub Looks-some : (a b : Kept) (before : ℕ) → Looks a b (Some before) → Looks a b None
+pub Looks-some : (a b : Kept) (before : ℕ) → LooksAtQueue a b (Some before) → LooksAtQueue a b None
 Looks-some a b before looks = record {
   reading = looks.reading;
   stale = looks.stale;
@@ -100,7 +100,7 @@ Looks-some a b before looks = record {
 }
 
 -- it may be older
-pub Looks-older : (a b : Kept) (less before : ℕ) → less ≤ before → Looks a b (Some less) → Looks a b (Some before)
+pub Looks-older : (a b : Kept) (less before : ℕ) → less ≤ before → LooksAtQueue a b (Some less) → LooksAtQueue a b (Some before)
 Looks-older a b less before older looks = record {
   reading = looks.reading;
   stale = looks.stale;
@@ -118,8 +118,8 @@ Looks-older a b less before older looks = record {
 }
 
 -- and so soon it may be looked again
-pub Looks-again : (a b : Kept) (next : ℕ) → next ≤ b.reading + 100000 → Looks a b (Some (longest_of a.watch / 10))
-    → Looks a (kept b.watch b.reading next b.stale b.told b.history) (Some (oldest_look (longest_of a.watch)))
+pub Looks-again : (a b : Kept) (next : ℕ) → next ≤ b.reading + 100000 → LooksAtQueue a b (Some (longest_of a.watch / 10))
+    → LooksAtQueue a (kept b.watch b.reading next b.stale b.told b.history) (Some (oldest_look (longest_of a.watch)))
 Looks-again a b next soon looks = record {
   reading = looks.reading;
   stale = looks.stale;
@@ -144,8 +144,8 @@ Looks-again a b next soon looks = record {
 pub Looks-count : (watch after : QueueWatch) (reading next stale count : ℕ) (t u : Option Told) (q r : Option (List QueueEvent)) → u ≡ t
     → longest_of after ≡ longest_of watch
     → ((history : List QueueEvent) → Watches watch history → Watches after (Held count reading ∷ history))
-    → ((history : List QueueEvent) → Counts after (Held count reading ∷ history)) → Tells q r (seen_in_count count)
-    → Looks (kept watch reading next stale t q) (kept after reading next stale u r) (Some 0)
+    → ((history : List QueueEvent) → Counts after (Held count reading ∷ history)) → TellsEvents q r (seen_in_count count)
+    → LooksAtQueue (kept watch reading next stale t q) (kept after reading next stale u r) (Some 0)
 Looks-count watch after reading next stale count t u q r told longest watches counts tells = record {
   reading = refl;
   stale = refl;
@@ -162,7 +162,7 @@ Looks-count watch after reading next stale count t u q r told longest watches co
 
 -- one that told nothing of it
 pub Looks-unseen : (watch : QueueWatch) (reading next stale : ℕ) (t u : Option Told) (q r : Option (List QueueEvent)) → u ≡ t
-    → Tells q r (seen_in_look false) → Looks (kept watch reading next stale t q) (kept watch reading next stale u r) (Some 0)
+    → TellsEvents q r (seen_in_look false) → LooksAtQueue (kept watch reading next stale t q) (kept watch reading next stale u r) (Some 0)
 Looks-unseen watch reading next stale t u q r told tells = record {
   reading = refl;
   stale = refl;

@@ -4,7 +4,7 @@ use Rattle.ntp_service.specs.declared.observation.Arrival.{Arrival}
 use Rattle.ntp_port.specs.declared.port.PortFault.{PortFault}
 use Rattle.ntp_port.specs.declared.queue_event.QueueEvent.{QueueEvent}
 use Rattle.ntp_port.specs.declared.queue_event.QueueEvent.TheVariants.{Read}
-use Rattle.ntp_port.specs.Queue.{last_reading, SeesMore, ReadsClock, Tells, seen_in_count, seen_in_look, seen_in_wait, seen_in_drop}
+use Rattle.ntp_port.specs.Queue.{last_reading, SeesMore, ReadsClock, TellsEvents, seen_in_count, seen_in_look, seen_in_wait, seen_in_drop}
 use Rattle.ntp_port.specs.Fresh.{IsSeenFrom}
 
 -- nothing was seen
@@ -34,14 +34,14 @@ IsSeenFrom-more a b c q r s h k m first second shown =
 -- a call that reads no clock saw this
 seen-in_call : (reading : ℕ) (q r : Option (List QueueEvent)) (seen : ℕ → List QueueEvent) (h : List QueueEvent)
     → ((shown : ℕ) (told : List QueueEvent) → last_reading (seen shown ++ told) ≡ last_reading told)
-    → Tells q r seen → IsSeenFrom reading reading q r h (seen reading ++ h)
+    → TellsEvents q r seen → IsSeenFrom reading reading q r h (seen reading ++ h)
 seen-in_call reading q None seen h keeps tells shown = (tt, (seen reading, refl, tt))
 seen-in_call reading None (Some r) seen h keeps tells shown = absurd tells
 seen-in_call reading (Some q) (Some r) seen h keeps tells shown =
     let told : r ≡ seen reading ++ q = tells ∙ ap (λ n. seen n ++ q) shown in
     (ap last_reading told ∙ keeps reading q ∙ shown, (seen reading, refl, told))
 
-pub seen-in_count : (reading : ℕ) (q r : Option (List QueueEvent)) (count : ℕ) (h : List QueueEvent) → Tells q r (seen_in_count count)
+pub seen-in_count : (reading : ℕ) (q r : Option (List QueueEvent)) (count : ℕ) (h : List QueueEvent) → TellsEvents q r (seen_in_count count)
     → IsSeenFrom reading reading q r h (seen_in_count count reading ++ h)
 seen-in_count reading q r count h tells = seen-in_call reading q r (seen_in_count count) h (λ shown told. refl) tells
 
@@ -49,7 +49,7 @@ keeps-look : (b : Bool) (shown : ℕ) (told : List QueueEvent) → last_reading 
 keeps-look true shown told = refl
 keeps-look false shown told = refl
 
-pub seen-in_look : (reading : ℕ) (q r : Option (List QueueEvent)) (b : Bool) (h : List QueueEvent) → Tells q r (seen_in_look b)
+pub seen-in_look : (reading : ℕ) (q r : Option (List QueueEvent)) (b : Bool) (h : List QueueEvent) → TellsEvents q r (seen_in_look b)
     → IsSeenFrom reading reading q r h (seen_in_look b reading ++ h)
 seen-in_look reading q r b h tells = seen-in_call reading q r (seen_in_look b) h (keeps-look b) tells
 
@@ -57,7 +57,7 @@ keeps-drop : (b : Bool) (shown : ℕ) (told : List QueueEvent) → last_reading 
 keeps-drop true shown told = refl
 keeps-drop false shown told = refl
 
-pub seen-in_drop : (reading : ℕ) (q r : Option (List QueueEvent)) (b : Bool) (h : List QueueEvent) → Tells q r (seen_in_drop b)
+pub seen-in_drop : (reading : ℕ) (q r : Option (List QueueEvent)) (b : Bool) (h : List QueueEvent) → TellsEvents q r (seen_in_drop b)
     → IsSeenFrom reading reading q r h (seen_in_drop b reading ++ h)
 seen-in_drop reading q r b h tells = seen-in_call reading q r (seen_in_drop b) h (keeps-drop b) tells
 
@@ -68,12 +68,12 @@ keeps-wait (Some (Ok arrival)) shown told = refl
 keeps-wait (Some (Err fault)) shown told = refl
 
 seen-in_wait : (reading : ℕ) (q r : Option (List QueueEvent)) (received : Option (Result Arrival PortFault)) (h : List QueueEvent)
-    → Tells q r (seen_in_wait received) → IsSeenFrom reading reading q r h (seen_in_wait received reading ++ h)
+    → TellsEvents q r (seen_in_wait received) → IsSeenFrom reading reading q r h (seen_in_wait received reading ++ h)
 seen-in_wait reading q r received h tells = seen-in_call reading q r (seen_in_wait received) h (keeps-wait received) tells
 
 -- so it is where what it gave is known
 seen-in_known_wait : (reading : ℕ) (q r : Option (List QueueEvent)) (received given : Option (Result Arrival PortFault)) (h : List QueueEvent)
-    → received ≡ given → Tells q r (seen_in_wait received) → IsSeenFrom reading reading q r h (seen_in_wait given reading ++ h)
+    → received ≡ given → TellsEvents q r (seen_in_wait received) → IsSeenFrom reading reading q r h (seen_in_wait given reading ++ h)
 seen-in_known_wait reading q r received given h is tells =
     subst (λ x. IsSeenFrom reading reading q r h (seen_in_wait x reading ++ h)) is (seen-in_wait reading q r received h tells)
 
@@ -89,7 +89,7 @@ seen-in_reading reading now shows (Some q) (Some r) h later tells shown =
 
 -- a look, a wait and a reading, one after another
 pub seen-in_take : (a before now shows : ℕ) (q r s u : Option (List QueueEvent)) (received given : Option (Result Arrival PortFault))
-    (h k : List QueueEvent) → IsSeenFrom a before q r h k → received ≡ given → Tells r s (seen_in_wait received) → now ≡ max shows before
+    (h k : List QueueEvent) → IsSeenFrom a before q r h k → received ≡ given → TellsEvents r s (seen_in_wait received) → now ≡ max shows before
     → ReadsClock s u shows → IsSeenFrom a now q u h (Read now ∷ (seen_in_wait given before ++ k))
 seen-in_take a before now shows q r s u received given h k looked is waited latest read =
     let known = seen_in_wait given before ++ k in

@@ -11,13 +11,13 @@ use Rattle.ntp_port.specs.Queue.{last_reading, SeesMore}
 use Rattle.ntp_port.specs.Watch.{Watches, Counts, longest_of}
 use Rattle.ntp_port.specs.Passing.{PassesTurns}
 
--- when the queue may be looked at again: at once (0), or at most `oldest_look longest` after the last look (profile)
+-- when the queue may be looked at again: at once (0), or at most `oldest_look longest` after the last look
 abbrev pub LooksAgain : ℕ → List QueueEvent → ℕ → Type 0
 LooksAgain longest history next = (next ≡ 0) ⊎ WasLookedAt (oldest_look longest) history next
 
 -- what is kept, with the last reading of the clock and with when the queue may be looked at again, is that of a history whose events are
--- in order and no later than that reading (profile)
-pub record StandsFor (watch : QueueWatch) (reading next_look : ℕ) (history : List QueueEvent) : Type 0 where
+-- in order and no later than that reading
+pub record KeepsHistory (watch : QueueWatch) (reading next_look : ℕ) (history : List QueueEvent) : Type 0 where
   pub watches : Watches watch history
   pub counts : Counts watch history
   pub looks_again : LooksAgain (longest_of watch) history next_look
@@ -25,14 +25,14 @@ pub record StandsFor (watch : QueueWatch) (reading next_look : ℕ) (history : L
   pub past : All (λ event. moment_of event ≤ reading) history
 
 -- a datagram that was taken: what was seen since the take before it, newest first, which is no take; from when on the call ran that took
--- it; and what the clock showed once it was in hand (profile)
+-- it; and what the clock showed once it was in hand
 pub record Take : Type 0 where
   pub seen : List QueueEvent
   pub quiet : takes seen ≡ 0
   pub at : ℕ
   pub now : ℕ
 
--- the history just before the take, and with it (profile)
+-- the history just before the take, and with it
 abbrev pub history_before : Take → List QueueEvent → List QueueEvent
 history_before take history = take.seen ++ history
 
@@ -40,51 +40,51 @@ abbrev pub history_after : Take → List QueueEvent → List QueueEvent
 history_after take history = Read take.now ∷ (Taken take.at ∷ history_before take history)
 
 -- a datagram that was dropped: one that was taken; or one that was swept out, with what was seen since the take before it, newest first,
--- which is no take, and with what the clock had shown when the call began that swept it out (profile)
+-- which is no take, and with what the clock had shown when the call began that swept it out
 pub data Dropped : Type 0 where
   InHand : Take → Dropped
   Swept : (seen : List QueueEvent) → takes seen ≡ 0 → ℕ → Dropped
 
--- the history with it (profile)
+-- the history with it
 abbrev pub history_dropped : Dropped → List QueueEvent → List QueueEvent
 history_dropped (InHand take) history = history_after take history
 history_dropped (Swept seen quiet at) history = Taken at ∷ (seen ++ history)
 
 -- it may not be answered, once it is in hand, and the queue was looked at in time before it was taken; or already when the call begins
--- that sweeps it out, and it may be one of those that a look counted (profile)
+-- that sweeps it out, and it may be one of those that a look counted
 abbrev pub IsStale : ℕ → List QueueEvent → Dropped → Type 0
 IsStale longest history (InHand take) =
     (MayBeAnswered longest (history_before take history) take.now → ⊥) × WasLookedAt (oldest_look longest) (history_before take history) take.at
 IsStale longest history (Swept seen quiet at) = (MayBeAnswered longest (seen ++ history) at → ⊥) × WasCounted (seen ++ history)
 
--- these were dropped, one after another, and none of them may be answered (profile)
+-- these were dropped, one after another, and none of them may be answered
 abbrev pub AreStale : ℕ → List QueueEvent → List Dropped → List QueueEvent → Type 0
 AreStale longest history [] after = after ≡ history
 AreStale longest history (dropped ∷ more) after =
     IsStale longest history dropped × AreStale longest (history_dropped dropped history) more after
 
--- nothing was taken (profile)
+-- nothing was taken
 abbrev pub NothingTaken : List QueueEvent → List QueueEvent → Type 0
 NothingTaken history after = (seen : List QueueEvent) × (takes seen ≡ 0) × (after ≡ seen ++ history)
 
--- the queue was found empty by a call that ran after the history (profile)
+-- the queue was found empty by a call that ran after the history
 abbrev pub FoundEmpty : List QueueEvent → List QueueEvent → Type 0
 FoundEmpty history after =
     (since : List QueueEvent) × (seen : List QueueEvent) × (at : ℕ) × (after ≡ since ++ Held 0 at ∷ (seen ++ history))
 
--- where nothing is passed on and none was dropped, the queue was found empty (profile)
+-- where nothing is passed on and none was dropped, the queue was found empty
 abbrev pub WasAsked : ℕ → List QueueEvent → Option (Result Arrival PortFault) → List QueueEvent → Type 0
 WasAsked count history None after = count ≡ 0 → FoundEmpty history after
 WasAsked count history (Some received) after = Unit {0}
 
--- what is passed on: a datagram that may be answered, or nothing that was taken (profile)
+-- what is passed on: a datagram that may be answered, or nothing that was taken
 abbrev pub PassesOn : ℕ → List QueueEvent → Option (Result Arrival PortFault) → List QueueEvent → Type 0
 PassesOn longest history (Some (Ok arrival)) after =
     (take : Take) × MayBeAnswered longest (history_before take history) take.now × (after ≡ history_after take history)
 PassesOn longest history (Some (Err fault)) after = NothingTaken history after
 PassesOn longest history None after = NothingTaken history after
 
--- `count` plus `more`, up to the most that a count can be (profile)
+-- `count` plus `more`, up to the most that a count can be
 abbrev pub counted_on : ℕ → ℕ → ℕ
 counted_on count more = min (count + more) (2 ^ 64 - 1)
 
@@ -93,7 +93,7 @@ abbrev pub IsShown : ℕ → Option (List QueueEvent) → Type 0
 IsShown reading None = Unit {0}
 IsShown reading (Some told) = last_reading told ≡ reading
 
--- a port saw just what the history has more, where it tells that (profile)
+-- a port saw just what the history has more, where it tells that
 abbrev pub IsSeen : Option (List QueueEvent) → Option (List QueueEvent) → List QueueEvent → List QueueEvent → Type 0
 IsSeen old new history after = (more : List QueueEvent) × (after ≡ more ++ history) × SeesMore old new more
 
@@ -101,7 +101,7 @@ IsSeen old new history after = (more : List QueueEvent) × (after ≡ more ++ hi
 abbrev pub IsSeenFrom : ℕ → ℕ → Option (List QueueEvent) → Option (List QueueEvent) → List QueueEvent → List QueueEvent → Type 0
 IsSeenFrom reading now old new history after = IsShown reading old → IsShown now new × IsSeen old new history after
 
--- what a port keeps that passes on only what may be answered, and what the port below it tells of its turns and of its queue (profile)
+-- what a port keeps that passes on only what may be answered, and what the port below it tells of its turns and of its queue
 pub record Kept : Type 0 where
   pub watch : QueueWatch
   pub reading : ℕ
@@ -116,10 +116,10 @@ kept watch reading next_look stale told history =
 
 -- it is that of a history
 abbrev pub Stands : Kept → List QueueEvent → Type 0
-Stands k history = StandsFor k.watch k.reading k.next_look history
+Stands k history = KeepsHistory k.watch k.reading k.next_look history
 
 -- `count` datagrams that may not be answered were taken from the queue of the port below and dropped, and then `result` was passed on:
--- nothing only where some were dropped, or the queue was found empty (profile)
+-- nothing only where some were dropped, or the queue was found empty
 pub record ReceivesFresh (old new : Kept) (count : ℕ) (history after : List QueueEvent) (result : Option (Result Arrival PortFault)) : Type 0 where
   pub dropped : List Dropped
   pub between : List QueueEvent
@@ -130,7 +130,7 @@ pub record ReceivesFresh (old new : Kept) (count : ℕ) (history after : List Qu
   pub seen : IsSeenFrom old.reading new.reading old.history new.history history after
 
 -- some datagrams were dropped and counted, and what is passed on is the next one, as the port below told it. For each history that `old`
--- stands for, `new` stands for one that goes on from it, with as many dropped (profile)
+-- stands for, `new` stands for one that goes on from it, with as many dropped
 pub record PassesOnFresh (old new : Kept) (result : Option (Result Arrival PortFault)) (datagram : List ℕ) : Type 0 where
   pub dropped : ℕ
   pub counted : new.stale ≡ counted_on old.stale dropped

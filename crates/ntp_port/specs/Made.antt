@@ -18,17 +18,17 @@ use Rattle.ntp_port.specs.declared.memory_port.Sent.{Sent}
 use Rattle.ntp_port.specs.Port.{IncomingValue, Readings, TurnValue, received}
 
 -- a turn in which nothing was received; and one with its datagram, its answer, and whether the departure is noted of the reply, if it is
--- time and is sent. Each has what the clock shows in it, and whether a reply can be sent (profile)
+-- time and is sent. Each has what the clock shows in it, and whether a reply can be sent
 pub data Made : Type 0 where
   Missed : Readings → Bool → Made
   Received : IncomingValue → Readings → Bool → Answer → Bool → Made
 
--- the turn of the port (profile)
+-- the turn of the port
 abbrev pub turn_of : Made → TurnValue
 turn_of (Missed clock sends) = record { arrival = None; clock = clock; sends = sends }
 turn_of (Received d clock sends a noted) = record { arrival = Some d; clock = clock; sends = sends }
 
--- the reply of an answer (profile)
+-- the reply of an answer
 abbrev pub reply_in : Answer → Option (List ℕ)
 reply_in (answer.Time reply saved) = Some reply
 reply_in (answer.Rate reply) = Some reply
@@ -36,54 +36,54 @@ reply_in (answer.Deny reply) = Some reply
 reply_in (answer.Nak reply) = Some reply
 reply_in (answer.Silent why) = None
 
--- the receive stamp of a time reply, if it is sent: its departure is reported (profile)
+-- the receive stamp of a time reply, if it is sent: its departure is reported
 abbrev pub departing : Bool → Answer → List Stamp
 departing true (answer.Time reply saved) = saved ∷ []
 departing sends other = []
 
 -- what happened in a turn: its datagram, with the first reading of the clock; and where the answer was time and was sent, the
--- departure, with the second, once a send was tried (profile)
+-- departure, with the second, once a send was tried
 abbrev pub happened_in_turn : {A : Type 0} → ReferenceState → Made → List (Event A × Outcome)
 happened_in_turn reference (Missed clock sends) = []
 happened_in_turn reference (Received d clock sends a noted) =
     (event.Datagram d.address d.receipt (clock false 0) reference (received d), outcome.Datagram a)
     ∷ map (λ saved. (event.Departed d.address saved (clock true 1), departure_outcome noted)) (departing sends a)
 
--- what a turn sends: the reply, if any, to where the datagram came from (profile)
+-- what a turn sends: the reply, if any, to where the datagram came from
 abbrev pub sent_in : Made → List Sent
 sent_in (Received d clock true a noted) = map (λ reply. record { address = d.address; port = d.port; reply = reply }) (option_to_list (reply_in a))
 sent_in other = []
 
--- whether a turn has a datagram (profile)
+-- whether a turn has a datagram
 abbrev pub has_arrived : Made → Bool
 has_arrived m = is_some (turn_of m).arrival
 
--- whether a departure was noted in it (profile)
+-- whether a departure was noted in it
 abbrev pub has_departed : Made → Bool
 has_departed (Received d clock true (answer.Time reply saved) true) = true
 has_departed other = false
 
--- whether nothing could be received in it (profile)
+-- whether nothing could be received in it
 abbrev pub is_missed : Made → Bool
 is_missed m = is_none (turn_of m).arrival
 
--- whether it has a reply that could not be sent (profile)
+-- whether it has a reply that could not be sent
 abbrev pub is_unsent : Made → Bool
 is_unsent (Received d clock false a noted) = is_some (reply_in a)
 is_unsent other = false
 
--- what is told of a datagram beside its octets (profile)
+-- what is told of a datagram beside its octets
 abbrev pub arrival_of : IncomingValue → Arrival
 arrival_of d = record { address = d.address; port = d.port; length = length (received d); receipt = d.receipt }
 
--- what became of the reply of an answer (profile)
+-- what became of the reply of an answer
 abbrev pub sending_of : Answer → Bool → Bool → Sending
 sending_of (answer.Silent why) sends noted = NoReply
 sending_of other false noted = NotSent
 sending_of (answer.Time reply saved) true noted = if noted then Noted else NotNoted
 sending_of other true noted = WasSent
 
--- what a turn comes to (profile)
+-- what a turn comes to
 abbrev pub turn_outcome : Made → TurnOutcome
 turn_outcome (Missed clock sends) = NothingReceived
 turn_outcome (Received d clock sends a noted) = Answered (arrival_of d) a (sending_of a sends noted)

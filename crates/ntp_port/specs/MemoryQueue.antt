@@ -3,6 +3,6 @@ use Rattle.std.specs.Prelude.{Option, None, Some, List, reverse, if◌then◌els
 use Rattle.ntp_port.specs.declared.queue_event.QueueEvent.{QueueEvent}
 use Rattle.ntp_port.specs.declared.memory_queue.Log.{Log}
 
--- the history that is kept, newest first, where there was room for all of it (profile)
+-- the history that is kept, newest first, where there was room for all of it
 abbrev pub history_in : {A : Type 0} → Log A → Option (List QueueEvent)
 history_in log = if log.has_missed then None else Some (reverse log.events.items)

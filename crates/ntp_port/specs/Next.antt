@@ -67,7 +67,7 @@ pub record LooksOn (old new : Kept) (before : Option ℕ) (history : List QueueE
   pub looked : WasSeen before (events ++ history) old.reading
 
 -- a look was made, or none, which takes no datagram and reads no clock; the last look is at most `before` old, if a time is given
-pub record Looks (old new : Kept) (before : Option ℕ) : Type 0 where
+pub record LooksAtQueue (old new : Kept) (before : Option ℕ) : Type 0 where
   pub reading : new.reading ≡ old.reading
   pub stale : new.stale ≡ old.stale
   pub told : new.told ≡ old.told

@@ -4,11 +4,11 @@ use Rattle.ntp_service.specs.declared.observation.Arrival.{Arrival}
 use Rattle.ntp_port.specs.declared.port.PortFault.{PortFault}
 use Rattle.ntp_port.specs.Port.{Told, ReceiveTells, TellsOn, DropsTurns}
 
--- what is handed on is what a receive gave, by the turn that it began; where nothing is handed on, no turn began (profile)
-abbrev pub HandsOn : Option Told → Option Told → Option (Result Arrival PortFault) → List ℕ → Type 0
-HandsOn old new None datagram = TellsOn old new
-HandsOn old new (Some received) datagram = ReceiveTells old new received datagram
+-- what is handed on is what a receive gave, by the turn that it began; where nothing is handed on, no turn began
+abbrev pub HandsOnTurn : Option Told → Option Told → Option (Result Arrival PortFault) → List ℕ → Type 0
+HandsOnTurn old new None datagram = TellsOn old new
+HandsOnTurn old new (Some received) datagram = ReceiveTells old new received datagram
 
--- `dropped` datagrams were dropped, and then `result` was handed on (profile)
+-- `dropped` datagrams were dropped, and then `result` was handed on
 abbrev pub PassesTurns : ℕ → Option Told → Option Told → Option (Result Arrival PortFault) → List ℕ → Type 0
-PassesTurns dropped old new result datagram = (between : Option Told) × DropsTurns dropped old between × HandsOn between new result datagram
+PassesTurns dropped old new result datagram = (between : Option Told) × DropsTurns dropped old between × HandsOnTurn between new result datagram

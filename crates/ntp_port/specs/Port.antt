@@ -9,38 +9,38 @@ use Rattle.ntp_port.specs.declared.port.PortCounts.{PortCounts}
 use Rattle.ntp_port.specs.declared.port.PortFault.{PortFault}
 use Rattle.ntp_port.specs.declared.port.PortFault.TheVariants.{Receive, Send}
 
--- how many octets of a datagram are taken (profile)
+-- how many octets of a datagram are taken
 abbrev pub most_received_octets : ℕ
 most_received_octets = 1025
 
--- a datagram that is to be received; the code's `Incoming` has its octets in memory of an allocator (profile)
+-- a datagram that is to be received; the code's `Incoming` has its octets in memory of an allocator
 pub record IncomingValue : Type 0 where
   pub address : Address
   pub port : ℕ
   pub receipt : Moment
   pub octets : List ℕ
 
--- what a clock shows in a turn, read by read: first whether a send was tried, then how many times it was read before (profile)
+-- what a clock shows in a turn, read by read: first whether a send was tried, then how many times it was read before
 abbrev pub Readings : Type 0
 Readings = Bool → ℕ → Moment
 
--- what it shows after one reading more (profile)
+-- what it shows after one reading more
 abbrev pub later : Readings → Readings
 later clock = λ tried n. clock tried (suc n)
 
 -- one turn of a port: its datagram, if any, what the clock shows, and whether a reply can be sent; the code's `Turn`, whose datagram is
--- in memory of an allocator, has a clock of two moments only (profile)
+-- in memory of an allocator, has a clock of two moments only
 pub record TurnValue : Type 0 where
   pub arrival : Option IncomingValue
   pub clock : Readings
   pub sends : Bool
 
 -- the turn of a port before its first, and once its list has run out: nothing comes, the clock shows stamp 0 of era 0, and nothing can
--- be sent (profile)
+-- be sent
 abbrev pub no_turn : TurnValue
 no_turn = record { arrival = None; clock = λ tried n. record { era = 0; stamp = record { 0 = 0 } }; sends = false }
 
--- the turns to come, the present one, what the clock will show in it, whether a send was tried in it, and what was sent (profile)
+-- the turns to come, the present one, what the clock will show in it, whether a send was tried in it, and what was sent
 pub record Told : Type 0 where
   pub coming : List TurnValue
   pub present : TurnValue
@@ -48,35 +48,35 @@ pub record Told : Type 0 where
   pub has_tried_send : Bool
   pub sent : List Sent
 
--- the octets of a datagram, as a port gives them: cut (profile)
+-- the octets of a datagram, as a port gives them: cut
 abbrev pub received : IncomingValue → List ℕ
 received d = take most_received_octets d.octets
 
--- a call of `receive` gives the datagram of its turn, and fails where there is none (profile)
+-- a call of `receive` gives the datagram of its turn, and fails where there is none
 abbrev pub Arrives : Option IncomingValue → Result Arrival PortFault → List ℕ → Type 0
 Arrives None r buffer = r ≡ Err Receive
 Arrives (Some d) (Err fault) buffer = ⊥
 Arrives (Some d) (Ok a) buffer = (a.address ≡ d.address) × (a.port ≡ d.port) × (a.receipt ≡ d.receipt)
     × (take a.length buffer ≡ received d)
 
--- it begins this turn (profile)
+-- it begins this turn
 abbrev pub Begins : TurnValue → Told → Told → Result Arrival PortFault → List ℕ → Type 0
 Begins turn old new r buffer = Arrives turn.arrival r buffer
     × (new ≡ record old { coming = drop 1 old.coming; present = turn; clock = turn.clock; has_tried_send = false })
 
--- the next one, at a port that tells its turns, which then goes on to tell them (profile)
+-- the next one, at a port that tells its turns, which then goes on to tell them
 abbrev pub ReceiveTells : Option Told → Option Told → Result Arrival PortFault → List ℕ → Type 0
 ReceiveTells t u r buffer = IfSome t (λ old. IsSomeAnd u (λ new. Begins (get_or old.coming 0 no_turn) old new r buffer))
 
--- what a call of `now` tells (profile)
+-- what a call of `now` tells
 abbrev pub NowTells : Option Told → Option Told → Moment → Type 0
 NowTells t u r = IfSome t (λ old. IsSomeAnd u (λ new. (r ≡ old.clock old.has_tried_send 0) × (new ≡ record old { clock = later old.clock })))
 
--- whether a reply is sent: the turn sends, nothing was tried to be sent in it, and the reply is not too long (profile)
+-- whether a reply is sent: the turn sends, nothing was tried to be sent in it, and the reply is not too long
 abbrev pub is_sent : Told → List ℕ → Bool
 is_sent old reply = (old.present.sends && not old.has_tried_send) && nat_le (length reply) most_reply_octets
 
--- what a call of `send` tells (profile)
+-- what a call of `send` tells
 abbrev pub SendTells : Option Told → Option Told → Address → ℕ → List ℕ → Result (Unit {0}) PortFault → Type 0
 SendTells t u address port reply r = IfSome t (λ old. IsSomeAnd u (λ new. (r ≡ (if is_sent old reply then Ok tt else Err Send))
     × (new ≡ record old {
@@ -84,56 +84,56 @@ SendTells t u address port reply r = IfSome t (λ old. IsSomeAnd u (λ new. (r �
       sent = if is_sent old reply then old.sent ++ record { address = address; port = port; reply = reply } ∷ [] else old.sent;
     })))
 
--- no turn began (profile)
+-- no turn began
 abbrev pub TellsOn : Option Told → Option Told → Type 0
 TellsOn old new = IfSome old (λ told. new ≡ Some told)
 
--- where a datagram was dropped, its turn began, as by a receive whose datagram nobody sees (profile)
+-- where a datagram was dropped, its turn began, as by a receive whose datagram nobody sees
 abbrev pub BeginsDropped : Told → Option Told → Bool → Type 0
 BeginsDropped old new true = (arrival : Arrival) × (datagram : List ℕ) × ReceiveTells (Some old) new (Ok arrival) datagram
 BeginsDropped old new false = new ≡ Some old
 
--- what a call tells that drops the next datagram, or could not (profile)
+-- what a call tells that drops the next datagram, or could not
 abbrev pub DropTells : Option Told → Option Told → Bool → Type 0
 DropTells old new dropped = IfSome old (λ told. BeginsDropped told new dropped)
 
--- `n` turns began, one after another, and their datagrams were dropped (profile)
+-- `n` turns began, one after another, and their datagrams were dropped
 abbrev pub DropsTurns : ℕ → Option Told → Option Told → Type 0
 DropsTurns zero old new = TellsOn old new
 DropsTurns (suc n) old new = (next : Option Told) × DropTells old next true × DropsTurns n next new
 
--- a count went on by these, as far as a number of 64 bits can count (profile)
+-- a count went on by these, as far as a number of 64 bits can count
 abbrev pub CountsMore : ℕ → ℕ → ℕ → Type 0
 CountsMore count after more = count + more < 2 ^ 64 → after ≡ count + more
 
--- how many calls failed (profile)
+-- how many calls failed
 abbrev pub failed_calls : PortCounts → ℕ
 failed_calls counts = counts.failed_receives + counts.failed_sends
 
--- the counts behind a send, which failed or not (profile)
+-- the counts behind a send, which failed or not
 abbrev pub counted_send : Bool → PortCounts → PortCounts
 counted_send failed counts = record counts { failed_sends = counts.failed_sends + (if failed then 1 else 0) }
 
--- a receive is counted, which failed or not; how many waits in it ended with nothing is not told (profile)
+-- a receive is counted, which failed or not; how many waits in it ended with nothing is not told
 abbrev pub CountsReceive : PortCounts → PortCounts → Bool → Type 0
 CountsReceive old new failed = (new.failed_receives ≡ old.failed_receives + (if failed then 1 else 0)) × (new.failed_sends ≡ old.failed_sends)
 
--- a wait is counted, which ended with nothing or with what was received (profile)
+-- a wait is counted, which ended with nothing or with what was received
 abbrev pub CountsWait : PortCounts → PortCounts → Option (Result Arrival PortFault) → Type 0
 CountsWait old new None = CountsMore old.idle_waits new.idle_waits 1 × CountsReceive old new false
 CountsWait old new (Some r) = (new.idle_waits ≡ old.idle_waits) × CountsReceive old new (is_err r)
 
--- datagrams were dropped and counted, by a port that may drop; by any other none (profile)
+-- datagrams were dropped and counted, by a port that may drop; by any other none
 abbrev pub DropsAny : Bool → ℕ → ℕ → Option Told → Option Told → Type 0
 DropsAny false count after old new = (after ≡ count) × (new ≡ old)
 DropsAny true count after old new = (dropped : ℕ) × CountsMore count after dropped × DropsTurns dropped old new
 
--- no turn began, and nothing could be received (profile)
+-- no turn began, and nothing could be received
 abbrev pub GivesUp : Option Told → Option Told → Result Arrival PortFault → Type 0
 GivesUp old new r = (r ≡ Err Receive) × TellsOn old new
 
 -- what is received is that of the next turn; and of a port that may drop, that of the next one behind those that it drops and counts, or
--- it gives up (profile)
+-- it gives up
 abbrev pub Receives : Bool → ℕ → ℕ → Option Told → Option Told → Result Arrival PortFault → List ℕ → Type 0
 Receives false count after old new r buffer = (after ≡ count) × ReceiveTells old new r buffer
 Receives true count after old new r buffer = (between : Option Told) × DropsAny true count after old between

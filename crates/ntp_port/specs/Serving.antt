@@ -15,62 +15,62 @@ use Rattle.ntp_port.specs.Port.{IncomingValue, Readings, TurnValue, no_turn, Tol
 use Rattle.ntp_port.specs.Made.{Made, Missed, turn_of, happened_in_turn, sent_in, has_arrived, has_departed, is_missed, is_unsent, arrival_of, turn_outcome}
 
 -- what a port that tells its turns told before it began these and tells afterwards: they were those of its list, while it lasted, and
--- what the turns sent that a server made was sent (profile)
+-- what the turns sent that a server made was sent
 pub record FollowsList (begun : List TurnValue) (made : List Made) (old new : Told) : Type 0 where
   pub next : begun ≡ firsts no_turn (length begun) old.coming
   pub coming : new.coming ≡ drop (length begun) old.coming
   pub sent : new.sent ≡ old.sent ++ flat_map sent_in made
 
--- the same of any port: one that tells nothing can have begun any turns (profile)
+-- the same of any port: one that tells nothing can have begun any turns
 abbrev pub Follows : List TurnValue → List Made → Option Told → Option Told → Type 0
 Follows begun made t u = IfSome t (λ old. IsSomeAnd u (λ new. FollowsList begun made old new))
 
 -- what a server has of a port that may drop: a turn that it makes, one whose datagram was dropped, or one that it makes in which the port
--- gave up, and began none (profile)
+-- gave up, and began none
 pub data Taken : Type 0 where
   InTurn : Made → Taken
   Dropped : IncomingValue → Readings → Bool → Taken
   GivenUp : Readings → Bool → Taken
 
--- the turn that the port began (profile)
+-- the turn that the port began
 abbrev pub begun_in : Taken → List TurnValue
 begun_in (InTurn m) = turn_of m ∷ []
 begun_in (Dropped d clock sends) = record { arrival = Some d; clock = clock; sends = sends } ∷ []
 begun_in (GivenUp clock sends) = []
 
--- the one that the server made (profile)
+-- the one that the server made
 abbrev pub made_of : Taken → List Made
 made_of (InTurn m) = m ∷ []
 made_of (Dropped d clock sends) = []
 made_of (GivenUp clock sends) = Missed clock sends ∷ []
 
--- the datagram that was dropped (profile)
+-- the datagram that was dropped
 abbrev pub dropped_in : Taken → List IncomingValue
 dropped_in (InTurn m) = []
 dropped_in (Dropped d clock sends) = d ∷ []
 dropped_in (GivenUp clock sends) = []
 
--- these turns were made at a port that may drop, which counts what it drops (profile)
+-- these turns were made at a port that may drop, which counts what it drops
 pub record PassesOver (made : List Made) (count after : ℕ) (t u : Option Told) : Type 0 where
   pub taken : List Taken
   pub all : flat_map made_of taken ≡ made
   pub counted : CountsMore count after (length (flat_map dropped_in taken))
   pub port : Follows (flat_map begun_in taken) made t u
 
--- or at one that may drop or not: else they are just the turns that the port began (profile)
+-- or at one that may drop or not: else they are just the turns that the port began
 abbrev pub AreBegun : Bool → List Made → ℕ → ℕ → Option Told → Option Told → Type 0
 AreBegun false made count after t u = (after ≡ count) × Follows (map turn_of made) made t u
 AreBegun true made count after t u = PassesOver made count after t u
 
 -- the same, with what the port counted before, `a`, and counted then, `b`: receives failed in the turns with no datagram, and sends in
--- those whose reply could not be sent, and no others (profile)
+-- those whose reply could not be sent, and no others
 pub record Makes (may_drop : Bool) (made : List Made) (a b : PortCounts) (t u : Option Told) : Type 0 where
   pub turns : AreBegun may_drop made a.dropped b.dropped t u
   pub failed_receives : b.failed_receives ≡ a.failed_receives + length (filter is_missed made)
   pub failed_sends : b.failed_sends ≡ a.failed_sends + length (filter is_unsent made)
 
 -- a server made `turns` turns, at a port that may drop or not: whatever history the service stood for, it tells what happened in the
--- turns, and goes on to stand for that history and this (profile)
+-- turns, and goes on to stand for that history and this
 pub record ServeMakes (A : Type 0) (reference : ReferenceState) (may_drop : Bool) (turns : ℕ) (t u : Option Told) (a b : PortCounts)
     (service after : Registry) (served : Served) : Type 0 where
   pub made : List Made
@@ -83,7 +83,7 @@ pub record ServeMakes (A : Type 0) (reference : ReferenceState) (may_drop : Bool
       → Tells history (flat_map (happened_in_turn reference) made) after
 
 -- a turn in which this was received was made, and came to this; `t` is what the port told before it received, `a` its counts
--- afterwards, in which a receive that failed is counted (profile)
+-- afterwards, in which a receive that failed is counted
 pub record TurnMakes (A : Type 0) (reference : ReferenceState) (r : Result Arrival PortFault) (buffer : List ℕ) (t u : Option Told)
     (a b : PortCounts) (service after : Registry) (outcome : TurnOutcome) : Type 0 where
   pub made : Made

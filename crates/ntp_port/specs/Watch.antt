@@ -18,7 +18,7 @@ abbrev pub IsKnownWithin : ℕ → QueueWatch → ℕ → Type 0
 IsKnownWithin longest watch now = (at : ℕ) × (watch.known ≡ Some at) × (now ≤ at + longest)
 
 -- the queue was counted where that had to be known: datagrams that were seen in it may still be in it, or the next one is known to have
--- come not long before `now` (profile)
+-- come not long before `now`
 abbrev pub IsCounted : QueueWatch → ℕ → Type 0
 IsCounted watch now = IsWaiting watch ⊎ IsKnownWithin (longest_of watch / 10 * 3) watch now
 
@@ -34,7 +34,7 @@ known_after more (Read at ∷ history) = known_after more history
 abbrev pub kept_after : QueueWatch → ℕ → Option ℕ
 kept_after watch more = if nat_le 1 watch.waiting && nat_le watch.waiting more then Some watch.seen else watch.known
 
--- what is kept is that of a history (profile)
+-- what is kept is that of a history
 abbrev pub Watches : QueueWatch → List QueueEvent → Type 0
 Watches watch history = (more : ℕ) → known_after more history ≡ kept_after watch more
 

@@ -6,8 +6,8 @@ ghost use Rattle.ntp_port.specs.declared.queue_event.QueueEvent.{QueueEvent};
 ghost use Rattle.ntp_port.specs.Freshness.{moment_of, IsInOrder, oldest_look};
 ghost use Rattle.ntp_port.specs.Queue.{ReadsClock};
 ghost use Rattle.ntp_port.specs.Watch.{Watches, Counts, longest_of, IsCounted, kept_after};
-ghost use Rattle.ntp_port.specs.Fresh.{StandsFor, IsShown, counted_on, kept, PassesOnFresh};
-ghost use Rattle.ntp_port.specs.Next.{TakesNext, Looks, Drops, CountsNext};
+ghost use Rattle.ntp_port.specs.Fresh.{KeepsHistory, IsShown, counted_on, kept, PassesOnFresh};
+ghost use Rattle.ntp_port.specs.Next.{TakesNext, LooksAtQueue, Drops, CountsNext};
 
 use crate::queue_watch::QueueWatch;
 use crate::queued_port::QueuedPort;
@@ -17,14 +17,14 @@ use ntp_service::Address;
 
 /// Least time between two looks at the queue, in nanoseconds: a ten-thousandth of a second. So looking costs little
 /// while it is never empty. The exception: a look comes at once where a datagram was dropped, so that what comes after a stop is
-/// answered (profile).
+/// answered.
 const LOOK_PERIOD: u64 = 100_000;
 
-/// How many times the queue is swept in one call at most, so that there is time to look at something else (profile).
+/// How many times the queue is swept in one call at most, so that there is time to look at something else.
 const MOST_SWEEPS: u32 = 4;
 
 /// A port that passes on only datagrams that can have waited in the queue of another port for less than a given time; it drops
-/// and counts the others, which are no events (profile).
+/// and counts the others, which are no events.
 ///
 /// Where one is too old, so are those behind it that were in the queue when it was looked at last: these are swept out, one
 /// after another, and neither the clock nor the queue is asked in between. So what came after that look is reached
@@ -66,7 +66,7 @@ impl<P: QueuedPort> FreshPort<P> {
     pub fn new(mut port: P, watch: QueueWatch) -> FreshPort<P>
         ensures stands { (history : List QueueEvent) → Watches watch history → IsInOrder history
             → All (λ event. moment_of event ≤ result.reading) history → Counts watch history
-            → StandsFor result.watch result.reading result.next_look history }
+            → KeepsHistory result.watch result.reading result.next_look history }
         ensures watch { result.watch ≡ watch }
         ensures shown { IsShown result.reading (P.history result.port) }
         ensures turns { P.told result.port ≡ P.told port }
@@ -224,10 +224,10 @@ impl<P: QueuedPort> FreshPort<P> {
         has_dropped
     }
 
-    // Looks at the queue where it is time to, once in a ten-thousandth of a second at most.
+    // LooksAtQueue at the queue where it is time to, once in a ten-thousandth of a second at most.
     fn look(&mut self)
         ensures counts { self.new.counts ≡ self.old.counts }
-        ensures looks { Looks (kept self.old.watch self.old.reading self.old.next_look self.old.counts.dropped (P.told self.old.port) (P.history self.old.port))
+        ensures looks { LooksAtQueue (kept self.old.watch self.old.reading self.old.next_look self.old.counts.dropped (P.told self.old.port) (P.history self.old.port))
             (kept self.new.watch self.new.reading self.new.next_look self.new.counts.dropped (P.told self.new.port) (P.history self.new.port)) (Some (oldest_look (longest_of self.old.watch))) }
         ensures counted { self.old.next_look ≤ self.old.reading → IsCounted self.new.watch self.old.reading }
     {
@@ -237,10 +237,10 @@ impl<P: QueuedPort> FreshPort<P> {
         }
     }
 
-    // Looks at the queue where what is known of it is old.
+    // LooksAtQueue at the queue where what is known of it is old.
     fn look_where_due(&mut self)
         ensures counts { self.new.counts ≡ self.old.counts }
-        ensures looks { Looks (kept self.old.watch self.old.reading self.old.next_look self.old.counts.dropped (P.told self.old.port) (P.history self.old.port))
+        ensures looks { LooksAtQueue (kept self.old.watch self.old.reading self.old.next_look self.old.counts.dropped (P.told self.old.port) (P.history self.old.port))
             (kept self.new.watch self.new.reading self.new.next_look self.new.counts.dropped (P.told self.new.port) (P.history self.new.port)) (Some (longest_of self.old.watch / 10)) }
         ensures counted { IsCounted self.new.watch self.old.reading }
     {
@@ -249,10 +249,10 @@ impl<P: QueuedPort> FreshPort<P> {
         }
     }
 
-    // Looks whether the queue is empty, and how many datagrams are in it where that has to be known.
+    // LooksAtQueue whether the queue is empty, and how many datagrams are in it where that has to be known.
     fn look_now(&mut self)
         ensures counts { self.new.counts ≡ self.old.counts }
-        ensures looks { Looks (kept self.old.watch self.old.reading self.old.next_look self.old.counts.dropped (P.told self.old.port) (P.history self.old.port))
+        ensures looks { LooksAtQueue (kept self.old.watch self.old.reading self.old.next_look self.old.counts.dropped (P.told self.old.port) (P.history self.old.port))
             (kept self.new.watch self.new.reading self.new.next_look self.new.counts.dropped (P.told self.new.port) (P.history self.new.port)) (Some 0) }
         ensures counted { IsCounted self.new.watch self.old.reading }
     {
@@ -260,10 +260,10 @@ impl<P: QueuedPort> FreshPort<P> {
         self.look_how_many();
     }
 
-    // Looks whether the queue is empty.
+    // LooksAtQueue whether the queue is empty.
     fn look_whether_empty(&mut self)
         ensures counts { self.new.counts ≡ self.old.counts }
-        ensures looks { Looks (kept self.old.watch self.old.reading self.old.next_look self.old.counts.dropped (P.told self.old.port) (P.history self.old.port))
+        ensures looks { LooksAtQueue (kept self.old.watch self.old.reading self.old.next_look self.old.counts.dropped (P.told self.old.port) (P.history self.old.port))
             (kept self.new.watch self.new.reading self.new.next_look self.new.counts.dropped (P.told self.new.port) (P.history self.new.port)) (Some 0) }
     {
         if self.port.is_empty() {
@@ -271,10 +271,10 @@ impl<P: QueuedPort> FreshPort<P> {
         }
     }
 
-    // Looks how many datagrams are in the queue, where no earlier look is waited for and what is known is old: that costs more.
+    // LooksAtQueue how many datagrams are in the queue, where no earlier look is waited for and what is known is old: that costs more.
     fn look_how_many(&mut self)
         ensures counts { self.new.counts ≡ self.old.counts }
-        ensures looks { Looks (kept self.old.watch self.old.reading self.old.next_look self.old.counts.dropped (P.told self.old.port) (P.history self.old.port))
+        ensures looks { LooksAtQueue (kept self.old.watch self.old.reading self.old.next_look self.old.counts.dropped (P.told self.old.port) (P.history self.old.port))
             (kept self.new.watch self.new.reading self.new.next_look self.new.counts.dropped (P.told self.new.port) (P.history self.new.port)) None }
         ensures counted { IsCounted self.new.watch self.old.reading }
     {

@@ -19,7 +19,7 @@ pub struct Sent {
     pub reply: Reply,
 }
 
-/// A port that makes the turns of a list, and keeps what was sent (profile).
+/// A port that makes the turns of a list, and keeps what was sent.
 ///
 /// In each turn the first `now` gives `transmit`, later ones `departure`, and one reply of at most 72 octets is
 /// taken where the turn sends. Before the first turn, and once the list has run out, `now` gives stamp 0 of era 0

@@ -32,7 +32,7 @@ impl<A: Allocator> Log<A> {
 }
 
 /// A port over a queue in memory: the datagrams of a port's turns come to it, each at its moment, and its clock shows the
-/// readings of a list, and the last one for ever. It tells its turns; and what it has seen as long as it had room for all (profile).
+/// readings of a list, and the last one for ever. It tells its turns; and what it has seen as long as it had room for all.
 ///
 /// The moments stand in the order in which the datagrams come. A wait ends just before the next reading; a datagram that comes by
 /// then is taken. A look sees those that came by the last reading.

@@ -7,7 +7,7 @@ use ntp_packet::Moment;
 use ntp_service::{Address, Arrival};
 
 /// How many octets of a datagram are taken at most: one more than a packet may have, so that a longer one is
-/// still told from the longest packet (profile).
+/// still told from the longest packet.
 pub const MOST_RECEIVED_OCTETS: usize = 1025;
 
 /// Room for a datagram that is received. A longer one is cut.
@@ -45,7 +45,7 @@ impl PortCounts {
     };
 }
 
-/// Where datagrams come from and replies go to, with the clock (profile).
+/// Where datagrams come from and replies go to, with the clock.
 ///
 /// A port may tell its turns: what its calls will answer, as a list of turns. Each `receive` begins one. Before it, a port that may drop
 /// can have begun others, each with a datagram that is dropped; and a `receive` of it that fails may have begun none.
@@ -84,7 +84,7 @@ pub trait Port {
         ensures { result ≡ failed_calls (counts self.now) };
 }
 
-/// A port at which a wait for a datagram may end with none, so that there is time to look at something else (profile).
+/// A port at which a wait for a datagram may end with none, so that there is time to look at something else.
 pub trait TimedPort: Port {
     // Whether no wait of it ends with none.
     ghost is_prompt: { Bool } = { false };

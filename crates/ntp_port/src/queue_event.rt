@@ -1,7 +1,7 @@
 //! What can be seen of a queue.
 
 /// What a call saw of a queue, or of the clock beside it; with a moment of that clock, in nanoseconds, which never goes
-/// back (profile).
+/// back.
 #[derive(Clone, Copy, Debug, PartialEq, Eq)]
 pub enum QueueEvent {
     /// The queue held at most `count` datagrams at some moment of a call that began at `at` or later.

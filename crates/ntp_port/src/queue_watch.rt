@@ -5,12 +5,12 @@ ghost use Rattle.ntp_port.specs.Freshness.{MayBeAnswered, IsInOrder};
 ghost use Rattle.ntp_port.specs.Watch.{Watches, Counts, IsWaiting, IsKnownWithin, longest_of, kept_after};
 
 /// Parts of the longest time that a datagram may wait. What is known of the queue is renewed: at an age of one part by a look
-/// whether the queue is empty, and at three parts by a count (profile).
+/// whether the queue is empty, and at three parts by a count.
 const PARTS: u64 = 10;
 
 const PARTS_UNCOUNTED: u64 = 3;
 
-/// What is kept of the history of a queue (profile). `known`: the latest moment after which the next datagram is known to have come.
+/// What is kept of the history of a queue. `known`: the latest moment after which the next datagram is known to have come.
 /// `seen`: the one after `waiting` more takes came after this moment. Moments are in nanoseconds of a clock that never goes back.
 #[derive(Clone, Copy, Debug)]
 pub struct QueueWatch {

@@ -2,12 +2,12 @@
 ghost use Rattle.std.specs.Prelude.{◌≡◌, ◌-◌, ◌≤◌, ◌<◌, ◌^◌, Option, None, List, IfOk, IfErr, IfSome, IfNone, false};
 ghost use Rattle.ntp_port.specs.Port.{most_received_octets, failed_calls, CountsWait, ReceiveTells, DropTells};
 ghost use Rattle.ntp_port.specs.declared.queue_event.QueueEvent.{QueueEvent};
-ghost use Rattle.ntp_port.specs.Queue.{ReadsClock, Tells, seen_in_count, seen_in_look, seen_in_wait, seen_in_drop};
+ghost use Rattle.ntp_port.specs.Queue.{ReadsClock, TellsEvents, seen_in_count, seen_in_look, seen_in_wait, seen_in_drop};
 
 use crate::{Arrival, DatagramRoom, PortFault, TimedPort};
 
 /// A port whose datagrams wait in a queue, first in, first out, that can be looked at; with a clock that never goes
-/// back (profile).
+/// back.
 ///
 /// A port may tell what its calls saw of queue and clock, as a history. No call of `Port` or `TimedPort` that takes no
 /// datagram adds to it.
@@ -25,13 +25,13 @@ pub trait QueuedPort: TimedPort {
     fn most_held(&mut self) -> u64
         ensures counts { Self.counts self.new ≡ Self.counts self.old }
         ensures turns { Self.told self.new ≡ Self.told self.old }
-        ensures history { Tells (history self.old) (history self.new) (seen_in_count result) };
+        ensures history { TellsEvents (history self.old) (history self.new) (seen_in_count result) };
 
     /// Looks, without waiting, whether the queue is empty; `false` also where it cannot be told.
     fn is_empty(&mut self) -> bool
         ensures counts { Self.counts self.new ≡ Self.counts self.old }
         ensures turns { Self.told self.new ≡ Self.told self.old }
-        ensures history { Tells (history self.old) (history self.new) (seen_in_look result) };
+        ensures history { TellsEvents (history self.old) (history self.new) (seen_in_look result) };
 
     /// Takes a datagram out of the queue, as `receive_in_time` does. Where it gives nothing, the queue was empty at some
     /// moment of the call.
@@ -42,12 +42,12 @@ pub trait QueuedPort: TimedPort {
         ensures counts { CountsWait (Self.counts self.old) (Self.counts self.new) result }
         ensures turns { IfSome result (λ received. ReceiveTells (Self.told self.old) (Self.told self.new) received datagram.new) }
         ensures nothing { IfNone result ((Self.is_prompt ≡ false) × (Self.told self.new ≡ Self.told self.old)) }
-        ensures history { Tells (history self.old) (history self.new) (seen_in_wait result) };
+        ensures history { TellsEvents (history self.old) (history self.new) (seen_in_wait result) };
 
     /// Takes a datagram out of the queue without waiting for one, and drops it. Whether it did: `false` tells nothing of the
     /// queue, and is no failure.
     fn drop_next(&mut self) -> bool
         ensures counts { Self.counts self.new ≡ Self.counts self.old }
         ensures turns { DropTells (Self.told self.old) (Self.told self.new) result }
-        ensures history { Tells (history self.old) (history self.new) (seen_in_drop result) };
+        ensures history { TellsEvents (history self.old) (history self.new) (seen_in_drop result) };
 }

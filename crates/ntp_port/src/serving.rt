@@ -27,7 +27,7 @@ pub struct Served {
 /// Makes `turns` turns. In each a datagram is received; where that fails, the turn ends. Then the clock is read, and
 /// the datagram is answered by the service, with `reference` as the state of the clock. A reply is sent to where the
 /// datagram came from. Where that succeeded and the reply was time, the clock is read again, and the service is told
-/// that the reply departed (profile). It takes no memory.
+/// that the reply departed. It takes no memory.
 ///
 /// At any port the service is told of at most one datagram a turn, and of the departure of its reply where that was time
 /// and was sent, and of nothing else; the outcomes are what the service tells, and the counts are theirs. Which datagrams

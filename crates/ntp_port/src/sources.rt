@@ -7,7 +7,7 @@ use ntp_packet::Moment;
 use ntp_reply::Reference;
 use std::alloc::Allocator;
 
-/// The commands file of a server, which is looked at in each turn, before its datagram is answered (profile).
+/// The commands file of a server, which is looked at in each turn, before its datagram is answered.
 ///
 /// A source may tell what its looks will give, to whatever they are asked with.
 pub trait CommandsSource<A: Allocator> {
@@ -21,7 +21,7 @@ pub trait CommandsSource<A: Allocator> {
         ensures { Gives (coming self.old) (coming self.new) (receipt ∷ []) (option_map (λ octets. octets.items) result ∷ []) };
 }
 
-/// The state of a server's clock, which is asked for in each turn (profile).
+/// The state of a server's clock, which is asked for in each turn.
 ///
 /// A source may tell what it will give, to whatever it is asked with.
 pub trait ReferenceSource {

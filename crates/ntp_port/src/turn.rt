@@ -17,7 +17,7 @@ pub struct Incoming<A: Allocator = Global> {
     pub octets: Octets<A>,
 }
 
-/// One turn: a call of `receive`, and the calls behind it (profile).
+/// One turn: a call of `receive`, and the calls behind it.
 #[derive(Debug, Drop)]
 pub struct Turn<A: Allocator = Global> {
     /// The datagram; without one the call fails.

@@ -14,13 +14,13 @@ use Rattle.ntp_query.specs.declared.check.Verdict.{Verdict}
 use Rattle.ntp_query.specs.declared.check.Verdict.TheVariants.{Well, Warning, Critical}
 use Rattle.ntp_query.specs.Nanos.{seconds_text}
 use Rattle.ntp_query.specs.Answer.{offset_of, delay_of, root_distance_of}
-use Rattle.ntp_query.specs.Text.{figures, outcome_text}
+use Rattle.ntp_query.specs.Text.{figures, query_outcome_text}
 
 -- whether a value is above its limit, if it has one
 abbrev pub is_above : Option ℕ → ℕ → Bool
 is_above limit value = option_map_or (λ l. nat_lt l value) limit false
 
--- the first of offset, stratum and root distance that is above its limit; an offset counts by its size (profile)
+-- the first of offset, stratum and root distance that is above its limit; an offset counts by its size
 abbrev pub passed_by : Limits → Answer → Option Measure
 passed_by limits a =
     if is_above limits.offset (unsigned_abs (offset_of a)) then Some Offset
@@ -33,7 +33,7 @@ within None said = Ok tt
 within (Some measure) said = Err (said measure)
 
 -- whether a server is well, by critical limits and by those of a warning, by the sample of least delay, and by how many queries gave no
--- sample; the first case that applies decides (profile)
+-- sample; the first case that applies decides
 abbrev pub verdict_of : Limits → Limits → Option Answer → ℕ → Verdict
 verdict_of most warn least without = decided do
   a ← ok_or least (Critical NoSample)
@@ -54,13 +54,13 @@ verdict_word Well = codes "OK"
 verdict_word (Warning cause) = codes "WARNING"
 verdict_word (Critical cause) = codes "CRITICAL"
 
--- the word for a measure (profile)
+-- the word for a measure
 abbrev pub measure_text : Measure → List ℕ
 measure_text Offset = codes "offset"
 measure_text Stratum = codes "stratum"
 measure_text RootDistance = codes "root distance"
 
--- what is wrong (profile)
+-- what is wrong
 abbrev pub cause_text : Cause → List ℕ
 cause_text NoSample = codes "no sample, "
 cause_text (Above measure) = measure_text measure ++ codes " above its limit, "
@@ -77,10 +77,10 @@ performance a =
     codes "offset=" ++ seconds_text (offset_of a) ++ codes "s delay=" ++ seconds_text (delay_of a) ++ codes "s stratum=" ++ decimal a.clock.stratum
     ++ codes " root_distance=" ++ seconds_text (root_distance_of a) ++ codes "s"
 
--- what there is to tell: of the sample of least delay, or else of the last query (profile)
+-- what there is to tell: of the sample of least delay, or else of the last query
 abbrev pub details : Option Answer → Outcome → List ℕ
 details (Some a) latest = figures a ++ codes " | " ++ performance a
-details None latest = outcome_text latest
+details None latest = query_outcome_text latest
 
 -- the line of a check (Monitoring Plugins)
 unfoldable pub check_text : Verdict → Option Answer → Outcome → List ℕ

@@ -14,15 +14,15 @@ use Rattle.ntp_query.specs.declared.key_file.KeyLineFault.TheVariants as line_fa
 use Rattle.ntp_query.specs.declared.key_file.KeyFileFault.{KeyFileFault}
 use Rattle.ntp_query.specs.declared.key_file.KeyFileFault.TheVariants.{Missing, Line}
 
--- an octet, with a space in the place of a tabulator or a carriage return (profile)
+-- an octet, with a space in the place of a tabulator or a carriage return
 abbrev pub space_for : ℕ → ℕ
 space_for octet = if (octet == 9) || (octet == 13) then 32 else octet
 
--- the words of a line: what stands between its spaces, and is not empty (profile)
+-- the words of a line: what stands between its spaces, and is not empty
 abbrev pub words : List ℕ → List (List ℕ)
 words line = filter (λ word. nat_lt 0 (length word)) (parts 32 line)
 
--- whether the first of some words is a number (profile)
+-- whether the first of some words is a number
 abbrev pub begins_with : ℕ → List (List ℕ) → Bool
 begins_with number [] = false
 begins_with number (first ∷ others) = option_map_or (λ found. non_zero_u16_get found == number) (number_in first) false
@@ -35,7 +35,7 @@ is_key_line number line = begins_with number (words line)
 abbrev pub algorithm_of : List ℕ → Option Algorithm
 algorithm_of word = if bytes_eq word (codes "MD5") then Some Md5 else (if bytes_eq word (codes "SHA1") then Some Sha1 else None)
 
--- the octets of a key as they stand: 1 to 32 (profile)
+-- the octets of a key as they stand: 1 to 32
 abbrev pub plain_octets : List ℕ → Option (List ℕ)
 plain_octets word = if nat_le 1 (length word) && nat_le (length word) most_key_octets then Some word else None
 
@@ -66,12 +66,12 @@ key_in_words line = key_of_words (words line)
 abbrev pub key_in_line : ℕ → List ℕ → Result SymmetricKey KeyFileFault
 key_in_line place line = map_err (key_in_words line) (λ fault. Line place fault)
 
--- the key of the first line that has the number, of lines that are counted from a place (profile)
+-- the key of the first line that has the number, of lines that are counted from a place
 abbrev pub key_in_lines : ℕ → ℕ → List (List ℕ) → Result SymmetricKey KeyFileFault
 key_in_lines number place lines = do
   it ← ok_or (find (λ it. is_key_line number it.1) (enumerate_from place lines)) Missing
   key_in_line it.0 it.1
 
--- the key with a number in a text: that of its first line that has the number, counted from 1 (profile)
+-- the key with a number in a text: that of its first line that has the number, counted from 1
 abbrev pub key_in_text : ℕ → List ℕ → Result SymmetricKey KeyFileFault
 key_in_text number text = key_in_lines number 1 (parts 10 text)

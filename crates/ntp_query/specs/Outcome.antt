@@ -21,7 +21,7 @@ abbrev pub answered : Sample → Result RequestValue Malformed → Outcome
 answered sample (Ok reply) = Answered (answer_of sample reply.header)
 answered sample (Err fault) = Refused (distrust.Malformed fault)
 
--- what a client takes octets for, with what they are read as (profile)
+-- what a client takes octets for, with what they are read as
 abbrev pub heard_as : Taken → Result RequestValue Malformed → Outcome
 heard_as (taken.Sample sample) reading = answered sample reading
 heard_as taken.Rate reading = Rate
@@ -29,7 +29,7 @@ heard_as taken.Deny reading = Deny
 heard_as taken.Nak reading = Nak
 heard_as (taken.Refused why) reading = Refused why
 
--- what octets come to that arrive at a moment (profile)
+-- what octets come to that arrive at a moment
 abbrev pub heard : ClientState → List ℕ → Moment → Outcome
 heard c octets at = heard_as (taken_for c octets at) (reading_of octets)
 
@@ -38,7 +38,7 @@ abbrev pub answer_in : Outcome → Option Answer
 answer_in (Answered answer) = Some answer
 answer_in other = None
 
--- whether an outcome ends the query: a sample and a RATE are authentic (profile)
+-- whether an outcome ends the query: a sample and a RATE are authentic
 abbrev pub ends : Outcome → Bool
 ends (Answered answer) = true
 ends Rate = true
@@ -50,6 +50,6 @@ last_or before [] = before
 last_or before (o ∷ others) = last_or o others
 
 -- what a query comes to, of what each arrival comes to: the first that ends it, wherever it stands, or else the last; of no arrival
--- silence (profile)
+-- silence
 abbrev pub outcome_among : List Outcome → Outcome
 outcome_among outcomes = unwrap_or (find ends outcomes) (last_or Silence outcomes)

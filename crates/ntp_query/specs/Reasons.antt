@@ -6,7 +6,7 @@ use Rattle.ntp_packet.specs.declared.malformed.Malformed.TheVariants as malforme
 use Rattle.ntp_client.specs.declared.taken.Distrust.{Distrust}
 use Rattle.ntp_client.specs.declared.taken.Distrust.TheVariants as distrust
 
--- a word for why octets are no packet (profile)
+-- a word for why octets are no packet
 abbrev pub malformed_word : Malformed → List ℕ
 malformed_word malformed.Short = codes "short"
 malformed_word malformed.Long = codes "long"
@@ -15,7 +15,7 @@ malformed_word (malformed.FieldUnaligned place) = codes "field-unaligned"
 malformed_word (malformed.FieldPastEnd place) = codes "field-past-end"
 malformed_word (malformed.Rest place) = codes "rest"
 
--- a word for why octets were not taken for a reply (profile)
+-- a word for why octets were not taken for a reply
 abbrev pub reason_word : Distrust → List ℕ
 reason_word distrust.NothingAsked = codes "nothing-asked"
 reason_word (distrust.Malformed fault) = malformed_word fault
@@ -27,7 +27,7 @@ reason_word distrust.Mac = codes "mac"
 reason_word distrust.Unsynchronised = codes "unsynchronised"
 reason_word distrust.Stamps = codes "stamps"
 
--- the same of octets that are no packet in a sentence without its end (profile)
+-- the same of octets that are no packet in a sentence without its end
 unfoldable pub malformed_text : Malformed → List ℕ
 malformed_text malformed.Short = codes "it has fewer than 48 octets"
 malformed_text malformed.Long = codes "it has more than 1024 octets"
@@ -37,7 +37,7 @@ malformed_text (malformed.FieldUnaligned place) =
 malformed_text (malformed.FieldPastEnd place) = codes "its field at octet " ++ decimal place ++ codes " goes on past its end"
 malformed_text (malformed.Rest place) = codes "what it has from octet " ++ decimal place ++ codes " on is no MAC"
 
--- why octets were not taken for a reply, in a sentence without its end (profile)
+-- why octets were not taken for a reply, in a sentence without its end
 unfoldable pub reason_text : Distrust → List ℕ
 reason_text distrust.NothingAsked = codes "nothing was asked"
 reason_text (distrust.Malformed fault) = malformed_text fault

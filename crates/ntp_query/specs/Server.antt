@@ -21,7 +21,7 @@ server_at_port word behind = do
 abbrev pub is_colon : ℕ → Bool
 is_colon octet = octet == 58
 
--- the server that a word names: its address, and its port behind the first colon, where there is one (profile)
+-- the server that a word names: its address, and its port behind the first colon, where there is one
 abbrev pub server_in : List ℕ → Option Server
 server_in word =
     if nat_lt (position_or_len is_colon word) (length word) then server_at_port (before_first is_colon word) (after_first is_colon word)

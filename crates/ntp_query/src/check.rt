@@ -45,7 +45,7 @@ pub enum Verdict {
 
 /// Whether a server is well by two sets of limits, the sample of least delay, if there is one, and how many queries gave none. It is
 /// critical that there is no sample, or that one of the first limits is passed; one of the second ones, or a query without a sample, is a
-/// warning. The first that applies is told (profile).
+/// warning. The first that applies is told.
 pub fn verdict_of(most: &Limits, warn: &Limits, least: Option<Answer>, without: u32) -> Verdict
     ensures { result ≡ verdict_of most.now warn.now least without }
 {

@@ -8,7 +8,7 @@ use ntp_packet::{MOST_DATAGRAM_OCTETS, Moment};
 use std::io;
 
 /// How many octets of a datagram are taken at most: one more than a packet may have, so that a longer one is still told from the longest
-/// packet (profile).
+/// packet.
 pub const MOST_RECEIVED_OCTETS: usize = MOST_DATAGRAM_OCTETS + 1;
 
 /// Room for a datagram that is received. A longer one is cut.
@@ -23,7 +23,7 @@ pub struct Received {
     pub at: Moment,
 }
 
-/// Where a request goes to and its replies come from, with a time limit for each request and with the clock (profile).
+/// Where a request goes to and its replies come from, with a time limit for each request and with the clock.
 ///
 /// A link may tell which datagrams come until the time limit, and which requests were sent.
 pub trait Link {
@@ -58,7 +58,7 @@ pub trait Link {
 
 /// Sends one request of a client, and waits for what comes of it. A sample and a `RATE` are authentic and end the query. What is not
 /// leaves it waiting until its time limit, so that nothing forged takes the place of the reply; then the last of that is told, or silence
-/// where nothing came (profile).
+/// where nothing came.
 ///
 /// # Errors
 ///

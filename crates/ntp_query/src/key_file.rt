@@ -28,7 +28,7 @@ pub enum KeyLineFault {
     Key,
 }
 
-/// The octets of a key file with spaces in the place of tabulators and carriage returns, which separate words as they do (profile). It
+/// The octets of a key file with spaces in the place of tabulators and carriage returns, which separate words as they do. It
 /// takes memory from `alloc`.
 pub fn spaced(alloc: Global, octets: &[u8]) -> Result<Vec<u8>, AllocError>
     ensures { IfOk result (λ made. made.items ≡ map space_for octets.now) }
@@ -49,7 +49,7 @@ fn space_for(octet: u8) -> u8
 
 /// The key with a number, 1 to 65,535, in a text of lines `NUMBER [MD5|SHA1] [ASCII:|HEX:]KEY`, with spaces between the words. With no
 /// algorithm it is for MD5, and with no form its octets are those of the word. The first line whose first word is the number counts. No
-/// other line is judged, so a comment, which begins with `#`, `%`, `;` or `!`, and a key of another algorithm do no harm (profile).
+/// other line is judged, so a comment, which begins with `#`, `%`, `;` or `!`, and a key of another algorithm do no harm.
 pub fn key_in_text(text: &str, number: u16) -> Result<Key, KeyFileFault>
     ensures { result ≡ key_in_text number text.now }
 {

@@ -77,11 +77,11 @@ impl fmt::Display for Figures {
 /// A word, and what it means.
 impl fmt::Display for Outcome {
     ghost use Rattle.std.specs.Prelude.{Some};
-    ghost use Rattle.ntp_query.specs.Text.{outcome_text};
+    ghost use Rattle.ntp_query.specs.Text.{query_outcome_text};
 
-    ghost output = { λ outcome. Some (outcome_text outcome) };
+    ghost output = { λ outcome. Some (query_outcome_text outcome) };
 
-    #[tactic(auto, unfolding(crate::specs::Text::outcome_text))]
+    #[tactic(auto, unfolding(crate::specs::Text::query_outcome_text))]
     fn fmt<W: fmt::Write>(&self, f: &mut fmt::Formatter<W>) -> fmt::Result {
         let word = outcome_word(self);
         match self {

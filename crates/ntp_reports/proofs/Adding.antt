@@ -13,7 +13,7 @@ use Rattle.ntp_service.specs.declared.observation.TurnOutcome.TheVariants.{Answe
 use Rattle.ntp_reports.specs.declared.kind.Kind.{Kind}
 use Rattle.ntp_reports.specs.declared.counts.Counts.{Counts}
 use Rattle.ntp_reports.specs.Kinds.{is_kind, kinds_of, answer_kind, sending_kinds}
-use Rattle.ntp_reports.specs.Counted.{most_in_count, CountsMore, Adds}
+use Rattle.ntp_reports.specs.Counted.{most_in_count, CountsOneMore, Adds}
 
 -- two lists of kinds were counted, one behind the other
 pub Adds-append : (a b c : Counts) (xs ys : List Kind) → Adds a b xs → Adds b c ys → Adds a c (xs ++ ys)
@@ -25,7 +25,7 @@ Adds-append a b c xs ys first then = record {
 }
 
 -- the kinds of an observation were counted
-pub counted-Adds : (old new : Counts) (more : Observation) → Adds old new (kinds_of more) → CountsMore old new more
+pub counted-Adds : (old new : Counts) (more : Observation) → Adds old new (kinds_of more) → CountsOneMore old new more
 counted-Adds old new more adds = record {
   counted = λ seen are. record {
     each = λ kind.
@@ -38,12 +38,12 @@ counted-Adds old new more adds = record {
 }
 
 -- a command is not counted
-pub counted-command : (old new : Counts) (command : Command) → new ≡ old → CountsMore old new (observation.Command command)
+pub counted-command : (old new : Counts) (command : Command) → new ≡ old → CountsOneMore old new (observation.Command command)
 counted-command old new command same =
     rw same (counted-Adds old old (observation.Command command) (record { each = λ kind before e. let more : before + 0 ≡ before = omega arith in rw more e }))
 
 -- an answer was counted, and then what became of the reply
 pub counted-answer : (old mid new : Counts) (arrival : Arrival) (a : Answer) (sending : Sending) (k : Kind) → k ≡ answer_kind a
-    → Adds old mid (k ∷ []) → Adds mid new (sending_kinds sending) → CountsMore old new (observation.Turn (Answered arrival a sending))
+    → Adds old mid (k ∷ []) → Adds mid new (sending_kinds sending) → CountsOneMore old new (observation.Turn (Answered arrival a sending))
 counted-answer old mid new arrival a sending k is first then =
     counted-Adds old new _ (rw (← is) (Adds-append old mid new (k ∷ []) (sending_kinds sending) first then))

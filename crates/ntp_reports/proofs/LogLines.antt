@@ -9,7 +9,7 @@ use Rattle.std.specs.Io.KnownBytes.{Appends}
 use Rattle.std.proofs.KnownBytes.{Appends-trans}
 use Rattle.ntp_reports.specs.declared.subject.Subject.{Subject}
 use Rattle.ntp_service.specs.declared.observation.LineOutcome.{LineOutcome}
-use Rattle.ntp_reports.specs.AnswerText.{outcome_text}
+use Rattle.ntp_reports.specs.AnswerText.{line_outcome_text}
 use Rattle.ntp_admin.specs.Named.{verb_text}
 use Rattle.ntp_reports.specs.Logging.{address_text, subject_text, logged_line}
 
@@ -51,17 +51,17 @@ abbrev pub beginning : ℕ → List ℕ
 beginning number = codes "commands: line " ++ (decimal number ++ codes ": ")
 
 pub line-with : (a b c d : Option (List ℕ)) (number : ℕ) (subject : Option Subject) (s : Subject) (outcome : LineOutcome) → subject ≡ Some s
-    → Appends a b (beginning number) → Appends b c (subject_text s) → Appends c d (outcome_text outcome)
+    → Appends a b (beginning number) → Appends b c (subject_text s) → Appends c d (line_outcome_text outcome)
     → Appends a d (logged_line number subject outcome)
 line-with a b c d number subject s outcome is first second behind =
     let told : option_map_or subject_text subject [] ≡ subject_text s = ap (λ o. option_map_or subject_text o []) is in
-    subst (λ text. Appends a d (codes "commands: line " ++ decimal number ++ codes ": " ++ text ++ outcome_text outcome)) (sym told)
-    (Appends-trans a c d _ (outcome_text outcome) (Appends-trans a b c (beginning number) (subject_text s) first second) behind)
+    subst (λ text. Appends a d (codes "commands: line " ++ decimal number ++ codes ": " ++ text ++ line_outcome_text outcome)) (sym told)
+    (Appends-trans a c d _ (line_outcome_text outcome) (Appends-trans a b c (beginning number) (subject_text s) first second) behind)
 
 pub line-without : (a b d : Option (List ℕ)) (number : ℕ) (subject : Option Subject) (outcome : LineOutcome) → subject ≡ None
-    → Appends a b (beginning number) → Appends b d (outcome_text outcome) → Appends a d (logged_line number subject outcome)
+    → Appends a b (beginning number) → Appends b d (line_outcome_text outcome) → Appends a d (logged_line number subject outcome)
 line-without a b d number subject outcome is first behind =
     let told : option_map_or subject_text subject [] ≡ [] = ap (λ o. option_map_or subject_text o []) is in
-    subst (λ text. Appends a d (codes "commands: line " ++ decimal number ++ codes ": " ++ text ++ outcome_text outcome)) (sym told)
-    (subst (λ text. Appends a d (text ++ outcome_text outcome)) (sym (append-nil (beginning number)))
-    (Appends-trans a b d (beginning number) (outcome_text outcome) first behind))
+    subst (λ text. Appends a d (codes "commands: line " ++ decimal number ++ codes ": " ++ text ++ line_outcome_text outcome)) (sym told)
+    (subst (λ text. Appends a d (text ++ line_outcome_text outcome)) (sym (append-nil (beginning number)))
+    (Appends-trans a b d (beginning number) (line_outcome_text outcome) first behind))

@@ -5,29 +5,29 @@ use Rattle.ntp_reports.specs.declared.line_allowance.Ask.{Ask}
 use Rattle.ntp_reports.specs.declared.line_allowance.Ask.TheVariants.{Say, Hold, SayWithMore}
 use Rattle.ntp_reports.specs.declared.line_allowance.LineAllowance.{LineAllowance}
 
--- how many lines of a kind are written in a minute (profile)
+-- how many lines of a kind are written in a minute
 abbrev pub most_lines : ℕ
 most_lines = 10
 
--- how many of the last asks, in a row, were made in a minute; a count stops at 2^64 - 1 (profile)
+-- how many of the last asks, in a row, were made in a minute; a count stops at 2^64 - 1
 abbrev pub asked_in : ℕ → List ℕ → ℕ
 asked_in minute asks = min (prefix_len (λ m. m == minute) asks) (2 ^ 64 - 1)
 
--- how many lines were held in the last minute in which one was asked for (profile)
+-- how many lines were held in the last minute in which one was asked for
 abbrev pub held_back_in : List ℕ → ℕ
 held_back_in [] = 0
 held_back_in (last ∷ asks) = asked_in last (last ∷ asks) - most_lines
 
--- the first line of a minute is written, and tells how many were held before (profile)
+-- the first line of a minute is written, and tells how many were held before
 abbrev pub first_answer : ℕ → Ask
 first_answer held = if nat_lt 0 held then SayWithMore held else Say
 
--- what an ask in a minute is answered, behind these: the first ten lines of a minute are written, and no more (profile)
+-- what an ask in a minute is answered, behind these: the first ten lines of a minute are written, and no more
 abbrev pub ask_answer : List ℕ → ℕ → Ask
 ask_answer asks minute =
     if asked_in minute asks == 0 then first_answer (held_back_in asks) else (if nat_lt (asked_in minute asks) most_lines then Say else Hold)
 
--- whether a line with this answer is written (profile)
+-- whether a line with this answer is written
 abbrev pub is_said : Ask → Bool
 is_said Hold = false
 is_said other = true
@@ -37,7 +37,7 @@ abbrev pub IsLastIn : List ℕ → ℕ → Type 0
 IsLastIn [] minute = Unit {0}
 IsLastIn (last ∷ asks) minute = last ≡ minute
 
--- an allowance is what these asks leave of it (profile)
+-- an allowance is what these asks leave of it
 pub record IsLeftBy (asks : List ℕ) (allowance : LineAllowance) : Type 0 where
   pub last : IsLastIn asks allowance.minute
   pub asked : allowance.asked ≡ asked_in allowance.minute asks

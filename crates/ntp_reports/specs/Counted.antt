@@ -6,7 +6,7 @@ use Rattle.ntp_reports.specs.declared.kind.Kind.{Kind}
 use Rattle.ntp_reports.specs.declared.counts.Counts.{Counts}
 use Rattle.ntp_reports.specs.Kinds.{is_kind, kinds_of, place_of}
 
--- the most that is counted: no server makes as many turns (profile)
+-- the most that is counted: no server makes as many turns
 abbrev pub most_in_count : ℕ
 most_in_count = 2 ^ 64 - 1
 
@@ -18,16 +18,16 @@ nothing_counted = record { by_kind = replicate 30 0 }
 abbrev pub count_at : Counts → Kind → ℕ
 count_at counts kind = slice_index counts.by_kind (place_of kind)
 
--- how many there are of a kind among what these observations are counted as, or `most_in_count` where there are more (profile)
-abbrev pub count_in : Kind → List Observation → ℕ
-count_in kind seen = min (count_by (is_kind kind) (flat_map kinds_of seen)) most_in_count
+-- how many there are of a kind among what these observations are counted as, or `most_in_count` where there are more
+abbrev pub count_seen : Kind → List Observation → ℕ
+count_seen kind seen = min (count_by (is_kind kind) (flat_map kinds_of seen)) most_in_count
 
--- the counts are those of these observations (profile)
+-- the counts are those of these observations
 pub record AreCounts (counts : Counts) (seen : List Observation) : Type 0 where
-  pub each : (kind : Kind) → count_at counts kind ≡ count_in kind seen
+  pub each : (kind : Kind) → count_at counts kind ≡ count_seen kind seen
 
--- one observation more was counted: whatever the counts were of, they are of that and this one (profile)
-pub record CountsMore (old new : Counts) (more : Observation) : Type 0 where
+-- one observation more was counted: whatever the counts were of, they are of that and this one
+pub record CountsOneMore (old new : Counts) (more : Observation) : Type 0 where
   pub counted : (seen : List Observation) → AreCounts old seen → AreCounts new (seen ++ more ∷ [])
 
 -- these kinds were counted, whatever was before; no public clause cites this

@@ -9,10 +9,10 @@ use Rattle.ntp_service.specs.declared.observation.TurnOutcome.{TurnOutcome}
 use Rattle.ntp_reports.specs.declared.signing.Signing.{Signing}
 use Rattle.ntp_reports.specs.declared.customer_report.KeyUse.{KeyUse}
 use Rattle.ntp_reports.specs.declared.customer_report.CustomerReport.{CustomerReport}
-use Rattle.ntp_reports.specs.Counted.{CountsMore, nothing_counted}
+use Rattle.ntp_reports.specs.Counted.{CountsOneMore, nothing_counted}
 use Rattle.ntp_reports.specs.Signing.{signing_in}
 
--- a key that has signed nothing (profile)
+-- a key that has signed nothing
 abbrev pub new_key : ℕ → KeyUse
 new_key number = record { number = number; last_signed = None }
 
@@ -26,11 +26,11 @@ abbrev pub with_keys : CustomerReport → Option KeyUse → Option KeyUse → Cu
 with_keys report None second = record report { first = second; second = None }
 with_keys report (Some first) second = record report { first = Some first; second = second }
 
--- the key of a report with a number, if it has one (profile)
+-- the key of a report with a number, if it has one
 abbrev pub key_in : CustomerReport → ℕ → Option KeyUse
 key_in report number = find (λ key. key.number == number) (option_to_list report.first ++ option_to_list report.second)
 
--- what is reported of a customer that a line enrols with a key of this number: what it was answered before stays (profile)
+-- what is reported of a customer that a line enrols with a key of this number: what it was answered before stays
 abbrev pub enrolled_again : Option CustomerReport → ℕ → ℕ → CustomerReport
 enrolled_again before number line = record {
   counts = option_map_or (λ report. report.counts) before nothing_counted;
@@ -39,7 +39,7 @@ enrolled_again before number line = record {
   second = None;
 }
 
--- after it is revoked, has one key more, and has one less (profile)
+-- after it is revoked, has one key more, and has one less
 abbrev pub revoked : CustomerReport → CustomerReport
 revoked report = record report { first = None; second = None }
 
@@ -50,7 +50,7 @@ rolled_over report number =
 abbrev pub retired : CustomerReport → ℕ → CustomerReport
 retired report number = with_keys report (unless_named report.first number) (unless_named report.second number)
 
--- what is reported of a customer, if anything is, after its command was carried out by a line (profile)
+-- what is reported of a customer, if anything is, after its command was carried out by a line
 abbrev pub report_after : Option CustomerReport → Command → ℕ → Option CustomerReport
 report_after before (Enrol address number key budget) line = Some (enrolled_again before (non_zero_u16_get number) line)
 report_after before (Revoke address) line = option_map revoked before
@@ -58,14 +58,14 @@ report_after before (Rollover address number key) line = option_map (λ report. 
 report_after before (Retire address number) line = option_map (λ report. retired report (non_zero_u16_get number)) before
 report_after before other line = before
 
--- a key after a turn in which a query was signed, or none was: the key that signed has its receipt (profile)
+-- a key after a turn in which a query was signed, or none was: the key that signed has its receipt
 abbrev pub used_by : Option Signing → KeyUse → KeyUse
 used_by None key = key
 used_by (Some signing) key = if key.number == signing.number then record key { last_signed = Some signing.receipt } else key
 
--- a report after a turn of its customer's: the turn is counted, and the key that signed has its receipt (profile)
+-- a report after a turn of its customer's: the turn is counted, and the key that signed has its receipt
 pub record Takes (outcome : TurnOutcome) (old new : CustomerReport) : Type 0 where
-  pub counts : CountsMore old.counts new.counts (Turn outcome)
+  pub counts : CountsOneMore old.counts new.counts (Turn outcome)
   pub line : new.line ≡ old.line
   pub first : new.first ≡ option_map (used_by (signing_in outcome)) old.first
   pub second : new.second ≡ option_map (used_by (signing_in outcome)) old.second

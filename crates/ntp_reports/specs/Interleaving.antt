@@ -18,6 +18,6 @@ unfoldable pub transmit_in : List ℕ → Stamp
 transmit_in reply = stamp_at reply 40
 
 -- whether a time reply tells the departure of an earlier one (RFC 9769, 2): it has the octets of a header, and its transmit stamp lies
--- before its receive stamp (profile)
+-- before its receive stamp
 abbrev pub tells_departure : List ℕ → Bool
 tells_departure reply = nat_le header_length (length reply) && is_negative (difference (transmit_in reply) (receive_in reply))

@@ -30,7 +30,7 @@ place_of k = tag_of the_type k
 abbrev pub is_kind : Kind → Kind → Bool
 is_kind k other = place_of other == place_of k
 
--- why octets are no packet, without the place (profile)
+-- why octets are no packet, without the place
 abbrev pub malformed_kind : Malformed → Kind
 malformed_kind malformed.Short = kind.Short
 malformed_kind malformed.Long = kind.Long
@@ -39,7 +39,7 @@ malformed_kind (malformed.FieldUnaligned place) = kind.FieldUnaligned
 malformed_kind (malformed.FieldPastEnd place) = kind.FieldPastEnd
 malformed_kind (malformed.Rest place) = kind.Rest
 
--- why there is no reply (profile)
+-- why there is no reply
 abbrev pub silence_kind : Reason → Kind
 silence_kind reason.Unregistered = kind.Unregistered
 silence_kind (reason.Malformed fault) = malformed_kind fault
@@ -49,7 +49,7 @@ silence_kind reason.Bare = kind.Bare
 silence_kind reason.Muted = kind.Muted
 silence_kind reason.OverBudget = kind.OverBudget
 
--- an answer, time by which departure it tells (profile)
+-- an answer, time by which departure it tells
 abbrev pub answer_kind : Answer → Kind
 answer_kind (answer.Time reply saved) = if tells_departure reply then kind.Interleaved else kind.Basic
 answer_kind (answer.Rate reply) = kind.Rate
@@ -57,18 +57,18 @@ answer_kind (answer.Deny reply) = kind.Deny
 answer_kind (answer.Nak reply) = kind.Nak
 answer_kind (answer.Silent why) = silence_kind why
 
--- what became of a reply: one that was sent as it should be is not counted again (profile)
+-- what became of a reply: one that was sent as it should be is not counted again
 abbrev pub sending_kinds : Sending → List Kind
 sending_kinds sending.NotSent = kind.NotSent ∷ []
 sending_kinds sending.Noted = kind.Noted ∷ []
 sending_kinds other = []
 
--- a turn: its answer, and what became of the reply (profile)
+-- a turn: its answer, and what became of the reply
 abbrev pub turn_kinds : TurnOutcome → List Kind
 turn_kinds NothingReceived = kind.NothingReceived ∷ []
 turn_kinds (Answered arrival a sending) = answer_kind a ∷ sending_kinds sending
 
--- why a command was refused (profile)
+-- why a command was refused
 abbrev pub refusal_kind : Refusal → Kind
 refusal_kind refusal.AlreadyEnrolled = kind.AlreadyEnrolled
 refusal_kind refusal.KeyTaken = kind.KeyTaken
@@ -79,13 +79,13 @@ refusal_kind refusal.RoomFull = kind.RoomFull
 refusal_kind refusal.OnlyKey = kind.OnlyKey
 refusal_kind refusal.NotHeld = kind.NotHeld
 
--- a line of commands (profile)
+-- a line of commands
 abbrev pub line_kind : LineOutcome → Kind
 line_kind line.Done = kind.Done
 line_kind (line.Refused why) = refusal_kind why
 line_kind (line.Faulty fault) = kind.Faulty
 
--- what an observation is counted as: a command by what became of its line (profile)
+-- what an observation is counted as: a command by what became of its line
 abbrev pub kinds_of : Observation → List Kind
 kinds_of (Command command) = []
 kinds_of (Line number outcome) = line_kind outcome ∷ []

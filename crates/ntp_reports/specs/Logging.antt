@@ -13,33 +13,32 @@ use Rattle.ntp_admin.specs.Named.{number_named, verb_of, verb_text}
 use Rattle.ntp_admin.specs.declared.naming.Verb.{Verb}
 use Rattle.ntp_admin.specs.declared.naming.Verb.TheVariants as verb
 use Rattle.ntp_reports.specs.declared.subject.Subject.{Subject}
-use Rattle.ntp_reports.specs.AnswerText.{outcome_text}
+use Rattle.ntp_reports.specs.AnswerText.{line_outcome_text}
 
--- all but the key and the budget of a command (profile)
+-- all but the key and the budget of a command
 abbrev pub subject_of : Command → Subject
 subject_of c = record { verb = verb_of c; address = address_named c; number = number_named c }
 
--- an address, in its four numbers (profile)
+-- an address, in its four numbers
 abbrev pub address_text : Address → List ℕ
 address_text a =
     decimal (slice_index a.0 0) ++ codes "." ++ decimal (slice_index a.0 1) ++ codes "." ++ decimal (slice_index a.0 2) ++ codes "."
     ++ decimal (slice_index a.0 3)
 
--- a key number, with a space before it, where there is one (profile)
+-- a key number, with a space before it, where there is one
 abbrev pub number_text : Option NonZeroU16 → List ℕ
 number_text number = option_map_or (λ n. codes " " ++ decimal (non_zero_u16_get n)) number []
 
--- what is told of a command (profile)
+-- what is told of a command
 abbrev pub subject_text : Subject → List ℕ
 subject_text s = verb_text s.verb ++ codes " " ++ address_text s.address ++ number_text s.number ++ codes ": "
 
 -- the line of the log, without its line feed, that tells of the line with a number: its command, if it is one, and what became of it
--- (profile)
 abbrev pub logged_line : ℕ → Option Subject → LineOutcome → List ℕ
 logged_line number subject outcome =
-    codes "commands: line " ++ decimal number ++ codes ": " ++ option_map_or subject_text subject [] ++ outcome_text outcome
+    codes "commands: line " ++ decimal number ++ codes ": " ++ option_map_or subject_text subject [] ++ line_outcome_text outcome
 
--- how many customers are enrolled after a line, with `customers` before it, up to 2^64 - 1 (profile)
+-- how many customers are enrolled after a line, with `customers` before it, up to 2^64 - 1
 abbrev pub customers_after : ℕ → Option Verb → LineOutcome → ℕ
 customers_after customers (Some verb.Enrol) Done = min (customers + 1) (2 ^ 64 - 1)
 customers_after customers (Some verb.Revoke) Done = customers - 1

@@ -19,27 +19,27 @@ use Rattle.ntp_reports.specs.Counted.{AreCounts}
 use Rattle.ntp_reports.specs.Signing.{signing_in}
 use Rattle.ntp_reports.specs.Customers.{key_in, report_after, Takes}
 
--- the command that a line carried out, if it did: the one that was heard of before (profile)
+-- the command that a line carried out, if it did: the one that was heard of before
 abbrev pub done_in : Option Command → LineOutcome → Option Command
 done_in heard Done = heard
 done_in heard other = None
 
--- whether an observation is of a datagram from an address (profile)
+-- whether an observation is of a datagram from an address
 abbrev pub comes_from : Address → Observation → Bool
 comes_from address (Turn (Answered arrival a sending)) = address_eq arrival.address address
 comes_from address other = false
 
--- of what was told, the turns with datagrams from an address, in their order (profile)
+-- of what was told, the turns with datagrams from an address, in their order
 abbrev pub told_of : Address → List Observation → List Observation
 told_of address seen = filter (comes_from address) seen
 
--- when the query of an observation came, where it was signed under a key number and got the time or RATE (profile)
+-- when the query of an observation came, where it was signed under a key number and got the time or RATE
 abbrev pub signed_at : ℕ → Observation → Option Moment
 signed_at number (Turn outcome) =
     option_and_then (λ (signing : Signing). if number == signing.number then Some signing.receipt else None) (signing_in outcome)
 signed_at number other = None
 
--- the last of them: the first one from the newest observation back (profile)
+-- the last of them: the first one from the newest observation back
 abbrev pub last_signed : ℕ → List Observation → Option Moment
 last_signed number seen = slice_get (filter_map (signed_at number) (reverse seen)) 0
 
@@ -49,47 +49,47 @@ IsTakenInto outcome None after = after ≡ None
 IsTakenInto outcome (Some before) after = (report : CustomerReport) × (after ≡ Some report) × Takes outcome before report
 
 module _ {A : Type 0} where
-  -- what is reported of an address, if anything is (profile)
+  -- what is reported of an address, if anything is
   abbrev pub report_at : CustomerCounts A → Address → Option CustomerReport
   report_at counts address = lookup (address_eq address) counts.reports.entries
 
-  -- the counts of an address are those of its turns among these observations (profile)
+  -- the counts of an address are those of its turns among these observations
   pub record CountsOf (counts : CustomerCounts A) (address : Address) (seen : List Observation) : Type 0 where
     pub are : IfSome (report_at counts address) (λ report. AreCounts report.counts (told_of address seen))
 
-  -- a key of an address signed last as its turns among these observations tell (profile)
+  -- a key of an address signed last as its turns among these observations tell
   pub record SignsAs (counts : CustomerCounts A) (address : Address) (number : ℕ) (seen : List Observation) : Type 0 where
     pub is : IfSome (option_and_then (λ report. key_in report number) (report_at counts address))
         (λ key. key.last_signed ≡ last_signed number (told_of address seen))
 
-  -- all reports are as they were (profile)
+  -- all reports are as they were
   abbrev pub AreSame : CustomerCounts A → CustomerCounts A → Type 0
   AreSame old new = (address : Address) → report_at new address ≡ report_at old address
 
-  -- an address has this report, and all others are as they were (profile)
+  -- an address has this report, and all others are as they were
   pub record HasReport (old new : CustomerCounts A) (address : Address) (report : Option CustomerReport) : Type 0 where
     pub own : report_at new address ≡ report
     pub others : (other : Address) → address_eq address other ≡ false → report_at new other ≡ report_at old other
 
-  -- a command was carried out by a line: of its address is reported what is after it, and all others are as they were (profile)
+  -- a command was carried out by a line: of its address is reported what is after it, and all others are as they were
   abbrev pub CarriedOut : CustomerCounts A → CustomerCounts A → Command → ℕ → Type 0
   CarriedOut old new command line =
       HasReport old new (address_named command) (report_after (report_at old (address_named command)) command line)
 
-  -- a line carried out this command, or none (profile)
+  -- a line carried out this command, or none
   abbrev pub IsTold : CustomerCounts A → CustomerCounts A → Option Command → ℕ → Type 0
   IsTold old new None line = AreSame old new
   IsTold old new (Some command) line = CarriedOut old new command line
 
-  -- memory was refused for the report of the address that a command names, which had none: all reports are as they were (profile)
+  -- memory was refused for the report of the address that a command names, which had none: all reports are as they were
   abbrev pub HasMissed : CustomerCounts A → CustomerCounts A → Command → Type 0
   HasMissed old new command = (report_at old (address_named command) ≡ None) × AreSame old new × (new.has_missed ≡ true)
 
-  -- a command was carried out by a line, or its report was missed (profile)
+  -- a command was carried out by a line, or its report was missed
   abbrev pub CarriedOutOrMissed : CustomerCounts A → CustomerCounts A → Command → ℕ → Type 0
   CarriedOutOrMissed old new command line = CarriedOut old new command line ⊎ HasMissed old new command
 
-  -- so a line carried out this command, or none (profile)
+  -- so a line carried out this command, or none
   abbrev pub IsToldOrMissed : CustomerCounts A → CustomerCounts A → Option Command → ℕ → Type 0
   IsToldOrMissed old new None line = AreSame old new
   IsToldOrMissed old new (Some command) line = CarriedOutOrMissed old new command line

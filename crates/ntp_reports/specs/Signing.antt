@@ -13,13 +13,13 @@ abbrev pub number_in : List ℕ → Option ℕ
 number_in reply =
     if nat_le (header_length + 4) (length reply) then Some (from_be_bytes w32 (take 4 (drop header_length reply))) else None
 
--- of the answers, the time and RATE are sealed by the key under which the query was signed (profile)
+-- of the answers, the time and RATE are sealed by the key under which the query was signed
 abbrev pub answered_under : Answer → Option ℕ
 answered_under (answer.Time reply saved) = number_in reply
 answered_under (answer.Rate reply) = number_in reply
 answered_under other = None
 
--- under which key number the query of a turn was signed that got the time or RATE, and when it came (profile)
+-- under which key number the query of a turn was signed that got the time or RATE, and when it came
 abbrev pub signing_in : TurnOutcome → Option Signing
 signing_in NothingReceived = None
 signing_in (Answered arrival a sending) = option_map (λ number. record { number = number; receipt = arrival.receipt }) (answered_under a)

@@ -2,7 +2,7 @@
 ghost use Rattle.std.specs.Prelude.{◌≡◌, [], ◌∷◌};
 ghost use Rattle.ntp_service.specs.Sees.{Sees};
 ghost use Rattle.ntp_service.specs.declared.observation.Observation.{Observation};
-ghost use Rattle.ntp_reports.specs.Counted.{CountsMore};
+ghost use Rattle.ntp_reports.specs.Counted.{CountsOneMore};
 
 use crate::counts::Counts;
 use ntp_service::{Command, LineOutcome, Observer, TurnOutcome};
@@ -21,7 +21,7 @@ impl<O: Observer> Observer for Counting<O> {
 
     fn command(&mut self, command: &Command)
         ensures inner { Sees (O.seen self.old.inner) (O.seen self.new.inner) (Observation.Command command.now ∷ []) }
-        ensures counts { CountsMore self.old.counts self.new.counts (Observation.Command command.now) }
+        ensures counts { CountsOneMore self.old.counts self.new.counts (Observation.Command command.now) }
         ensures kept { self.new.counts ≡ self.old.counts }
     {
         self.inner.command(command);
@@ -29,7 +29,7 @@ impl<O: Observer> Observer for Counting<O> {
 
     fn line(&mut self, number: u64, outcome: LineOutcome)
         ensures inner { Sees (O.seen self.old.inner) (O.seen self.new.inner) (Observation.Line number outcome ∷ []) }
-        ensures counts { CountsMore self.old.counts self.new.counts (Observation.Line number outcome) }
+        ensures counts { CountsOneMore self.old.counts self.new.counts (Observation.Line number outcome) }
     {
         self.counts.count_line(outcome);
         self.inner.line(number, outcome);
@@ -37,7 +37,7 @@ impl<O: Observer> Observer for Counting<O> {
 
     fn turn(&mut self, outcome: &TurnOutcome)
         ensures inner { Sees (O.seen self.old.inner) (O.seen self.new.inner) (Observation.Turn outcome.now ∷ []) }
-        ensures counts { CountsMore self.old.counts self.new.counts (Observation.Turn outcome.now) }
+        ensures counts { CountsOneMore self.old.counts self.new.counts (Observation.Turn outcome.now) }
     {
         self.counts.count_turn(outcome);
         self.inner.turn(outcome);

@@ -2,7 +2,7 @@
 ghost use Rattle.std.specs.Prelude.{◌≡◌, ℕ, List, [], ◌∷◌};
 ghost use Rattle.ntp_service.specs.declared.observation.Observation.{Observation};
 ghost use Rattle.ntp_reports.specs.Kinds.{sending_kinds, turn_kinds};
-ghost use Rattle.ntp_reports.specs.Counted.{count_at, nothing_counted, AreCounts, CountsMore, Adds};
+ghost use Rattle.ntp_reports.specs.Counted.{count_at, nothing_counted, AreCounts, CountsOneMore, Adds};
 
 use crate::kind::{KINDS, Kind};
 use crate::kinds::{answer_kind, line_kind};
@@ -35,7 +35,7 @@ impl Counts {
 
     /// Counts a turn: its answer, a reply that could not be sent, and a departure that was noted.
     pub fn count_turn(&mut self, outcome: &TurnOutcome)
-        ensures { CountsMore self.old self.new (Observation.Turn outcome.now) }
+        ensures { CountsOneMore self.old self.new (Observation.Turn outcome.now) }
     {
         match outcome {
             TurnOutcome::NothingReceived => self.add(Kind::NothingReceived),
@@ -52,7 +52,7 @@ impl Counts {
 
     /// Counts a line of commands, whatever its number.
     pub fn count_line(&mut self, outcome: LineOutcome)
-        ensures { (number : ℕ) → CountsMore self.old self.new (Observation.Line number outcome) }
+        ensures { (number : ℕ) → CountsOneMore self.old self.new (Observation.Line number outcome) }
     {
         self.add(line_kind(outcome));
     }

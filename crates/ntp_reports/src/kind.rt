@@ -1,6 +1,6 @@
 //! What is counted.
 
-/// What a turn or a line of commands is counted as (profile).
+/// What a turn or a line of commands is counted as.
 #[derive(Clone, Copy, Debug, PartialEq, Eq)]
 pub enum Kind {
     /// A time reply that tells its own departure.

@@ -2,7 +2,7 @@
 ghost use Rattle.std.specs.Prelude.{◌≡◌, ℕ, List, [], ◌∷◌};
 ghost use Rattle.ntp_reports.specs.Allowing.{ask_answer, first_answer, is_said, IsLeftBy};
 
-/// How many lines of a kind are written in a minute (profile).
+/// How many lines of a kind are written in a minute.
 pub const MOST_LINES: u64 = 10;
 
 /// Whether a line may be written.

@@ -9,7 +9,7 @@ use ntp_mac::Reply;
 use ntp_packet::{HEADER_OCTETS, Stamp, difference};
 
 // Whether a time reply tells the departure of an earlier one (RFC 9769, 2): its transmit stamp lies before its receive
-// stamp (profile).
+// stamp.
 pub(crate) fn tells_departure(reply: &Reply) -> bool
     ensures { result ≡ tells_departure reply.now }
 {

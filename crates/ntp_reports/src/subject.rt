@@ -1,7 +1,7 @@
 //! What the log tells of lines of commands.
 ghost use Rattle.std.specs.Prelude.{◌≡◌, OnOk, option_map};
 ghost use Rattle.std.specs.Io.KnownBytes.{Appends};
-ghost use Rattle.ntp_reports.specs.AnswerText.{outcome_text};
+ghost use Rattle.ntp_reports.specs.AnswerText.{line_outcome_text};
 ghost use Rattle.ntp_reports.specs.Logging.{subject_of, number_text, subject_text, logged_line, customers_after};
 
 use ntp_admin::{Verb, fault_word, number_named, refusal_word};
@@ -64,7 +64,7 @@ pub fn write_logged_line<W: Write>(
 
 // Writes what became of a line.
 fn write_outcome<W: Write>(out: &mut W, outcome: LineOutcome) -> io::Result<()>
-    ensures { OnOk result (Appends (W.contents out.old) (W.contents out.new) (outcome_text outcome)) }
+    ensures { OnOk result (Appends (W.contents out.old) (W.contents out.new) (line_outcome_text outcome)) }
 {
     match outcome {
         LineOutcome::Done => write!(out, "done"),

@@ -29,7 +29,7 @@ use Rattle.ntp_port.proofs.Counting.{at-most-one, sent-one, noted-one}
 use Rattle.ntp_server.specs.declared.server.Totals.{Totals}
 use Rattle.ntp_port.specs.Sources.{Gives, CountsOn}
 use Rattle.ntp_server.specs.Rounds.{Look, Round, Parts, AreDueInTurn, HasLooks, AsksRight, ServesRounds, looks_of, made_in, receipt_in, happened_in_round, round_observations}
-use Rattle.ntp_server.specs.Steps.{LooksOnce, Waits, IsIdle, MakesRound, asked_of, given_of, happened_at_looks, looks_observations, receipts_of, states_of, arrivals_in, replies_in, departures_in}
+use Rattle.ntp_server.specs.Steps.{LooksOnce, Waits, IsIdle, MakesRound, asked_of, given_of, happened_at_looks, looks_observations, receipts_of, states_of, arrivals_in, replies_of_turn, departures_in}
 use Rattle.ntp_server.proofs.Looking.{Gives-nil, Gives-append, CountsOn-nil, CountsOn-append, due-append, Looks-append}
 
 -- ---- a turn behind a wait and a look
@@ -100,7 +100,7 @@ arrivals-made : (m : Made) → arrivals_in (turn_outcome m) ≡ if_so (has_arriv
 arrivals-made (Missed clock sends) = refl
 arrivals-made (Received d clock sends a noted) = refl
 
-replies-made : (m : Made) → replies_in (turn_outcome m) ≡ length (sent_in m)
+replies-made : (m : Made) → replies_of_turn (turn_outcome m) ≡ length (sent_in m)
 replies-made (Missed clock sends) = refl
 replies-made (Received d clock sends a noted) = sent-one d clock sends a noted
 
@@ -114,7 +114,7 @@ few_sent [] = omega arith
 few_sent (m ∷ ms) =
     omega (arith, few_sent ms, length-append (sent_in m) (sent_of ms), replies-made m, one (turn_outcome m))
   where
-    one : (o : TurnOutcome) → replies_in o ≤ 1
+    one : (o : TurnOutcome) → replies_of_turn o ≤ 1
     one NothingReceived = omega arith
     one (Answered arrival answer sending) = at-most-one (was_sent sending)
 
@@ -147,7 +147,7 @@ Serves-none A prompt may p = record {
 
 pub Serves-round : (A : Type 0) (prompt may : Bool) (n : ℕ) (p q r : Parts) (a b : Totals) (outcome : TurnOutcome)
     → ServesRounds A prompt may n p q a → MakesRound A prompt may q r outcome → b.arrivals ≡ a.arrivals + arrivals_in outcome
-    → b.sent ≡ a.sent + replies_in outcome → b.departed ≡ a.departed + departures_in outcome → ServesRounds A prompt may (n + 1) p r b
+    → b.sent ≡ a.sent + replies_of_turn outcome → b.departed ≡ a.departed + departures_in outcome → ServesRounds A prompt may (n + 1) p r b
 Serves-round A prompt may n p q r a b outcome s m arrivals sent departed =
     let rounds = s.rounds in
     let round = m.round in
@@ -198,7 +198,7 @@ Serves-round A prompt may n p q r a b outcome s m arrivals sent departed =
         arith,
         sent,
         s.sent,
-        ap replies_in m.comes_to,
+        ap replies_of_turn m.comes_to,
         replies-made made,
         ap (λ l. length (sent_of l)) turns,
         ap length (flat_map-push sent_in (made_in rounds) made),

@@ -18,25 +18,25 @@ use Rattle.ntp_server.specs.declared.server.Totals.{Totals}
 use Rattle.ntp_port.specs.Sources.{Coming, Gives, CountsOn}
 
 -- a look at the commands: what the source was asked with, how many lines were applied before, the octets that it gave, if any, and the
--- lines that were taken (profile)
+-- lines that were taken
 pub record Look : Type 0 where
   pub asked : Option Moment
   pub applied : ℕ
   pub given : Option (List ℕ)
   pub taken : List TakenLine
 
--- a turn with the looks before it, and the state of the clock that was in force (profile)
+-- a turn with the looks before it, and the state of the clock that was in force
 pub record Round : Type 0 where
   pub looks : List Look
   pub reference : ReferenceState
   pub made : Made
 
--- the lines that are due at a look (profile)
+-- the lines that are due at a look
 abbrev pub AreDueAt : ℕ → Option (List ℕ) → List (List ℕ) → ℕ → Type 0
 AreDueAt applied None lines after = (lines ≡ []) × (after ≡ applied)
 AreDueAt applied (Some octets) lines after = AreDue applied octets lines after
 
--- at each of these looks, one after another, the lines that were due were taken (profile)
+-- at each of these looks, one after another, the lines that were due were taken
 abbrev pub AreDueInTurn : ℕ → List Look → ℕ → Type 0
 AreDueInTurn applied [] after = after ≡ applied
 AreDueInTurn applied (l ∷ looks) after = (next : ℕ)
@@ -49,24 +49,24 @@ looks_of rounds = flat_map (λ r. r.looks) rounds
 abbrev pub made_in : List Round → List Made
 made_in rounds = map (λ r. r.made) rounds
 
--- what happened in a round: at the lines that were taken at its looks, then in its turn (profile)
+-- what happened in a round: at the lines that were taken at its looks, then in its turn
 abbrev pub happened_in_round : {A : Type 0} → Round → List (Event A × Outcome)
 happened_in_round r = flat_map (λ l. happened_at_lines l.taken) r.looks ++ happened_in_turn r.reference r.made
 
--- what an observer is told of a round: each line that was taken, then the turn (profile)
+-- what an observer is told of a round: each line that was taken, then the turn
 abbrev pub round_observations : Round → List Observation
 round_observations r = flat_map (λ l. line_observations l.applied l.taken) r.looks ++ Turn (turn_outcome r.made) ∷ []
 
--- when the datagram of a turn came (profile)
+-- when the datagram of a turn came
 abbrev pub receipt_in : Made → Option Moment
 receipt_in m = option_map (λ d. d.receipt) (turn_of m).arrival
 
--- commands are looked at in each turn, and just once at a port at which no wait ends with none (profile)
+-- commands are looked at in each turn, and just once at a port at which no wait ends with none
 abbrev pub HasLooks : Bool → Round → Type 0
 HasLooks true r = length r.looks ≡ 1
 HasLooks false r = 0 < length r.looks
 
--- the last look of a round is asked with when its datagram came, and those before it, while none had come, with nothing (profile)
+-- the last look of a round is asked with when its datagram came, and those before it, while none had come, with nothing
 pub record AsksRight (r : Round) : Type 0 where
   pub idle : List Look
   pub last : Look
@@ -74,7 +74,7 @@ pub record AsksRight (r : Round) : Type 0 where
   pub waiting : All (λ l. l.asked ≡ None) idle
   pub come : last.asked ≡ receipt_in r.made
 
--- what the parts of a server and its reporter tell, with what its port counted, how many lines were applied, and its service (profile)
+-- what the parts of a server and its reporter tell, with what its port counted, how many lines were applied, and its service
 pub record Parts : Type 0 where
   pub port : Option Told
   pub counts : PortCounts
@@ -87,7 +87,6 @@ pub record Parts : Type 0 where
   pub service : Registry
 
 -- `turns` rounds were made at a port that is prompt or not, and may drop or not; `before` was told of the server before, `after` after
--- (profile)
 pub record ServesRounds (A : Type 0) (prompt may_drop : Bool) (turns : ℕ) (before after : Parts) (totals : Totals) : Type 0 where
   pub rounds : List Round
   pub each : length rounds ≡ turns

@@ -90,9 +90,9 @@ arrivals_in NothingReceived = 0
 arrivals_in (Answered arrival answer sending) = 1
 
 -- how many replies were sent in it
-abbrev pub replies_in : TurnOutcome → ℕ
-replies_in NothingReceived = 0
-replies_in (Answered arrival answer sending) = if was_sent sending then 1 else 0
+abbrev pub replies_of_turn : TurnOutcome → ℕ
+replies_of_turn NothingReceived = 0
+replies_of_turn (Answered arrival answer sending) = if was_sent sending then 1 else 0
 
 -- how many departures were noted in it
 abbrev pub departures_in : TurnOutcome → ℕ

@@ -8,7 +8,7 @@ use ntp_reply::Reference;
 use ntp_service::{Command, LineOutcome, NoMemory, Observation, Observer, TurnOutcome};
 use std::alloc::{Allocator, Global};
 
-/// A commands file in memory: each look gives the next of a list, and nothing once the list has run out (profile).
+/// A commands file in memory: each look gives the next of a list, and nothing once the list has run out.
 #[derive(Debug, Drop)]
 pub struct MemoryCommands<A: Allocator = Global> {
     looks: Vec<Option<Vec<u8, A>>, A>,
@@ -45,7 +45,7 @@ impl<A: Allocator + Copy> CommandsSource<A> for MemoryCommands<A> {
     }
 }
 
-/// States of a clock in memory: those of a list, one after another, and behind them one for ever (profile).
+/// States of a clock in memory: those of a list, one after another, and behind them one for ever.
 #[derive(Debug, Drop)]
 pub struct MemoryStates<A: Allocator = Global> {
     states: Vec<Reference, A>,
@@ -86,7 +86,7 @@ impl<A: Allocator> ReferenceSource for MemoryStates<A> {
     fn tend(&mut self) {}
 }
 
-/// An observer in memory, with limited room for observations. It tells what it has seen as long as it had room for all (profile).
+/// An observer in memory, with limited room for observations. It tells what it has seen as long as it had room for all.
 #[derive(Debug, Drop)]
 pub struct MemoryObserver<A: Allocator = Global> {
     seen: Vec<Observation, A>,

@@ -5,7 +5,7 @@ ghost use Rattle.ntp_service.specs.Sees.{Sees};
 
 use ntp_packet::Moment;
 
-/// Is shown a server `S` as it is, between its turns and while nothing comes (profile).
+/// Is shown a server `S` as it is, between its turns and while nothing comes.
 ///
 /// It has the server behind a shared reference, and so can change nothing of what the server does.
 ///

@@ -5,7 +5,7 @@ use Rattle.std.specs.Ordering.{nat_cmp}
 use Rattle.std.specs.Cmp.Lexicographic.{slice_cmp, pointwise}
 use Rattle.ntp_service.specs.declared.address.Address.{Address}
 
--- by the octets, the first one first (profile)
+-- by the octets, the first one first
 abbrev pub address_cmp : Address → Address → Ordering
 address_cmp a b = slice_cmp nat_cmp a.0 b.0
 

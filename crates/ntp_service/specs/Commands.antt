@@ -29,16 +29,16 @@ number_wanted other = None
 abbrev pub numbered : NonZeroU16 → SymmetricKey → NumberedKey
 numbered number key = record { number = non_zero_u16_get number; key = key }
 
--- why a rollover of an enrolment e to this number is refused, if it is, whoever else holds the number (profile)
+-- why a rollover of an enrolment e to this number is refused, if it is, whoever else holds the number
 abbrev pub rollover_refusal : Enrolment → ℕ → Option Refusal
 rollover_refusal e number =
     if is_some (held_in e number) then Some SameNumber else if nat_lt (length e.keys) most_keys then None else Some RoomFull
 
--- why the key of this number is not taken from an enrolment e, if it is not: e does not hold it, or has no other (profile)
+-- why the key of this number is not taken from an enrolment e, if it is not: e does not hold it, or has no other
 abbrev pub retire_refusal : Enrolment → ℕ → Option Refusal
 retire_refusal e number = if is_some (held_in e number) then (if nat_lt 1 (length e.keys) then None else Some OnlyKey) else Some NotHeld
 
--- why a command is refused, if it is, by the enrolment that its address has, if it has one (profile)
+-- why a command is refused, if it is, by the enrolment that its address has, if it has one
 abbrev pub refusal_of : Option Enrolment → Command → Option Refusal
 refusal_of None (Enrol address number key budget) = None
 refusal_of None other = Some NotEnrolled
@@ -47,13 +47,13 @@ refusal_of (Some e) (Rollover address number key) = rollover_refusal e (non_zero
 refusal_of (Some e) (Retire address number) = retire_refusal e (non_zero_u16_get number)
 refusal_of (Some e) other = None
 
--- the refusals that a neighbour, or want of memory, can cause (profile)
+-- the refusals that a neighbour, or want of memory, can cause
 abbrev pub is_foreign : Refusal → Bool
 is_foreign KeyTaken = true
 is_foreign NoMemory = true
 is_foreign other = false
 
--- the customer at the address of a command once it is done: an enrolment makes a new one, whose counts are `nothing` (profile)
+-- the customer at the address of a command once it is done: an enrolment makes a new one, whose counts are `nothing`
 abbrev pub once_done : {C : Type 0} → C → Option (CustomerOf C) → Command → Option (CustomerOf C)
 once_done nothing customer (Enrol address number key budget) =
     Some (customer_from nothing (enrolment_of (numbered number key) (non_zero_u16_get budget)))

@@ -12,31 +12,31 @@ use Rattle.ntp_service.specs.Events.{own}
 use Rattle.ntp_service.specs.Model.{after, life_of, FollowsModel}
 use Rattle.ntp_service.specs.Headline.{happened_to}
 
--- whether a datagram of a kind is a signed query: its MAC is under one of the customer's keys (profile)
+-- whether a datagram of a kind is a signed query: its MAC is under one of the customer's keys
 abbrev pub is_signed_query : Kind → Bool
 is_signed_query (Signed key number request) = true
 is_signed_query other = false
 
--- whether an event is genuine in a life: a signed query is, and no other datagram; each departure and each command is (profile)
+-- whether an event is genuine in a life: a signed query is, and no other datagram; each departure and each command is
 abbrev pub is_genuine : {A : Type 0} → Life → Event A → Bool
 is_genuine life (event.Datagram address receipt transmit reference octets) =
     option_map_or (λ past. is_signed_query (kind_of past octets)) life false
 is_genuine life other = true
 
 -- of what stands beside events, from a life on, that beside the genuine ones: each event is judged in the life that all events before
--- it left (profile)
+-- it left
 abbrev pub at_genuine : {A X : Type 0} → Life → List (Event A) → List X → List X
 at_genuine life events beside = map (λ p. p.1) (filter (λ p. p.0) (zip (scan after is_genuine life events) beside))
 
--- the genuine ones of events (profile)
+-- the genuine ones of events
 abbrev pub genuine : {A : Type 0} → List (Event A) → List (Event A)
 genuine events = at_genuine None events events
 
--- a life with no refusals counted (profile)
+-- a life with no refusals counted
 abbrev pub without_refusals : Life → Life
 without_refusals life = option_map (λ (past : Past). record past { refusals = [] }) life
 
--- what happened to each address at its genuine events follows the model of one customer, by the address's genuine events alone (profile)
+-- what happened to each address at its genuine events follows the model of one customer, by the address's genuine events alone
 abbrev pub TellsWithoutForgeries : {A : Type 0} → List (Event A) → List (Event A × Outcome) → Type 0
 TellsWithoutForgeries history happened = (address : Address)
     → let past = own address history in

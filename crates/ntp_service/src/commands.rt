@@ -16,7 +16,7 @@ use std::alloc::Allocator;
 use std::num::NonZero;
 
 impl<A: Allocator + Copy> Register<A> {
-    /// Carries a command out, or refuses it and changes nothing (profile).
+    /// Carries a command out, or refuses it and changes nothing.
     ///
     /// What its own address has may refuse it, as the call for each command says; else `KeyTaken`, where another
     /// address holds the number that it asks for; else want of memory, and that only where it asks for a number.
@@ -35,7 +35,7 @@ impl<A: Allocator + Copy> Register<A> {
         Ok(())
     }
 
-    /// Enrols an address with a key, its number and a budget (profile). A revoked address may be enrolled
+    /// Enrols an address with a key, its number and a budget. A revoked address may be enrolled
     /// again, and begins as a new customer.
     ///
     /// Refused in this order: `AlreadyEnrolled`, `KeyTaken`, `NoMemory`.
@@ -61,7 +61,7 @@ impl<A: Allocator + Copy> Register<A> {
         })
     }
 
-    /// Revokes an enrolled address: its key numbers are free again (profile).
+    /// Revokes an enrolled address: its key numbers are free again.
     ///
     /// Refused with `NotEnrolled` alone.
     pub fn revoke(&mut self, address: Address) -> Result<(), Refusal>
@@ -73,7 +73,7 @@ impl<A: Allocator + Copy> Register<A> {
     }
 
     /// Gives an enrolled address another budget. What was counted and what is saved stays, and the budget may change while
-    /// a window runs (profile).
+    /// a window runs.
     ///
     /// Refused with `NotEnrolled` alone.
     pub fn set_budget(&mut self, address: Address, budget: u16) -> Result<(), Refusal>
@@ -89,7 +89,7 @@ impl<A: Allocator + Copy> Register<A> {
     }
 
     /// Gives an enrolled address a newer key beside its only one, under another number, which nobody holds.
-    /// What was counted and what is saved stays (profile).
+    /// What was counted and what is saved stays.
     ///
     /// Refused in this order: `NotEnrolled`, `SameNumber`, `RoomFull`, `KeyTaken`, `NoMemory`.
     pub fn rollover(&mut self, address: Address, number: u16, key: Key) -> Result<(), Refusal>
@@ -106,7 +106,7 @@ impl<A: Allocator + Copy> Register<A> {
     }
 
     /// Takes the key of a number from an enrolled address that holds another key too: the number is free
-    /// again. What was counted and what is saved stays (profile).
+    /// again. What was counted and what is saved stays.
     ///
     /// Refused in this order: `NotEnrolled`, `NotHeld`, `OnlyKey`. It takes no memory.
     pub fn retire(&mut self, address: Address, number: u16) -> Result<(), Refusal>

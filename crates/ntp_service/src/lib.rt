@@ -1,5 +1,5 @@
 //! A service for registered customers: one event at a time, or a list of them; who is told of them; and what is promised of
-//! its answers (profile).
+//! its answers.
 //!
 //! One or two keys are tied to one client address. Who holds a key number is kept apart from the customers, so nothing that is
 //! written to a customer alters it. Contracts see the register as two finite maps, with no order of entries and no spare room.

@@ -1,7 +1,7 @@
 //! What is wrong with a line of a script.
 
 /// The first thing that is wrong with a line: its first word, else how many words there are, else the words from
-/// left to right (profile). The numbers are the faults' own, and no order.
+/// left to right. The numbers are the faults' own, and no order.
 #[derive(Clone, Copy, Debug, PartialEq, Eq)]
 pub enum LineFault {
     /// The first word is none of those that begin a line.

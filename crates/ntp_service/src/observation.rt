@@ -32,7 +32,7 @@ pub enum Sending {
     NotNoted,
 }
 
-/// What was done in one turn of a server (profile).
+/// What was done in one turn of a server.
 #[derive(Clone, Debug, PartialEq, Eq, Drop)]
 pub enum TurnOutcome {
     /// No datagram could be received.
@@ -48,7 +48,7 @@ pub enum TurnOutcome {
     },
 }
 
-/// What became of a line of commands (profile).
+/// What became of a line of commands.
 #[derive(Clone, Copy, Debug, PartialEq, Eq)]
 pub enum LineOutcome {
     /// Its command was carried out.

@@ -5,7 +5,7 @@ ghost use Rattle.ntp_service.specs.declared.observation.Observation.{Observation
 
 use crate::{Command, LineOutcome, TurnOutcome};
 
-/// Who is told of each command, of each line of commands and of each turn (profile).
+/// Who is told of each command, of each line of commands and of each turn.
 ///
 /// An observer may tell what it has seen, as a list, as long as it has room for it.
 pub trait Observer {

@@ -1,7 +1,7 @@
 //! Why a command is refused.
 use ntp_customer::NoMemory;
 
-/// Why a command was refused (profile). Each command says in which order it looks for its causes.
+/// Why a command was refused. Each command says in which order it looks for its causes.
 #[derive(Clone, Copy, Debug, PartialEq, Eq)]
 pub enum Refusal {
     /// The address is enrolled.

@@ -7,6 +7,7 @@ use Rattle.ntp_reply.specs.Reference.{ReferenceState}
 use Rattle.ntp_reply.specs.declared.answers.Answer.{Answer}
 use Rattle.ntp_reply.specs.declared.answers.Answer.TheVariants as answer
 use Rattle.ntp_service.specs.declared.observation.Arrival.{Arrival}
+use Rattle.ntp_service.specs.declared.observation.Sending.{Sending}
 use Rattle.ntp_service.specs.declared.observation.TurnOutcome.{TurnOutcome}
 use Rattle.ntp_service.specs.declared.observation.TurnOutcome.TheVariants.{NothingReceived, Answered}
 use Rattle.ntp_service.specs.Headline.{Tells}
@@ -39,33 +40,26 @@ counts-one (Answered x a sending) c = record {
   departed = omega (arith, at-most-one (was_noted sending));
 }
 
+-- what became of a reply tells what its turn sends, and whether its departure is noted
+record SendsOne (m : Made) (sending : Sending) : Type 0 where
+  sent : if_so (was_sent sending) ≡ length (sent_in m)
+  noted : was_noted sending ≡ has_departed m
+
+-- so it is of a turn with a datagram
+sends-one : (d : IncomingValue) (clock : Readings) (sends : Bool) (a : Answer) (noted : Bool)
+    → SendsOne (Received d clock sends a noted) (sending_of a sends noted)
+sends-one d clock true (answer.Time reply saved) true = record { sent = refl; noted = refl }
+sends-one d clock true (answer.Time reply saved) false = record { sent = refl; noted = refl }
+sends-one d clock false (answer.Silent why) noted = record { sent = refl; noted = refl }
+sends-one d clock sends a noted = record { sent = refl; noted = refl }
+
 pub sent-one : (d : IncomingValue) (clock : Readings) (sends : Bool) (a : Answer) (noted : Bool)
     → if_so (was_sent (sending_of a sends noted)) ≡ length (sent_in (Received d clock sends a noted))
-sent-one d clock true (answer.Time reply saved) true = refl
-sent-one d clock true (answer.Time reply saved) false = refl
-sent-one d clock true (answer.Rate reply) noted = refl
-sent-one d clock true (answer.Deny reply) noted = refl
-sent-one d clock true (answer.Nak reply) noted = refl
-sent-one d clock true (answer.Silent why) noted = refl
-sent-one d clock false (answer.Time reply saved) noted = refl
-sent-one d clock false (answer.Rate reply) noted = refl
-sent-one d clock false (answer.Deny reply) noted = refl
-sent-one d clock false (answer.Nak reply) noted = refl
-sent-one d clock false (answer.Silent why) noted = refl
+sent-one d clock sends a noted = (sends-one d clock sends a noted).sent
 
 pub noted-one : (d : IncomingValue) (clock : Readings) (sends : Bool) (a : Answer) (noted : Bool)
     → was_noted (sending_of a sends noted) ≡ has_departed (Received d clock sends a noted)
-noted-one d clock true (answer.Time reply saved) true = refl
-noted-one d clock true (answer.Time reply saved) false = refl
-noted-one d clock true (answer.Rate reply) noted = refl
-noted-one d clock true (answer.Deny reply) noted = refl
-noted-one d clock true (answer.Nak reply) noted = refl
-noted-one d clock true (answer.Silent why) noted = refl
-noted-one d clock false (answer.Time reply saved) noted = refl
-noted-one d clock false (answer.Rate reply) noted = refl
-noted-one d clock false (answer.Deny reply) noted = refl
-noted-one d clock false (answer.Nak reply) noted = refl
-noted-one d clock false (answer.Silent why) noted = refl
+noted-one d clock sends a noted = (sends-one d clock sends a noted).noted
 
 -- what a turn counts
 record Counted (m : Made) (c d : Served) : Type 0 where

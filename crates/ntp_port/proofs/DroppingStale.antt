@@ -2,7 +2,7 @@
 use Rattle.std.proofs.Common.{◌≡◌, ℕ, ◌+◌, ◌-◌, ◌^◌, ◌<◌, ◌≤◌, true, false, List, [], ◌∷◌, ◌++◌, Option, None, Result, refl, subst, ◌∙◌, arith, length-append}
 use Rattle.ntp_service.specs.declared.observation.Arrival.{Arrival}
 use Rattle.ntp_port.specs.declared.port.PortFault.{PortFault}
-use Rattle.ntp_port.specs.Port.{Told, DropTells}
+use Rattle.ntp_port.specs.Port.{Told, TellsOn, DropTells}
 use Rattle.ntp_port.specs.declared.queue_event.QueueEvent.{QueueEvent}
 use Rattle.ntp_port.specs.declared.queue_event.QueueEvent.TheVariants.{Taken}
 use Rattle.ntp_port.specs.declared.queue_watch.QueueWatch.{QueueWatch}
@@ -12,27 +12,31 @@ use Rattle.ntp_port.specs.Freshness.{MayBeAnswered, IsInOrder}
 use Rattle.ntp_port.specs.Queue.{TellsEvents, seen_in_drop}
 use Rattle.ntp_port.specs.Watch.{Watches, Counts, IsWaiting, longest_of}
 use Rattle.ntp_port.specs.Passing.{HandsOnTurn}
-use Rattle.ntp_port.specs.Fresh.{InHand, Swept, AreStale, counted_on, WasAsked, PassesOn, Kept, kept, PassesOnFresh}
+use Rattle.ntp_port.specs.Fresh.{Stands, InHand, Swept, AreStale, counted_on, IsSeenFrom, WasAsked, PassesOn, Kept, PassesOnFresh}
 use Rattle.ntp_port.specs.Next.{ComesTo, drops_in, TakesNext, Drops}
-use Rattle.ntp_port.proofs.Seeing.{IsSeenFrom-same, IsSeenFrom-more, seen-in_drop}
+use Rattle.ntp_port.proofs.Seeing.{IsSeenFrom-same, IsSeenFrom-more, seen-in_call}
 use Rattle.ntp_port.proofs.Keeping.{AreStale-append, counted-append, counts-one, StandsFor-Taken}
 use Rattle.ntp_port.proofs.Dropping.{TellsOn-same, DropsTurns-one, DropsTurns-append}
 
-pub Drops-none : (k : Kept) → k.stale ≤ 2 ^ 64 - 1 → Drops k k
-Drops-none k fits = record {
+-- none, whatever call was made
+Drops-still : (k : Kept) (u : Option Told) (r : Option (List QueueEvent)) → k.stale ≤ 2 ^ 64 - 1 → TellsOn k.told u
+    → ((history : List QueueEvent) → IsSeenFrom k.reading k.reading k.history r history history) → Drops k (record k { told = u; history = r })
+Drops-still k u r fits on seen = record {
   count = 0;
   counted = omega (arith, fits);
-  turns = TellsOn-same k.told;
+  turns = on;
   longest = refl;
-  each = λ history stands. record {
-    after = history;
-    stands = stands;
-    seen = IsSeenFrom-same k.reading k.history history;
-    dropped = [];
-    stale = refl;
-    as_many = refl;
-  };
+  each = λ history stands.
+      record { after = history; stands = stands; seen = seen history; dropped = []; stale = refl; as_many = refl };
 }
+
+pub Drops-none : (k : Kept) → k.stale ≤ 2 ^ 64 - 1 → Drops k k
+Drops-none k fits = Drops-still k k.told k.history fits (TellsOn-same k.told) (IsSeenFrom-same k.reading k.history)
+
+pub Drops-unswept : (k : Kept) (u : Option Told) (r : Option (List QueueEvent)) → k.stale ≤ 2 ^ 64 - 1 → DropTells k.told u false
+    → TellsEvents k.history r (seen_in_drop false) → Drops k (record k { told = u; history = r })
+Drops-unswept k u r fits drops tells =
+    Drops-still k u r fits drops (seen-in_call k.reading k.history r (seen_in_drop false) (λ shown known. refl) tells)
 
 -- these, and then those
 pub Drops-append : (a b c : Kept) → Drops a b → Drops b c → Drops a c
@@ -75,42 +79,24 @@ Drops-taken a b datagram takes = record {
 }
 
 -- one that was swept out
-pub Drops-swept : (watch after : QueueWatch) (reading next s v : ℕ) (t u : Option Told) (q r : Option (List QueueEvent))
-    → longest_of after ≡ longest_of watch → IsWaiting watch
-    → ((history : List QueueEvent) → Watches watch history → Watches after (Taken reading ∷ history))
-    → ((history : List QueueEvent) → Counts watch history → Counts after (Taken reading ∷ history))
-    → ((history : List QueueEvent) → Watches watch history → IsInOrder history → MayBeAnswered (longest_of watch) history reading → ⊥)
-    → DropTells t u true → TellsEvents q r (seen_in_drop true) → v ≡ counted_on s 1
-    → Drops (kept watch reading next s t q) (kept after reading next v u r)
-Drops-swept watch after reading next s v t u q r longest waits watches counts not drops tells counted = record {
+pub Drops-swept : (a : Kept) (after : QueueWatch) (v : ℕ) (u : Option Told) (r : Option (List QueueEvent))
+    → longest_of after ≡ longest_of a.watch → IsWaiting a.watch
+    → ((history : List QueueEvent) (at : ℕ) → Watches a.watch history → Watches after (Taken at ∷ history))
+    → ((history : List QueueEvent) (at : ℕ) → Counts a.watch history → Counts after (Taken at ∷ history))
+    → ((history : List QueueEvent) → Watches a.watch history → IsInOrder history → MayBeAnswered (longest_of a.watch) history a.reading → ⊥)
+    → DropTells a.told u true → TellsEvents a.history r (seen_in_drop true) → v ≡ counted_on a.stale 1
+    → Drops a (record a { watch = after; stale = v; told = u; history = r })
+Drops-swept a after v u r longest waits watches counts not drops tells counted = record {
   count = 1;
   counted = counted;
-  turns = DropsTurns-one t u drops;
+  turns = DropsTurns-one a.told u drops;
   longest = longest;
   each = λ history stands. record {
-    after = Taken reading ∷ history;
-    stands = StandsFor-Taken watch after reading next history longest stands (watches history stands.watches) (counts history stands.counts);
-    seen = seen-in_drop reading q r true history tells;
-    dropped = Swept [] refl reading ∷ [];
-    stale = ((not history stands.watches stands.ordered, counts-one watch history waits stands.counts), refl);
-    as_many = refl;
-  };
-}
-
--- or none
-pub Drops-unswept : (watch : QueueWatch) (reading next s : ℕ) (t u : Option Told) (q r : Option (List QueueEvent)) → s ≤ 2 ^ 64 - 1
-    → DropTells t u false → TellsEvents q r (seen_in_drop false) → Drops (kept watch reading next s t q) (kept watch reading next s u r)
-Drops-unswept watch reading next s t u q r fits drops tells = record {
-  count = 0;
-  counted = omega (arith, fits);
-  turns = drops;
-  longest = refl;
-  each = λ history stands. record {
-    after = history;
-    stands = stands;
-    seen = seen-in_drop reading q r false history tells;
-    dropped = [];
-    stale = refl;
+    after = Taken a.reading ∷ history;
+    stands = StandsFor-Taken a.watch after a.reading a.next_look longest watches counts history stands;
+    seen = seen-in_call a.reading a.history r (seen_in_drop true) (λ shown known. refl) tells history;
+    dropped = Swept [] refl a.reading ∷ [];
+    stale = ((not history stands.watches stands.ordered, counts-one a.watch history waits stands.counts), refl);
     as_many = refl;
   };
 }
@@ -129,54 +115,50 @@ unfolding Drops-append Drops-taken
 DropsMany-more least a b c d datagram many takes swept =
     (Drops-append a c d (Drops-append a b c many.0 (Drops-taken b c datagram takes)) swept, omega (arith, many.1))
 
+-- what goes on from a history behind those, and what is passed on there
+abbrev PassesThere : Kept → Kept → ℕ → Option (Result Arrival PortFault) → List QueueEvent → Type 0
+PassesThere b c count result history = (after : List QueueEvent) × Stands c after
+    × IsSeenFrom b.reading c.reading b.history c.history history after × PassesOn (longest_of b.watch) history result after
+    × WasAsked count history result after
+
 -- and then this is passed on
+Passes-there : (a b c : Kept) (result : Option (Result Arrival PortFault)) (datagram : List ℕ) (drops : Drops a b) → c.stale ≡ b.stale
+    → HandsOnTurn b.told c.told result datagram → longest_of c.watch ≡ longest_of b.watch
+    → ((history : List QueueEvent) → Stands b history → PassesThere b c drops.count result history) → PassesOnFresh a c result datagram
+Passes-there a b c result datagram drops none hands longest passes = record {
+  dropped = drops.count;
+  counted = none ∙ drops.counted;
+  turns = (b.told, drops.turns, hands);
+  longest = longest ∙ drops.longest;
+  fresh = λ history stands.
+      let x = drops.each history stands in
+      let y = passes x.after x.stands in (
+        y.0,
+        y.1,
+        record {
+          dropped = x.dropped;
+          between = x.after;
+          stale = x.stale;
+          passed_on = subst (λ n. PassesOn n x.after result y.0) drops.longest y.3;
+          asked = y.4;
+          as_many = x.as_many;
+          seen = IsSeenFrom-more a.reading b.reading c.reading a.history b.history c.history history x.after y.0 x.seen y.2;
+        },
+      );
+}
+
+-- what one take comes to
 pub Passes-end : (a b c : Kept) (next : Next) (result : Option (Result Arrival PortFault)) (datagram : List ℕ) (drops : Drops a b)
     → TakesNext b c next datagram → drops_in next ≡ 0 → HandsOnTurn b.told c.told result datagram
     → ((history after : List QueueEvent) → ComesTo (longest_of b.watch) history next after
     → PassesOn (longest_of b.watch) history result after × WasAsked drops.count history result after)
     → PassesOnFresh a c result datagram
-Passes-end a b c next result datagram drops takes none hands passes = record {
-  dropped = drops.count;
-  counted = omega (arith, drops.counted, takes.counted, none);
-  turns = (b.told, drops.turns, hands);
-  longest = takes.longest ∙ drops.longest;
-  fresh = λ history stands.
-      let x = drops.each history stands in
-      let y = takes.each x.after x.stands in
-      let passed = passes x.after y.after y.comes_to in (
-        y.after,
-        y.stands,
-        record {
-          dropped = x.dropped;
-          between = x.after;
-          stale = x.stale;
-          passed_on = subst (λ n. PassesOn n x.after result y.after) drops.longest passed.0;
-          asked = passed.1;
-          as_many = x.as_many;
-          seen = IsSeenFrom-more a.reading b.reading c.reading a.history b.history c.history history x.after y.after x.seen y.seen;
-        },
-      );
-}
+Passes-end a b c next result datagram drops takes none hands passes =
+    Passes-there a b c result datagram drops (omega (arith, drops.counted, takes.counted, none)) hands takes.longest (λ history stands.
+    let y = takes.each history stands in
+    let passed = passes history y.after y.comes_to in (y.after, y.stands, y.seen, passed.0, passed.1))
 
 -- or nothing, after so many
 pub Passes-out : (a b : Kept) (datagram : List ℕ) (drops : Drops a b) → 0 < drops.count → PassesOnFresh a b None datagram
-Passes-out a b datagram drops some = record {
-  dropped = drops.count;
-  counted = drops.counted;
-  turns = (b.told, drops.turns, TellsOn-same b.told);
-  longest = drops.longest;
-  fresh = λ history stands.
-      let x = drops.each history stands in (
-        x.after,
-        x.stands,
-        record {
-          dropped = x.dropped;
-          between = x.after;
-          stale = x.stale;
-          passed_on = ([], refl, refl);
-          asked = λ none. absurd (omega (arith, none, some));
-          as_many = x.as_many;
-          seen = x.seen;
-        },
-      );
-}
+Passes-out a b datagram drops some = Passes-there a b b None datagram drops refl (TellsOn-same b.told) refl (λ history stands.
+    (history, stands, IsSeenFrom-same b.reading b.history history, ([], refl, refl), λ none. absurd (omega (arith, none, some))))

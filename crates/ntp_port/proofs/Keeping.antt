@@ -1,5 +1,5 @@
 -- What is kept goes on to be that of a history.
-use Rattle.std.proofs.Common.{◌≡◌, ℕ, zero, suc, ◌+◌, ◌-◌, ◌≤◌, inl, inr, List, [], ◌∷◌, ◌++◌, refl, sym, ap, subst, ◌∙◌, arith}
+use Rattle.std.proofs.Common.{◌≡◌, ℕ, zero, suc, ◌+◌, ◌-◌, ◌≤◌, ◌⊎◌, inl, inr, List, [], ◌∷◌, ◌++◌, refl, sym, ap, subst, ◌∙◌, arith}
 use Rattle.std.specs.Prelude.{All}
 use Rattle.ntp_port.specs.declared.queue_event.QueueEvent.{QueueEvent}
 use Rattle.ntp_port.specs.declared.queue_event.QueueEvent.TheVariants.{Held, Looked, Taken, Read}
@@ -43,49 +43,47 @@ counts-one watch history waits counts =
     let x = counts waits in (x.0, x.1, x.2, watch.seen, x.3, omega (arith, waits, x.4))
 
 -- an event of now
-StandsFor-event : (watch after : QueueWatch) (reading next : ℕ) (history : List QueueEvent) (event : QueueEvent) → moment_of event ≡ reading
-    → longest_of after ≡ longest_of watch → KeepsHistory watch reading next history → Watches after (event ∷ history)
-    → Counts after (event ∷ history) → KeepsHistory after reading next (event ∷ history)
-StandsFor-event watch after reading next history event now longest stands watches counts =
-    let ordered : IsInOrder (event ∷ history) = ((λ k d below. omega (arith, now, stands.past k d below)), stands.ordered) in
+StandsFor-event : (watch after : QueueWatch) (reading now next : ℕ) (history : List QueueEvent) (event : QueueEvent) → reading ≤ now
+    → moment_of event ≡ now → longest_of after ≡ longest_of watch → KeepsHistory watch reading next history → Watches after (event ∷ history)
+    → Counts after (event ∷ history) → KeepsHistory after now next (event ∷ history)
+StandsFor-event watch after reading now next history event later is longest stands watches counts =
+    let past : All (λ e. moment_of e ≤ now) history = λ k d below. omega (arith, later, stands.past k d below) in
+    let ordered : IsInOrder (event ∷ history) = ((λ k d below. omega (arith, is, past k d below)), stands.ordered) in
     record {
       watches = watches;
       counts = counts;
       looks_again = LooksAgain-more (longest_of after) next event history ordered
           (subst (λ n. LooksAgain n history next) (sym longest) stands.looks_again);
       ordered = ordered;
-      past = All-cons (λ e. moment_of e ≤ reading) event history (omega (arith, now)) stands.past;
+      past = All-cons (λ e. moment_of e ≤ now) event history (omega (arith, is)) past;
     }
 
-pub StandsFor-Held : (watch after : QueueWatch) (reading next count : ℕ) (history : List QueueEvent) → longest_of after ≡ longest_of watch
-    → KeepsHistory watch reading next history → Watches after (Held count reading ∷ history) → Counts after (Held count reading ∷ history)
-    → KeepsHistory after reading next (Held count reading ∷ history)
-StandsFor-Held watch after reading next count history longest stands watches counts =
-    StandsFor-event watch after reading next history (Held count reading) refl longest stands watches counts
+-- what was seen of the queue, by a call that told a watch of it
+pub StandsFor-Held : (watch after : QueueWatch) (reading next count : ℕ) → longest_of after ≡ longest_of watch → (count ≡ 0) ⊎ (IsWaiting watch → ⊥)
+    → ((history : List QueueEvent) → (count ≡ 0) ⊎ (IsWaiting watch → ⊥) → Watches watch history → Watches after (Held count reading ∷ history))
+    → ((history : List QueueEvent) → Counts after (Held count reading ∷ history)) → (history : List QueueEvent)
+    → KeepsHistory watch reading next history → KeepsHistory after reading next (Held count reading ∷ history)
+StandsFor-Held watch after reading next count longest alone watches counts history stands =
+    StandsFor-event watch after reading reading next history (Held count reading) (omega arith) refl longest stands
+    (watches history alone stands.watches) (counts history)
 
 pub StandsFor-Looked : (watch : QueueWatch) (reading next : ℕ) (history : List QueueEvent) → KeepsHistory watch reading next history
     → KeepsHistory watch reading next (Looked reading ∷ history)
-StandsFor-Looked watch reading next history stands = StandsFor-event watch watch reading next history (Looked reading) refl refl stands
-    stands.watches (Counts-quiet watch (Looked reading) history (λ since. refl) stands.counts)
+StandsFor-Looked watch reading next history stands = StandsFor-event watch watch reading reading next history (Looked reading) (omega arith)
+    refl refl stands stands.watches (Counts-quiet watch (Looked reading) history (λ since. refl) stands.counts)
 
-pub StandsFor-Taken : (watch after : QueueWatch) (reading next : ℕ) (history : List QueueEvent) → longest_of after ≡ longest_of watch
-    → KeepsHistory watch reading next history → Watches after (Taken reading ∷ history) → Counts after (Taken reading ∷ history)
-    → KeepsHistory after reading next (Taken reading ∷ history)
-StandsFor-Taken watch after reading next history longest stands watches counts =
-    StandsFor-event watch after reading next history (Taken reading) refl longest stands watches counts
+pub StandsFor-Taken : (watch after : QueueWatch) (reading next : ℕ) → longest_of after ≡ longest_of watch
+    → ((history : List QueueEvent) (at : ℕ) → Watches watch history → Watches after (Taken at ∷ history))
+    → ((history : List QueueEvent) (at : ℕ) → Counts watch history → Counts after (Taken at ∷ history)) → (history : List QueueEvent)
+    → KeepsHistory watch reading next history → KeepsHistory after reading next (Taken reading ∷ history)
+StandsFor-Taken watch after reading next longest watches counts history stands =
+    StandsFor-event watch after reading reading next history (Taken reading) (omega arith) refl longest stands
+    (watches history reading stands.watches) (counts history reading stands.counts)
 
 pub StandsFor-Read : (watch : QueueWatch) (reading now next : ℕ) (history : List QueueEvent) → reading ≤ now
     → KeepsHistory watch reading next history → KeepsHistory watch now next (Read now ∷ history)
-StandsFor-Read watch reading now next history later stands =
-    let past : All (λ e. moment_of e ≤ now) history = λ k d below. omega (arith, later, stands.past k d below) in
-    let ordered : IsInOrder (Read now ∷ history) = (past, stands.ordered) in
-    record {
-      watches = stands.watches;
-      counts = Counts-quiet watch (Read now) history (λ since. refl) stands.counts;
-      looks_again = LooksAgain-more (longest_of watch) next (Read now) history ordered stands.looks_again;
-      ordered = ordered;
-      past = All-cons (λ e. moment_of e ≤ now) (Read now) history (omega arith) past;
-    }
+StandsFor-Read watch reading now next history later stands = StandsFor-event watch watch reading now next history (Read now) later refl refl
+    stands stands.watches (Counts-quiet watch (Read now) history (λ since. refl) stands.counts)
 
 -- it may be looked again at another moment
 pub StandsFor-next : (watch : QueueWatch) (reading next later : ℕ) (history : List QueueEvent) → LooksAgain (longest_of watch) history later

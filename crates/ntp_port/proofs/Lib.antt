@@ -13,3 +13,4 @@ pub mod Passing
 pub mod DroppingStale
 pub mod Waiting
 pub mod Looking
+pub mod OneTake

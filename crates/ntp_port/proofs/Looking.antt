@@ -1,68 +1,49 @@
 -- LooksAtQueue at a queue.
-use Rattle.std.proofs.Common.{◌≡◌, ℕ, ◌+◌, ◌<◌, ◌≤◌, inl, inr, List, [], ◌∷◌, ◌++◌, Option, None, Some, false, refl, sym, subst, ◌∙◌, arith, append_assoc}
-use Rattle.std.specs.Prelude.{◌/◌}
+use Rattle.std.proofs.Common.{◌≡◌, ℕ, ◌+◌, ◌<◌, ◌≤◌, ◌⊎◌, List, [], ◌∷◌, ◌++◌, Option, None, Some, false, refl, sym, subst, ◌∙◌, arith, append_assoc}
 use Rattle.ntp_port.specs.Port.{Told}
 use Rattle.ntp_port.specs.declared.queue_event.QueueEvent.{QueueEvent}
 use Rattle.ntp_port.specs.declared.queue_event.QueueEvent.TheVariants.{Held, Looked}
 use Rattle.ntp_port.specs.declared.queue_watch.QueueWatch.{QueueWatch}
-use Rattle.ntp_port.specs.Freshness.{WasLookedAt, oldest_look}
+use Rattle.ntp_port.specs.Freshness.{takes, WasLookedAt}
 use Rattle.ntp_port.specs.Queue.{TellsEvents, seen_in_count, seen_in_look}
-use Rattle.ntp_port.specs.Watch.{Watches, Counts, longest_of}
-use Rattle.ntp_port.specs.Fresh.{LooksAgain, Stands, IsSeenFrom, Kept, kept}
-use Rattle.ntp_port.specs.Next.{LooksAtQueue}
-use Rattle.ntp_port.proofs.Seeing.{IsSeenFrom-same, IsSeenFrom-more, seen-in_count, seen-in_look}
+use Rattle.ntp_port.specs.Watch.{Watches, Counts, IsWaiting, longest_of}
+use Rattle.ntp_port.specs.Fresh.{KeepsHistory, Stands, IsSeenFrom, Kept}
+use Rattle.ntp_port.specs.Next.{WasSeen, LooksAtQueue}
+use Rattle.ntp_port.proofs.Seeing.{IsSeenFrom-same, IsSeenFrom-more, seen-in_call}
 use Rattle.ntp_port.proofs.Watching.{looked-later, looked-by, kept-looked}
-use Rattle.ntp_port.proofs.Keeping.{StandsFor-Held, StandsFor-Looked, StandsFor-next}
+use Rattle.ntp_port.proofs.Keeping.{StandsFor-Held, StandsFor-Looked}
 use Rattle.ntp_port.proofs.Waiting.{quiet-append}
 
--- none
-pub Looks-none : (k : Kept) → LooksAtQueue k k None
-Looks-none k = record {
+-- a look that saw these events, or none
+Looks-saw : (a : Kept) (after : QueueWatch) (u : Option Told) (r : Option (List QueueEvent)) (events : List QueueEvent) (before : Option ℕ)
+    → u ≡ a.told → longest_of after ≡ longest_of a.watch → takes events ≡ 0
+    → ((history : List QueueEvent) → IsSeenFrom a.reading a.reading a.history r history (events ++ history))
+    → ((history : List QueueEvent) → Stands a history
+    → KeepsHistory after a.reading a.next_look (events ++ history) × WasSeen before (events ++ history) a.reading)
+    → LooksAtQueue a (record a { watch = after; told = u; history = r }) before
+Looks-saw a after u r events before told longest quiet seen stands = record {
   reading = refl;
   stale = refl;
-  told = refl;
-  longest = refl;
-  each = λ history stands.
-      record { events = []; quiet = refl; stands = stands; seen = IsSeenFrom-same k.reading k.history history; looked = tt };
+  told = told;
+  longest = longest;
+  each = λ history stood.
+      let x = stands history stood in
+      record { events = events; quiet = quiet; stands = x.0; seen = seen history; looked = x.1 };
 }
+
+-- none
+Looks-same : (k : Kept) (before : Option ℕ) → ((history : List QueueEvent) → Stands k history → WasSeen before history k.reading)
+    → LooksAtQueue k k before
+Looks-same k before looked = Looks-saw k k.watch k.told k.history [] before refl refl refl (IsSeenFrom-same k.reading k.history)
+    (λ history stands. (stands, looked history stands))
+
+pub Looks-none : (k : Kept) → LooksAtQueue k k None
+Looks-none k = Looks-same k None (λ history stands. tt)
 
 -- none, where what is known is new enough
 pub Looks-known : (k : Kept) (before : ℕ) → (at : ℕ) × (k.watch.known ≡ Some at) × (k.reading < at + before) → LooksAtQueue k k (Some before)
-Looks-known k before known = record {
-  reading = refl;
-  stale = refl;
-  told = refl;
-  longest = refl;
-  each = λ history stands. record {
-    events = [];
-    quiet = refl;
-    stands = stands;
-    seen = IsSeenFrom-same k.reading k.history history;
-    looked = kept-looked k.watch history k.reading before stands.watches stands.ordered known;
-  };
-}
-
--- none, where the last look is new enough
-early : (longest reading next : ℕ) (history : List QueueEvent) → reading < next → LooksAgain longest history next
-    → WasLookedAt (oldest_look longest) history reading
-early longest reading next history before (inl at_once) = absurd (omega (arith, before, at_once))
-early longest reading next history before (inr looked) =
-    looked-by next reading (oldest_look longest) (oldest_look longest) history (omega (arith, before)) looked
-
-pub Looks-early : (k : Kept) → k.reading < k.next_look → LooksAtQueue k k (Some (oldest_look (longest_of k.watch)))
-Looks-early k before = record {
-  reading = refl;
-  stale = refl;
-  told = refl;
-  longest = refl;
-  each = λ history stands. record {
-    events = [];
-    quiet = refl;
-    stands = stands;
-    seen = IsSeenFrom-same k.reading k.history history;
-    looked = early (longest_of k.watch) k.reading k.next_look history before stands.looks_again;
-  };
-}
+Looks-known k before known =
+    Looks-same k (Some before) (λ history stands. kept-looked k.watch history k.reading before stands.watches stands.ordered known)
 
 -- one, and perhaps another one
 pub Looks-more : (a b c : Kept) (before : ℕ) → LooksAtQueue a b (Some before) → LooksAtQueue b c None → LooksAtQueue a c (Some before)
@@ -87,92 +68,43 @@ Looks-more a b c before first second = record {
       };
 }
 
--- a look need not be told of
-pub Looks-some : (a b : Kept) (before : ℕ) → LooksAtQueue a b (Some before) → LooksAtQueue a b None
-Looks-some a b before looks = record {
+-- what is known of the last look, told in another way
+Looks-as : (a b : Kept) (less before : Option ℕ) → ((history : List QueueEvent) → WasSeen less history a.reading → WasSeen before history a.reading)
+    → LooksAtQueue a b less → LooksAtQueue a b before
+Looks-as a b less before tells looks = record {
   reading = looks.reading;
   stale = looks.stale;
   told = looks.told;
   longest = looks.longest;
   each = λ history stands.
       let x = looks.each history stands in
-      record { events = x.events; quiet = x.quiet; stands = x.stands; seen = x.seen; looked = tt };
+      record { events = x.events; quiet = x.quiet; stands = x.stands; seen = x.seen; looked = tells (x.events ++ history) x.looked };
 }
+
+-- a look need not be told of
+pub Looks-some : (a b : Kept) (before : ℕ) → LooksAtQueue a b (Some before) → LooksAtQueue a b None
+Looks-some a b before looks = Looks-as a b (Some before) None (λ history looked. tt) looks
 
 -- it may be older
 pub Looks-older : (a b : Kept) (less before : ℕ) → less ≤ before → LooksAtQueue a b (Some less) → LooksAtQueue a b (Some before)
-Looks-older a b less before older looks = record {
-  reading = looks.reading;
-  stale = looks.stale;
-  told = looks.told;
-  longest = looks.longest;
-  each = λ history stands.
-      let x = looks.each history stands in
-      record {
-        events = x.events;
-        quiet = x.quiet;
-        stands = x.stands;
-        seen = x.seen;
-        looked = looked-by a.reading a.reading less before (x.events ++ history) (omega (arith, older)) x.looked;
-      };
-}
-
--- and so soon it may be looked again
-pub Looks-again : (a b : Kept) (next : ℕ) → next ≤ b.reading + 100000 → LooksAtQueue a b (Some (longest_of a.watch / 10))
-    → LooksAtQueue a (kept b.watch b.reading next b.stale b.told b.history) (Some (oldest_look (longest_of a.watch)))
-Looks-again a b next soon looks = record {
-  reading = looks.reading;
-  stale = looks.stale;
-  told = looks.told;
-  longest = looks.longest;
-  each = λ history stands.
-      let x = looks.each history stands in
-      let known = x.events ++ history in
-      let again : WasLookedAt (oldest_look (longest_of a.watch)) known next =
-      looked-by a.reading next (longest_of a.watch / 10) (oldest_look (longest_of a.watch)) known (omega (arith, soon, looks.reading)) x.looked in
-      record {
-        events = x.events;
-        quiet = x.quiet;
-        stands = StandsFor-next b.watch b.reading b.next_look next known
-            (inr (subst (λ n. WasLookedAt (oldest_look n) known next) (sym looks.longest) again)) x.stands;
-        seen = x.seen;
-        looked = looked-by a.reading a.reading (longest_of a.watch / 10) (oldest_look (longest_of a.watch)) known (omega arith) x.looked;
-      };
-}
+Looks-older a b less before older looks = Looks-as a b (Some less) (Some before)
+    (λ history looked. looked-by a.reading a.reading less before history (omega (arith, older)) looked) looks
 
 -- one that told how many datagrams the queue held at most
-pub Looks-count : (watch after : QueueWatch) (reading next stale count : ℕ) (t u : Option Told) (q r : Option (List QueueEvent)) → u ≡ t
-    → longest_of after ≡ longest_of watch
-    → ((history : List QueueEvent) → Watches watch history → Watches after (Held count reading ∷ history))
-    → ((history : List QueueEvent) → Counts after (Held count reading ∷ history)) → TellsEvents q r (seen_in_count count)
-    → LooksAtQueue (kept watch reading next stale t q) (kept after reading next stale u r) (Some 0)
-Looks-count watch after reading next stale count t u q r told longest watches counts tells = record {
-  reading = refl;
-  stale = refl;
-  told = told;
-  longest = longest;
-  each = λ history stands. record {
-    events = Held count reading ∷ [];
-    quiet = refl;
-    stands = StandsFor-Held watch after reading next count history longest stands (watches history stands.watches) (counts history);
-    seen = seen-in_count reading q r count history tells;
-    looked = omega arith;
-  };
-}
+pub Looks-count : (a : Kept) (after : QueueWatch) (u : Option Told) (r : Option (List QueueEvent)) (count : ℕ) → u ≡ a.told
+    → longest_of after ≡ longest_of a.watch → (count ≡ 0) ⊎ (IsWaiting a.watch → ⊥)
+    → ((history : List QueueEvent) → (count ≡ 0) ⊎ (IsWaiting a.watch → ⊥) → Watches a.watch history
+    → Watches after (Held count a.reading ∷ history))
+    → ((history : List QueueEvent) → Counts after (Held count a.reading ∷ history)) → TellsEvents a.history r (seen_in_count count)
+    → LooksAtQueue a (record a { watch = after; told = u; history = r }) (Some 0)
+Looks-count a after u r count told longest alone watches counts tells =
+    Looks-saw a after u r (Held count a.reading ∷ []) (Some 0) told longest refl
+    (seen-in_call a.reading a.history r (seen_in_count count) (λ shown known. refl) tells)
+    (λ history stands. (StandsFor-Held a.watch after a.reading a.next_look count longest alone watches counts history stands, omega arith))
 
 -- one that told nothing of it
-pub Looks-unseen : (watch : QueueWatch) (reading next stale : ℕ) (t u : Option Told) (q r : Option (List QueueEvent)) → u ≡ t
-    → TellsEvents q r (seen_in_look false) → LooksAtQueue (kept watch reading next stale t q) (kept watch reading next stale u r) (Some 0)
-Looks-unseen watch reading next stale t u q r told tells = record {
-  reading = refl;
-  stale = refl;
-  told = told;
-  longest = refl;
-  each = λ history stands. record {
-    events = Looked reading ∷ [];
-    quiet = refl;
-    stands = StandsFor-Looked watch reading next history stands;
-    seen = seen-in_look reading q r false history tells;
-    looked = omega arith;
-  };
-}
+pub Looks-unseen : (a : Kept) (u : Option Told) (r : Option (List QueueEvent)) → u ≡ a.told → TellsEvents a.history r (seen_in_look false)
+    → LooksAtQueue a (record a { told = u; history = r }) (Some 0)
+Looks-unseen a u r told tells = Looks-saw a a.watch u r (Looked a.reading ∷ []) (Some 0) told refl refl
+    (seen-in_call a.reading a.history r (seen_in_look false) (λ shown known. refl) tells)
+    (λ history stands. (StandsFor-Looked a.watch a.reading a.next_look history stands, omega arith))

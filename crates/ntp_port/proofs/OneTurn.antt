@@ -8,11 +8,12 @@ use Rattle.ntp_service.specs.declared.address.Address.{Address}
 use Rattle.ntp_service.specs.Registry.{Registry}
 use Rattle.ntp_reply.specs.declared.answers.Answer.{Answer}
 use Rattle.ntp_reply.specs.declared.answers.Answer.TheVariants as answer
+use Rattle.ntp_service.specs.declared.observation.Sending.{Sending}
 use Rattle.ntp_service.specs.declared.observation.Sending.TheVariants.{NoReply, NotSent, Sent as WasSent, Noted, NotNoted}
 use Rattle.ntp_service.specs.declared.event.Event.{Event}
 use Rattle.ntp_service.specs.declared.event.Event.TheVariants as event
 use Rattle.ntp_service.specs.Model.{departure_outcome}
-use Rattle.ntp_service.specs.Headline.{StandsFor, TellsOne}
+use Rattle.ntp_service.specs.Headline.{StandsFor, Tells, TellsOne}
 use Rattle.ntp_service.proofs.Runs.{Tells-nil, Tells-one}
 use Rattle.ntp_port.specs.declared.memory_port.Sent.{Sent}
 use Rattle.ntp_port.specs.declared.port.PortCounts.{PortCounts}
@@ -45,52 +46,32 @@ follows-one m rest old new here coming sent = record {
 undeparting-silence : (sends : Bool) (a : Answer) → reply_in a ≡ None → departing sends a ≡ []
 undeparting-silence true (answer.Silent why) e = refl
 undeparting-silence false (answer.Silent why) e = refl
-undeparting-silence sends (answer.Time reply saved) e = cc
-undeparting-silence sends (answer.Rate reply) e = cc
-undeparting-silence sends (answer.Deny reply) e = cc
-undeparting-silence sends (answer.Nak reply) e = cc
+undeparting-silence sends other e = cc
 
 undeparting : (a : Answer) → saved_in a ≡ None → departing true a ≡ []
 undeparting (answer.Time reply saved) e = cc
-undeparting (answer.Rate reply) e = refl
-undeparting (answer.Deny reply) e = refl
-undeparting (answer.Nak reply) e = refl
-undeparting (answer.Silent why) e = refl
+undeparting other e = refl
 
 departing-time : (a : Answer) (saved : Stamp) → saved_in a ≡ Some saved → departing true a ≡ saved ∷ []
 departing-time (answer.Time reply stamp) saved e = ap option_to_list e
-departing-time (answer.Rate reply) saved e = cc
-departing-time (answer.Deny reply) saved e = cc
-departing-time (answer.Nak reply) saved e = cc
-departing-time (answer.Silent why) saved e = cc
+departing-time other saved e = cc
 
 sending-silence : (sends : Bool) (a : Answer) (noted : Bool) → reply_in a ≡ None → NoReply ≡ sending_of a sends noted
 sending-silence sends (answer.Silent why) noted e = refl
-sending-silence sends (answer.Time reply saved) noted e = cc
-sending-silence sends (answer.Rate reply) noted e = cc
-sending-silence sends (answer.Deny reply) noted e = cc
-sending-silence sends (answer.Nak reply) noted e = cc
+sending-silence sends other noted e = cc
 
 sending-failed : (a : Answer) (noted : Bool) (reply : List ℕ) → reply_in a ≡ Some reply → NotSent ≡ sending_of a false noted
-sending-failed (answer.Time reply saved) noted r e = refl
-sending-failed (answer.Rate reply) noted r e = refl
-sending-failed (answer.Deny reply) noted r e = refl
-sending-failed (answer.Nak reply) noted r e = refl
 sending-failed (answer.Silent why) noted r e = cc
+sending-failed other noted r e = refl
 
 sending-sent : (a : Answer) (noted : Bool) (reply : List ℕ) → reply_in a ≡ Some reply → saved_in a ≡ None → WasSent ≡ sending_of a true noted
 sending-sent (answer.Time reply saved) noted r e h = cc
-sending-sent (answer.Rate reply) noted r e h = refl
-sending-sent (answer.Deny reply) noted r e h = refl
-sending-sent (answer.Nak reply) noted r e h = refl
 sending-sent (answer.Silent why) noted r e h = cc
+sending-sent other noted r e h = refl
 
 sending-time : (a : Answer) (noted : Bool) (saved : Stamp) → saved_in a ≡ Some saved → (if noted then Noted else NotNoted) ≡ sending_of a true noted
 sending-time (answer.Time reply stamp) noted saved e = refl
-sending-time (answer.Rate reply) noted saved e = cc
-sending-time (answer.Deny reply) noted saved e = cc
-sending-time (answer.Nak reply) noted saved e = cc
-sending-time (answer.Silent why) noted saved e = cc
+sending-time other noted saved e = cc
 
 -- what a port tells in a turn, once it tried to send a reply
 abbrev pub tried_in : List TurnValue → TurnValue → List Sent → Told
@@ -160,21 +141,43 @@ module _ (from : IncomingValue) (transmit : Moment) where
     abbrev pub made_of : Readings → Bool → Bool → Made
     made_of clock sends noted = Received from clock sends a noted
 
+    -- a turn was made, whose clock showed this at first
+    abbrev HasMade : Bool → Bool → Option Told → Option Told → Type 0
+    HasMade sends noted t u = (clock : Readings) × (clock false 0 ≡ transmit) × FollowsOne (made_of clock sends noted) t u
+
+    -- what became of its reply
+    makes-sending : (A : Type 0) (sends noted : Bool) (t u : Option Told) (k l : PortCounts) (s r : Registry) (sending : Sending)
+        (made : HasMade sends noted t u) → sending ≡ sending_of a sends noted → l ≡ counted_send (is_unsent (made_of made.0 sends noted)) k
+        → ((history : List (Event A)) → StandsFor s history
+        → Tells history (map (λ saved. (event.Departed from.address saved (made.0 true 1), departure_outcome noted)) (departing sends a)) r)
+        → SendingMakes A a from transmit t u k l s r sending
+    makes-sending A sends noted t u k l s r sending made comes_to count tells = record {
+      clock = made.0;
+      first = made.1;
+      sends = sends;
+      noted = noted;
+      comes_to = comes_to;
+      port = made.2;
+      counts = count;
+      tells = tells;
+    }
+
     -- ---- there is no reply
     nothing-sent : (clock : Readings) (sends : Bool) → reply_in a ≡ None → sent_in (made_of clock sends false) ≡ []
     nothing-sent clock true none = ap (sent_back from) none
     nothing-sent clock false none = refl
 
-    follows-silent : (t u : Option Told) → reply_in a ≡ None → IsInTurn t u from transmit
-        → (clock : Readings) × (sends : Bool) × (clock false 0 ≡ transmit) × FollowsOne (made_of clock sends false) t u
-    follows-silent None u none i = (λ tried n. transmit, false, refl, tt)
+    follows-silent : (t u : Option Told) → reply_in a ≡ None → IsInTurn t u from transmit → (sends : Bool) × HasMade sends false t u
+    follows-silent None u none i = (false, (λ tried n. transmit, refl, tt))
     follows-silent (Some old) None none i = absurd i
     follows-silent (Some old) (Some new) none i = (
-      i.0,
       i.1,
-      i.3.first,
-      follows-one (made_of i.0 i.1 false) i.2 old new i.3.coming (ap (λ (z : Told). z.coming) i.3.after)
-          (ap (λ (z : Told). z.sent) i.3.after ∙ sym (append-nil old.sent) ∙ ap (λ l. old.sent ++ l) (sym (nothing-sent i.0 i.1 none))),
+      (
+        i.0,
+        i.3.first,
+        follows-one (made_of i.0 i.1 false) i.2 old new i.3.coming (ap (λ (z : Told). z.coming) i.3.after)
+            (ap (λ (z : Told). z.sent) i.3.after ∙ sym (append-nil old.sent) ∙ ap (λ l. old.sent ++ l) (sym (nothing-sent i.0 i.1 none))),
+      ),
     )
 
     silent-sent : (clock : Readings) (sends : Bool) → reply_in a ≡ None → is_unsent (made_of clock sends false) ≡ false
@@ -185,18 +188,9 @@ module _ (from : IncomingValue) (transmit : Moment) where
         → IsInTurn t u from transmit → SendingMakes A a from transmit t u k l s s NoReply
     makes-no-reply A t u k l s none count i =
         let p = follows-silent t u none i in
-        let gone : departing p.1 a ≡ [] = undeparting-silence p.1 a none in
-        let well : is_unsent (made_of p.0 p.1 false) ≡ false = silent-sent p.0 p.1 none in
-        record {
-          clock = p.0;
-          first = p.2;
-          sends = p.1;
-          noted = false;
-          comes_to = sending-silence p.1 a false none;
-          port = p.3;
-          counts = count ∙ counted-none k ∙ ap (λ b. counted_send b k) (sym well);
-          tells = λ history stands. rw gone (Tells-nil history s stands);
-        }
+        makes-sending A p.0 false t u k l s s NoReply p.1 (sending-silence p.0 a false none)
+        (count ∙ counted-none k ∙ ap (λ b. counted_send b k) (sym (silent-sent p.1.0 p.0 none)))
+        (λ history stands. rw (undeparting-silence p.0 a none) (Tells-nil history s stands))
 
     -- ---- there is one
     module _ (reply : List ℕ) (is : reply_in a ≡ Some reply) where
@@ -205,8 +199,7 @@ module _ (from : IncomingValue) (transmit : Moment) where
       tried-sent old true noted clock = ap (λ r. old ++ sent_back from r) (sym is)
       tried-sent old false noted clock = sym (append-nil old)
 
-      follows-tried : (good noted : Bool) (t w : Option Told) → HasTried good reply t w
-          → (clock : Readings) × (clock false 0 ≡ transmit) × FollowsOne (made_of clock good noted) t w
+      follows-tried : (good noted : Bool) (t w : Option Told) → HasTried good reply t w → HasMade good noted t w
       follows-tried good noted None w p = (λ tried n. transmit, refl, tt)
       follows-tried good noted (Some old) None p = absurd p
       follows-tried good noted (Some old) (Some new) p = (
@@ -217,70 +210,45 @@ module _ (from : IncomingValue) (transmit : Moment) where
       )
 
       follows-departed : (noted : Bool) (t w z : Option Told) (moment : Moment) → HasTried true reply t w → NowTells w z moment
-          → (clock : Readings) × (clock false 0 ≡ transmit) × (clock true 1 ≡ moment) × FollowsOne (made_of clock true noted) t z
-      follows-departed noted None w z moment p k = (λ tried n. if tried then moment else transmit, refl, refl, tt)
+          → (made : HasMade true noted t z) × (made.0 true 1 ≡ moment)
+      follows-departed noted None w z moment p k = ((λ tried n. if tried then moment else transmit, refl, tt), refl)
       follows-departed noted (Some old) None z moment p k = absurd p
       follows-departed noted (Some old) (Some mid) None moment p k = absurd k
       follows-departed noted (Some old) (Some mid) (Some new) moment p k =
           let shown : moment ≡ p.0 true 1 = k.0 ∙ ap (λ (x : Told). x.clock x.has_tried_send 0) p.2.after in
-          let after = k.1 ∙ ap (λ (x : Told). record x { clock = later x.clock }) p.2.after in (
-            p.0,
-            p.2.first,
-            sym shown,
-            follows-one (made_of p.0 true noted) p.1 old new p.2.coming (ap (λ (x : Told). x.coming) after)
-                (ap (λ (x : Told). x.sent) after ∙ tried-sent old.sent true noted p.0),
-          )
+          let after = k.1 ∙ ap (λ (x : Told). record x { clock = later x.clock }) p.2.after in
+          let port = follows-one (made_of p.0 true noted) p.1 old new p.2.coming (ap (λ (x : Told). x.coming) after)
+          (ap (λ (x : Told). x.sent) after ∙ tried-sent old.sent true noted p.0) in
+          ((p.0, p.2.first, port), sym shown)
 
-      pub makes-not-sent : (A : Type 0) (t w : Option Told) (k l : PortCounts) (s : Registry) (sent : Result (Unit {0}) PortFault)
-          → is_err sent ≡ true → l ≡ counted_send (is_err sent) k → HasTried (not (is_err sent)) reply t w
-          → SendingMakes A a from transmit t w k l s s NotSent
-      makes-not-sent A t w k l s sent failed count p =
-          let q = follows-tried false false t w (subst (λ b. HasTried (not b) reply t w) failed p) in
-          record {
-            clock = q.0;
-            first = q.1;
-            sends = false;
-            noted = false;
-            comes_to = sending-failed a false reply is;
-            port = q.2;
-            counts = count ∙ ap (λ b. counted_send b k) (failed ∙ sym (ap is_some is));
-            tells = λ history stands. Tells-nil history s stands;
-          }
+      -- a send of it was tried, to where the datagram came from
+      module _ (A : Type 0) (t v w : Option Told) (k l : PortCounts) (s : Registry) (sent : Result (Unit {0}) PortFault) (address : Address)
+          (port : ℕ) (few : length reply ≤ most_reply_octets) (e : from.address ≡ address) (h : from.port ≡ port) (i : IsInTurn t v from transmit)
+          (tells : SendTells v w address port reply sent) (count : l ≡ counted_send (is_err sent) k) where
+        -- so the port is in a turn, and tried to send a reply
+        has-tried : (failed : Bool) → is_err sent ≡ failed → HasTried (not failed) reply t w
+        has-tried failed gave = subst (λ b. HasTried (not b) reply t w) gave (tried reply t v w sent address port few e h i tells)
 
-      pub makes-sent : (A : Type 0) (t w : Option Told) (k l : PortCounts) (s : Registry) (sent : Result (Unit {0}) PortFault)
-          → is_err sent ≡ false → saved_in a ≡ None → l ≡ counted_send (is_err sent) k → HasTried (not (is_err sent)) reply t w
-          → SendingMakes A a from transmit t w k l s s WasSent
-      makes-sent A t w k l s sent good unsaved count p =
-          let q = follows-tried true false t w (subst (λ b. HasTried (not b) reply t w) good p) in
-          record {
-            clock = q.0;
-            first = q.1;
-            sends = true;
-            noted = false;
-            comes_to = sending-sent a false reply is unsaved;
-            port = q.2;
-            counts = count ∙ ap (λ b. counted_send b k) good;
-            tells = λ history stands. rw (undeparting a unsaved) (Tells-nil history s stands);
-          }
+        pub makes-not-sent : is_err sent ≡ true → SendingMakes A a from transmit t w k l s s NotSent
+        makes-not-sent failed = makes-sending A false false t w k l s s NotSent (follows-tried false false t w (has-tried true failed))
+            (sending-failed a false reply is) (count ∙ ap (λ b. counted_send b k) (failed ∙ sym (ap is_some is)))
+            (λ history stands. Tells-nil history s stands)
 
-      pub makes-departed : (A : Type 0) (t w z : Option Told) (k l : PortCounts) (s r : Registry) (sent : Result (Unit {0}) PortFault)
-          (saved : Stamp) (moment : Moment) (noted : Bool) (address : Address) → is_err sent ≡ false → saved_in a ≡ Some saved → l ≡ counted_send (is_err sent) k
-          → from.address ≡ address → HasTried (not (is_err sent)) reply t w → NowTells w z moment
-          → ((history : List (Event A)) → StandsFor s history
-          → TellsOne history (event.Departed address saved moment) (departure_outcome noted) r)
-          → SendingMakes A a from transmit t z k l s r (if noted then Noted else NotNoted)
-      makes-departed A t w z k l s r sent saved moment noted address good was count e p reads told =
-          let q = follows-departed noted t w z moment (subst (λ b. HasTried (not b) reply t w) good p) reads in
-          record {
-            clock = q.0;
-            first = q.1;
-            sends = true;
-            noted = noted;
-            comes_to = sending-time a noted saved was;
-            port = q.3;
-            counts = count ∙ ap (λ b. counted_send b k) good;
-            tells = λ history stands.
-                rw (departing-time a saved was) (Tells-one history (event.Departed from.address saved (q.0 true 1)) (departure_outcome noted) r
-                (subst (λ m. TellsOne history (event.Departed from.address saved m) (departure_outcome noted) r) (sym q.2)
-                (subst (λ x. TellsOne history (event.Departed x saved moment) (departure_outcome noted) r) (sym e) (told history stands))));
-          }
+        pub makes-sent : is_err sent ≡ false → saved_in a ≡ None → SendingMakes A a from transmit t w k l s s WasSent
+        makes-sent good unsaved = makes-sending A true false t w k l s s WasSent (follows-tried true false t w (has-tried false good))
+            (sending-sent a false reply is unsaved) (count ∙ ap (λ b. counted_send b k) good)
+            (λ history stands. rw (undeparting a unsaved) (Tells-nil history s stands))
+
+        pub makes-departed : (z : Option Told) (m : PortCounts) (r : Registry) (saved : Stamp) (moment : Moment) (told noted : Bool)
+            → is_err sent ≡ false → saved_in a ≡ Some saved → m ≡ l → NowTells w z moment → told ≡ noted
+            → ((history : List (Event A)) → StandsFor s history
+            → TellsOne history (event.Departed address saved moment) (departure_outcome told) r)
+            → SendingMakes A a from transmit t z k m s r (if noted then Noted else NotNoted)
+        makes-departed z m r saved moment told noted good was same reads gave departs =
+            let q = follows-departed noted t w z moment (has-tried false good) reads in
+            makes-sending A true noted t z k m s r (if noted then Noted else NotNoted) q.0 (sending-time a noted saved was)
+            (same ∙ count ∙ ap (λ b. counted_send b k) good) (λ history stands.
+            rw (departing-time a saved was) (Tells-one history (event.Departed from.address saved (q.0.0 true 1)) (departure_outcome noted) r
+            (subst (λ m. TellsOne history (event.Departed from.address saved m) (departure_outcome noted) r) (sym q.1)
+            (subst (λ x. TellsOne history (event.Departed x saved moment) (departure_outcome noted) r) (sym e)
+            (subst (λ b. TellsOne history (event.Departed address saved moment) (departure_outcome b) r) gave (departs history stands))))))

@@ -1,19 +1,12 @@
 -- What is received behind the datagrams that are dropped.
-use Rattle.std.proofs.Common.{◌≡◌, ℕ, ◌+◌, List, Option, None, Some, Result, Err, true, false, inl, inr, refl, sym, subst, arith}
+use Rattle.std.proofs.Common.{◌≡◌, ℕ, ◌+◌, List, Option, None, Some, Result, Err, true, false, inl, inr, refl, subst, arith}
 use Rattle.std.specs.Prelude.{IfSome, IfNone}
 use Rattle.ntp_service.specs.declared.observation.Arrival.{Arrival}
 use Rattle.ntp_port.specs.declared.port.PortFault.{PortFault}
 use Rattle.ntp_port.specs.declared.port.PortFault.TheVariants.{Receive}
-use Rattle.ntp_port.specs.Port.{Told, ReceiveTells, TellsOn, DropsTurns, CountsMore, DropsAny, Receives}
+use Rattle.ntp_port.specs.Port.{Told, TellsOn, DropsTurns, CountsMore, DropsAny, Receives}
 use Rattle.ntp_port.proofs.Dropping.{DropsTurns-append}
 use Rattle.ntp_port.specs.Fresh.{Kept, PassesOnFresh, counted_on}
-
--- what a receive told may be named in two ways
-pub ReceiveTells-along : (t u v w : Option Told) (r s : Result Arrival PortFault) (datagram : List ℕ) → t ≡ v → w ≡ u → r ≡ s
-    → ReceiveTells t u r datagram → ReceiveTells v w s datagram
-ReceiveTells-along t u v w r s datagram from to gave told =
-    subst (λ x. ReceiveTells v w x datagram) gave
-    (subst (λ x. ReceiveTells v x r datagram) (sym to) (subst (λ x. ReceiveTells x u r datagram) from told))
 
 counts-more : (count after more : ℕ) → after ≡ counted_on count more → CountsMore count after more
 counts-more count after more counted = λ below. let all : after ≡ count + more = omega (arith, counted, below) in all

@@ -1,10 +1,10 @@
 -- What a port tells over several calls.
-use Rattle.std.proofs.Common.{◌≡◌, ℕ, ◌≤◌, max, Bool, true, false, List, [], ◌∷◌, ◌++◌, Option, None, Some, Result, Ok, Err, refl, sym, ap, subst, ◌∙◌, arith, append_assoc}
+use Rattle.std.proofs.Common.{◌≡◌, ℕ, ◌≤◌, max, List, [], ◌∷◌, ◌++◌, Option, None, Some, Result, Ok, Err, refl, sym, ap, subst, ◌∙◌, arith, append_assoc}
 use Rattle.ntp_service.specs.declared.observation.Arrival.{Arrival}
 use Rattle.ntp_port.specs.declared.port.PortFault.{PortFault}
 use Rattle.ntp_port.specs.declared.queue_event.QueueEvent.{QueueEvent}
 use Rattle.ntp_port.specs.declared.queue_event.QueueEvent.TheVariants.{Read}
-use Rattle.ntp_port.specs.Queue.{last_reading, SeesMore, ReadsClock, TellsEvents, seen_in_count, seen_in_look, seen_in_wait, seen_in_drop}
+use Rattle.ntp_port.specs.Queue.{last_reading, SeesMore, ReadsClock, TellsEvents, seen_in_wait}
 use Rattle.ntp_port.specs.Fresh.{IsSeenFrom}
 
 -- nothing was seen
@@ -32,50 +32,27 @@ IsSeenFrom-more a b c q r s h k m first second shown =
     (y.0, (y.1.0 ++ x.1.0, y.1.1 ∙ ap (λ xs. y.1.0 ++ xs) x.1.1 ∙ sym (append_assoc y.1.0 x.1.0 h), SeesMore-append q r s x.1.0 y.1.0 x.1.2 y.1.2))
 
 -- a call that reads no clock saw this
-seen-in_call : (reading : ℕ) (q r : Option (List QueueEvent)) (seen : ℕ → List QueueEvent) (h : List QueueEvent)
-    → ((shown : ℕ) (told : List QueueEvent) → last_reading (seen shown ++ told) ≡ last_reading told)
-    → TellsEvents q r seen → IsSeenFrom reading reading q r h (seen reading ++ h)
-seen-in_call reading q None seen h keeps tells shown = (tt, (seen reading, refl, tt))
-seen-in_call reading None (Some r) seen h keeps tells shown = absurd tells
-seen-in_call reading (Some q) (Some r) seen h keeps tells shown =
+pub seen-in_call : (reading : ℕ) (q r : Option (List QueueEvent)) (seen : ℕ → List QueueEvent)
+    → ((shown : ℕ) (told : List QueueEvent) → last_reading (seen shown ++ told) ≡ last_reading told) → TellsEvents q r seen
+    → (h : List QueueEvent) → IsSeenFrom reading reading q r h (seen reading ++ h)
+seen-in_call reading q None seen keeps tells h shown = (tt, (seen reading, refl, tt))
+seen-in_call reading None (Some r) seen keeps tells h shown = absurd tells
+seen-in_call reading (Some q) (Some r) seen keeps tells h shown =
     let told : r ≡ seen reading ++ q = tells ∙ ap (λ n. seen n ++ q) shown in
     (ap last_reading told ∙ keeps reading q ∙ shown, (seen reading, refl, told))
 
-pub seen-in_count : (reading : ℕ) (q r : Option (List QueueEvent)) (count : ℕ) (h : List QueueEvent) → TellsEvents q r (seen_in_count count)
-    → IsSeenFrom reading reading q r h (seen_in_count count reading ++ h)
-seen-in_count reading q r count h tells = seen-in_call reading q r (seen_in_count count) h (λ shown told. refl) tells
-
-keeps-look : (b : Bool) (shown : ℕ) (told : List QueueEvent) → last_reading (seen_in_look b shown ++ told) ≡ last_reading told
-keeps-look true shown told = refl
-keeps-look false shown told = refl
-
-pub seen-in_look : (reading : ℕ) (q r : Option (List QueueEvent)) (b : Bool) (h : List QueueEvent) → TellsEvents q r (seen_in_look b)
-    → IsSeenFrom reading reading q r h (seen_in_look b reading ++ h)
-seen-in_look reading q r b h tells = seen-in_call reading q r (seen_in_look b) h (keeps-look b) tells
-
-keeps-drop : (b : Bool) (shown : ℕ) (told : List QueueEvent) → last_reading (seen_in_drop b shown ++ told) ≡ last_reading told
-keeps-drop true shown told = refl
-keeps-drop false shown told = refl
-
-pub seen-in_drop : (reading : ℕ) (q r : Option (List QueueEvent)) (b : Bool) (h : List QueueEvent) → TellsEvents q r (seen_in_drop b)
-    → IsSeenFrom reading reading q r h (seen_in_drop b reading ++ h)
-seen-in_drop reading q r b h tells = seen-in_call reading q r (seen_in_drop b) h (keeps-drop b) tells
-
+-- a wait reads no clock
 keeps-wait : (received : Option (Result Arrival PortFault)) (shown : ℕ) (told : List QueueEvent)
     → last_reading (seen_in_wait received shown ++ told) ≡ last_reading told
 keeps-wait None shown told = refl
 keeps-wait (Some (Ok arrival)) shown told = refl
 keeps-wait (Some (Err fault)) shown told = refl
 
-seen-in_wait : (reading : ℕ) (q r : Option (List QueueEvent)) (received : Option (Result Arrival PortFault)) (h : List QueueEvent)
-    → TellsEvents q r (seen_in_wait received) → IsSeenFrom reading reading q r h (seen_in_wait received reading ++ h)
-seen-in_wait reading q r received h tells = seen-in_call reading q r (seen_in_wait received) h (keeps-wait received) tells
-
--- so it is where what it gave is known
-seen-in_known_wait : (reading : ℕ) (q r : Option (List QueueEvent)) (received given : Option (Result Arrival PortFault)) (h : List QueueEvent)
-    → received ≡ given → TellsEvents q r (seen_in_wait received) → IsSeenFrom reading reading q r h (seen_in_wait given reading ++ h)
-seen-in_known_wait reading q r received given h is tells =
-    subst (λ x. IsSeenFrom reading reading q r h (seen_in_wait x reading ++ h)) is (seen-in_wait reading q r received h tells)
+-- so a wait saw this, where what it gave is known
+seen-in_wait : (reading : ℕ) (q r : Option (List QueueEvent)) (received given : Option (Result Arrival PortFault)) → received ≡ given
+    → TellsEvents q r (seen_in_wait received) → (h : List QueueEvent) → IsSeenFrom reading reading q r h (seen_in_wait given reading ++ h)
+seen-in_wait reading q r received given is tells =
+    seen-in_call reading q r (seen_in_wait given) (keeps-wait given) (subst (λ x. TellsEvents q r (seen_in_wait x)) is tells)
 
 -- a reading of a clock that did not go back
 seen-in_reading : (reading now shows : ℕ) (q r : Option (List QueueEvent)) (h : List QueueEvent) → (reading ≤ shows → now ≡ shows)
@@ -94,5 +71,5 @@ pub seen-in_take : (a before now shows : ℕ) (q r s u : Option (List QueueEvent
 seen-in_take a before now shows q r s u received given h k looked is waited latest read =
     let known = seen_in_wait given before ++ k in
     IsSeenFrom-more a before now q s u h known (Read now ∷ known)
-    (IsSeenFrom-more a before before q r s h k known looked (seen-in_known_wait before r s received given k is waited))
+    (IsSeenFrom-more a before before q r s h k known looked (seen-in_wait before r s received given is waited k))
     (seen-in_reading before now shows s u known (λ below. omega (arith, latest, below)) read)

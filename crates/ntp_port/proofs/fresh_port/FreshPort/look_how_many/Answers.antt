@@ -6,11 +6,8 @@ use Rattle.ntp_port.proofs.fresh_port.FreshPort.look_how_many.Goals.{else-not-is
 pub returns-then-is_old-clause-looks : goal.returns-then-is_old-clause-looks
 returns-then-is_old-clause-looks g c =
     Looks-some _ _ 0
-    (Looks-count c.args.self.now.watch c.saw.new.self c.args.self.now.reading c.args.self.now.next_look c.args.self.now.counts.dropped c.most_held-count.result
-    (g.P.Port.told c.args.self.now.port) (g.P.Port.told c.most_held-count.new.self) (g.P.QueuedPort.history c.args.self.now.port)
-    (g.P.QueuedPort.history c.most_held-count.new.self) c.most_held-count.ensures.turns c.saw.ensures.longest
-    (λ history watches. c.saw.ensures.watches history
-    (inr (λ waits. let is : c.is_waiting.result ≡ true = c.is_waiting.ensures.1 waits in absurd (cc))) watches) c.saw.ensures.counts
+    (Looks-count _ _ _ _ c.most_held-count.result c.most_held-count.ensures.turns c.saw.ensures.longest
+    (inr (λ waits. let is : c.is_waiting.result ≡ true = c.is_waiting.ensures.1 waits in absurd (cc))) c.saw.ensures.watches c.saw.ensures.counts
     c.most_held-count.ensures.history)
 
 pub returns-else-not-is_waiting-clause-looks : goal.returns-else-not-is_waiting-clause-looks

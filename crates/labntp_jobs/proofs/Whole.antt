@@ -1,6 +1,7 @@
 -- From the octets that an engine was fed to the whole text, where the reader tells it.
-use Rattle.std.proofs.Common.{◌≡◌, ℕ, ◌+◌, Option, Some, None, IfSome, List, [], ◌++◌, refl, sym, ap, ◌∙◌, subst, append-nil, arith}
+use Rattle.std.proofs.Common.{◌≡◌, ℕ, ◌+◌, Option, Some, None, IfSome, List, [], ◌++◌, take, refl, sym, ap, ◌∙◌, subst, append-nil, arith}
 use Rattle.std.specs.Io.KnownBytes.{Consumes, IsAtEnd}
+use Rattle.std.proofs.KnownBytes.{Consumes-trans}
 use Rattle.ntp_service.specs.Registry.{Registry}
 use Rattle.labntp_jobs.specs.declared.engine.Engine.{Engine}
 use Rattle.labntp_jobs.specs.declared.faults.ReplayFaultKind.{ReplayFaultKind}
@@ -9,6 +10,12 @@ use Rattle.labntp_jobs.specs.Script.{lines_of}
 use Rattle.labntp_jobs.specs.Replay.{Replays, StopsAt}
 use Rattle.labntp_jobs.specs.Engine.{AnswersLines, Halts, IsUnfed, Fed, Stops}
 use Rattle.labntp_jobs.proofs.LinesReplayed.{Answers-append, replays-nothing}
+
+-- a last read that gave no octet leaves what was read as it was, and the reader at its end
+pub last-read : (a b d : Option (List ℕ)) (octets chunk : List ℕ) (n : ℕ) → Consumes a b octets → Consumes b d (take n chunk) → n ≡ 0
+    → (n ≡ 0 → IsAtEnd d) → Consumes a d octets × IsAtEnd d
+last-read a b d octets chunk n before read none end =
+    (rw append-nil at (Consumes-trans a b d octets [] before (rw none at read)), end none)
 
 module _ {A : Type 0} where
   -- the lines of a text that begins with what was fed

@@ -36,3 +36,8 @@ rest-shorter text None split = tt
 rest-shorter text (Some x) split =
     let cut = split_parts 10 text (Some x) split (lit< tt) in
     omega (arith, ap length cut.0, length-append x.0.now (10 ∷ x.1.now))
+
+-- so a line is taken off: less is left, and the complete lines are it and those of what is left
+pub line-off : (text : List ℕ) (line others : Bor (List ℕ)) → IsSplitOnceResult 10 text (Some (line, others))
+    → (length others.now < length text) × (complete_lines text ≡ line.now ∷ complete_lines others.now)
+line-off text line others split = (rest-shorter text (Some (line, others)) split, complete_lines-split text (Some (line, others)) split)

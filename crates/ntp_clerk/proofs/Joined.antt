@@ -36,13 +36,16 @@ both : (a b : Bool) → a ≡ true → b ≡ true → (a && b) ≡ true
 both true b first second = second
 both false b first second = first
 
+-- two pieces of a word have no octet that neither has
+pub lacks-both : (c : ℕ) (word more : List ℕ) → lacks c word ≡ true → lacks c more ≡ true → lacks c (word ++ more) ≡ true
+lacks-both c word more few rest = list_all-append (λ x. not (x == c)) word more ∙ both (lacks c word) (lacks c more) few rest
+
 -- what they are joined to has no octet that neither they nor the separator have
 pub lacks-joined : (c d : ℕ) → not (d == c) ≡ true → (word : List ℕ) (words : List (List ℕ)) → AllLack c (word ∷ words)
     → lacks c (join_with_byte d (word ∷ words)) ≡ true
 lacks-joined c d other word [] lack = lack.0
 lacks-joined c d other word (next ∷ words) lack =
-    list_all-append (λ x. not (x == c)) word (d ∷ join_with_byte d (next ∷ words))
-    ∙ both (lacks c word) (not (d == c) && lacks c (join_with_byte d (next ∷ words))) lack.0
+    lacks-both c word (d ∷ join_with_byte d (next ∷ words)) lack.0
     (both (not (d == c)) (lacks c (join_with_byte d (next ∷ words))) other (lacks-joined c d other next words lack.1))
 
 -- a word of such octets has no other

@@ -3,11 +3,12 @@ use Rattle.std.proofs.Common.{◌≡◌, ℕ, ◌==◌, Bool, true, false, List,
 use Rattle.std.specs.Prelude.{codes, filter, nat_lt, Result, if◌then◌else◌}
 use Rattle.std.specs.List.{find, enumerate_from}
 use Rattle.std.specs.Option.{option_map_or, ok_or}
+use Rattle.std.specs.Char.{is_ascii_digit}
 use Rattle.std.specs.Int.NonZero.{non_zero_u16_get}
 use Rattle.std.specs.declared.num.NonZeroU16.{NonZeroU16}
 use Rattle.std.proofs.lemmas.Bool.Decides.{nat_tests}
 use Rattle.std.proofs.lemmas.Fmt.{decimal_nonempty}
-use Rattle.hex.specs.Hex.{encode_lower}
+use Rattle.hex.specs.Hex.{encode_lower, is_hex_digit}
 use Rattle.ntp_packet.specs.FirstCase.{◌>>=◌, map_err}
 use Rattle.ntp_mac.specs.Key.{SymmetricKey}
 use Rattle.ntp_mac.specs.declared.key.Algorithm.{Algorithm}
@@ -19,28 +20,24 @@ use Rattle.ntp_query.specs.declared.key_file.KeyFileFault.TheVariants.{Missing, 
 use Rattle.ntp_clerk.specs.declared.new_key.NewKey.{NewKey}
 use Rattle.ntp_clerk.specs.CommandText.{key_of, number_text, IsNumber, IsNewKey}
 use Rattle.ntp_clerk.specs.Grants.{chrony_algorithm, chrony_key}
-use Rattle.ntp_clerk.proofs.Joined.{lacks, AllLack, parts-all, lacks-all, parts-first-line}
+use Rattle.ntp_clerk.proofs.Joined.{lacks, AllLack, lacks-both, parts-all, lacks-all, parts-first-line}
 use Rattle.ntp_clerk.proofs.Spelled.{reads-number, reads-key, new-key, lacks-decimal, lacks-digits}
 
 -- the words of the line of a key
 abbrev three : NonZeroU16 → NewKey → List (List ℕ)
 three number key = number_text number ∷ chrony_algorithm key.algorithm ∷ (codes "HEX:" ++ encode_lower key.octets) ∷ []
 
-three-lack-space : (number : NonZeroU16) (key : NewKey) → IsNumber number → IsNewKey key → AllLack 32 (three number key)
-three-lack-space number key fits is =
-    (lacks-decimal 32 number.value refl (omega (arith, fits)), (algorithm key.algorithm, (lacks-digits 32 key.octets refl is.1, tt)))
+-- no word of it has an octet that neither digits nor the words of a key file have
+three-lack : (c : ℕ) → is_ascii_digit c ≡ false → is_hex_digit c ≡ false → lacks c (codes "HEX:") ≡ true → lacks c (codes "MD5") ≡ true
+    → lacks c (codes "SHA1") ≡ true → (number : NonZeroU16) (key : NewKey) → IsNumber number → IsNewKey key → AllLack c (three number key)
+three-lack c digit hex mark md5 sha1 number key fits is = (
+  lacks-decimal c number.value digit (omega (arith, fits)),
+  (algorithm key.algorithm, (lacks-both c (codes "HEX:") (encode_lower key.octets) mark (lacks-digits c key.octets hex is.1), tt)),
+)
   where
-    algorithm : (a : Algorithm) → lacks 32 (chrony_algorithm a) ≡ true
-    algorithm Md5 = refl
-    algorithm Sha1 = refl
-
-three-lack-feed : (number : NonZeroU16) (key : NewKey) → IsNumber number → IsNewKey key → AllLack 10 (three number key)
-three-lack-feed number key fits is =
-    (lacks-decimal 10 number.value refl (omega (arith, fits)), (algorithm key.algorithm, (lacks-digits 10 key.octets refl is.1, tt)))
-  where
-    algorithm : (a : Algorithm) → lacks 10 (chrony_algorithm a) ≡ true
-    algorithm Md5 = refl
-    algorithm Sha1 = refl
+    algorithm : (a : Algorithm) → lacks c (chrony_algorithm a) ≡ true
+    algorithm Md5 = md5
+    algorithm Sha1 = sha1
 
 -- none of them is empty
 abbrev is_word : List ℕ → Bool
@@ -66,7 +63,7 @@ three-words number key fits =
 line-words : (number : NonZeroU16) (key : NewKey) → IsNumber number → IsNewKey key → words (chrony_key number key) ≡ three number key
 unfolding chrony_key
 line-words number key fits is =
-    ap (filter is_word) (parts-all 32 (three number key) (lit< tt) (three-lack-space number key fits is))
+    ap (filter is_word) (parts-all 32 (three number key) (lit< tt) (three-lack 32 refl refl refl refl refl number key fits is))
     ∙ three-words number key fits
 
 -- it is the line of the number
@@ -96,6 +93,6 @@ unfolding chrony_key picked
 text-has-key number key notes text fits is whole =
     let line = chrony_key number key in
     ap (key_in_text number.value) whole
-    ∙ ap (key_in_lines number.value 1) (parts-first-line line notes (lacks-all 10 32 refl (three number key) (lit< tt) (three-lack-feed number key fits is)))
+    ∙ ap (key_in_lines number.value 1) (parts-first-line line notes (lacks-all 10 32 refl (three number key) (lit< tt) (three-lack 10 refl refl refl refl refl number key fits is)))
     ∙ ap (picked number.value line (parts 10 notes)) (is-line number key fits is)
     ∙ ap (λ found. map_err found (λ fault. Line 1 fault)) (has-key number key fits is)

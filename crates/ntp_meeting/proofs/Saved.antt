@@ -19,7 +19,7 @@ use Rattle.ntp_customer.proofs.Pasts.{by_past}
 use Rattle.ntp_reply.specs.declared.occasion.Occasion.{Occasion}
 use Rattle.ntp_reply.specs.Life.{recent_of}
 use Rattle.ntp_reply.specs.Exchanged.{matched, with_match_used, stamps_of, after_time}
-use Rattle.ntp_reply.proofs.KeptExchanges.{recent-time}
+use Rattle.ntp_reply.proofs.KeptExchanges.{kept-with_match_used, recent-time}
 use Rattle.ntp_meeting.proofs.Stamps.{receive-few}
 use Rattle.ntp_meeting.proofs.Matches.{found-member}
 
@@ -46,11 +46,7 @@ new-found xs receive transmit apart =
 
 -- with one marked used, all receive stamps stay
 receives-with_match_used : (xs : List Slot) (h : HeaderFields) → receives (with_match_used xs h) ≡ receives xs
-receives-with_match_used xs h = by_match (is_some (matched xs h))
-  where
-    by_match : (b : Bool) → receives (if b then spent xs h.origin else xs) ≡ receives xs
-    by_match true = receives-spent xs h.origin
-    by_match false = refl
+receives-with_match_used xs h = kept-with_match_used receives xs h (receives-spent xs h.origin)
 
 -- the new receive stamp is none of them
 new-apart : (past : Past) (o : Occasion) (h : HeaderFields) (x : Slot) → Contains (with_match_used (recent_of past) h) x

@@ -27,7 +27,7 @@ use Rattle.ntp_reply.specs.Kind.{kind_of}
 use Rattle.ntp_reply.specs.Exchanged.{matched, stamps_of}
 use Rattle.ntp_reply.specs.Verdict.{verdict}
 use Rattle.ntp_reply.specs.declared.answers.Answer.TheVariants as answer
-use Rattle.ntp_meeting.specs.Meeting.{WaitsForReply, SharesKey, FitsPacket, request_octets}
+use Rattle.ntp_meeting.specs.Meeting.{WaitsForReply, SharesKey, FitsPacket, request_octets, basic_sample, interleaved_sample}
 use Rattle.ntp_meeting.proofs.Readings.{read-header, read-sealed}
 use Rattle.ntp_meeting.proofs.Asked.{request-answer}
 use Rattle.ntp_meeting.proofs.Speaks.{kind-speaks}
@@ -50,37 +50,19 @@ module _ (c : ClientState) (q : Outstanding) (past : Past) (o : Occasion) (at : 
   -- a basic one is taken for the sample of the request and the reply
   pub basic-met : (reply : List ℕ) (saved : Stamp) → SharesKey past c → FitsPacket o.reference → o.reference.leap ≢ 3
       → matched (recent_of past) (query_fields q) ≡ None → verdict (Some past) o (request_octets c q) ≡ answer.Time reply saved
-      → taken_for c reply at ≡ taken.Sample (record {
-        t1 = q.transmit;
-        t2 = saved;
-        t3 = (stamps_of past o).transmit;
-        t4 = fresh at.stamp [];
-        interleaved = false;
-      })
+      → taken_for c reply at ≡ taken.Sample (basic_sample q saved (stamps_of past o).transmit at)
   basic-met reply saved shares state_fits clock match answered =
       let told = matched-reply reply saved None shares match answered in
       ap (λ octets. taken_for c octets at) told.0
       ∙ sample-taken c q past o at Basic q.transmit (stamps_of past o).transmit waits state_fits clock (transmit-known past o)
       waits.header.transmit (transmit-fits past o) (basic-pairing q q.transmit refl)
-      ∙ ap (λ s. taken.Sample (record {
-        t1 = q.transmit;
-        t2 = s;
-        t3 = (stamps_of past o).transmit;
-        t4 = fresh at.stamp [];
-        interleaved = false;
-      })) (sym told.1)
+      ∙ ap (λ s. taken.Sample (basic_sample q s (stamps_of past o).transmit at)) (sym told.1)
 
   -- an interleaved one for that of the earlier exchange
   pub interleaved-met : (reply : List ℕ) (saved : Stamp) (carried : Exchange) (found : Slot) → SharesKey past c → FitsPacket o.reference
       → o.reference.leap ≢ 3 → q.earlier ≡ Some carried → matched (recent_of past) (query_fields q) ≡ Some found
       → AreSaved (recent_of past) → found.transmit.0 < 2 ^ 64 → verdict (Some past) o (request_octets c q) ≡ answer.Time reply saved
-      → taken_for c reply at ≡ taken.Sample (record {
-        t1 = carried.transmit;
-        t2 = carried.receive;
-        t3 = found.transmit;
-        t4 = carried.arrival;
-        interleaved = true;
-      })
+      → taken_for c reply at ≡ taken.Sample (interleaved_sample carried found.transmit)
   interleaved-met reply saved carried found shares state_fits clock carries match are fits answered =
       let told = matched-reply reply saved (Some found) shares match answered in
       let stamps = matched-apart (recent_of past) (query_fields q) found match in

@@ -1,8 +1,13 @@
 -- A client and a server that meet.
-use Rattle.std.specs.Prelude.{◌≡◌, ℕ, ◌^◌, ◌<◌, Some, List, length, All, FitsSigned}
+use Rattle.std.specs.Prelude.{◌≡◌, ℕ, ◌^◌, ◌<◌, true, false, Some, List, [], length, All, FitsSigned}
 use Rattle.std.specs.Int.{w8}
+use Rattle.ntp_packet.specs.declared.stamp.Stamp.{Stamp}
+use Rattle.ntp_packet.specs.declared.moment.Moment.{Moment}
+use Rattle.ntp_packet.specs.Fresh.{fresh}
 use Rattle.ntp_packet.specs.Header.{IsHeader}
+use Rattle.ntp_client.specs.declared.exchange.Exchange.{Exchange}
 use Rattle.ntp_client.specs.declared.exchange.Outstanding.{Outstanding}
+use Rattle.ntp_client.specs.declared.sample.Sample.{Sample}
 use Rattle.ntp_client.specs.State.{ClientState}
 use Rattle.ntp_client.specs.Query.{query_fields, query_octets}
 use Rattle.ntp_customer.specs.Customer.{Enrolment, held_in, enrolment_at}
@@ -33,3 +38,12 @@ pub record FitsPacket (r : ReferenceState) : Type 0 where
   pub root_dispersion : r.root_dispersion.0 < 2 ^ 32
   pub reference_id : (length r.reference_id ≡ 4) × All (λ octet. octet < 256) r.reference_id
   pub reference : r.reference.0 < 2 ^ 64
+
+-- the sample of a request and a basic reply to it with these stamps, which arrives at a moment (RFC 5905, 8)
+abbrev pub basic_sample : Outstanding → Stamp → Stamp → Moment → Sample
+basic_sample q receive transmit at = record { t1 = q.transmit; t2 = receive; t3 = transmit; t4 = fresh at.stamp []; interleaved = false }
+
+-- the sample of an exchange whose reply departed then (RFC 9769, 2)
+abbrev pub interleaved_sample : Exchange → Stamp → Sample
+interleaved_sample e departure =
+    record { t1 = e.transmit; t2 = e.receive; t3 = departure; t4 = e.arrival; interleaved = true }

@@ -20,7 +20,7 @@ ghost use Rattle.ntp_reply.specs.Life.{Life, recent_of, recent_in};
 ghost use Rattle.ntp_reply.specs.Kind.{Signed, kind_of};
 ghost use Rattle.ntp_reply.specs.Exchanged.{matched, stamps_of, after_departure};
 ghost use Rattle.ntp_reply.specs.Verdict.{verdict, after_datagram, query_count, timed};
-ghost use Rattle.ntp_meeting.specs.Meeting.{WaitsForReply, SharesKey, FitsPacket, request_octets};
+ghost use Rattle.ntp_meeting.specs.Meeting.{WaitsForReply, SharesKey, FitsPacket, request_octets, basic_sample, interleaved_sample};
 
 use ntp_client::{Distrust, Sample, Taken};
 use ntp_reply::Answer;
@@ -63,26 +63,14 @@ pub fn a_time_reply_is_a_sample()
         → WaitsForReply c q → SharesKey past c → FitsPacket o.reference → o.reference.leap ≢ 3
         → matched (recent_of past) (query_fields q) ≡ None
         → verdict (Some past) o (request_octets c q) ≡ Answer.Time reply saved
-        → taken_for c reply at ≡ Taken.Sample (record {
-          t1 = q.transmit;
-          t2 = saved;
-          t3 = (stamps_of past o).transmit;
-          t4 = fresh at.stamp [];
-          interleaved = false;
-        }) }
+        → taken_for c reply at ≡ Taken.Sample (basic_sample q saved (stamps_of past o).transmit at) }
     ensures interleaved { (c : ClientState) (q : Outstanding) (past : Past) (o : Occasion) (reply : List ℕ) (saved : Stamp) (at : Moment)
         (carried : Exchange) (found : Slot)
         → WaitsForReply c q → SharesKey past c → FitsPacket o.reference → o.reference.leap ≢ 3
         → q.earlier ≡ Some carried → matched (recent_of past) (query_fields q) ≡ Some found
         → AreSaved (recent_of past) → found.transmit.0 < 2 ^ 64
         → verdict (Some past) o (request_octets c q) ≡ Answer.Time reply saved
-        → taken_for c reply at ≡ Taken.Sample (record {
-          t1 = carried.transmit;
-          t2 = carried.receive;
-          t3 = found.transmit;
-          t4 = carried.arrival;
-          interleaved = true;
-        }) }
+        → taken_for c reply at ≡ Taken.Sample (interleaved_sample carried found.transmit) }
 {}
 
 /// After a time reply, the next request of the client asks when that reply departed, and the server can tell: so by

@@ -5,8 +5,9 @@ use Rattle.std.proofs.lemmas.Bool.{cases_lt, cases_eq}
 use Rattle.std.proofs.lemmas.Nat.{be_bytes_4}
 use Rattle.std.proofs.lemmas.List.{length-append, length-take, length-drop, nil_from_length}
 use Rattle.ntp_packet.specs.Field.{written_length}
+use Rattle.ntp_packet.specs.declared.digests.Digest.{Digest}
 use Rattle.ntp_packet.specs.declared.digests.Digest.TheVariants.{Md5, Sha1}
-use Rattle.ntp_packet.specs.Tail.{TailValue, NoTail, BareTail, MacTail, tail_octets, IsTail}
+use Rattle.ntp_packet.specs.Tail.{TailValue, NoTail, BareTail, MacTail, digest_octets, tail_octets, IsTail}
 use Rattle.ntp_packet.specs.Request.{RequestValue, IsRequest, request_of, signed_octets}
 use Rattle.ntp_packet.specs.Faults.{Stands, Fails}
 use Rattle.ntp_packet.proofs.RestFaults.{IsFieldShort, IsFieldUnaligned, IsFieldPastEnd, IsNoTail}
@@ -50,21 +51,19 @@ module _ (rest : List ℕ) (are : AreOctets rest) where
     spelled = number-alone rest (to_be_bytes w32 number) e (number-octets (omega arith));
   }
 
-  md5-there : length rest ≡ 20 → TailThere rest
+  mac-there : (digest : Digest) → digest_octets digest ≡ drop 4 rest → IsTail (MacTail number digest) → 4 ≤ length rest → TailThere rest
   unfolding tail_octets
-  md5-there e = record {
-    tail = MacTail number (Md5 (drop 4 rest));
-    is = (number-fits, omega (arith, length-drop 4 rest));
-    spelled = number-and-digest rest (to_be_bytes w32 number) (drop 4 rest) (number-octets (omega arith)) refl;
+  mac-there digest same is long = record {
+    tail = MacTail number digest;
+    is = is;
+    spelled = number-and-digest rest (to_be_bytes w32 number) (digest_octets digest) (number-octets long) same;
   }
 
+  md5-there : length rest ≡ 20 → TailThere rest
+  md5-there e = mac-there (Md5 (drop 4 rest)) refl (number-fits, omega (arith, length-drop 4 rest)) (omega arith)
+
   sha1-there : length rest ≡ 24 → TailThere rest
-  unfolding tail_octets
-  sha1-there e = record {
-    tail = MacTail number (Sha1 (drop 4 rest));
-    is = (number-fits, omega (arith, length-drop 4 rest));
-    spelled = number-and-digest rest (to_be_bytes w32 number) (drop 4 rest) (number-octets (omega arith)) refl;
-  }
+  sha1-there e = mac-there (Sha1 (drop 4 rest)) refl (number-fits, omega (arith, length-drop 4 rest)) (omega arith)
 
 abbrev Answered : List ℕ → Type 0
 Answered octets = ((r : RequestValue) × IsRequest octets r) ⊎ ((fault : Malformed) × Fails octets fault)

@@ -53,13 +53,18 @@ pub not-noted : (past : Past) (c : CustomerState) (receive : Stamp) → short pa
 not-noted past c receive kept out =
     ap (λ xs. is_some (unused_at xs receive)) (ap exchanges_of (revoked-absent c out ∙ sym kept) ∙ saved-recent past)
 
+-- what using an exchange keeps, marking the match of a request as used keeps too
+pub kept-with_match_used : {X : Type 0} (kept : List Slot → X) (xs : List Slot) (request : HeaderFields)
+    → kept (spent xs request.origin) ≡ kept xs → kept (with_match_used xs request) ≡ kept xs
+kept-with_match_used kept xs request spent-keeps = by_match (is_some (matched xs request))
+  where
+    by_match : (b : Bool) → kept (if b then spent xs request.origin else xs) ≡ kept xs
+    by_match true = spent-keeps
+    by_match false = refl
+
 -- as many exchanges are saved where one is used
 length-with_match_used : (xs : List Slot) (request : HeaderFields) → length (with_match_used xs request) ≡ length xs
-length-with_match_used xs request = by_match (is_some (matched xs request))
-  where
-    by_match : (b : Bool) → length (if b then spent xs request.origin else xs) ≡ length xs
-    by_match true = length-spent xs request.origin
-    by_match false = refl
+length-with_match_used xs request = kept-with_match_used (λ slots. length slots) xs request (length-spent xs request.origin)
 
 -- so with a new one behind them, the recent ones of the whole are those of the saved
 pub recent-time : (xs : List Slot) (request : HeaderFields) (new : List Slot)

@@ -9,6 +9,7 @@ use Rattle.std.specs.FinMap.{IsAntisymmetric, slice_cmp-IsAntisymmetric, nat_cmp
 use Rattle.ntp_service.specs.declared.address.Address.{Address}
 use Rattle.ntp_service.specs.Address.{address_cmp, address_eq}
 use Rattle.ntp_service.proofs.Keys.{same_or_other}
+use Rattle.ntp_service.proofs.Entries.{IsKeyOrder}
 
 -- the address of these octets
 abbrev address_of : List ℕ → Address
@@ -21,16 +22,24 @@ address_cmp_total = on_total (λ (a : Address). a.0) nat_list_cmp_total
 pub address_cmp-IsAntisymmetric : IsAntisymmetric address_cmp
 address_cmp-IsAntisymmetric a b tie = ap address_of (slice_cmp-IsAntisymmetric nat_cmp-IsAntisymmetric a.0 b.0 tie)
 
--- the `==` of addresses is a tie
-pub address_eq-ties : (a b : Address) → address_eq a b ≡ eq_by_cmp address_cmp a b
-address_eq-ties a b = texts_ties a.0 b.0
+-- addresses are such keys: their `==` is a tie
+pub addresses : IsKeyOrder address_cmp address_eq
+addresses = record {
+  total = address_cmp_total;
+  same = address_cmp-IsAntisymmetric;
+  ties = λ a b. texts_ties a.0 b.0;
+}
 
 pub address_eq_equiv : IsEquivalence address_eq
 address_eq_equiv = on_texts_equal (λ (a : Address). a.0)
 
--- the `==` of numbers is a tie
-pub nat_eq-ties : (a b : ℕ) → nat_eq a b ≡ eq_by_cmp nat_cmp a b
-nat_eq-ties a b = grind (arith, nat_tests)
+-- and so are numbers
+pub numbers : IsKeyOrder nat_cmp nat_eq
+numbers = record {
+  total = nat_cmp_total;
+  same = nat_cmp-IsAntisymmetric;
+  ties = λ a b. grind (arith, nat_tests);
+}
 
 -- two addresses are one, or not
 pub same_or_other_address : (a b : Address) → (a ≡ b) ⊎ (a ≢ b)

@@ -9,7 +9,7 @@ use Rattle.std.proofs.lemmas.List.Elements.{filter-append}
 use Rattle.ntp_service.specs.declared.address.Address.{Address}
 use Rattle.ntp_service.specs.Address.{address_eq, address_cmp}
 use Rattle.ntp_service.specs.Registry.{Registry, Agrees, customer_at, empty_registry}
-use Rattle.ntp_service.proofs.AddressLaws.{address_eq_equiv, address_eq-ties, address_cmp-IsAntisymmetric, same_or_other_address}
+use Rattle.ntp_service.proofs.AddressLaws.{address_eq_equiv, addresses, same_or_other_address}
 use Rattle.ntp_service.proofs.Agreement.{agrees-empty}
 use Rattle.ntp_customer.specs.Past.{short}
 use Rattle.ntp_reply.specs.Life.{Life}
@@ -30,7 +30,7 @@ other-address a b ne = decided (address_eq a b) refl
   where
     decided : (t : Bool) → address_eq a b ≡ t → address_eq a b ≡ false
     decided false e = e
-    decided true e = absurd (ne (address_cmp-IsAntisymmetric a b (tie (address_cmp a b) (sym (address_eq-ties a b) ∙ e))))
+    decided true e = absurd (ne (addresses.same a b (tie (address_cmp a b) (sym (addresses.ties a b) ∙ e))))
 
 module _ {A : Type 0} where
   -- the events of what happened

@@ -1,7 +1,7 @@
-use Rattle.std.proofs.Common.{◌∙◌, arith, rules, append-nil, take, [], ◌++◌}
+use Rattle.std.proofs.Common.{◌∙◌, arith, rules, take, [], ◌++◌}
 use Rattle.std.proofs.KnownBytes.{Appends-nil, Appends-trans, Consumes-nil, Consumes-trans, Consumes-kept}
 use Rattle.labntp_jobs.proofs.Feeding.{Fed-nil, Fed-trans, Fed-stops}
-use Rattle.labntp_jobs.proofs.Whole.{whole-ok, whole-stop, whole-last, whole-read}
+use Rattle.labntp_jobs.proofs.Whole.{last-read, whole-ok, whole-stop, whole-last, whole-read}
 use Rattle.labntp_jobs.proofs.replaying.replay.Goals as goal
 
 pub loop-turn-init : goal.loop-turn-init
@@ -27,19 +27,15 @@ returns-clause-stopped g c =
 pub returns-in-Ok-finish-clause-ok : goal.returns-in-Ok-finish-clause-ok
 returns-in-Ok-finish-clause-ok g c =
     let i = c.loop-turn.invariant in let s = i.so_far in let h = c.in-Ok-finish.ensures.ok in
-    let e = c.in-Ok-eq0 in
-    let none = rw e.field-0-test at e.ensures.octets in let end = e.ensures.end e.field-0-test in
-    let consumed = rw append-nil at (Consumes-trans _ _ _ _ _ s.3 none) in
-    whole-ok _ _ _ _ _ _ _ _ _ i.unfed s.2 consumed end h.1 (Appends-trans _ _ _ _ _ s.4 h.2)
+    let last = last-read _ _ _ _ _ _ s.3 c.in-Ok-eq0.ensures.octets c.in-Ok-eq0.field-0-test c.in-Ok-eq0.ensures.end in
+    whole-ok _ _ _ _ _ _ _ _ _ i.unfed s.2 last.0 last.1 h.1 (Appends-trans _ _ _ _ _ s.4 h.2)
 
 pub returns-in-Err-finish-clause-stopped : goal.returns-in-Err-finish-clause-stopped
 returns-in-Err-finish-clause-stopped g c =
     let i = c.loop-turn.invariant in let s = i.so_far in let h = c.in-Err-finish.ensures.err in
-    let e = c.in-Ok-eq0 in
-    let none = rw e.field-0-test at e.ensures.octets in let end = e.ensures.end e.field-0-test in
-    let consumed = rw append-nil at (Consumes-trans _ _ _ _ _ s.3 none) in
+    let last = last-read _ _ _ _ _ _ s.3 c.in-Ok-eq0.ensures.octets c.in-Ok-eq0.field-0-test c.in-Ok-eq0.ensures.end in
     rw c.fault-in-Err-finish.ensures
-    (whole-last _ _ _ _ _ _ _ _ _ _ i.unfed s.2 consumed end h.1 c.finish.ensures.same (Appends-trans _ _ _ _ _ s.4 h.2))
+    (whole-last _ _ _ _ _ _ _ _ _ _ i.unfed s.2 last.0 last.1 h.1 c.finish.ensures.same (Appends-trans _ _ _ _ _ s.4 h.2))
 
 pub returns-in-Err-feed-clause-stopped : goal.returns-in-Err-feed-clause-stopped
 returns-in-Err-feed-clause-stopped g c =

@@ -1,5 +1,5 @@
-use Rattle.std.proofs.Common.{rules, arith, ℕ, List, Bor, Option, Some, None, length, ◌<◌}
-use Rattle.ntp_admin.proofs.LinesCut.{complete_lines-split, rest-shorter}
+use Rattle.std.proofs.Common.{rules, arith, None}
+use Rattle.ntp_admin.proofs.LinesCut.{complete_lines-split, line-off}
 use Rattle.ntp_admin.proofs.LinesApplied.{Applied-none, Applied-due, Applied-before, Applied-count, Applied-lines}
 use Rattle.ntp_admin.proofs.commands.apply_lines.Goals as goal
 
@@ -12,27 +12,23 @@ loop-line-init g c = record {
 
 pub loop-line-preserved-then-number-applied : goal.loop-line-preserved-then-number-applied
 loop-line-preserved-then-number-applied g c =
-    let rest = c.loop-line.rest.now in
-    let split : Option (Bor (List ℕ) × Bor (List ℕ)) = Some (c.in-Some.line, c.in-Some.others) in
-    let shorter : length c.in-Some.others.now < length rest = rest-shorter rest split c.in-Some.ensures.cases in
+    let off = line-off c.loop-line.rest.now c.in-Some.line c.in-Some.others c.in-Some.ensures.cases in
     record {
       utf8 = search rules;
-      room = omega (arith, c.loop-line.invariant.room);
+      room = omega (arith, off.0, c.loop-line.invariant.room);
       applied = Applied-due _ _ _ _ _ _ _ _ _ _ c.in-Some.line.now c.in-Some.others.now c.loop-line.number c.loop-line.invariant.applied
-          (complete_lines-split rest split c.in-Some.ensures.cases) (omega arith) c.apply_line.ensures;
+          off.1 (omega arith) c.apply_line.ensures;
     }
 
 pub loop-line-preserved : goal.loop-line-preserved
 loop-line-preserved g c =
-    let rest = c.loop-line.rest.now in
-    let split : Option (Bor (List ℕ) × Bor (List ℕ)) = Some (c.in-Some.line, c.in-Some.others) in
-    let shorter : length c.in-Some.others.now < length rest = rest-shorter rest split c.in-Some.ensures.cases in
+    let off = line-off c.loop-line.rest.now c.in-Some.line c.in-Some.others c.in-Some.ensures.cases in
     record {
       utf8 = search rules;
-      room = omega (arith, c.loop-line.invariant.room);
+      room = omega (arith, off.0, c.loop-line.invariant.room);
       applied = Applied-before _ _ _ c.loop-line.service _ _ (g.O.Observer.seen c.loop-line.observer) _ _ _ c.in-Some.line.now
           c.in-Some.others.now c.loop-line.number c.loop-line.invariant.applied
-          (complete_lines-split rest split c.in-Some.ensures.cases) (omega arith);
+          off.1 (omega arith);
     }
 
 pub returns-clause-count : goal.returns-clause-count

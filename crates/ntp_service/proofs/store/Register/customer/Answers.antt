@@ -1,6 +1,7 @@
 use Rattle.std.proofs.Common.{sym, ◌∙◌}
-use Rattle.ntp_service.proofs.Tables.{get-customers}
+use Rattle.ntp_service.proofs.AddressLaws.{addresses}
+use Rattle.ntp_service.proofs.Entries.{get-lookup}
 use Rattle.ntp_service.proofs.store.Register.customer.Goals as goal
 
 pub returns : goal.returns
-returns g c = rw (← c.self.view_is) (c.get.ensures.value ∙ sym (get-customers c.self.inside.customers.entries c.args.address))
+returns g c = rw (← c.self.view_is) (c.get.ensures.value ∙ sym (get-lookup addresses c.self.inside.customers.entries c.args.address))

@@ -1,7 +1,8 @@
 use Rattle.std.proofs.Common.{sym, ◌∙◌}
 use Rattle.std.specs.FinMap.{from_entries}
 use Rattle.ntp_service.proofs.Loans.{same_return_if}
-use Rattle.ntp_service.proofs.Tables.{get-customers, insert-customers}
+use Rattle.ntp_service.proofs.AddressLaws.{addresses}
+use Rattle.ntp_service.proofs.Entries.{get-lookup, from_entries-insert}
 use Rattle.ntp_service.proofs.store.Register.customer_mut.Goals as goal
 
 pub returns : goal.returns
@@ -9,7 +10,7 @@ returns g c =
     rw (← c.self.view_is) (
       same_return_if c.get_mut.result _ c.get_mut.ensures.value _ _ _ _
           (λ there w i. record {
-            customers = insert-customers c.self.inside.customers.entries (c.get_mut.follows.lender w).entries c.args.address w
+            customers = from_entries-insert addresses c.self.inside.customers.entries (c.get_mut.follows.lender w).entries c.args.address w
                 ((c.get_mut.follows.holds w).3 there).0 i;
             holders = from_entries c.self.inside.holders.entries;
           })
@@ -19,6 +20,6 @@ returns g c =
           }),
       record {
         writes_back = tt;
-        value = c.get_mut.ensures.value ∙ sym (get-customers c.self.inside.customers.entries c.args.address);
+        value = c.get_mut.ensures.value ∙ sym (get-lookup addresses c.self.inside.customers.entries c.args.address);
       },
     )

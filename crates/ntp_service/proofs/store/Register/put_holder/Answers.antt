@@ -1,11 +1,12 @@
 use Rattle.std.specs.FinMap.{from_entries}
-use Rattle.ntp_service.proofs.Tables.{insert-holders}
+use Rattle.ntp_service.proofs.AddressLaws.{numbers}
+use Rattle.ntp_service.proofs.Entries.{from_entries-insert}
 use Rattle.ntp_service.proofs.store.Register.put_holder.Goals as goal
 
 pub returns-clause-ok : goal.returns-clause-ok
 returns-clause-ok g c =
     rw (← c.self.view_is) (λ i. record {
       customers = from_entries c.self.inside.customers.entries;
-      holders = insert-holders c.self.inside.holders.entries c.insert.new.self.entries c.args.number c.args.address
+      holders = from_entries-insert numbers c.self.inside.holders.entries c.insert.new.self.entries c.args.number c.args.address
           c.in_ok-insert.ensures.updates.0 i;
     })

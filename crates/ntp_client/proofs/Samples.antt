@@ -11,10 +11,10 @@ use Rattle.ntp_client.specs.declared.taken.Taken.TheVariants as taken
 use Rattle.ntp_client.specs.State.{ClientState, IsClient}
 use Rattle.ntp_client.specs.Pairing.{pairing_of, sample_of}
 use Rattle.ntp_client.specs.Sample.{IsSample}
-use Rattle.ntp_client.specs.Taking.{taken_for}
+use Rattle.ntp_client.specs.Taking.{taken_for, header_taken}
 use Rattle.ntp_client.proofs.Pairings.{sample-pairs, basic-pairing, interleaved-pairing}
 use Rattle.ntp_client.proofs.Authentic.{authentic, authentic-sample, time-taken}
-use Rattle.ntp_client.proofs.Takings.{read-taken, paired-taken, signed-taken}
+use Rattle.ntp_client.proofs.Takings.{read-taken, header-taken, paired-taken, signed-taken}
 
 -- octets that are taken for a sample give the client that one
 pub sample-given : (c : ClientState) (octets : List ℕ) (at : Moment) (s : Sample) → AreOctets octets
@@ -31,6 +31,19 @@ sample-given c octets at s are is =
       signed = a.signed;
       pairs = sample-pairs a.asked a.reply.header at a.pairing s a.pairs time.1;
     }
+
+-- a sample that octets give the client, and that the header which it judged is that of the reply
+pub record SampleRead (c : ClientState) (octets : List ℕ) (at : Moment) (s : Sample) : Type 0 where
+  pub given : IsSample c octets at s
+  pub header : header_taken c octets ≡ Some given.reply.header
+
+-- octets that are taken for a sample give the client that one, by the header that it judged
+pub sample-read : (c : ClientState) (octets : List ℕ) (at : Moment) (s : Sample) → AreOctets octets
+    → taken_for c octets at ≡ taken.Sample s → SampleRead c octets at s
+sample-read c octets at s are is =
+    let given = sample-given c octets at s are is in
+    let read = sym (only-reading_of octets (Ok given.reply) are given.reads) in
+    record { given = given; header = header-taken c given.asked octets (Ok given.reply) given.outstanding read }
 
 -- and a client takes octets for the sample that they give it
 pub given-taken : (c : ClientState) (octets : List ℕ) (at : Moment) (s : Sample) → IsClient c → AreOctets octets

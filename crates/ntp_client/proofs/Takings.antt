@@ -1,6 +1,7 @@
 -- What a client takes octets for, once they are read; and what it is before and after.
-use Rattle.std.proofs.Common.{◌≡◌, ◌≢◌, ℕ, ◌<◌, List, [], ◌∷◌, Option, Some, None, Ok, refl, sym, ap, ◌∙◌, arith}
+use Rattle.std.proofs.Common.{◌≡◌, ◌≢◌, ℕ, ◌<◌, List, [], ◌∷◌, Option, Some, None, Result, Ok, option_map, refl, sym, ap, ◌∙◌, arith}
 use Rattle.std.specs.Prelude.{Contains}
+use Rattle.std.specs.Result.{result_ok}
 use Rattle.std.proofs.lemmas.Bool.{eq-eqb}
 use Rattle.ntp_packet.specs.declared.stamp.Stamp.{Stamp}
 use Rattle.ntp_packet.specs.declared.moment.Moment.{Moment}
@@ -8,6 +9,7 @@ use Rattle.ntp_packet.proofs.Freshness.{fresh-apart, fresh-nonzero}
 use Rattle.ntp_packet.specs.Header.{HeaderFields}
 use Rattle.ntp_packet.specs.FirstCase.{◌>>◌, decided}
 use Rattle.ntp_packet.specs.Request.{RequestValue}
+use Rattle.ntp_packet.specs.declared.malformed.Malformed.{Malformed}
 use Rattle.ntp_mac.specs.Key.{SymmetricKey}
 use Rattle.ntp_mac.specs.Reading.{reading_of}
 use Rattle.ntp_mac.specs.Signed.{IsSigned}
@@ -19,13 +21,18 @@ use Rattle.ntp_client.specs.declared.sample.Sample.{Sample}
 use Rattle.ntp_client.specs.State.{ClientState, IsOutstanding, IsClient}
 use Rattle.ntp_client.specs.Pairing.{pairing_of, exchange_of, sample_of}
 use Rattle.ntp_client.specs.Query.{transmit_of}
-use Rattle.ntp_client.specs.Taking.{with_mac, taken_for}
+use Rattle.ntp_client.specs.Taking.{with_mac, taken_for, header_taken}
 use Rattle.ntp_client.specs.Judging.{authentic_steps, mac_steps, tail_steps, packet_steps}
 
 -- while a request waits, octets are taken for the packet that they are read as
 pub read-taken : (c : ClientState) (q : Outstanding) (octets : List ℕ) (r : RequestValue) (at : Moment) → c.outstanding ≡ Some q
     → reading_of octets ≡ Ok r → taken_for c octets at ≡ decided (packet_steps c.key c.number q r at)
 read-taken c q octets r at there read = rw (there, read) refl
+
+-- and its header is judged
+pub header-taken : (c : ClientState) (q : Outstanding) (octets : List ℕ) (reading : Result RequestValue Malformed) → c.outstanding ≡ Some q
+    → reading_of octets ≡ reading → header_taken c octets ≡ option_map (λ r. r.header) (result_ok reading)
+header-taken c q octets reading there read = rw (there, read) refl
 
 -- and a server's reply to the request for what its tail says
 pub paired-taken : (key : SymmetricKey) (number : ℕ) (q : Outstanding) (r : RequestValue) (at : Moment) (p : Pairing)

@@ -1,12 +1,10 @@
 -- What is learned from the answers of the host's clock daemon.
-use Rattle.std.specs.Prelude.{ℕ, ℤ, ◌+◌, ◌+ℤ◌, ◌-◌, ◌-ℤ◌, ◌*◌, ◌^◌, min, unsigned_abs, nat_lt, if◌then◌else◌, Option, Some, None, option_map, option_and_then, Result, Ok, Err}
+use Rattle.std.specs.Prelude.{ℕ, ℤ, ◌+◌, ◌+ℤ◌, ◌-◌, ◌-ℤ◌, ◌*◌, ◌^◌, min, unsigned_abs, nat_lt, if◌then◌else◌, Option, Some, None, option_map, option_and_then}
 use Rattle.std.specs.Int.{div_ceil}
 use Rattle.ntp_packet.specs.declared.stamp.Stamp.{Stamp}
 use Rattle.ntp_packet.specs.declared.stamp.Short.{Short}
 use Rattle.ntp_packet.specs.Difference.{difference}
 use Rattle.ntp_packet.specs.Header.{HeaderFields, no_stamp}
-use Rattle.ntp_packet.specs.Request.{RequestValue}
-use Rattle.ntp_packet.specs.declared.malformed.Malformed.{Malformed}
 use Rattle.ntp_mac.specs.Key.{SymmetricKey}
 use Rattle.ntp_client.specs.declared.exchange.Outstanding.{Outstanding}
 use Rattle.ntp_client.specs.State.{ClientState, new_client}
@@ -92,28 +90,18 @@ abbrev pub learned_of : ClockWatch → Option ClockAnswer → HeaderFields → S
 learned_of w learned h sample =
     option_and_then (λ question. option_map (answer_of h sample question) (base_of w learned h question)) w.seen
 
--- what is learned of octets that gave a sample, as they are read (profile)
-abbrev pub learned_read : ClockWatch → Option ClockAnswer → Result RequestValue Malformed → Sample → Option ClockAnswer
-learned_read w learned (Ok reply) sample = learned_of w learned reply.header sample
-learned_read w learned (Err fault) sample = None
-
--- what is learned after octets with this reading were taken for something: the answer of a sample; nothing, where an authentic reply
+-- what is learned after a packet with this header was taken for something: the answer of a sample; nothing, where an authentic reply
 -- says that its clock is unsynchronised; and all else changes nothing (profile)
-abbrev pub learned_after : ClockWatch → Option ClockAnswer → Result RequestValue Malformed → Taken → Option ClockAnswer
-learned_after w learned reading (taken.Sample sample) = learned_read w learned reading sample
-learned_after w learned reading (taken.Refused distrust.Unsynchronised) = None
-learned_after w learned reading _ = learned
-
--- the reference time that octets tell which gave a sample, as they are read (profile)
-abbrev pub reference_read : Result RequestValue Malformed → Option Stamp
-reference_read (Ok reply) = Some reply.header.clock.reference
-reference_read (Err fault) = None
+abbrev pub learned_after : ClockWatch → Option ClockAnswer → Option HeaderFields → Taken → Option ClockAnswer
+learned_after w learned header (taken.Sample sample) = option_and_then (λ h. learned_of w learned h sample) header
+learned_after w learned header (taken.Refused distrust.Unsynchronised) = None
+learned_after w learned header _ = learned
 
 -- the reference time that the daemon told last: a clock that is unsynchronised has none (RFC 5905, 7.3; profile)
-abbrev pub told_after : Option Stamp → Result RequestValue Malformed → Taken → Option Stamp
-told_after told reading (taken.Sample sample) = reference_read reading
-told_after told reading (taken.Refused distrust.Unsynchronised) = Some no_stamp
-told_after told reading _ = told
+abbrev pub told_after : Option Stamp → Option HeaderFields → Taken → Option Stamp
+told_after told header (taken.Sample sample) = option_map (λ h. h.clock.reference) header
+told_after told header (taken.Refused distrust.Unsynchronised) = Some no_stamp
+told_after told header _ = told
 
 -- when the daemon last asked for fewer questions, by the kiss RATE (RFC 5905, 7.4; profile)
 abbrev pub slowed_after : Option ℕ → ℕ → Taken → Option ℕ

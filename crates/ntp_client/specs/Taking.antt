@@ -53,6 +53,10 @@ taken_for c octets at = decided do
   provided (not (lacks_stamp r.header)) (taken.Refused distrust.Stamps)
   Ok (taken.Sample (sample_of q pairing r.header at))
 
+-- the header that a client judges: that of octets that are a packet, where a request waits (profile)
+abbrev pub header_taken : ClientState → List ℕ → Option HeaderFields
+header_taken c octets = option_and_then (λ q. option_map (λ r. r.header) (result_ok (reading_of octets))) c.outstanding
+
 -- the exchange of the request that waits for its reply with octets that arrive at a moment (profile)
 abbrev pub exchange_with : Option Outstanding → List ℕ → Moment → Option Exchange
 exchange_with waiting octets at = option_and_then (λ q. option_map (λ r. exchange_of q r.header at) (result_ok (reading_of octets))) waiting

@@ -1,10 +1,10 @@
 //! A client, with its request and what it takes for a reply.
-ghost use Rattle.std.specs.Prelude.{◌≡◌, ◌↔◌, ◌<◌, List, ℕ, Some, Ok};
+ghost use Rattle.std.specs.Prelude.{◌≡◌, ◌↔◌, ◌<◌, List, ℕ, Some, None, Ok};
 ghost use Rattle.ntp_packet.specs.FirstCase.{decided};
 ghost use Rattle.ntp_mac.specs.Reading.{reading_of};
 ghost use Rattle.ntp_client.specs.State.{new_client, IsClient};
 ghost use Rattle.ntp_client.specs.Query.{query_octets, next_query, after_query};
-ghost use Rattle.ntp_client.specs.Taking.{taken_for, after_taken};
+ghost use Rattle.ntp_client.specs.Taking.{taken_for, header_taken, after_taken};
 ghost use Rattle.ntp_client.specs.Sample.{IsSample};
 ghost use Rattle.ntp_client.specs.Judging.{packet_steps};
 
@@ -12,7 +12,7 @@ use crate::exchange::{Exchange, Outstanding};
 use crate::judging::judge;
 use crate::pairing::exchange_of;
 use crate::query::{query_header, transmit_of};
-use crate::{Distrust, Sample, Taken};
+use crate::{Distrust, Sample, Taken, TakenPacket};
 use ntp_mac::{Key, Reply, seal};
 use ntp_packet::{Moment, Request, read_request};
 use std::marker::Model;
@@ -94,12 +94,27 @@ impl Client {
         ensures after { self.new ≡ after_taken self.old octets.now at result }
         ensures client { IsClient self.new }
     {
+        self.take_packet(octets, at).taken
+    }
+
+    /// Takes octets as `take` does, and hands on the header that it judged.
+    #[must_use]
+    pub fn take_packet(&mut self, octets: &[u8], at: Moment) -> TakenPacket
+        ensures first { result.taken ≡ taken_for self.old octets.now at }
+        ensures header { result.header ≡ header_taken self.old octets.now }
+        ensures sample { (sample : Sample) → (result.taken ≡ Taken.Sample sample) ↔ IsSample self.old octets.now at sample }
+        ensures after { self.new ≡ after_taken self.old octets.now at result.taken }
+        ensures client { IsClient self.new }
+    {
         let Some(asked) = self.outstanding else {
-            return Taken::Refused(Distrust::NothingAsked);
+            return unread(Distrust::NothingAsked);
         };
         match read_request(octets) {
-            Ok(reply) => self.take_reply(asked, &reply, at),
-            Err(fault) => Taken::Refused(Distrust::Malformed(fault)),
+            Ok(reply) => TakenPacket {
+                taken: self.take_reply(asked, &reply, at),
+                header: Some(reply.header),
+            },
+            Err(fault) => unread(Distrust::Malformed(fault)),
         }
     }
 
@@ -120,5 +135,16 @@ impl Client {
             Taken::Deny | Taken::Nak | Taken::Refused(_) => {}
         }
         taken
+    }
+}
+
+// Octets of which no header is read.
+fn unread(why: Distrust) -> TakenPacket
+    ensures taken { result.taken ≡ Taken.Refused why }
+    ensures header { result.header ≡ None }
+{
+    TakenPacket {
+        taken: Taken::Refused(why),
+        header: None,
     }
 }

@@ -1,11 +1,10 @@
 //! A follower of the host's clock daemon.
-ghost use Rattle.std.specs.Prelude.{◌≡◌, ◌<◌, Some, option_and_then, option_copied, option_map};
+ghost use Rattle.std.specs.Prelude.{◌≡◌, ◌<◌, Some, IfSome, option_and_then, option_copied, option_map};
 ghost use Rattle.ntp_packet.specs.Request.{RequestValue, IsRequest};
-ghost use Rattle.ntp_mac.specs.Reading.{reading_of};
 ghost use Rattle.ntp_mac.specs.Signed.{IsSigned};
 ghost use Rattle.ntp_client.specs.Query.{query_octets};
 ghost use Rattle.ntp_client.specs.Sample.{IsTimeReply};
-ghost use Rattle.ntp_client.specs.Taking.{taken_for, after_taken};
+ghost use Rattle.ntp_client.specs.Taking.{taken_for, header_taken, after_taken};
 ghost use Rattle.ntp_client.specs.InForce.{age, is_followed, doubt_of, in_force};
 ghost use Rattle.ntp_client.specs.Watching.{is_set_since};
 ghost use Rattle.ntp_client.specs.Learning.{new_follower, looked, question, asked, root_delay_by, base_of, learned_of, learned_after, told_after, slowed_after, period};
@@ -16,10 +15,10 @@ use crate::growing::age;
 use crate::pacing::period;
 use crate::{
     Client, ClockAnswer, ClockLimits, ClockWatch, Distrust, Doubt, Outgoing, Reading, Sample,
-    Taken, state_in_force,
+    Taken, TakenPacket, state_in_force,
 };
 use ntp_mac::Key;
-use ntp_packet::{ClockFields, Header, Short, Stamp, read_request};
+use ntp_packet::{ClockFields, Header, Short, Stamp};
 use ntp_reply::Reference;
 use std::marker::Model;
 
@@ -119,8 +118,8 @@ impl Follower {
         ensures limits { self.new.limits ≡ self.old.limits }
         ensures seen { self.new.watch.seen ≡ (looked self.old now).watch.seen }
         ensures set { self.new.watch.set ≡ (looked self.old now).watch.set }
-        ensures told { self.new.watch.told ≡ told_after (looked self.old now).watch.told (reading_of octets.now) result }
-        ensures learned { self.new.learned ≡ learned_after (looked self.old now).watch self.old.learned (reading_of octets.now) result }
+        ensures told { self.new.watch.told ≡ told_after (looked self.old now).watch.told (header_taken (looked self.old now).client octets.now) result }
+        ensures learned { self.new.learned ≡ learned_after (looked self.old now).watch self.old.learned (header_taken (looked self.old now).client octets.now) result }
         ensures slowed { self.new.slowed ≡ slowed_after self.old.slowed now.ticks result }
         ensures forged { ((reply : RequestValue) → IsRequest octets.now reply → ¬ IsSigned self.old.client.key self.old.client.number reply)
             → self.new.learned ≡ self.old.learned }
@@ -136,15 +135,15 @@ impl Follower {
         ensures limits { self.new.limits ≡ self.old.limits }
         ensures seen { self.new.watch.seen ≡ self.old.watch.seen }
         ensures set { self.new.watch.set ≡ self.old.watch.set }
-        ensures told { self.new.watch.told ≡ told_after self.old.watch.told (reading_of octets.now) result }
-        ensures learned { self.new.learned ≡ learned_after self.old.watch self.old.learned (reading_of octets.now) result }
+        ensures told { self.new.watch.told ≡ told_after self.old.watch.told (header_taken self.old.client octets.now) result }
+        ensures learned { self.new.learned ≡ learned_after self.old.watch self.old.learned (header_taken self.old.client octets.now) result }
         ensures slowed { self.new.slowed ≡ slowed_after self.old.slowed now.ticks result }
         ensures forged { ((reply : RequestValue) → IsRequest octets.now reply → ¬ IsSigned self.old.client.key self.old.client.number reply)
             → self.new.learned ≡ self.old.learned }
     {
-        let taken = self.client.take(octets, now.clock);
+        let TakenPacket { taken, header } = self.client.take_packet(octets, now.clock);
         match taken {
-            Taken::Sample(sample) => self.learn(octets, sample),
+            Taken::Sample(sample) => self.learn(header, sample),
             Taken::Refused(Distrust::Unsynchronised) => {
                 self.learned = None;
                 self.watch.told = Some(Stamp(0));
@@ -155,24 +154,20 @@ impl Follower {
         taken
     }
 
-    // Learns of octets that gave a sample.
-    fn learn(&mut self, octets: &[u8], sample: Sample)
+    // Learns of a sample and the header of its packet, which it always has.
+    fn learn(&mut self, header: Option<Header>, sample: Sample)
         ensures client { self.new.client ≡ self.old.client }
         ensures limits { self.new.limits ≡ self.old.limits }
         ensures seen { self.new.watch.seen ≡ self.old.watch.seen }
         ensures set { self.new.watch.set ≡ self.old.watch.set }
-        ensures told { (reply : RequestValue) → IsRequest octets.now reply → IsTimeReply reply.header
-            → self.new.watch.told ≡ Some reply.header.clock.reference }
-        ensures learned { (reply : RequestValue) → IsRequest octets.now reply → IsTimeReply reply.header
-            → self.new.learned ≡ learned_of self.old.watch self.old.learned reply.header sample }
+        ensures told { IfSome header (λ h. self.new.watch.told ≡ Some h.clock.reference) }
+        ensures learned { IfSome header (λ h. IsTimeReply h → self.new.learned ≡ learned_of self.old.watch self.old.learned h sample) }
         ensures slowed { self.new.slowed ≡ self.old.slowed }
     {
-        let Ok(reply) = read_request(octets) else {
-            return;
-        };
-        let header = &reply.header;
-        self.learned = learned_of(&self.watch, self.learned.as_ref(), header, sample);
-        self.watch.told = Some(header.reference());
+        if let Some(header) = header {
+            self.learned = learned_of(&self.watch, self.learned.as_ref(), &header, sample);
+            self.watch.told = Some(header.reference());
+        }
     }
 
     /// How long after a question the next one is due when the monotonic clock shows `ticks`, in nanoseconds: a second, and eight for an

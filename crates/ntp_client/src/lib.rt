@@ -34,5 +34,5 @@ pub use limits::ClockLimits;
 pub use reading::Reading;
 pub use sample::Sample;
 pub use state::{is_read, reference_unsynchronised, reference_where_read, state_in_force};
-pub use taken::{Distrust, Taken};
+pub use taken::{Distrust, Taken, TakenPacket};
 pub use watch::ClockWatch;

@@ -1,7 +1,7 @@
 //! What a client takes octets for.
 
 use crate::Sample;
-use ntp_packet::Malformed;
+use ntp_packet::{Header, Malformed};
 
 /// What a client takes octets for that arrive.
 #[derive(Clone, Copy, Debug, PartialEq, Eq)]
@@ -16,6 +16,15 @@ pub enum Taken {
     Nak,
     /// None of these. The request still waits.
     Refused(Distrust),
+}
+
+/// What a client takes octets for, with the header that it judged: that of the packet that they are, where a request waits.
+#[derive(Clone, Copy, Debug, PartialEq, Eq)]
+pub struct TakenPacket {
+    /// What they are taken for.
+    pub taken: Taken,
+    /// The header. `None` where they are no packet, or nothing was asked.
+    pub header: Option<Header>,
 }
 
 /// Why a client refuses octets. The first that applies is told (profile).

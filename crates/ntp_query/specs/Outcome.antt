@@ -1,37 +1,34 @@
 -- What comes of a query.
-use Rattle.std.specs.Prelude.{ℕ, List, [], ◌∷◌, unwrap_or, Bool, true, false, Option, Some, None, Result, Ok, Err}
+use Rattle.std.specs.Prelude.{ℕ, List, [], ◌∷◌, unwrap_or, Bool, true, false, Option, Some, None}
 use Rattle.std.specs.List.{find}
+use Rattle.std.specs.Option.{option_map_or}
 use Rattle.ntp_packet.specs.declared.moment.Moment.{Moment}
-use Rattle.ntp_packet.specs.Request.{RequestValue}
-use Rattle.ntp_packet.specs.declared.malformed.Malformed.{Malformed}
-use Rattle.ntp_mac.specs.Reading.{reading_of}
+use Rattle.ntp_packet.specs.Header.{HeaderFields}
 use Rattle.ntp_client.specs.declared.sample.Sample.{Sample}
 use Rattle.ntp_client.specs.declared.taken.Taken.{Taken}
 use Rattle.ntp_client.specs.declared.taken.Taken.TheVariants as taken
-use Rattle.ntp_client.specs.declared.taken.Distrust.TheVariants as distrust
 use Rattle.ntp_client.specs.State.{ClientState}
-use Rattle.ntp_client.specs.Taking.{taken_for}
+use Rattle.ntp_client.specs.Taking.{taken_for, header_taken}
 use Rattle.ntp_query.specs.declared.outcome.Outcome.{Outcome}
 use Rattle.ntp_query.specs.declared.outcome.Outcome.TheVariants.{Answered, Rate, Deny, Nak, Refused, Silence}
 use Rattle.ntp_query.specs.declared.answer.Answer.{Answer}
 use Rattle.ntp_query.specs.Answer.{answer_of}
 
--- a sample, with what the header of the reply tells; octets that gave a sample have no fault
-abbrev pub answered : Sample → Result RequestValue Malformed → Outcome
-answered sample (Ok reply) = Answered (answer_of sample reply.header)
-answered sample (Err fault) = Refused (distrust.Malformed fault)
+-- a sample, with what its header tells; a sample has one
+abbrev pub answered : Sample → Option HeaderFields → Outcome
+answered sample header = option_map_or (λ h. Answered (answer_of sample h)) header Silence
 
--- what a client takes octets for, with what they are read as
-abbrev pub heard_as : Taken → Result RequestValue Malformed → Outcome
-heard_as (taken.Sample sample) reading = answered sample reading
-heard_as taken.Rate reading = Rate
-heard_as taken.Deny reading = Deny
-heard_as taken.Nak reading = Nak
-heard_as (taken.Refused why) reading = Refused why
+-- what a client takes octets for, with the header that it judged
+abbrev pub heard_as : Taken → Option HeaderFields → Outcome
+heard_as (taken.Sample sample) header = answered sample header
+heard_as taken.Rate header = Rate
+heard_as taken.Deny header = Deny
+heard_as taken.Nak header = Nak
+heard_as (taken.Refused why) header = Refused why
 
 -- what octets come to that arrive at a moment
 abbrev pub heard : ClientState → List ℕ → Moment → Outcome
-heard c octets at = heard_as (taken_for c octets at) (reading_of octets)
+heard c octets at = heard_as (taken_for c octets at) (header_taken c octets)
 
 -- the answer of an outcome, if it is one
 abbrev pub answer_in : Outcome → Option Answer

@@ -3,8 +3,8 @@ ghost use Rattle.std.specs.Prelude.{◌≡◌, false};
 ghost use Rattle.ntp_query.specs.Outcome.{heard, answer_in, ends};
 
 use crate::Answer;
-use ntp_client::{Client, Distrust, Taken};
-use ntp_packet::{Moment, read_request};
+use ntp_client::{Client, Distrust, Taken, TakenPacket};
+use ntp_packet::Moment;
 
 /// What came of a query.
 #[derive(Clone, Copy, Debug, PartialEq, Eq)]
@@ -28,10 +28,12 @@ pub fn hear(client: &mut Client, octets: &[u8], at: Moment) -> Outcome
     ensures outcome { result ≡ heard client.old octets.now at }
     ensures waits { ends result ≡ false → client.new ≡ client.old }
 {
-    match client.take(octets, at) {
-        Taken::Sample(sample) => match read_request(octets) {
-            Ok(reply) => Outcome::Answered(Answer::of(sample, &reply.header)),
-            Err(fault) => Outcome::Refused(Distrust::Malformed(fault)),
+    let TakenPacket { taken, header } = client.take_packet(octets, at);
+    match taken {
+        Taken::Sample(sample) => match header {
+            Some(header) => Outcome::Answered(Answer::of(sample, &header)),
+            // A sample has a header.
+            None => Outcome::Silence,
         },
         Taken::Rate => Outcome::Rate,
         Taken::Deny => Outcome::Deny,

@@ -86,17 +86,12 @@ fn offset_nanos(answer: &ClockAnswer) -> i64 {
 fn belief_in<C: Clock + Copy + Drop>(followed: &FollowedClock<'_, C>, now: Reading) -> Belief {
     let follower = followed.follower();
     match follower.doubt(now) {
-        Some(Doubt::Old) => Belief::Old,
-        Some(Doubt::Unsynchronised) => Belief::Unsynchronised,
-        Some(Doubt::ReferenceOld) => Belief::ReferenceOld,
-        Some(Doubt::ReferenceAhead) => Belief::ReferenceAhead,
-        Some(Doubt::Far) => Belief::Far,
-        Some(Doubt::Set) => Belief::Set,
+        Some(doubt) => Belief::Doubted(doubt),
         None if follower.learned().is_some() => Belief::Believed,
         // What an answer had told is forgotten where a later one says that its clock is not synchronised, and where none of them shows an
         // update since the host's clock was set.
-        None if followed.is_unsynchronised() => Belief::Unsynchronised,
-        None if followed.has_answered() => Belief::Set,
+        None if followed.is_unsynchronised() => Belief::Doubted(Doubt::Unsynchronised),
+        None if followed.has_answered() => Belief::Doubted(Doubt::Set),
         None => Belief::NoAnswer,
     }
 }

@@ -1,9 +1,9 @@
 //! What is logged of the lines of commands.
-ghost use Rattle.std.specs.Prelude.{◌≡◌, Some, None, option_map};
-ghost use Rattle.ntp_reports.specs.Logging.{subject_of, customers_after};
+ghost use Rattle.std.specs.Prelude.{◌≡◌, Some, None};
+ghost use Rattle.ntp_reports.specs.Logging.{customers_after};
 
 use ntp_host::{HostClocks, Log, Priority};
-use ntp_reports::{Ask, LineAllowance, Subject, customers_after, write_logged_line};
+use ntp_reports::{Ask, LineAllowance, customers_after, write_logged_line};
 use ntp_service::{Command, LineOutcome, Observer, TurnOutcome};
 use std::io::Write;
 
@@ -18,7 +18,7 @@ pub struct CommandLog<'a, W: Write + Drop> {
     clocks: &'a HostClocks,
     customers: u64,
     // The command that the next line is, if it is one.
-    subject: Option<Subject>,
+    command: Option<Command>,
 }
 
 impl<'a, W: Write + Drop> CommandLog<'a, W> {
@@ -26,14 +26,14 @@ impl<'a, W: Write + Drop> CommandLog<'a, W> {
     pub fn new(log: Log<W>, clocks: &'a HostClocks, customers: u64) -> CommandLog<'a, W>
         ensures log { result.log ≡ log }
         ensures customers { result.customers ≡ customers }
-        ensures subject { result.subject ≡ None }
+        ensures command { result.command ≡ None }
     {
         CommandLog {
             log,
             allowance: LineAllowance::new(),
             clocks,
             customers,
-            subject: None,
+            command: None,
         }
     }
 
@@ -50,8 +50,8 @@ impl<'a, W: Write + Drop> CommandLog<'a, W> {
     }
 
     // Logs what became of the line with a number, where that may be written.
-    fn log_line(&mut self, number: u64, subject: Option<Subject>, outcome: LineOutcome)
-        ensures subject { self.new.subject ≡ self.old.subject }
+    fn log_line(&mut self, number: u64, outcome: LineOutcome)
+        ensures command { self.new.command ≡ self.old.command }
         ensures customers { self.new.customers ≡ self.old.customers }
     {
         match self.allowance.ask(self.clocks.ticks.get() / MINUTE_NANOS) {
@@ -64,26 +64,26 @@ impl<'a, W: Write + Drop> CommandLog<'a, W> {
             }
         }
         let line = self.log.begin(priority_of(outcome));
-        let _ = write_logged_line(line, number, subject, outcome);
+        let _ = write_logged_line(line, number, self.command.as_ref(), outcome);
         self.log.end();
     }
 }
 
 impl<'a, W: Write + Drop> Observer for CommandLog<'a, W> {
     fn command(&mut self, command: &Command)
-        ensures subject { self.new.subject ≡ Some (subject_of command.now) }
+        ensures command { self.new.command ≡ Some command.now }
         ensures customers { self.new.customers ≡ self.old.customers }
     {
-        self.subject = Some(Subject::of(command));
+        self.command = Some(*command);
     }
 
     fn line(&mut self, number: u64, outcome: LineOutcome)
-        ensures subject { self.new.subject ≡ None }
-        ensures customers { self.new.customers ≡ customers_after self.old.customers (option_map (λ s. s.verb) self.old.subject) outcome }
+        ensures command { self.new.command ≡ None }
+        ensures customers { self.new.customers ≡ customers_after self.old.customers self.old.command outcome }
     {
-        let subject = self.subject.take();
-        self.customers = customers_after(self.customers, subject, outcome);
-        self.log_line(number, subject, outcome);
+        self.customers = customers_after(self.customers, self.command.as_ref(), outcome);
+        self.log_line(number, outcome);
+        self.command = None;
     }
 
     fn turn(&mut self, _outcome: &TurnOutcome)

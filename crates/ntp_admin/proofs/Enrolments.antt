@@ -9,7 +9,7 @@ use Rattle.ntp_service.specs.declared.event.Event.{Event}
 use Rattle.ntp_service.specs.declared.event.Event.TheVariants as event
 use Rattle.ntp_service.specs.declared.outcome.Outcome.{Outcome}
 use Rattle.ntp_service.specs.declared.outcome.Outcome.TheVariants as outcome
-use Rattle.ntp_service.specs.Headline.{StandsFor, TellsOne, Tells, kept}
+use Rattle.ntp_service.specs.Headline.{StandsFor, TellsOne, Tells, not_struck}
 use Rattle.ntp_service.proofs.Runs.{Tells-nil, Tells-push}
 use Rattle.ntp_admin.specs.Loading.{orders, all_done, Enrols, IsRefused}
 
@@ -24,7 +24,7 @@ pub Enrolled-tells : (commands : List Command) (service : Registry) → Enrolled
 Enrolled-tells commands service e = e.tells
 
 -- what was done strikes nothing out
-kept-done : (commands : List Command) → kept {A = Global} (all_done commands) ≡ orders commands
+kept-done : (commands : List Command) → not_struck {A = Global} (all_done commands) ≡ orders commands
 kept-done [] = refl
 kept-done (c ∷ commands) = ap (λ es. event.Command c ∷ es) (kept-done commands)
 

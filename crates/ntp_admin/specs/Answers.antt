@@ -6,8 +6,7 @@ use Rattle.hex.specs.Hex.{encode_lower}
 use Rattle.ntp_packet.specs.declared.stamp.Stamp.{Stamp}
 use Rattle.ntp_packet.specs.declared.malformed.Malformed.{Malformed}
 use Rattle.ntp_packet.specs.declared.malformed.Malformed.TheVariants as malformed
-use Rattle.ntp_service.specs.declared.refusal.Refusal.{Refusal}
-use Rattle.ntp_service.specs.declared.refusal.Refusal.TheVariants as refusal
+use Rattle.ntp_service.specs.Vocabulary.{refusal_word}
 use Rattle.ntp_reply.specs.declared.answers.Answer.{Answer}
 use Rattle.ntp_reply.specs.declared.answers.Answer.TheVariants as answer
 use Rattle.ntp_reply.specs.declared.answers.Reason.{Reason}
@@ -46,17 +45,6 @@ answer_text (answer.Deny reply) = codes "deny " ++ encode_lower reply
 answer_text (answer.Nak reply) = codes "nak " ++ encode_lower reply
 answer_text (answer.Silent why) = codes "silent " ++ reason_text why
 
--- why a command was refused
-abbrev pub refusal_text : Refusal → List ℕ
-refusal_text refusal.AlreadyEnrolled = codes "already-enrolled"
-refusal_text refusal.KeyTaken = codes "key-taken"
-refusal_text refusal.NoMemory = codes "no-memory"
-refusal_text refusal.NotEnrolled = codes "not-enrolled"
-refusal_text refusal.SameNumber = codes "same-number"
-refusal_text refusal.RoomFull = codes "room-full"
-refusal_text refusal.OnlyKey = codes "only-key"
-refusal_text refusal.NotHeld = codes "not-held"
-
 -- the end of a line
 abbrev pub line_feed : List ℕ
 line_feed = 10 ∷ []
@@ -67,4 +55,4 @@ outcome_text (outcome.Datagram answer) = answer_text answer ++ line_feed
 outcome_text outcome.Noted = codes "noted" ++ line_feed
 outcome_text outcome.NotNoted = codes "not-noted" ++ line_feed
 outcome_text outcome.Done = codes "done" ++ line_feed
-outcome_text (outcome.Refused why) = codes "refused " ++ refusal_text why ++ line_feed
+outcome_text (outcome.Refused why) = codes "refused " ++ refusal_word why ++ line_feed

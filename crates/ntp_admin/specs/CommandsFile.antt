@@ -5,12 +5,12 @@ use Rattle.ntp_service.specs.declared.refusal.Refusal.{Refusal}
 use Rattle.ntp_service.specs.Registry.{Registry}
 use Rattle.ntp_admin.specs.Words.{words, parts}
 use Rattle.ntp_admin.specs.Spells.{command_in, is_passed_over}
-use Rattle.ntp_admin.specs.Answers.{refusal_text, line_feed}
+use Rattle.ntp_admin.specs.Answers.{line_feed}
+use Rattle.ntp_service.specs.Vocabulary.{refusal_word, line_fault_word}
 use Rattle.ntp_service.specs.declared.command.Command.{Command}
 use Rattle.ntp_service.specs.declared.event.Event.{Event}
 use Rattle.ntp_service.specs.declared.event.Event.TheVariants as event
 use Rattle.ntp_service.specs.declared.line_fault.LineFault.{LineFault}
-use Rattle.ntp_service.specs.declared.line_fault.LineFault.TheVariants as line_fault
 use Rattle.ntp_service.specs.declared.outcome.Outcome.{Outcome}
 use Rattle.ntp_service.specs.declared.observation.LineOutcome.{LineOutcome}
 use Rattle.ntp_service.specs.declared.observation.LineOutcome.TheVariants.{Done, Refused, Faulty}
@@ -85,21 +85,6 @@ pub record CarriesOutDue (A : Type 0) (applied : ℕ) (octets : List ℕ) (after
   pub due : AreDue applied octets (lines_taken taken) after
   pub done : CarriesOut A applied taken old new seen told
 
--- the word for what is wrong with a line that is no command
-abbrev pub line_fault_text : LineFault → List ℕ
-line_fault_text line_fault.Word = codes "word"
-line_fault_text line_fault.Count = codes "count"
-line_fault_text line_fault.Address = codes "address"
-line_fault_text line_fault.Number = codes "number"
-line_fault_text line_fault.Algorithm = codes "algorithm"
-line_fault_text line_fault.KeyText = codes "key"
-line_fault_text line_fault.Budget = codes "budget"
-line_fault_text line_fault.NoMemory = codes "memory"
-line_fault_text line_fault.Moment = codes "moment"
-line_fault_text line_fault.Stamp = codes "stamp"
-line_fault_text line_fault.Reference = codes "reference"
-line_fault_text line_fault.Hex = codes "hex"
-
 -- the line that tells of a fault of the commands file
 abbrev pub fault_line : ℕ → List ℕ → List ℕ
 fault_line number word = codes "commands: line " ++ decimal number ++ codes ": " ++ word ++ line_feed
@@ -107,5 +92,5 @@ fault_line number word = codes "commands: line " ++ decimal number ++ codes ": "
 -- what is written of a line of commands: nothing where it was carried out
 abbrev pub line_text : ℕ → LineOutcome → List ℕ
 line_text number Done = []
-line_text number (Refused refusal) = fault_line number (refusal_text refusal)
-line_text number (Faulty fault) = fault_line number (line_fault_text fault)
+line_text number (Refused refusal) = fault_line number (refusal_word refusal)
+line_text number (Faulty fault) = fault_line number (line_fault_word fault)

@@ -4,8 +4,6 @@ ghost use Rattle.std.specs.Bool.{OnFalse};
 ghost use Rattle.std.specs.Io.KnownBytes.{Appends};
 ghost use Rattle.ntp_admin.specs.CommandsFile.{fault_line, line_text};
 
-use crate::fault_words::fault_word;
-use crate::refusal_word;
 use ntp_service::{Command, LineOutcome, Observer, TurnOutcome};
 use std::io::{self, Write};
 
@@ -45,8 +43,8 @@ impl<W: Write> FaultLines<W> {
     {
         match outcome {
             LineOutcome::Done => Ok(()),
-            LineOutcome::Refused(refusal) => self.write_fault(number, refusal_word(refusal)),
-            LineOutcome::Faulty(fault) => self.write_fault(number, fault_word(fault)),
+            LineOutcome::Refused(refusal) => self.write_fault(number, refusal.word()),
+            LineOutcome::Faulty(fault) => self.write_fault(number, fault.word()),
         }
     }
 

@@ -7,12 +7,10 @@ mod commands;
 mod customers;
 mod fault;
 mod fault_lines;
-mod fault_words;
 mod file_text;
 mod form;
 mod laws;
 mod loading;
-mod naming;
 mod parsing;
 mod parts;
 mod printing;
@@ -26,17 +24,14 @@ pub use commands::{apply_commands, commands_step};
 pub use customers::customer_in;
 pub use fault::RegisterFault;
 pub use fault_lines::FaultLines;
-pub use fault_words::fault_word;
 pub use file_text::{MOST_FILE_OCTETS, line_without_text};
 pub use laws::what_is_due_stands_behind_what_was_applied;
 pub use loading::{LoadFault, Loaded, load_register};
-pub use naming::{Verb, number_named};
 pub use ntp_service::{Command, Event, LineFault, NoMemory, Octets, Outcome};
 pub use parsing::{is_passed_over, parse_command, parse_event};
-pub use printing::{print_answer, refusal_word};
+pub use printing::print_answer;
 pub use register_reader::{read_reference, read_register};
 pub use starting::load_status;
 pub use status::{
-    DONE, IO_FAILED, MEMORY_OUT, TEXT_FAULTY, USAGE_REFUSED, failed_status, memory_status,
-    socket_status, unread_status, usage_status, write_status,
+    Status, failed_status, memory_status, socket_status, unread_status, usage_status, write_status,
 };

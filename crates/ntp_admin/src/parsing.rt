@@ -3,7 +3,7 @@ ghost use Rattle.std.specs.Prelude.{◌≡◌, ◌≢◌, ◌⊎◌, IfOk, IfErr
 ghost use Rattle.ntp_admin.specs.Words.{words};
 ghost use Rattle.ntp_admin.specs.Spells.{is_passed_over, enrol_in, revoke_in, new_budget_in, rollover_in, retire_in, command_in, datagram_in, departed_in, event_in, is_datagram, SpellsCommand, HasCommandFault, Spells, HasLineFault};
 
-use crate::parts::Parts;
+use crate::parts::TextParts;
 use crate::words;
 use ntp_service::{Command, Event, LineFault};
 use std::alloc::Allocator;
@@ -35,7 +35,7 @@ pub fn parse_command(line: &str) -> Result<Command, LineFault>
     ensures only { IfOk result (λ command. SpellsCommand line.now command) }
     ensures fault { IfErr result (λ fault. HasCommandFault line.now fault) }
 {
-    let mut words = Parts::new(line, ' ');
+    let mut words = TextParts::new(line, ' ');
     let first = words.next().ok_or(LineFault::Word)?;
     command(first, words)
 }
@@ -56,7 +56,7 @@ pub fn parse_event<A: Allocator + Copy>(alloc: A, line: &str) -> Result<Event<A>
     ensures command { (c : Command) → SpellsCommand line.now c → result ≡ Ok (Event.Command c) }
     ensures memory { result ≡ Err LineFault.NoMemory → is_datagram (words line.now) ≡ true }
 {
-    let mut words = Parts::new(line, ' ');
+    let mut words = TextParts::new(line, ' ');
     let first = words.next().ok_or(LineFault::Word)?;
     match first {
         "datagram" => datagram(alloc, words),
@@ -67,7 +67,7 @@ pub fn parse_event<A: Allocator + Copy>(alloc: A, line: &str) -> Result<Event<A>
 
 // The command that begins with a word.
 #[tactic(auto, unfolding(crate::specs::Spells::command_in))]
-fn command(first: &str, others: Parts<'_>) -> Result<Command, LineFault>
+fn command(first: &str, others: TextParts<'_>) -> Result<Command, LineFault>
     ensures command { result ≡ command_in (first.now ∷ others.entry) }
     ensures memory { result ≢ Err LineFault.NoMemory }
 {
@@ -82,7 +82,7 @@ fn command(first: &str, others: Parts<'_>) -> Result<Command, LineFault>
 }
 
 // What stands behind `enrol`.
-fn enrolment(mut words: Parts<'_>) -> Result<Command, LineFault>
+fn enrolment(mut words: TextParts<'_>) -> Result<Command, LineFault>
     ensures command { result ≡ enrol_in words.entry }
     ensures memory { result ≢ Err LineFault.NoMemory }
 {
@@ -106,7 +106,7 @@ fn enrolment(mut words: Parts<'_>) -> Result<Command, LineFault>
 }
 
 // What stands behind `revoke`.
-fn revocation(mut words: Parts<'_>) -> Result<Command, LineFault>
+fn revocation(mut words: TextParts<'_>) -> Result<Command, LineFault>
     ensures command { result ≡ revoke_in words.entry }
     ensures memory { result ≢ Err LineFault.NoMemory }
 {
@@ -117,7 +117,7 @@ fn revocation(mut words: Parts<'_>) -> Result<Command, LineFault>
 }
 
 // What stands behind `budget`.
-fn new_budget(mut words: Parts<'_>) -> Result<Command, LineFault>
+fn new_budget(mut words: TextParts<'_>) -> Result<Command, LineFault>
     ensures command { result ≡ new_budget_in words.entry }
     ensures memory { result ≢ Err LineFault.NoMemory }
 {
@@ -130,7 +130,7 @@ fn new_budget(mut words: Parts<'_>) -> Result<Command, LineFault>
 }
 
 // What stands behind `rollover`.
-fn rollover(mut words: Parts<'_>) -> Result<Command, LineFault>
+fn rollover(mut words: TextParts<'_>) -> Result<Command, LineFault>
     ensures command { result ≡ rollover_in words.entry }
     ensures memory { result ≢ Err LineFault.NoMemory }
 {
@@ -151,7 +151,7 @@ fn rollover(mut words: Parts<'_>) -> Result<Command, LineFault>
 }
 
 // What stands behind `retire`.
-fn retirement(mut words: Parts<'_>) -> Result<Command, LineFault>
+fn retirement(mut words: TextParts<'_>) -> Result<Command, LineFault>
     ensures command { result ≡ retire_in words.entry }
     ensures memory { result ≢ Err LineFault.NoMemory }
 {
@@ -164,7 +164,7 @@ fn retirement(mut words: Parts<'_>) -> Result<Command, LineFault>
 }
 
 // What stands behind `datagram`.
-fn datagram<A: Allocator + Copy>(alloc: A, mut words: Parts<'_>) -> Result<Event<A>, LineFault>
+fn datagram<A: Allocator + Copy>(alloc: A, mut words: TextParts<'_>) -> Result<Event<A>, LineFault>
     ensures only { IfOk result (λ event. datagram_in words.entry ≡ Ok event) }
     ensures fault { IfErr result (λ fault. (fault ≡ LineFault.NoMemory) ⊎ (datagram_in {A = A} words.entry ≡ Err fault)) }
 {
@@ -184,7 +184,7 @@ fn datagram<A: Allocator + Copy>(alloc: A, mut words: Parts<'_>) -> Result<Event
 }
 
 // What stands behind `departed`.
-fn departure<A: Allocator>(mut words: Parts<'_>) -> Result<Event<A>, LineFault>
+fn departure<A: Allocator>(mut words: TextParts<'_>) -> Result<Event<A>, LineFault>
     ensures event { result ≡ departed_in words.entry }
     ensures memory { result ≢ Err LineFault.NoMemory }
 {

@@ -7,13 +7,13 @@ use std::marker::Model;
 
 /// The parts of a text that are still to be read, where the parts stand between separators.
 #[derive(Drop)]
-pub(crate) struct Parts<'a> {
+pub(crate) struct TextParts<'a> {
     separator: char,
     // What follows the last separator that was passed; nothing once the last part was read.
     rest: Option<&'a str>,
 }
 
-impl<'a> Model for Parts<'a> {
+impl<'a> Model for TextParts<'a> {
     ghost use Rattle.std.specs.Prelude.{ℕ, ◌<◌, List, []};
     ghost use Rattle.std.specs.Option.{option_map_or};
     ghost use Rattle.ntp_admin.specs.Words.{parts};
@@ -25,13 +25,13 @@ impl<'a> Model for Parts<'a> {
     ghost invariant = { λ p. p.separator < 128 };
 }
 
-impl<'a> Parts<'a> {
+impl<'a> TextParts<'a> {
     /// The parts of a text between separators, which are an ASCII character.
-    pub(crate) fn new(text: &'a str, separator: char) -> Parts<'a>
+    pub(crate) fn new(text: &'a str, separator: char) -> TextParts<'a>
         requires { separator < 128 }
         ensures { result ≡ parts separator text.now }
     {
-        Parts {
+        TextParts {
             separator,
             rest: Some(text),
         }

@@ -1,7 +1,7 @@
 //! Outcomes to lines.
 ghost use Rattle.std.specs.Prelude.{◌≡◌, ◌++◌, IfOk, codes, string_bytes};
 ghost use Rattle.hex.specs.Hex.{encode_lower};
-ghost use Rattle.ntp_admin.specs.Answers.{malformed_text, reason_text, answer_text, stamp_text, refusal_text, outcome_text};
+ghost use Rattle.ntp_admin.specs.Answers.{malformed_text, reason_text, answer_text, stamp_text, outcome_text};
 
 use ntp_mac::Reply;
 use ntp_packet::{Malformed, Stamp};
@@ -24,7 +24,7 @@ pub fn print_answer<A: Allocator + Copy>(alloc: A, outcome: &Outcome) -> Result<
         Outcome::NotNoted => String::from_str(alloc, "not-noted\n")?,
         Outcome::Done => String::from_str(alloc, "done\n")?,
         Outcome::Refused(refusal) => {
-            let refusal = refusal_word(*refusal);
+            let refusal = refusal.word();
             format!(in alloc; "refused {refusal}\n")?
         }
     };
@@ -106,21 +106,5 @@ fn malformed_text<A: Allocator + Copy>(alloc: A, fault: Malformed) -> Result<Str
         Malformed::FieldUnaligned { at } => format!(in alloc; "field-unaligned {at}"),
         Malformed::FieldPastEnd { at } => format!(in alloc; "field-past-end {at}"),
         Malformed::Rest { at } => format!(in alloc; "rest {at}"),
-    }
-}
-
-/// The word for why a command was refused. It takes no memory.
-pub fn refusal_word(refusal: Refusal) -> &'static str
-    ensures { result.now ≡ refusal_text refusal }
-{
-    match refusal {
-        Refusal::AlreadyEnrolled => "already-enrolled",
-        Refusal::KeyTaken => "key-taken",
-        Refusal::NoMemory => "no-memory",
-        Refusal::NotEnrolled => "not-enrolled",
-        Refusal::SameNumber => "same-number",
-        Refusal::RoomFull => "room-full",
-        Refusal::OnlyKey => "only-key",
-        Refusal::NotHeld => "not-held",
     }
 }

@@ -1,39 +1,38 @@
 //! Exit statuses of a server that failed to start.
 ghost use Rattle.std.specs.Prelude.{◌≡◌};
-ghost use Rattle.ntp_admin.specs.Starts.{load_status, register_status};
+ghost use Rattle.ntp_admin.specs.Starts.{status_code, load_status, register_status};
 
-use crate::fault_words::fault_word;
+use crate::RegisterFault;
 use crate::loading::LoadFault;
-use crate::status::{IO_FAILED, MEMORY_OUT, TEXT_FAULTY, memory_status};
-use crate::{RegisterFault, refusal_word};
+use crate::status::{Status, memory_status};
 use ntp_service::{LineFault, Refusal};
 use std::io::Write;
 
 /// Tells in one line why a register file gives no service, and gives the exit status: 3 where it could not be read, 4 for
 /// want of memory, else 1. A failed write is passed over.
-pub fn load_status<F: Write>(fault: LoadFault, faults: &mut F) -> u8
-    ensures { result ≡ load_status fault }
+pub fn load_status<F: Write>(fault: LoadFault, faults: &mut F) -> Status
+    ensures { status_code result ≡ load_status fault }
 {
     match fault {
         LoadFault::Read => {
             let _ = writeln!(faults, "register: read");
-            IO_FAILED
+            Status::IoFailed
         }
         LoadFault::Register(fault) => register_status(fault, faults),
         LoadFault::Refused { place, refusal } => {
-            let word = refusal_word(refusal);
+            let word = refusal.word();
             let _ = writeln!(faults, "register: customer {place}: {word}");
             match refusal {
-                Refusal::NoMemory => MEMORY_OUT,
-                _ => TEXT_FAULTY,
+                Refusal::NoMemory => Status::MemoryOut,
+                _ => Status::TextFaulty,
             }
         }
     }
 }
 
 // Tells what is wrong with the text of a register file, and gives the exit status.
-fn register_status<F: Write>(fault: RegisterFault, faults: &mut F) -> u8
-    ensures { result ≡ register_status fault }
+fn register_status<F: Write>(fault: RegisterFault, faults: &mut F) -> Status
+    ensures { status_code result ≡ register_status fault }
 {
     match fault {
         RegisterFault::Toml => text_status("toml", faults),
@@ -45,17 +44,17 @@ fn register_status<F: Write>(fault: RegisterFault, faults: &mut F) -> u8
             fault: LineFault::NoMemory,
         } => memory_status(faults),
         RegisterFault::Entry { place, fault } => {
-            let word = fault_word(fault);
+            let word = fault.word();
             let _ = writeln!(faults, "register: customer {place}: {word}");
-            TEXT_FAULTY
+            Status::TextFaulty
         }
     }
 }
 
 // Tells the word for a fault of a register file, and gives the exit status.
-fn text_status<F: Write>(word: &str, faults: &mut F) -> u8
-    ensures { result ≡ 1 }
+fn text_status<F: Write>(word: &str, faults: &mut F) -> Status
+    ensures { result ≡ Status.TextFaulty }
 {
     let _ = writeln!(faults, "register: {word}");
-    TEXT_FAULTY
+    Status::TextFaulty
 }

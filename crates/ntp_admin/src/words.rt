@@ -5,7 +5,7 @@ ghost use Rattle.std.specs.List.{list_all, slice_range};
 ghost use Rattle.std.specs.Option.{option_map};
 ghost use Rattle.ntp_admin.specs.Words.{is_decimal, decimal_in, address_in, number_in, algorithm_in, key_in, octets_in, short_of, stamp_of, stamp_in, moment_in, reference_in};
 
-use crate::parts::Parts;
+use crate::parts::TextParts;
 use hex::{FromHex, FromHexError};
 use ntp_mac::{Algorithm, Key, MOST_KEY_OCTETS};
 use ntp_packet::{ClockFields, Moment, Short, Stamp};
@@ -60,7 +60,7 @@ fn octet(word: &str) -> Option<u8>
 pub fn address(word: &str) -> Option<Address>
     ensures { result ≡ address_in word.now }
 {
-    let mut parts = Parts::new(word, '.');
+    let mut parts = TextParts::new(word, '.');
     let first = parts.next()?;
     let second = parts.next()?;
     let third = parts.next()?;
@@ -115,7 +115,7 @@ pub(crate) fn stamp(word: &str) -> Option<Stamp>
 pub(crate) fn moment(word: &str) -> Option<Moment>
     ensures { result ≡ moment_in word.now }
 {
-    let mut parts = Parts::new(word, ':');
+    let mut parts = TextParts::new(word, ':');
     let era = parts.next()?;
     let within = parts.next()?;
     if parts.next().is_some() {

@@ -1,16 +1,21 @@
 -- The line of a command says it.
-use Rattle.std.proofs.Common.{◌≡◌, ℕ, ◌<◌, ◌==◌, true, false, List, [], ◌∷◌, ◌++◌, length, Some, Ok, refl, ap, ◌∙◌, arith, lit<, append_assoc, append-nil}
+use Rattle.std.proofs.Common.{◌≡◌, ℕ, ◌<◌, ◌==◌, true, false, List, [], ◌∷◌, ◌++◌, length, Option, Some, None, IfSome, Ok, refl, sym, ap, ◌∙◌, arith, lit<, append_assoc, append-nil}
 use Rattle.std.specs.Prelude.{codes, not}
-use Rattle.std.specs.List.{join_with_byte}
+use Rattle.std.specs.List.{join_with_byte, list_all}
+use Rattle.std.specs.Option.{option_map_or}
+use Rattle.std.specs.declared.num.NonZeroU16.{NonZeroU16}
 use Rattle.std.specs.Char.{is_ascii_digit, is_ascii_lowercase}
 use Rattle.hex.specs.Hex.{encode_lower, is_hex_digit}
+use Rattle.ntp_mac.specs.Key.{SymmetricKey}
 use Rattle.ntp_mac.specs.declared.key.Algorithm.{Algorithm}
 use Rattle.ntp_mac.specs.declared.key.Algorithm.TheVariants.{Md5, Sha1}
 use Rattle.ntp_admin.specs.Words.{parts, algorithm_in}
 use Rattle.ntp_admin.specs.Spells.{command_in}
+use Rattle.ntp_service.specs.Commands.{address_named, number_named}
+use Rattle.ntp_service.specs.Vocabulary.{command_word}
 use Rattle.ntp_service.specs.declared.command.Command.{Command}
 use Rattle.ntp_service.specs.declared.command.Command.TheVariants as command
-use Rattle.ntp_clerk.specs.CommandText.{address_text, algorithm_text, number_text, command_text, HasOctets, IsCommand, WritesCommand}
+use Rattle.ntp_clerk.specs.CommandText.{address_text, algorithm_text, number_text, budget_named, key_named, number_behind, key_behind, command_text, AreKeyOctets, HasOctets, IsNumber, IsCommand, WritesCommand}
 use Rattle.ntp_clerk.proofs.Joined.{lacks, AllLack, parts-all, lacks-all, parts-line, lacks-by}
 use Rattle.ntp_clerk.proofs.Spelled.{reads-address, reads-number, reads-key, lacks-address, lacks-decimal, lacks-digits}
 
@@ -37,97 +42,87 @@ reads-algorithm : (algorithm : Algorithm) → algorithm_in (algorithm_text algor
 reads-algorithm Md5 = refl
 reads-algorithm Sha1 = refl
 
+-- a number is one word, where there is one; a key is two, its algorithm and this word for it
+abbrev number_words : Option NonZeroU16 → List (List ℕ)
+number_words number = option_map_or (λ n. number_text n ∷ []) number []
+
+abbrev key_words : List ℕ → Option SymmetricKey → List (List ℕ)
+key_words key_word key = option_map_or (λ k. algorithm_text k.algorithm ∷ key_word ∷ []) key []
+
 -- the words of a command, with this word for its key
 abbrev words_of : List ℕ → Command → List (List ℕ)
-words_of key_word (command.Enrol address number key budget) =
-    codes "enrol" ∷ address_text address ∷ number_text number ∷ algorithm_text key.algorithm ∷ key_word ∷ number_text budget ∷ []
-words_of key_word (command.Revoke address) = codes "revoke" ∷ address_text address ∷ []
-words_of key_word (command.Budget address budget) = codes "budget" ∷ address_text address ∷ number_text budget ∷ []
-words_of key_word (command.Rollover address number key) =
-    codes "rollover" ∷ address_text address ∷ number_text number ∷ algorithm_text key.algorithm ∷ key_word ∷ []
-words_of key_word (command.Retire address number) = codes "retire" ∷ address_text address ∷ number_text number ∷ []
+words_of key_word c =
+    command_word c ∷ address_text (address_named c)
+    ∷ (number_words (number_named c) ++ (key_words key_word (key_named c) ++ number_words (budget_named c)))
+
+-- words behind others, with a space before each
+abbrev behind : List (List ℕ) → List ℕ
+behind [] = []
+behind (word ∷ words) = 32 ∷ (word ++ behind words)
+
+behind-append : (xs ys : List (List ℕ)) → behind (xs ++ ys) ≡ behind xs ++ behind ys
+behind-append [] ys = refl
+behind-append (x ∷ xs) ys =
+    ap (λ end. 32 ∷ (x ++ end)) (behind-append xs ys) ∙ ap (λ text. 32 ∷ text) (sym (append_assoc x (behind xs) (behind ys)))
+
+joins-behind : (word : List ℕ) (words : List (List ℕ)) → join_with_byte 32 (word ∷ words) ≡ word ++ behind words
+joins-behind word [] = sym (append-nil word)
+joins-behind word (next ∷ words) = ap (λ end. word ++ (32 ∷ end)) (joins-behind next words)
+
+number-behind : (number : Option NonZeroU16) → number_behind number ≡ behind (number_words number)
+number-behind None = refl
+number-behind (Some n) = ap (λ text. 32 ∷ text) (sym (append-nil (number_text n)))
+
+keyed : (h k : List ℕ) → 32 ∷ [] ++ h ++ 32 ∷ [] ++ k ≡ 32 ∷ (h ++ (32 ∷ (k ++ [])))
+keyed h k = simp (append_assoc, append-nil)
+
+key-behind : (key_word : List ℕ) (key : Option SymmetricKey) → key_behind key_word key ≡ behind (key_words key_word key)
+key-behind key_word None = refl
+key-behind key_word (Some k) = keyed (algorithm_text k.algorithm) key_word
 
 -- its text is they, with one space between each two
-keyed : (h k b : List ℕ) → (32 ∷ [] ++ h ++ 32 ∷ [] ++ k) ++ b ≡ 32 ∷ (h ++ (32 ∷ (k ++ b)))
-keyed h k b = simp append_assoc
-
-text-joins : (key_word : List ℕ) (o : Command) → command_text key_word o ≡ join_with_byte 32 (words_of key_word o)
+text-joins : (key_word : List ℕ) (c : Command) → command_text key_word c ≡ join_with_byte 32 (words_of key_word c)
 unfolding command_text
-text-joins key_word (command.Enrol address number key budget) =
-    ap (λ end. codes "enrol" ++ (32 ∷ (address_text address ++ (32 ∷ (number_text number ++ end)))))
-    (keyed (algorithm_text key.algorithm) key_word (32 ∷ number_text budget))
-text-joins key_word (command.Revoke address) = ap (λ end. codes "revoke" ++ (32 ∷ end)) (append-nil (address_text address))
-text-joins key_word (command.Budget address budget) = refl
-text-joins key_word (command.Rollover address number key) =
-    ap (λ end. codes "rollover" ++ (32 ∷ (address_text address ++ (32 ∷ (number_text number ++ end)))))
-    (keyed (algorithm_text key.algorithm) key_word [] ∙ ap (λ end. 32 ∷ (algorithm_text key.algorithm ++ (32 ∷ end))) (append-nil key_word))
-text-joins key_word (command.Retire address number) =
-    ap (λ end. codes "retire" ++ (32 ∷ (address_text address ++ (32 ∷ end)))) (append-nil (number_text number))
+text-joins key_word c =
+    let number = number_words (number_named c) in let key = key_words key_word (key_named c) in let budget = number_words (budget_named c) in
+    let texts : number_behind (number_named c) ++ (key_behind key_word (key_named c) ++ number_behind (budget_named c))
+    ≡ behind (number ++ (key ++ budget)) =
+    rw (number-behind (number_named c), key-behind key_word (key_named c), number-behind (budget_named c))
+    (ap (λ end. behind number ++ end) (sym (behind-append key budget)) ∙ sym (behind-append number (key ++ budget))) in
+    ap (λ end. command_word c ++ (32 ∷ (address_text (address_named c) ++ end))) texts
+    ∙ sym (joins-behind (command_word c) (address_text (address_named c) ∷ (number ++ (key ++ budget))))
 
 -- they lack it
+AllLack-append : (c : ℕ) (xs ys : List (List ℕ)) → AllLack c xs → AllLack c ys → AllLack c (xs ++ ys)
+AllLack-append c [] ys few more = more
+AllLack-append c (x ∷ xs) ys few more = (few.0, AllLack-append c xs ys few.1 more)
+
+number-lacks : (c : ℕ) → Outside c → (number : Option NonZeroU16) → IfSome number IsNumber → AllLack c (number_words number)
+number-lacks c out None is = tt
+number-lacks c out (Some n) is = (lacks-decimal c n.value out.digit (omega (arith, is)), tt)
+
+key-lacks : (c : ℕ) → Outside c → (key : Option SymmetricKey) (octets : List ℕ) → IfSome key (λ k. (k.octets ≡ octets) × AreKeyOctets octets)
+    → AllLack c (key_words (encode_lower octets) key)
+key-lacks c out None octets has = tt
+key-lacks c out (Some k) octets has = (lacks-algorithm c out k.algorithm, (lacks-digits c octets out.hex has.1.2, tt))
+
+word-lowercase : (c : Command) → list_all is_ascii_lowercase (command_word c) ≡ true
+word-lowercase (command.Enrol address number key budget) = refl
+word-lowercase (command.Revoke address) = refl
+word-lowercase (command.Budget address budget) = refl
+word-lowercase (command.Rollover address number key) = refl
+word-lowercase (command.Retire address number) = refl
+
 words-lack : (c : ℕ) → Outside c → (o : Command) (octets : List ℕ) → IsCommand o → HasOctets o octets → AllLack c (words_of (encode_lower octets) o)
-words-lack c out (command.Enrol address number key budget) octets is has = (
-  lacks-by is_ascii_lowercase c out.lower (codes "enrol") refl,
-  (
-    lacks-address c out.digit out.dot address is.0,
-    (
-      lacks-decimal c number.value out.digit (omega (arith, is.1)),
+words-lack c out o octets is has =
+    let key = key-lacks c out (key_named o) octets has in
+    let budget = number-lacks c out (budget_named o) is.2 in (
+      lacks-by is_ascii_lowercase c out.lower (command_word o) (word-lowercase o),
       (
-        lacks-algorithm c out key.algorithm,
-        (
-          lacks-digits c octets out.hex has.1.2,
-          (
-            lacks-decimal c budget.value out.digit (omega (arith, is.2)),
-            tt,
-          ),
-        ),
+        lacks-address c out.digit out.dot (address_named o) is.0,
+        AllLack-append c _ _ (number-lacks c out (number_named o) is.1) (AllLack-append c _ _ key budget),
       ),
-    ),
-  ),
-)
-words-lack c out (command.Revoke address) octets is has = (
-  lacks-by is_ascii_lowercase c out.lower (codes "revoke") refl,
-  (
-    lacks-address c out.digit out.dot address is.0,
-    tt,
-  ),
-)
-words-lack c out (command.Budget address budget) octets is has = (
-  lacks-by is_ascii_lowercase c out.lower (codes "budget") refl,
-  (
-    lacks-address c out.digit out.dot address is.0,
-    (
-      lacks-decimal c budget.value out.digit (omega (arith, is.2)),
-      tt,
-    ),
-  ),
-)
-words-lack c out (command.Rollover address number key) octets is has = (
-  lacks-by is_ascii_lowercase c out.lower (codes "rollover") refl,
-  (
-    lacks-address c out.digit out.dot address is.0,
-    (
-      lacks-decimal c number.value out.digit (omega (arith, is.1)),
-      (
-        lacks-algorithm c out key.algorithm,
-        (
-          lacks-digits c octets out.hex has.1.2,
-          tt,
-        ),
-      ),
-    ),
-  ),
-)
-words-lack c out (command.Retire address number) octets is has = (
-  lacks-by is_ascii_lowercase c out.lower (codes "retire") refl,
-  (
-    lacks-address c out.digit out.dot address is.0,
-    (
-      lacks-decimal c number.value out.digit (omega (arith, is.1)),
-      tt,
-    ),
-  ),
-)
+    )
 
 -- they are the command's
 pub words-say : (o : Command) (octets : List ℕ) → IsCommand o → HasOctets o octets → command_in (words_of (encode_lower octets) o) ≡ Ok o
@@ -140,14 +135,6 @@ words-say (command.Rollover address number key) octets is has =
     rw (reads-address address is.0, reads-number number is.1, reads-algorithm key.algorithm, reads-key octets has.1, ← has.0) refl
 words-say (command.Retire address number) octets is has = rw (reads-address address is.0, reads-number number is.1) refl
 
--- a command has a word
-some-words : (key_word : List ℕ) (o : Command) → 0 < length (words_of key_word o)
-some-words key_word (command.Enrol address number key budget) = lit< tt
-some-words key_word (command.Revoke address) = lit< tt
-some-words key_word (command.Budget address budget) = lit< tt
-some-words key_word (command.Rollover address number key) = lit< tt
-some-words key_word (command.Retire address number) = lit< tt
-
 -- the line of a command, with its line feed
 pub line-says : (o : Command) (octets text : List ℕ) → IsCommand o → HasOctets o octets → text ≡ command_text (encode_lower octets) o ++ (10 ∷ [])
     → WritesCommand text o
@@ -155,7 +142,7 @@ line-says o octets text is has whole =
     let key_word = encode_lower octets in
     let all = words_of key_word o in
     let line = join_with_byte 32 all in
-    let some = some-words key_word o in (
+    let some : 0 < length all = omega arith in (
       line,
       ap (parts 10) (whole ∙ ap (λ words. words ++ (10 ∷ [])) (text-joins key_word o))
           ∙ parts-line line (lacks-all 10 32 refl all some (words-lack 10 line_feed o octets is has)),

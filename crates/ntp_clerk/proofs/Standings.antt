@@ -19,7 +19,7 @@ use Rattle.ntp_service.specs.declared.outcome.Outcome.{Outcome}
 use Rattle.ntp_service.specs.declared.outcome.Outcome.TheVariants as outcome
 use Rattle.ntp_service.specs.Events.{names, own}
 use Rattle.ntp_service.specs.Model.{life_of}
-use Rattle.ntp_service.specs.Headline.{StandsFor, TellsOne, is_struck, kept}
+use Rattle.ntp_service.specs.Headline.{StandsFor, TellsOne, is_struck, not_struck}
 use Rattle.ntp_service.proofs.Histories.{other-address}
 use Rattle.ntp_service.proofs.Runs.{Tells-nil, Tells-push}
 use Rattle.ntp_service.specs.Commands.{address_named}
@@ -48,14 +48,14 @@ comes-agrees commands service comes = comes.3.stands.agrees
 
 -- what is kept has no event of an address of which nothing happened
 abbrev NoneKept : Address → List (Event Global × Outcome) → Type 0
-NoneKept address happened = own address (map (λ p. p.0) happened) ≡ [] → own address (kept happened) ≡ []
+NoneKept address happened = own address (map (λ p. p.0) happened) ≡ [] → own address (not_struck happened) ≡ []
 
 first-or-others : (b : Bool) (e : Event Global) (others : List (Event Global)) → (if b then e ∷ others else others) ≡ [] → (b ≡ false) × (others ≡ [])
 first-or-others false e others none = (refl, none)
 first-or-others true e others none = absurd cc
 
 kept-more : (address : Address) (p : Event Global × Outcome) (ps : List (Event Global × Outcome)) (s : Bool) → is_struck p.1 ≡ s
-    → names address p.0 ≡ false → own address (kept ps) ≡ [] → own address (kept (p ∷ ps)) ≡ []
+    → names address p.0 ≡ false → own address (not_struck ps) ≡ [] → own address (not_struck (p ∷ ps)) ≡ []
 kept-more address p ps true is other rest = rw is rest
 kept-more address p ps false is other rest = rw is (rw other rest)
 

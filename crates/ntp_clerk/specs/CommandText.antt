@@ -12,8 +12,8 @@ use Rattle.ntp_mac.specs.declared.key.Algorithm.TheVariants.{Md5, Sha1}
 use Rattle.ntp_service.specs.declared.address.Address.{Address}
 use Rattle.ntp_admin.specs.Words.{parts}
 use Rattle.ntp_admin.specs.Spells.{SpellsCommand}
-use Rattle.ntp_admin.specs.Named.{number_named, verb_of, verb_text}
-use Rattle.ntp_service.specs.Commands.{address_named}
+use Rattle.ntp_service.specs.Commands.{address_named, number_named}
+use Rattle.ntp_service.specs.Vocabulary.{command_word}
 use Rattle.ntp_service.specs.declared.command.Command.{Command}
 use Rattle.ntp_service.specs.declared.command.Command.TheVariants as command
 use Rattle.ntp_clerk.specs.declared.new_key.NewKey.{NewKey}
@@ -57,7 +57,7 @@ key_behind key_word key = option_map_or (λ k. codes " " ++ algorithm_text k.alg
 -- a command, with this word for its key: its verb and its address, and what it names of a number, a key and a budget
 unfoldable pub command_text : List ℕ → Command → List ℕ
 command_text key_word c =
-    verb_text (verb_of c) ++ (codes " " ++ (address_text (address_named c) ++ (number_behind (number_named c)
+    command_word c ++ (codes " " ++ (address_text (address_named c) ++ (number_behind (number_named c)
     ++ (key_behind key_word (key_named c) ++ number_behind (budget_named c)))))
 
 -- what the code's types hold: four octets are an address, and sixteen bits a number; and the octets of a key are from 1 to 32, those of a

@@ -5,7 +5,6 @@ ghost use Rattle.hex.specs.Hex.{encode_lower};
 ghost use Rattle.ntp_admin.specs.Answers.{line_feed};
 ghost use Rattle.ntp_clerk.specs.CommandText.{address_text, algorithm_text, budget_named, command_text, hidden_key, key_behind, key_named, number_behind, AreKeyOctets, HasOctets, IsAddress, IsCommand, IsNumber, WritesCommand};
 
-use ntp_admin::{Verb, number_named};
 use ntp_mac::{Algorithm, Key};
 use ntp_service::{Address, Command};
 use std::alloc::{AllocError, Global};
@@ -84,9 +83,9 @@ fn text_of(alloc: Global, command: &Command, key_word: &str) -> Result<String, A
     ensures text { IfOk result (λ text. string_bytes text ≡ command_text key_word.now command.now) }
     ensures command { IfOk result (λ _. IsCommand command.now) }
 {
-    let verb = Verb::of(command).word();
+    let verb = command.word();
     let address = address_word(alloc, command.address())?;
-    let number = number_behind(alloc, number_named(command))?;
+    let number = number_behind(alloc, command.number_named())?;
     let key = key_behind(alloc, key_named(command), key_word)?;
     let budget = number_behind(alloc, budget_named(command))?;
     format!(in alloc; "{verb} {address}{number}{key}{budget}")

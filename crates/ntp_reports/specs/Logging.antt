@@ -6,18 +6,12 @@ use Rattle.std.specs.Int.NonZero.{non_zero_u16_get}
 use Rattle.std.specs.declared.num.NonZeroU16.{NonZeroU16}
 use Rattle.ntp_service.specs.declared.address.Address.{Address}
 use Rattle.ntp_service.specs.declared.command.Command.{Command}
-use Rattle.ntp_service.specs.Commands.{address_named}
+use Rattle.ntp_service.specs.declared.command.Command.TheVariants.{Enrol, Revoke}
+use Rattle.ntp_service.specs.Commands.{address_named, number_named}
+use Rattle.ntp_service.specs.Vocabulary.{command_word}
 use Rattle.ntp_service.specs.declared.observation.LineOutcome.{LineOutcome}
 use Rattle.ntp_service.specs.declared.observation.LineOutcome.TheVariants.{Done}
-use Rattle.ntp_admin.specs.Named.{number_named, verb_of, verb_text}
-use Rattle.ntp_admin.specs.declared.naming.Verb.{Verb}
-use Rattle.ntp_admin.specs.declared.naming.Verb.TheVariants as verb
-use Rattle.ntp_reports.specs.declared.subject.Subject.{Subject}
 use Rattle.ntp_reports.specs.AnswerText.{line_outcome_text}
-
--- all but the key and the budget of a command
-abbrev pub subject_of : Command → Subject
-subject_of c = record { verb = verb_of c; address = address_named c; number = number_named c }
 
 -- an address, in its four numbers
 abbrev pub address_text : Address → List ℕ
@@ -29,17 +23,17 @@ address_text a =
 abbrev pub number_text : Option NonZeroU16 → List ℕ
 number_text number = option_map_or (λ n. codes " " ++ decimal (non_zero_u16_get n)) number []
 
--- what is told of a command
-abbrev pub subject_text : Subject → List ℕ
-subject_text s = verb_text s.verb ++ codes " " ++ address_text s.address ++ number_text s.number ++ codes ": "
+-- what is told of a command: all but its key and its budget
+abbrev pub logged_command : Command → List ℕ
+logged_command c = command_word c ++ codes " " ++ address_text (address_named c) ++ number_text (number_named c) ++ codes ": "
 
 -- the line of the log, without its line feed, that tells of the line with a number: its command, if it is one, and what became of it
-abbrev pub logged_line : ℕ → Option Subject → LineOutcome → List ℕ
-logged_line number subject outcome =
-    codes "commands: line " ++ decimal number ++ codes ": " ++ option_map_or subject_text subject [] ++ line_outcome_text outcome
+abbrev pub logged_line : ℕ → Option Command → LineOutcome → List ℕ
+logged_line number command outcome =
+    codes "commands: line " ++ decimal number ++ codes ": " ++ option_map_or logged_command command [] ++ line_outcome_text outcome
 
 -- how many customers are enrolled after a line, with `customers` before it, up to 2^64 - 1
-abbrev pub customers_after : ℕ → Option Verb → LineOutcome → ℕ
-customers_after customers (Some verb.Enrol) Done = min (customers + 1) (2 ^ 64 - 1)
-customers_after customers (Some verb.Revoke) Done = customers - 1
+abbrev pub customers_after : ℕ → Option Command → LineOutcome → ℕ
+customers_after customers (Some (Enrol address number key budget)) Done = min (customers + 1) (2 ^ 64 - 1)
+customers_after customers (Some (Revoke address)) Done = customers - 1
 customers_after customers other outcome = customers

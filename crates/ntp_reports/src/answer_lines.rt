@@ -3,7 +3,6 @@ ghost use Rattle.std.specs.Prelude.{◌≡◌, OnOk, None, Some, IfNone, IfSome}
 ghost use Rattle.std.specs.Io.KnownBytes.{Appends};
 ghost use Rattle.ntp_reports.specs.AnswerText.{answer_line};
 
-use ntp_admin::{fault_word, refusal_word};
 use ntp_service::{Command, LineOutcome, Observer, TurnOutcome};
 use std::io::{self, Write};
 
@@ -42,11 +41,11 @@ impl<W: Write> AnswerLines<W> {
         match outcome {
             LineOutcome::Done => writeln!(self.answers, "{number} done"),
             LineOutcome::Refused(refusal) => {
-                let word = refusal_word(refusal);
+                let word = refusal.word();
                 writeln!(self.answers, "{number} refused {word}")
             }
             LineOutcome::Faulty(fault) => {
-                let word = fault_word(fault);
+                let word = fault.word();
                 writeln!(self.answers, "{number} faulty {word}")
             }
         }

@@ -3,6 +3,7 @@
 use crate::counted_kinds::{CountedKind, answers, commands};
 use crate::counts::Counts;
 use crate::kind::Kind;
+use ntp_client::Doubt;
 use ntp_packet::Short;
 use std::io::{self, Write};
 
@@ -18,30 +19,20 @@ pub enum Belief {
     Fixed,
     /// There is no answer.
     NoAnswer,
-    /// The last answer is too old.
-    Old,
-    /// The daemon says that its clock is unsynchronised.
-    Unsynchronised,
-    /// The daemon set its clock too long ago.
-    ReferenceOld,
-    /// The daemon says that it set its clock later than it answered.
-    ReferenceAhead,
-    /// Its root distance is too large.
-    Far,
-    /// The host's clock was set since the daemon last showed an update.
-    Set,
+    /// The last answer is doubted.
+    Doubted(Doubt),
 }
 
 const BELIEFS: [(Belief, &str); 9] = [
     (Belief::Believed, "believed"),
     (Belief::Fixed, "fixed"),
     (Belief::NoAnswer, "no-answer"),
-    (Belief::Old, "old"),
-    (Belief::Unsynchronised, "unsynchronised"),
-    (Belief::ReferenceOld, "reference-old"),
-    (Belief::ReferenceAhead, "reference-ahead"),
-    (Belief::Far, "far"),
-    (Belief::Set, "set"),
+    (Belief::Doubted(Doubt::Old), "old"),
+    (Belief::Doubted(Doubt::Unsynchronised), "unsynchronised"),
+    (Belief::Doubted(Doubt::ReferenceOld), "reference-old"),
+    (Belief::Doubted(Doubt::ReferenceAhead), "reference-ahead"),
+    (Belief::Doubted(Doubt::Far), "far"),
+    (Belief::Doubted(Doubt::Set), "set"),
 ];
 
 /// The state of the clock that replies tell.

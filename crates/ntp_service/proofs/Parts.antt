@@ -10,7 +10,7 @@ use Rattle.ntp_service.specs.declared.event.Event.{Event}
 use Rattle.ntp_service.specs.declared.outcome.Outcome.{Outcome}
 use Rattle.ntp_service.specs.Events.{address_of, names, own}
 use Rattle.ntp_service.specs.Model.{answer_to, life_of, FollowsModel}
-use Rattle.ntp_service.specs.Headline.{HasCause, Tells, is_struck, kept, happened_to}
+use Rattle.ntp_service.specs.Headline.{HasCause, Tells, is_struck, not_struck, happened_to}
 use Rattle.ntp_service.proofs.Histories.{events_of}
 use Rattle.ntp_service.proofs.Runs.{AreCaused, regrouped, life-behind}
 use Rattle.ntp_service.proofs.Stretches.{follows-behind}
@@ -40,7 +40,7 @@ module _ {A : Type 0} where
       }
 
   told-behind : (history : List (Event A)) (p : Event A × Outcome) (rest : List (Event A × Outcome)) → AreTold history (p ∷ rest)
-      → AreTold (history ++ kept (p ∷ [])) rest
+      → AreTold (history ++ not_struck (p ∷ [])) rest
   told-behind history p rest t = record {
     told = λ a.
         let life = life_of (own a history) in
@@ -86,7 +86,7 @@ module _ {A : Type 0} where
         there (same ∙ now) ∙ sym behind
 
     -- one that comes, and is kept or not
-    come-kept : (e : Event A) (o : Outcome) → comes e ≡ true → filter comes (kept ((e, o) ∷ [])) ≡ kept ((e, o) ∷ [])
+    come-kept : (e : Event A) (o : Outcome) → comes e ≡ true → filter comes (not_struck ((e, o) ∷ [])) ≡ not_struck ((e, o) ∷ [])
     come-kept e o is = grind (arith, is)
 
     alike-come : (e : Event A) (o : Outcome) (rest : List (Event A × Outcome)) → comes e ≡ true → AreAlike rest → AreAlike ((e, o) ∷ rest)
@@ -108,11 +108,11 @@ module _ {A : Type 0} where
             (subst (λ f. IsTold past f q.1) one (told-first past q.0 q.1 others t)) (All-head (λ p. Here p.1) (e, o) rest here)
             (All-head (λ p. There p.1) q others all) in
             let first : q ≡ (e, o) = ap₂ (λ f x. (f, x)) one outcome_same in
-            let later : filter comes (history ++ kept ((e, o) ∷ [])) ≡ past ++ kept (q ∷ []) =
-            filter-append comes history (kept ((e, o) ∷ [])) ∙ ap (λ l. past ++ l) (come-kept e o is)
-            ∙ ap (λ p. past ++ kept (p ∷ [])) (sym first) in
+            let later : filter comes (history ++ not_struck ((e, o) ∷ [])) ≡ past ++ not_struck (q ∷ []) =
+            filter-append comes history (not_struck ((e, o) ∷ [])) ∙ ap (λ l. past ++ l) (come-kept e o is)
+            ∙ ap (λ p. past ++ not_struck (p ∷ [])) (sym first) in
             let behind : those ((e, o) ∷ rest) ≡ (e, o) ∷ those rest = grind (arith, is) in
-            ap₂ (λ p l. p ∷ l) first (on (history ++ kept ((e, o) ∷ [])) others (told-behind history (e, o) rest told)
+            ap₂ (λ p l. p ∷ l) first (on (history ++ not_struck ((e, o) ∷ [])) others (told-behind history (e, o) rest told)
             (subst (λ h. AreTold h others) (sym later) (told-behind past q others t)) (All-tail (λ p. Here p.1) (e, o) rest here)
             (All-tail (λ p. There p.1) q others all) others_same) ∙ sym behind
 

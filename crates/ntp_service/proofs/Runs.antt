@@ -12,25 +12,25 @@ use Rattle.ntp_service.specs.declared.event.Event.{Event}
 use Rattle.ntp_service.specs.declared.outcome.Outcome.{Outcome}
 use Rattle.ntp_service.specs.Events.{address_of, names, own}
 use Rattle.ntp_service.specs.Model.{answer_to, after, life_after, life_of, says_after, FollowsModel}
-use Rattle.ntp_service.specs.Headline.{StandsFor, HasCause, TellsOne, Tells, is_struck, kept, happened_to}
+use Rattle.ntp_service.specs.Headline.{StandsFor, HasCause, TellsOne, Tells, is_struck, not_struck, happened_to}
 use Rattle.ntp_service.proofs.Histories.{events_of, own-append, life_after-append, other-address}
 
 module _ {A : Type 0} where
   -- ---- what happened, and then more
-  kept-append : (xs ys : List (Event A × Outcome)) → kept (xs ++ ys) ≡ kept xs ++ kept ys
+  kept-append : (xs ys : List (Event A × Outcome)) → not_struck (xs ++ ys) ≡ not_struck xs ++ not_struck ys
   kept-append xs ys = ap events_of (filter-append (λ p. not (is_struck p.1)) xs ys)
       ∙ map-append (λ p. p.0) (filter (λ p. not (is_struck p.1)) xs) (filter (λ p. not (is_struck p.1)) ys)
 
   -- of the events that are kept, an address's own are those that happened to it
-  own-kept : (a : Address) (xs : List (Event A × Outcome)) → own a (kept xs) ≡ events_of (happened_to a xs)
+  own-kept : (a : Address) (xs : List (Event A × Outcome)) → own a (not_struck xs) ≡ events_of (happened_to a xs)
   own-kept a [] = refl
   own-kept a (x ∷ xs) = grind (arith, own-kept a xs)
 
   -- the life that an address has behind what happened
   pub life-behind : (a : Address) (history : List (Event A)) (xs : List (Event A × Outcome))
-      → life_of (own a (history ++ kept xs)) ≡ life_after (life_of (own a history)) (events_of (happened_to a xs))
+      → life_of (own a (history ++ not_struck xs)) ≡ life_after (life_of (own a history)) (events_of (happened_to a xs))
   life-behind a history xs =
-      ap life_of (own-append a history (kept xs) ∙ ap (λ l. own a history ++ l) (own-kept a xs))
+      ap life_of (own-append a history (not_struck xs) ∙ ap (λ l. own a history ++ l) (own-kept a xs))
       ∙ life_after-append None (own a history) (events_of (happened_to a xs))
 
   FollowsModel-append : (life : Life) (xs ys : List (Event A × Outcome)) → FollowsModel life xs
@@ -52,7 +52,7 @@ module _ {A : Type 0} where
   -- ---- each command that is struck out has its cause, after those events before it that are not
   abbrev pub AreCaused : List (Event A) → List (Event A × Outcome) → Type 0
   AreCaused history happened = (before behind : List (Event A × Outcome)) (e : Event A) (o : Outcome)
-      → happened ≡ before ++ (e, o) ∷ behind → HasCause (history ++ kept before) e o
+      → happened ≡ before ++ (e, o) ∷ behind → HasCause (history ++ not_struck before) e o
 
   -- nothing happened
   nothing-there : (before behind : List (Event A × Outcome)) (p : Event A × Outcome) → [] ≡ before ++ p ∷ behind → ⊥
@@ -61,8 +61,8 @@ module _ {A : Type 0} where
 
   -- the first event joins the history
   pub regrouped : (history : List (Event A)) (p : Event A × Outcome) (rest : List (Event A × Outcome))
-      → history ++ kept (p ∷ rest) ≡ (history ++ kept (p ∷ [])) ++ kept rest
-  regrouped history p rest = ap (λ l. history ++ l) (kept-append (p ∷ []) rest) ∙ sym (append_assoc history (kept (p ∷ [])) (kept rest))
+      → history ++ not_struck (p ∷ rest) ≡ (history ++ not_struck (p ∷ [])) ++ not_struck rest
+  regrouped history p rest = ap (λ l. history ++ l) (kept-append (p ∷ []) rest) ∙ sym (append_assoc history (not_struck (p ∷ [])) (not_struck rest))
 
   AreCaused-one : (history : List (Event A)) (e : Event A) (o : Outcome) → HasCause history e o → AreCaused history ((e, o) ∷ [])
   AreCaused-one history e o has [] behind f p is =
@@ -73,7 +73,7 @@ module _ {A : Type 0} where
       let none : [] ≡ before ++ (f, p) ∷ behind = cc in absurd (nothing-there before behind (f, p) none)
 
   AreCaused-append : (history : List (Event A)) (xs ys : List (Event A × Outcome)) → AreCaused history xs
-      → AreCaused (history ++ kept xs) ys → AreCaused history (xs ++ ys)
+      → AreCaused (history ++ not_struck xs) ys → AreCaused history (xs ++ ys)
   AreCaused-append history [] ys first others before behind e o is =
       subst (λ h. AreCaused h ys) (append-nil history) others before behind e o is
   AreCaused-append history (x ∷ xs) ys first others [] behind e o is =
@@ -81,16 +81,16 @@ module _ {A : Type 0} where
   AreCaused-append history (x ∷ xs) ys first others (q ∷ before) behind e o is =
       let same : x ≡ q = cc in
       let rest : xs ++ ys ≡ before ++ (e, o) ∷ behind = cc in
-      let later = history ++ kept (x ∷ []) in
+      let later = history ++ not_struck (x ∷ []) in
       let ours : AreCaused later xs = λ b d f p there.
       subst (λ h. HasCause h f p) (regrouped history x b) (first (x ∷ b) d f p (ap (λ l. x ∷ l) there)) in
-      let theirs : AreCaused (later ++ kept xs) ys = subst (λ h. AreCaused h ys) (regrouped history x xs) others in
-      subst (λ h. HasCause h e o) (sym (regrouped history x before) ∙ ap (λ y. history ++ kept (y ∷ before)) same)
+      let theirs : AreCaused (later ++ not_struck xs) ys = subst (λ h. AreCaused h ys) (regrouped history x xs) others in
+      subst (λ h. HasCause h e o) (sym (regrouped history x before) ∙ ap (λ y. history ++ not_struck (y ∷ before)) same)
       (AreCaused-append later xs ys ours theirs before behind e o rest)
 
   -- ---- one event alone
   module _ (history : List (Event A)) (e : Event A) (o : Outcome) (s : Registry) (t : TellsOne history e o s) where
-    one-stands : StandsFor s (history ++ kept ((e, o) ∷ []))
+    one-stands : StandsFor s (history ++ not_struck ((e, o) ∷ []))
     one-stands = chosen (is_struck o) t.stands
       where
         chosen : (b : Bool) → StandsFor s (if b then history else history ++ e ∷ [])
@@ -122,7 +122,7 @@ module _ {A : Type 0} where
       record { told = one-told history e o s one; causes = AreCaused-one history e o one.cause; stands = one-stands history e o s one }
 
   pub Tells-append : (history : List (Event A)) (xs ys : List (Event A × Outcome)) (r s : Registry) → Tells history xs r
-      → (StandsFor r (history ++ kept xs) → Tells (history ++ kept xs) ys s) → Tells history (xs ++ ys) s
+      → (StandsFor r (history ++ not_struck xs) → Tells (history ++ not_struck xs) ys s) → Tells history (xs ++ ys) s
   Tells-append history xs ys r s t more =
       let u = more t.stands in
       record {
@@ -133,15 +133,15 @@ module _ {A : Type 0} where
             (FollowsModel-append life (happened_to a xs) (happened_to a ys) (t.told a)
             (subst (λ l. FollowsModel l (happened_to a ys)) on (u.told a)));
         causes = AreCaused-append history xs ys t.causes u.causes;
-        stands = subst (λ l. StandsFor s l) (append_assoc history (kept xs) (kept ys) ∙ ap (λ l. history ++ l) (sym (kept-append xs ys))) u.stands;
+        stands = subst (λ l. StandsFor s l) (append_assoc history (not_struck xs) (not_struck ys) ∙ ap (λ l. history ++ l) (sym (kept-append xs ys))) u.stands;
       }
 
   -- one event more
   pub Tells-push : (history : List (Event A)) (happened : List (Event A × Outcome)) (r s : Registry) (e : Event A) (o : Outcome)
-      → Tells history happened r → (StandsFor r (history ++ kept happened) → TellsOne (history ++ kept happened) e o s)
+      → Tells history happened r → (StandsFor r (history ++ not_struck happened) → TellsOne (history ++ not_struck happened) e o s)
       → Tells history (happened ++ (e, o) ∷ []) s
   Tells-push history happened r s e o t step = Tells-append history happened ((e, o) ∷ []) r s t
-      (λ stands. Tells-one (history ++ kept happened) e o s (step stands))
+      (λ stands. Tells-one (history ++ not_struck happened) e o s (step stands))
 
   -- two services that were told the same of an address tell it the same
   pub alike : (a : Address) (h h' : List (Event A)) (xs ys : List (Event A × Outcome)) (r s : Registry) → Tells h xs r → Tells h' ys s

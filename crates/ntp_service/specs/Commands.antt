@@ -19,6 +19,13 @@ address_named (Budget address budget) = address
 address_named (Rollover address number key) = address
 address_named (Retire address number) = address
 
+-- the key number that a command names, if it names one
+abbrev pub number_named : Command → Option NonZeroU16
+number_named (Enrol address number key budget) = Some number
+number_named (Rollover address number key) = Some number
+number_named (Retire address number) = Some number
+number_named other = None
+
 -- the key number that a command asks for, if it asks for one
 abbrev pub number_wanted : Command → Option ℕ
 number_wanted (Enrol address number key budget) = Some (non_zero_u16_get number)

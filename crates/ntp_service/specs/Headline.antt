@@ -34,8 +34,8 @@ command_outcome (Ok done) = outcome.Done
 command_outcome (Err refusal) = outcome.Refused refusal
 
 -- of events with their outcomes, the events without those that are struck out
-abbrev pub kept : {A : Type 0} → List (Event A × Outcome) → List (Event A)
-kept happened = map (λ p. p.0) (filter (λ p. not (is_struck p.1)) happened)
+abbrev pub not_struck : {A : Type 0} → List (Event A × Outcome) → List (Event A)
+not_struck happened = map (λ p. p.0) (filter (λ p. not (is_struck p.1)) happened)
 
 -- what happened to an address: the events that name it with their outcomes, without those that are struck out
 abbrev pub happened_to : {A : Type 0} → Address → List (Event A × Outcome) → List (Event A × Outcome)
@@ -78,5 +78,5 @@ pub record TellsOne {A : Type 0} (history : List (Event A)) (e : Event A) (o : O
 pub record Tells {A : Type 0} (history : List (Event A)) (happened : List (Event A × Outcome)) (service : Registry) : Type 0 where
   pub told : (address : Address) → FollowsModel (life_of (own address history)) (happened_to address happened)
   pub causes : (before behind : List (Event A × Outcome)) (e : Event A) (o : Outcome) → happened ≡ before ++ (e, o) ∷ behind
-      → HasCause (history ++ kept before) e o
-  pub stands : StandsFor service (history ++ kept happened)
+      → HasCause (history ++ not_struck before) e o
+  pub stands : StandsFor service (history ++ not_struck happened)

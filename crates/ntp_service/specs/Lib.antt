@@ -1,5 +1,6 @@
 pub mod Address
 pub mod Commands
+pub mod Vocabulary
 pub mod Registry
 pub mod Lends
 pub mod Codes

@@ -7,7 +7,7 @@ use Rattle.std.specs.FinMap as map
 use Rattle.ntp_service.specs.declared.address.Address.{Address}
 use Rattle.ntp_service.specs.Address.{address_cmp}
 use Rattle.ntp_service.specs.declared.command.Command.{Command}
-use Rattle.ntp_service.specs.declared.command.Command.TheVariants.{Enrol, Revoke, Budget, Rollover, Retire}
+use Rattle.ntp_service.specs.declared.command.Command.TheVariants.{Enrol, Revoke, Rollover, Retire}
 use Rattle.ntp_service.specs.declared.refusal.Refusal.{Refusal}
 use Rattle.ntp_service.specs.declared.refusal.Refusal.TheVariants.{KeyTaken, NoMemory}
 use Rattle.ntp_service.specs.Commands.{address_named, number_wanted, refusal_of, once_done}
@@ -68,9 +68,9 @@ without_holders r numbers = record r { holders = fold map.remove r.holders numbe
 abbrev pub holders_after : Registry → Command → map.FinMap nat_cmp Address
 holders_after r (Enrol address number key budget) = map.insert r.holders (non_zero_u16_get number) address
 holders_after r (Revoke address) = fold map.remove r.holders (numbers_at r address)
-holders_after r (Budget address budget) = r.holders
 holders_after r (Rollover address number key) = map.insert r.holders (non_zero_u16_get number) address
 holders_after r (Retire address number) = map.remove r.holders (non_zero_u16_get number)
+holders_after r other = r.holders
 
 -- after a command that is done: its address's customer and the holders are changed, and nothing else
 abbrev pub after_command : Registry → Command → Registry

@@ -1,7 +1,8 @@
 //! What an administrator orders.
 ghost use Rattle.std.specs.Prelude.{◌≡◌, option_map};
 ghost use Rattle.std.specs.Int.NonZero.{non_zero_u16_get};
-ghost use Rattle.ntp_service.specs.Commands.{address_named, number_wanted};
+ghost use Rattle.ntp_service.specs.Commands.{address_named, number_named, number_wanted};
+ghost use Rattle.ntp_service.specs.Vocabulary.{command_word};
 
 use crate::Address;
 use ntp_mac::Key;
@@ -40,6 +41,19 @@ pub enum Command {
 }
 
 impl Command {
+    /// The first word of its line.
+    pub fn word(&self) -> &'static str
+        ensures { result.now ≡ command_word self.now }
+    {
+        match self {
+            Command::Enrol { .. } => "enrol",
+            Command::Revoke { .. } => "revoke",
+            Command::Budget { .. } => "budget",
+            Command::Rollover { .. } => "rollover",
+            Command::Retire { .. } => "retire",
+        }
+    }
+
     /// The address that the command names.
     pub fn address(&self) -> Address
         ensures { result ≡ address_named self.now }
@@ -53,13 +67,25 @@ impl Command {
         }
     }
 
+    /// The key number that the command names, if it names one.
+    pub fn number_named(&self) -> Option<NonZero<u16>>
+        ensures { result ≡ number_named self.now }
+    {
+        match *self {
+            Command::Enrol { number, .. }
+            | Command::Rollover { number, .. }
+            | Command::Retire { number, .. } => Some(number),
+            _ => None,
+        }
+    }
+
     /// The key number that the command asks for: an enrolment and a rollover ask for one.
     pub fn number_wanted(&self) -> Option<NonZero<u16>>
         ensures { option_map non_zero_u16_get result ≡ number_wanted self.now }
     {
         match *self {
             Command::Enrol { number, .. } | Command::Rollover { number, .. } => Some(number),
-            Command::Revoke { .. } | Command::Budget { .. } | Command::Retire { .. } => None,
+            _ => None,
         }
     }
 }

@@ -137,9 +137,9 @@ impl<A: Allocator + Copy> Register<A> {
         };
         match command {
             Command::Enrol { .. } => Some(Refusal::AlreadyEnrolled),
-            Command::Revoke { .. } | Command::Budget { .. } => None,
             Command::Rollover { number, .. } => rollover_refusal(customer, number.get()),
             Command::Retire { number, .. } => retire_refusal(customer, number.get()),
+            _ => None,
         }
     }
 

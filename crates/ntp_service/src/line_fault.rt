@@ -1,4 +1,6 @@
 //! What is wrong with a line of a script.
+ghost use Rattle.std.specs.Prelude.{◌≡◌};
+ghost use Rattle.ntp_service.specs.Vocabulary.{line_fault_word};
 
 /// The first thing that is wrong with a line: its first word, else how many words there are, else the words from
 /// left to right. The numbers are the faults' own, and no order.
@@ -28,4 +30,26 @@ pub enum LineFault {
     Reference = 11,
     /// Octets are not an even number of hexadecimal digits, at least 2, nor `-`.
     Hex = 12,
+}
+
+impl LineFault {
+    /// The word for it. It takes no memory.
+    pub fn word(self) -> &'static str
+        ensures { result.now ≡ line_fault_word self }
+    {
+        match self {
+            LineFault::Word => "word",
+            LineFault::Count => "count",
+            LineFault::Address => "address",
+            LineFault::Number => "number",
+            LineFault::Algorithm => "algorithm",
+            LineFault::KeyText => "key",
+            LineFault::Budget => "budget",
+            LineFault::NoMemory => "memory",
+            LineFault::Moment => "moment",
+            LineFault::Stamp => "stamp",
+            LineFault::Reference => "reference",
+            LineFault::Hex => "hex",
+        }
+    }
 }

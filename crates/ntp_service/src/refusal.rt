@@ -1,4 +1,7 @@
 //! Why a command is refused.
+ghost use Rattle.std.specs.Prelude.{◌≡◌};
+ghost use Rattle.ntp_service.specs.Vocabulary.{refusal_word};
+
 use ntp_customer::NoMemory;
 
 /// Why a command was refused. Each command says in which order it looks for its causes.
@@ -22,8 +25,25 @@ pub enum Refusal {
     NotHeld,
 }
 
+impl Refusal {
+    /// The word for it. It takes no memory.
+    pub fn word(self) -> &'static str
+        ensures { result.now ≡ refusal_word self }
+    {
+        match self {
+            Refusal::AlreadyEnrolled => "already-enrolled",
+            Refusal::KeyTaken => "key-taken",
+            Refusal::NoMemory => "no-memory",
+            Refusal::NotEnrolled => "not-enrolled",
+            Refusal::SameNumber => "same-number",
+            Refusal::RoomFull => "room-full",
+            Refusal::OnlyKey => "only-key",
+            Refusal::NotHeld => "not-held",
+        }
+    }
+}
+
 impl From<NoMemory> for Refusal {
-    ghost use Rattle.std.specs.Prelude.{◌≡◌};
     ghost use Rattle.ntp_service.specs.declared.refusal.Refusal.TheVariants.{NoMemory};
 
     ghost from_gives = { λ _ e. e ≡ NoMemory };

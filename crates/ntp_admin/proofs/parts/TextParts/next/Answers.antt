@@ -1,6 +1,6 @@
 use Rattle.std.proofs.Common.{◌∙◌, sym, Some, None}
 use Rattle.ntp_admin.proofs.Cuts.{parts-split}
-use Rattle.ntp_admin.proofs.parts.Parts.next.Goals as goal
+use Rattle.ntp_admin.proofs.parts.TextParts.next.Goals as goal
 
 pub returns-in-Some : goal.returns-in-Some
 returns-in-Some c =

@@ -2,7 +2,7 @@
 ghost use Rattle.std.specs.Prelude.{◌≡◌, ◌≢◌};
 ghost use Rattle.ntp_meeting.specs.Words.{HasMet};
 
-use ntp_admin::{DONE, memory_status, socket_status, write_status};
+use ntp_admin::{Status, memory_status, socket_status, write_status};
 use ntp_meeting::{LoopbackFault, meet};
 use std::alloc::Allocator;
 use std::io::Write;
@@ -18,18 +18,18 @@ pub fn loopback_status<R: Net + Clock, A: Allocator + Copy, W: Write, F: Write>(
     out: &mut W,
     faults: &mut F,
 ) -> u8
-    ensures { result ≡ DONE → HasMet turns (W.contents out.old) (W.contents out.new) }
+    ensures { result ≡ 0 → HasMet turns (W.contents out.old) (W.contents out.new) }
 {
     match meet(rt, alloc, turns, out) {
-        Ok(()) => DONE,
-        Err(fault) => fault_status(fault, faults),
+        Ok(()) => Status::Done.code(),
+        Err(fault) => fault_status(fault, faults).code(),
     }
 }
 
 // Tells why the meeting ended early, and gives the exit status.
-fn fault_status<F: Write>(fault: LoopbackFault, faults: &mut F) -> u8
-    ensures memory { fault ≡ LoopbackFault.NoMemory → result ≡ 4 }
-    ensures fails { result ≢ DONE }
+fn fault_status<F: Write>(fault: LoopbackFault, faults: &mut F) -> Status
+    ensures memory { fault ≡ LoopbackFault.NoMemory → result ≡ Status.MemoryOut }
+    ensures fails { result ≢ Status.Done }
 {
     match fault {
         LoopbackFault::NoMemory => memory_status(faults),

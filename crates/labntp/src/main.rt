@@ -15,7 +15,7 @@ use std::{env, io};
 fn main(rt: HostRuntime) -> ExitCode {
     let mut faults = rt.stderr();
     ExitCode::from(match command_line(&rt) {
-        Err(error) => unread_status(&error, &mut faults),
+        Err(error) => unread_status(&error, &mut faults).code(),
         Ok(words) => match job(&words) {
             Some(Job::Replay) => {
                 let mut reader = Watched::new(rt.stdin());
@@ -23,12 +23,12 @@ fn main(rt: HostRuntime) -> ExitCode {
                 replay_status(rt.alloc(), &mut reader, &mut writer, &mut faults)
             }
             Some(Job::Serve(serving)) => {
-                serve_status(&rt, rt.alloc(), &serving, &mut rt.stdout(), &mut faults)
+                serve_status(&rt, rt.alloc(), &serving, &mut rt.stdout(), &mut faults).code()
             }
             Some(Job::Loopback { turns }) => {
                 loopback_status(&rt, rt.alloc(), turns, &mut rt.stdout(), &mut faults)
             }
-            None => usage_status(&mut faults),
+            None => usage_status(&mut faults).code(),
         },
     })
 }

@@ -4,7 +4,7 @@ ghost use Rattle.ntp_host.specs.Failures.{udp_failures};
 
 use labntp_jobs::Serving;
 use ntp_admin::{
-    DONE, FaultLines, LoadFault, Loaded, MOST_FILE_OCTETS, RegisterFault, load_register,
+    FaultLines, LoadFault, Loaded, MOST_FILE_OCTETS, RegisterFault, Status, load_register,
     load_status, socket_status, write_status,
 };
 use ntp_host::{CommandsFile, UdpPort, read_file};
@@ -32,7 +32,7 @@ pub fn serve_status<R: Net + Files + Clock, W: Write, F: Write>(
     serving: &Serving<'_>,
     out: &mut W,
     faults: &mut F,
-) -> u8 {
+) -> Status {
     let loaded = match load(rt, alloc, serving.register) {
         Ok(loaded) => loaded,
         Err(fault) => return load_status(fault, faults),
@@ -50,7 +50,7 @@ pub fn serve_status<R: Net + Files + Clock, W: Write, F: Write>(
     if writeln!(out, "arrivals {arrivals} sent {sent}").is_err() {
         return write_status(faults);
     }
-    DONE
+    Status::Done
 }
 
 // The reference state and the customers of the register file at a path.

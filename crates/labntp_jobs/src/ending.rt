@@ -1,11 +1,12 @@
 //! What a replay ends with.
 ghost use Rattle.std.specs.Prelude.{◌≡◌, ◌⊎◌, ℕ, List, true, false, IfSome};
+ghost use Rattle.ntp_admin.specs.Starts.{status_code};
 ghost use Rattle.labntp_jobs.specs.Replay.{most_reads};
 ghost use Rattle.labntp_jobs.specs.Watched.{inner_of, has_failed, read_count, Wrote};
 ghost use Rattle.labntp_jobs.specs.Ends.{Ends, status_of};
 
 use crate::{ReplayFault, ReplayFaultKind, Watched, replay};
-use ntp_admin::{DONE, IO_FAILED, TEXT_FAULTY, fault_word, memory_status, write_status};
+use ntp_admin::{Status, memory_status, write_status};
 use ntp_service::LineFault;
 use std::alloc::Allocator;
 use std::io::{Read, Write};
@@ -34,14 +35,14 @@ pub fn replay_status<A: Allocator + Copy, R: Read, W: Write, F: Write>(
     ensures failed { result ≡ 3 → (has_failed reader.new ≡ true) ⊎ (read_count reader.new ≡ most_reads) ⊎ (has_failed writer.new ≡ true) }
 {
     match replay(alloc, reader, writer) {
-        Ok(()) => DONE,
-        Err(fault) => tell(fault, faults),
+        Ok(()) => Status::Done.code(),
+        Err(fault) => tell(fault, faults).code(),
     }
 }
 
 // Tells a fault, and gives its status.
-fn tell<F: Write>(fault: ReplayFault, faults: &mut F) -> u8
-    ensures { result ≡ status_of fault.kind }
+fn tell<F: Write>(fault: ReplayFault, faults: &mut F) -> Status
+    ensures { status_code result ≡ status_of fault.kind }
 {
     let line = fault.line;
     match fault.kind {
@@ -49,21 +50,21 @@ fn tell<F: Write>(fault: ReplayFault, faults: &mut F) -> u8
             memory_status(faults)
         }
         ReplayFaultKind::Line(line_fault) => {
-            let word = fault_word(line_fault);
+            let word = line_fault.word();
             let _ = writeln!(faults, "line {line}: {word}");
-            TEXT_FAULTY
+            Status::TextFaulty
         }
         ReplayFaultKind::LineLong => {
             let _ = writeln!(faults, "line {line}: long");
-            TEXT_FAULTY
+            Status::TextFaulty
         }
         ReplayFaultKind::NotUtf8 => {
             let _ = writeln!(faults, "line {line}: not utf-8");
-            TEXT_FAULTY
+            Status::TextFaulty
         }
         ReplayFaultKind::Read => {
             let _ = writeln!(faults, "read");
-            IO_FAILED
+            Status::IoFailed
         }
         ReplayFaultKind::Write => write_status(faults),
     }

@@ -1,17 +1,14 @@
 //! Every fault of a commands file.
 
 use crate::checked_register::{Checked, address_warning, budget_warning_of, key_warning_of};
+use crate::checked_text::checked_text;
 use crate::report::{Found, Report, add_found};
 use crate::standing::{is_ended, write_unended};
-use labntpd_assembly::{readers_of, tell_octets};
 use labntpd_files::{
     PlacedWord, fault_meaning, faulty_place, key_wrong, refusal_meaning, shown_word, word_at,
 };
-use ntp_admin::{
-    Command, LineFault, MOST_FILE_OCTETS, TEXT_FAULTY, apply_commands, failed_status, fault_word,
-    memory_status, refusal_word,
-};
-use ntp_host::{is_nearly_full, read_regular_file, write_nearly_full};
+use ntp_admin::{Command, LineFault, Status, apply_commands, memory_status};
+use ntp_host::{is_nearly_full, write_nearly_full};
 use ntp_reports::Both;
 use ntp_service::{LineOutcome, Observer, Refusal, TurnOutcome};
 use std::alloc::Global;
@@ -25,27 +22,10 @@ pub fn check_commands(
     path: &str,
     checked: Checked,
     report: &mut Report,
-) -> Result<Checked, u8> {
-    let octets = match read_regular_file(rt, rt.alloc(), path, MOST_FILE_OCTETS as u32) {
-        Ok(octets) => octets,
-        Err(error) => {
-            let status = failed_status(path, &error, &mut report.out);
-            report.take(status);
-            return Ok(checked);
-        }
-    };
-    if let Some(readers) = readers_of(rt, path) {
-        report.warning(path, readers);
-    }
-    match str::from_utf8(&octets) {
-        Ok(text) if octets.len() <= MOST_FILE_OCTETS => {
-            check_text(rt.alloc(), path, text, checked, report)
-        }
-        _ => {
-            tell_octets(path, &octets, &mut report.out);
-            report.take(TEXT_FAULTY);
-            Ok(checked)
-        }
+) -> Result<Checked, Status> {
+    match checked_text(rt, path, report) {
+        Some(text) => check_text(rt.alloc(), path, text.as_str(), checked, report),
+        None => Ok(checked),
     }
 }
 
@@ -56,7 +36,7 @@ fn check_text(
     text: &str,
     checked: Checked,
     report: &mut Report,
-) -> Result<Checked, u8> {
+) -> Result<Checked, Status> {
     if is_nearly_full(text.len()) {
         let _ = write!(report.out, "warning: {path}: ");
         write_nearly_full(&mut report.out, text.len());
@@ -73,7 +53,7 @@ fn check_text(
     report.found(path, &finder.found);
     if !is_ended(text.as_bytes()) {
         write_unended(&mut report.out, path, lines);
-        report.take(TEXT_FAULTY);
+        report.take(Status::TextFaulty);
     }
     Ok(checked)
 }
@@ -149,7 +129,7 @@ impl<'a> LineFinder<'a> {
     // Finds a line that is no command.
     fn faulty(&mut self, number: u64, fault: LineFault) {
         let line = self.line_at(number);
-        let (word, meaning) = (fault_word(fault), fault_meaning(fault));
+        let (word, meaning) = (fault.word(), fault_meaning(fault));
         let first = line.split_once(' ').map_or(line, |(first, _)| first);
         match faulty_place(first, fault).and_then(|place| word_at(line, place)) {
             None => {
@@ -170,7 +150,7 @@ impl<'a> LineFinder<'a> {
             column,
             word: there,
         } = placed;
-        let (word, meaning) = (fault_word(fault), fault_meaning(fault));
+        let (word, meaning) = (fault.word(), fault_meaning(fault));
         match key_wrong(there) {
             Some(wrong) if fault == LineFault::KeyText => self.add(
                 number,
@@ -194,7 +174,7 @@ impl<'a> LineFinder<'a> {
             self.has_no_memory = true;
             return;
         }
-        let (word, meaning) = (refusal_word(refusal), refusal_meaning(refusal));
+        let (word, meaning) = (refusal.word(), refusal_meaning(refusal));
         self.add(number, true, format_args!("refused {word}: {meaning}"));
     }
 

@@ -7,7 +7,7 @@ use labntpd_files::{
     is_fixed, key_in_file, key_lines, key_wrong, path_at, read_configuration, setting_fault,
     shown_value, value_at,
 };
-use ntp_admin::{TEXT_FAULTY, memory_status};
+use ntp_admin::{Status, memory_status};
 use ntp_mac::Algorithm;
 use std::alloc::{AllocError, Global};
 use toml::{Table, Value};
@@ -27,7 +27,7 @@ pub fn check_configuration(
     rt: &HostRuntime,
     path: &str,
     report: &mut Report,
-) -> Result<Configured, u8> {
+) -> Result<Configured, Status> {
     match small_text(rt, rt.alloc(), path, &mut report.out) {
         Ok(text) => check_text(rt, path, text.as_str(), report),
         Err(status) => {
@@ -43,7 +43,7 @@ fn check_text(
     path: &str,
     text: &str,
     report: &mut Report,
-) -> Result<Configured, u8> {
+) -> Result<Configured, Status> {
     match toml::table_from_str(rt.alloc(), text) {
         Ok(document) => check_document(rt, path, text, &document, report),
         Err(error) => match NoToml::of(text, error) {
@@ -71,7 +71,7 @@ fn check_document(
     text: &str,
     document: &Table,
     report: &mut Report,
-) -> Result<Configured, u8> {
+) -> Result<Configured, Status> {
     check_settings(rt.alloc(), path, text, document, report)?;
     check_places(rt, path, document, report)?;
     check_clock_key(rt, document, report);
@@ -88,7 +88,7 @@ fn check_settings(
     text: &str,
     document: &Table,
     report: &mut Report,
-) -> Result<(), u8> {
+) -> Result<(), Status> {
     let found = match read_configuration(alloc, text) {
         Ok(_) => return Ok(()),
         Err(ConfigurationFault::NoMemory) => Err(AllocError),
@@ -96,7 +96,7 @@ fn check_settings(
     };
     match found {
         Ok(found) => {
-            report.take(TEXT_FAULTY);
+            report.take(Status::TextFaulty);
             report.found(path, &found);
             Ok(())
         }
@@ -137,7 +137,7 @@ fn check_places(
     path: &str,
     document: &Table,
     report: &mut Report,
-) -> Result<(), u8> {
+) -> Result<(), Status> {
     let named = NamedFiles {
         configuration: path,
         register: path_at(document, Setting::Register),
@@ -151,7 +151,7 @@ fn check_places(
         customers: path_at(document, Setting::Customers),
     };
     if tell_places(rt, rt.alloc(), named, usize::MAX, &mut report.out)? > 0 {
-        report.take(TEXT_FAULTY);
+        report.take(Status::TextFaulty);
     }
     Ok(())
 }

@@ -1,18 +1,14 @@
 //! Every fault of a register file.
 
+use crate::checked_text::checked_text;
 use crate::report::{Found, Report, add_found};
-use labntpd_assembly::{readers_of, tell_octets};
 use labntpd_files::{
     CustomerAt, DocumentLines, HardlyMeant, MEMBERS, Member, NoToml, REFERENCE_FAULT, Wrong,
     budget_warning, customer_key_fault, customer_table, customers, customers_fault, hostless,
     key_lines, key_warning, key_wrong, member_value, reference_fault, refusal_meaning, shown_value,
     top_key_fault, wrong_at,
 };
-use ntp_admin::{
-    Command, MOST_FILE_OCTETS, TEXT_FAULTY, customer_in, failed_status, memory_status,
-    refusal_word, words,
-};
-use ntp_host::read_regular_file;
+use ntp_admin::{Command, Status, customer_in, memory_status, words};
 use ntp_reports::CustomerCounts;
 use ntp_service::{Refusal, Service};
 use std::alloc::{AllocError, Global};
@@ -57,30 +53,24 @@ impl Checked {
 
 /// Tells every fault of the register file at a path, and gives the customers that have none. The error is the exit status for want of
 /// memory.
-pub fn check_register(rt: &HostRuntime, path: &str, report: &mut Report) -> Result<Checked, u8> {
-    let octets = match read_regular_file(rt, rt.alloc(), path, MOST_FILE_OCTETS as u32) {
-        Ok(octets) => octets,
-        Err(error) => {
-            let status = failed_status(path, &error, &mut report.out);
-            report.take(status);
-            return Ok(Checked::new(rt.alloc()));
-        }
-    };
-    if let Some(readers) = readers_of(rt, path) {
-        report.warning(path, readers);
-    }
-    match str::from_utf8(&octets) {
-        Ok(text) if octets.len() <= MOST_FILE_OCTETS => check_text(rt.alloc(), path, text, report),
-        _ => {
-            tell_octets(path, &octets, &mut report.out);
-            report.take(TEXT_FAULTY);
-            Ok(Checked::new(rt.alloc()))
-        }
+pub fn check_register(
+    rt: &HostRuntime,
+    path: &str,
+    report: &mut Report,
+) -> Result<Checked, Status> {
+    match checked_text(rt, path, report) {
+        Some(text) => check_text(rt.alloc(), path, text.as_str(), report),
+        None => Ok(Checked::new(rt.alloc())),
     }
 }
 
 // Tells every fault of the text of a register file.
-fn check_text(alloc: Global, path: &str, text: &str, report: &mut Report) -> Result<Checked, u8> {
+fn check_text(
+    alloc: Global,
+    path: &str,
+    text: &str,
+    report: &mut Report,
+) -> Result<Checked, Status> {
     let document = match toml::table_from_str(alloc, text) {
         Ok(document) => document,
         Err(error) => {
@@ -260,7 +250,7 @@ impl<'a> Finder<'a> {
                     Refusal::KeyTaken => self.line_of(place, "number"),
                     _ => self.line_of(place, "address"),
                 };
-                let (word, meaning) = (refusal_word(refusal), refusal_meaning(refusal));
+                let (word, meaning) = (refusal.word(), refusal_meaning(refusal));
                 self.add(line, true, format_args!("{who}: {word}: {meaning}"))
             }
             Ok(()) => {

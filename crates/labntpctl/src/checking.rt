@@ -6,11 +6,11 @@ use crate::checked_register::{Checked, check_register};
 use crate::places::FilesNamed;
 use crate::report::Report;
 use labntpd_assembly::start_lines;
-use ntp_admin::{DONE, memory_status, write_status};
+use ntp_admin::{Status, memory_status, write_status};
 use std::io::{BufWriter, Write};
 
 /// Tells every fault of the files that are named, and gives the exit status.
-pub fn check_status(rt: &HostRuntime, files: FilesNamed<'_>) -> u8 {
+pub fn check_status(rt: &HostRuntime, files: FilesNamed<'_>) -> Status {
     let Ok(out) = BufWriter::new(rt.alloc(), rt.stdout()) else {
         return memory_status(&mut start_lines(rt));
     };
@@ -26,7 +26,7 @@ pub fn check_status(rt: &HostRuntime, files: FilesNamed<'_>) -> u8 {
 }
 
 // Tells every fault of the files that are named. The error is the exit status for want of memory.
-fn check(rt: &HostRuntime, files: FilesNamed<'_>, report: &mut Report) -> Result<(), u8> {
+fn check(rt: &HostRuntime, files: FilesNamed<'_>, report: &mut Report) -> Result<(), Status> {
     match files {
         FilesNamed::Each { register, commands } => {
             check_customers(rt, Some(register), commands, report)
@@ -46,17 +46,17 @@ fn check_customers(
     register: Option<&str>,
     commands: Option<&str>,
     report: &mut Report,
-) -> Result<(), u8> {
+) -> Result<(), Status> {
     let checked = checked_in(rt, register, commands, report)?;
     tell_well(&checked, report)
 }
 
 // Tells how many customers there are, where nothing is wrong.
-fn tell_well(checked: &Checked, report: &mut Report) -> Result<(), u8> {
+fn tell_well(checked: &Checked, report: &mut Report) -> Result<(), Status> {
     if checked.counts.has_missed() {
         return Err(memory_status(&mut report.out));
     }
-    if report.status() == DONE {
+    if report.status() == Status::Done {
         let customers = checked.customers();
         let _ = writeln!(report.out, "ok: {customers} customers");
     }
@@ -69,7 +69,7 @@ fn checked_in(
     register: Option<&str>,
     commands: Option<&str>,
     report: &mut Report,
-) -> Result<Checked, u8> {
+) -> Result<Checked, Status> {
     let checked = match register {
         None => Checked::new(rt.alloc()),
         Some(path) => check_register(rt, path, report)?,

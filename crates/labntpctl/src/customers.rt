@@ -7,21 +7,21 @@ use crate::standing::{Standing, standing_at};
 use crate::table::write_table;
 use labntpd_assembly::{configuration_at, start_lines};
 use labntpd_files::Configuration;
-use ntp_admin::{DONE, memory_status, write_status};
+use ntp_admin::{Status, memory_status, write_status};
 use ntp_reports::customer_line;
 use std::alloc::{AllocError, Global};
 use std::io::Write;
 
 /// Tells who is enrolled, and gives the exit status. A fault is told in one line.
-pub fn customers_status(rt: &HostRuntime, files: FilesNamed<'_>, json: bool) -> u8 {
+pub fn customers_status(rt: &HostRuntime, files: FilesNamed<'_>, json: bool) -> Status {
     match listed(rt, files, json) {
-        Ok(()) => DONE,
+        Ok(()) => Status::Done,
         Err(status) => status,
     }
 }
 
 // Tells who is enrolled.
-fn listed(rt: &HostRuntime, files: FilesNamed<'_>, json: bool) -> Result<(), u8> {
+fn listed(rt: &HostRuntime, files: FilesNamed<'_>, json: bool) -> Result<(), Status> {
     match files {
         FilesNamed::Each { register, commands } => listed_by(rt, register, commands, json),
         FilesNamed::Configured(path) => {
@@ -37,13 +37,13 @@ fn listed_by(
     register: &str,
     commands: Option<&str>,
     json: bool,
-) -> Result<(), u8> {
+) -> Result<(), Status> {
     let text = lines_by(rt, register, commands)?;
     write_lines(rt, text.as_str(), json)
 }
 
 // Tells whom the daemon has, and in which its file and the others differ; where it has no file, whom the others have.
-fn listed_for(rt: &HostRuntime, configuration: &Configuration, json: bool) -> Result<(), u8> {
+fn listed_for(rt: &HostRuntime, configuration: &Configuration, json: bool) -> Result<(), Status> {
     let register = configuration.register.as_str();
     let commands = configuration.commands.as_str();
     match reported_by(rt, configuration)? {
@@ -57,7 +57,7 @@ fn listed_for(rt: &HostRuntime, configuration: &Configuration, json: bool) -> Re
 }
 
 // The text of the daemon's customers file, if one is named and there.
-fn reported_by(rt: &HostRuntime, configuration: &Configuration) -> Result<Option<String>, u8> {
+fn reported_by(rt: &HostRuntime, configuration: &Configuration) -> Result<Option<String>, Status> {
     match &configuration.customers {
         Some(path) => reported_text(rt, path.as_str()),
         None => Ok(None),
@@ -65,7 +65,7 @@ fn reported_by(rt: &HostRuntime, configuration: &Configuration) -> Result<Option
 }
 
 // Writes the lines of customers, as they are or as a table.
-fn write_lines(rt: &HostRuntime, text: &str, json: bool) -> Result<(), u8> {
+fn write_lines(rt: &HostRuntime, text: &str, json: bool) -> Result<(), Status> {
     let written = if json {
         rt.stdout().write_all(text.as_bytes())
     } else {
@@ -105,7 +105,7 @@ fn tell_differences(rt: &HostRuntime, daemon: &[Reported], files: &Standing) {
 }
 
 // The lines of the customers by their files alone.
-fn lines_by(rt: &HostRuntime, register: &str, commands: Option<&str>) -> Result<String, u8> {
+fn lines_by(rt: &HostRuntime, register: &str, commands: Option<&str>) -> Result<String, Status> {
     let mut faults = start_lines(rt);
     let standing = standing_at(rt, rt.alloc(), register, commands, &mut faults)?;
     match customer_lines(rt.alloc(), &standing) {

@@ -5,9 +5,7 @@ use crate::ordered::{Change, Ordered};
 use crate::standing::{Standing, standing_at};
 use labntpd_assembly::start_lines;
 use labntpd_files::Configuration;
-use ntp_admin::{
-    Command, MOST_FILE_OCTETS, TEXT_FAULTY, fault_word, memory_status, parse_command, refusal_word,
-};
+use ntp_admin::{Command, MOST_FILE_OCTETS, Status, memory_status, parse_command};
 use ntp_clerk::{NEW_KEY_OCTETS, NewKey, command_line, command_shown, lowest_free};
 use ntp_mac::Algorithm;
 use ntp_service::{LineFault, Refusal};
@@ -37,7 +35,7 @@ pub fn decide(
     rt: &HostRuntime,
     asked: &Ordered<'_>,
     configuration: &Configuration,
-) -> Result<Decided, u8> {
+) -> Result<Decided, Status> {
     let path = configuration.commands.as_str();
     let mut standing = whole_standing(rt, configuration.register.as_str(), path)?;
     decide_over(rt, asked, path, &mut standing)
@@ -49,7 +47,7 @@ fn decide_over(
     asked: &Ordered<'_>,
     path: &str,
     standing: &mut Standing,
-) -> Result<Decided, u8> {
+) -> Result<Decided, Status> {
     let (command, key) = command_for(rt, asked, standing)?;
     let line = line_of(rt, &command, &key)?;
     judge(rt, path, standing, line.as_str())?;
@@ -64,7 +62,11 @@ fn decide_over(
 }
 
 /// What a register and a commands file have come to, which a line feed ends. A fault is told in one line, and gives the exit status.
-pub fn whole_standing(rt: &HostRuntime, register: &str, commands: &str) -> Result<Standing, u8> {
+pub fn whole_standing(
+    rt: &HostRuntime,
+    register: &str,
+    commands: &str,
+) -> Result<Standing, Status> {
     let mut faults = start_lines(rt);
     let standing = standing_at(rt, rt.alloc(), register, Some(commands), &mut faults)?;
     standing.judge_end(commands, &mut faults)?;
@@ -72,7 +74,7 @@ pub fn whole_standing(rt: &HostRuntime, register: &str, commands: &str) -> Resul
 }
 
 // The line of a command, with the key that is made for it, if one is.
-fn line_of(rt: &HostRuntime, command: &Command, key: &Option<NewKey>) -> Result<String, u8> {
+fn line_of(rt: &HostRuntime, command: &Command, key: &Option<NewKey>) -> Result<String, Status> {
     let octets = match key {
         Some(key) => key.octets.as_slice(),
         None => &[],
@@ -84,13 +86,13 @@ fn line_of(rt: &HostRuntime, command: &Command, key: &Option<NewKey>) -> Result<
 }
 
 // Judges that a line, which ends with its line feed, may stand in the commands file at a path, and that the daemon will not refuse it.
-fn judge(rt: &HostRuntime, path: &str, standing: &mut Standing, line: &str) -> Result<(), u8> {
+fn judge(rt: &HostRuntime, path: &str, standing: &mut Standing, line: &str) -> Result<(), Status> {
     if standing.octets.saturating_add(line.len()) > MOST_FILE_OCTETS {
         let _ = writeln!(
             start_lines(rt),
             "{path}: at most {MOST_FILE_OCTETS} octets are wanted"
         );
-        return Err(TEXT_FAULTY);
+        return Err(Status::TextFaulty);
     }
     match parse_command(line.trim_end_matches('\n')) {
         Ok(command) => match standing.service.command(&command) {
@@ -102,20 +104,20 @@ fn judge(rt: &HostRuntime, path: &str, standing: &mut Standing, line: &str) -> R
 }
 
 // Tells the fault of a line, and gives the exit status.
-fn faulty(rt: &HostRuntime, fault: LineFault) -> u8 {
-    let word = fault_word(fault);
+fn faulty(rt: &HostRuntime, fault: LineFault) -> Status {
+    let word = fault.word();
     let _ = writeln!(start_lines(rt), "faulty {word}");
-    TEXT_FAULTY
+    Status::TextFaulty
 }
 
 // Tells a refusal, and gives the exit status.
-fn refused(rt: &HostRuntime, refusal: Refusal) -> u8 {
+fn refused(rt: &HostRuntime, refusal: Refusal) -> Status {
     if refusal == Refusal::NoMemory {
         return memory_status(&mut start_lines(rt));
     }
-    let word = refusal_word(refusal);
+    let word = refusal.word();
     let _ = writeln!(start_lines(rt), "refused {word}");
-    TEXT_FAULTY
+    Status::TextFaulty
 }
 
 // The command for a change, with a number and a new key where it needs them, and that key.
@@ -123,7 +125,7 @@ fn command_for(
     rt: &HostRuntime,
     asked: &Ordered<'_>,
     standing: &Standing,
-) -> Result<(Command, Option<NewKey>), u8> {
+) -> Result<(Command, Option<NewKey>), Status> {
     let address = asked.address;
     match asked.change {
         Change::Enrol { budget, algorithm } => {
@@ -162,19 +164,19 @@ fn command_for(
 }
 
 /// The lowest number that nobody holds; else tells that there is none, and gives the exit status.
-pub fn free_number(rt: &HostRuntime, standing: &Standing) -> Result<NonZero<u16>, u8> {
+pub fn free_number(rt: &HostRuntime, standing: &Standing) -> Result<NonZero<u16>, Status> {
     let held = made(rt, standing.held_numbers(rt.alloc()))?;
     match lowest_free(&held) {
         Some(number) => Ok(number),
         None => {
             let _ = writeln!(start_lines(rt), "every key number is held");
-            Err(TEXT_FAULTY)
+            Err(Status::TextFaulty)
         }
     }
 }
 
 /// A key of the system's random octets; of zeros where it is only to be shown as a word. A fault gives the exit status.
-pub fn new_key(rt: &HostRuntime, algorithm: Algorithm, is_shown: bool) -> Result<NewKey, u8> {
+pub fn new_key(rt: &HostRuntime, algorithm: Algorithm, is_shown: bool) -> Result<NewKey, Status> {
     let mut octets = [0; NEW_KEY_OCTETS];
     if !is_shown {
         judged(rt, "random octets", rt.fill_bytes(&mut octets))?;

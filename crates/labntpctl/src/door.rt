@@ -5,7 +5,7 @@ use crate::door_rules::{Source, rules_text};
 use crate::standing::{Standing, standing_at};
 use labntpd_assembly::{configuration_at, start_lines};
 use labntpd_files::{Configuration, Listen};
-use ntp_admin::{DONE, MOST_FILE_OCTETS, TEXT_FAULTY, failed_status, memory_status, write_status};
+use ntp_admin::{MOST_FILE_OCTETS, Status, failed_status, memory_status, write_status};
 use ntp_host::{CommandsFile, pause, read_regular_file, replace_file};
 use ntp_port::CommandsSource;
 use ntp_query::Server;
@@ -50,21 +50,25 @@ pub enum Output<'a> {
 }
 
 /// Prints or writes the rules, and gives the exit status. A fault is told in one line.
-pub fn door_status(rt: &HostRuntime, asked: &Door<'_>) -> u8 {
+pub fn door_status(rt: &HostRuntime, asked: &Door<'_>) -> Status {
     match opened(rt, asked) {
-        Ok(()) => DONE,
+        Ok(()) => Status::Done,
         Err(status) => status,
     }
 }
 
 // Prints the rules, writes them, or keeps them.
-fn opened(rt: &HostRuntime, asked: &Door<'_>) -> Result<(), u8> {
+fn opened(rt: &HostRuntime, asked: &Door<'_>) -> Result<(), Status> {
     let configuration = configuration_at(rt, rt.alloc(), asked.config, &mut start_lines(rt))?;
     opened_by(rt, asked, &configuration)
 }
 
 // The same by a configuration.
-fn opened_by(rt: &HostRuntime, asked: &Door<'_>, configuration: &Configuration) -> Result<(), u8> {
+fn opened_by(
+    rt: &HostRuntime,
+    asked: &Door<'_>,
+    configuration: &Configuration,
+) -> Result<(), Status> {
     let server = server_for(rt, asked, configuration)?;
     match asked.output {
         Output::Printed => print(rt, &rules(rt, configuration, server)?),
@@ -81,7 +85,7 @@ fn server_for(
     rt: &HostRuntime,
     asked: &Door<'_>,
     configuration: &Configuration,
-) -> Result<Server, u8> {
+) -> Result<Server, Status> {
     match (asked.place, listening(configuration)) {
         (Some(place), _) => Ok(Server {
             address: place.address,
@@ -94,7 +98,7 @@ fn server_for(
                 start_lines(rt),
                 "{config}: `listen` is no address of this host: --address ADDRESS is wanted"
             );
-            Err(TEXT_FAULTY)
+            Err(Status::TextFaulty)
         }
     }
 }
@@ -108,7 +112,11 @@ fn port_of(configuration: &Configuration) -> u16 {
 }
 
 // The rules for what the files have come to.
-fn rules(rt: &HostRuntime, configuration: &Configuration, server: Server) -> Result<String, u8> {
+fn rules(
+    rt: &HostRuntime,
+    configuration: &Configuration,
+    server: Server,
+) -> Result<String, Status> {
     let mut faults = start_lines(rt);
     let register = configuration.register.as_str();
     let commands = configuration.commands.as_str();
@@ -138,7 +146,7 @@ fn rules_of(alloc: Global, server: Server, standing: &Standing) -> Result<String
 }
 
 // Prints the rules.
-fn print(rt: &HostRuntime, rules: &str) -> Result<(), u8> {
+fn print(rt: &HostRuntime, rules: &str) -> Result<(), Status> {
     match rt.stdout().write_all(rules.as_bytes()) {
         Ok(()) => Ok(()),
         Err(_) => Err(write_status(&mut start_lines(rt))),
@@ -146,7 +154,7 @@ fn print(rt: &HostRuntime, rules: &str) -> Result<(), u8> {
 }
 
 // Writes the rules into a file, if it has others.
-fn replace(rt: &HostRuntime, path: &str, rules: &str) -> Result<(), u8> {
+fn replace(rt: &HostRuntime, path: &str, rules: &str) -> Result<(), Status> {
     let mut faults = start_lines(rt);
     if let Ok(octets) = read_regular_file(rt, rt.alloc(), path, MOST_OCTETS) {
         if octets.as_slice() == rules.as_bytes() {
@@ -168,7 +176,7 @@ fn keep(
     configuration: &Configuration,
     server: Server,
     path: &str,
-) -> Result<(), u8> {
+) -> Result<(), Status> {
     let mut watched = Watched::new(rt, configuration);
     // They are looked at before they are read, so that what comes in between is seen at the next look.
     let _ = watched.have_changed(rt.alloc());

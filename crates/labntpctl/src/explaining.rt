@@ -3,9 +3,7 @@
 use crate::standing::{Standing, standing_at};
 use labntpd_assembly::{configuration_at, start_lines};
 use labntpd_files::{Configuration, Listen};
-use ntp_admin::{
-    DONE, Outcome, TEXT_FAULTY, failed_status, memory_status, print_answer, write_status,
-};
+use ntp_admin::{Outcome, Status, failed_status, memory_status, print_answer, write_status};
 use ntp_clerk::{Capture, Datagram, Record, capture_in, datagram_in, next_record, packet_in};
 use ntp_host::{moment_now, read_regular_file};
 use ntp_mac::Algorithm;
@@ -35,14 +33,14 @@ pub enum Explained<'a> {
 }
 
 /// Explains what datagrams would get by a configuration file at a path, and gives the exit status.
-pub fn explain_status(rt: &HostRuntime, config: &str, explained: Explained<'_>) -> u8 {
+pub fn explain_status(rt: &HostRuntime, config: &str, explained: Explained<'_>) -> Status {
     match explain(rt, config, explained) {
         Ok(status) | Err(status) => status,
     }
 }
 
 // Explains what datagrams would get.
-fn explain(rt: &HostRuntime, config: &str, explained: Explained<'_>) -> Result<u8, u8> {
+fn explain(rt: &HostRuntime, config: &str, explained: Explained<'_>) -> Result<Status, Status> {
     let configuration = configuration_at(rt, rt.alloc(), config, &mut start_lines(rt))?;
     let mut explainer = new_explainer(rt, &configuration)?;
     explain_by(rt, &mut explainer, port_of(&configuration), explained)
@@ -54,7 +52,7 @@ fn explain_by(
     explainer: &mut Explainer,
     port: u16,
     explained: Explained<'_>,
-) -> Result<u8, u8> {
+) -> Result<Status, Status> {
     explainer.head();
     let status = match explained {
         Explained::Datagram { octets, from } => datagram_status(rt, explainer, octets, from)?,
@@ -67,7 +65,7 @@ fn explain_by(
 }
 
 // Who explains by the files of a configuration.
-fn new_explainer(rt: &HostRuntime, configuration: &Configuration) -> Result<Explainer, u8> {
+fn new_explainer(rt: &HostRuntime, configuration: &Configuration) -> Result<Explainer, Status> {
     let register = configuration.register.as_str();
     let commands = configuration.commands.as_str();
     let standing = standing_at(
@@ -102,11 +100,11 @@ fn datagram_status(
     explainer: &mut Explainer,
     word: &str,
     from: Address,
-) -> Result<u8, u8> {
+) -> Result<Status, Status> {
     match hex::decode(rt.alloc(), word) {
         Ok(octets) => {
             told(rt, explainer.datagram(rt.alloc(), from, &octets))?;
-            Ok(DONE)
+            Ok(Status::Done)
         }
         Err(hex::FromHexError::OutOfMemory) => Err(memory_status(&mut start_lines(rt))),
         Err(_) => {
@@ -114,7 +112,7 @@ fn datagram_status(
                 start_lines(rt),
                 "DATAGRAM: hexadecimal digits, an even number, are wanted"
             );
-            Err(TEXT_FAULTY)
+            Err(Status::TextFaulty)
         }
     }
 }
@@ -125,7 +123,7 @@ fn capture_status(
     explainer: &mut Explainer,
     path: &str,
     port: u16,
-) -> Result<u8, u8> {
+) -> Result<Status, Status> {
     let octets = capture_octets(rt, path)?;
     let capture = match capture_in(&octets) {
         Ok(capture) => capture,
@@ -137,11 +135,11 @@ fn capture_status(
         let record = records.whole.saturating_add(1);
         return Err(faulty(rt, path, format_args!("record {record} is cut short")));
     }
-    Ok(DONE)
+    Ok(Status::Done)
 }
 
 // The octets of a capture file.
-fn capture_octets(rt: &HostRuntime, path: &str) -> Result<Vec<u8>, u8> {
+fn capture_octets(rt: &HostRuntime, path: &str) -> Result<Vec<u8>, Status> {
     match read_regular_file(rt, rt.alloc(), path, MOST_CAPTURE_OCTETS) {
         Ok(octets) if octets.len() <= MOST_CAPTURE_OCTETS as usize => Ok(octets),
         Ok(_) => Err(faulty(
@@ -154,13 +152,13 @@ fn capture_octets(rt: &HostRuntime, path: &str) -> Result<Vec<u8>, u8> {
 }
 
 // Tells a fault of a file, and gives the exit status.
-fn faulty<D: Display + Drop>(rt: &HostRuntime, path: &str, fault: D) -> u8 {
+fn faulty<D: Display + Drop>(rt: &HostRuntime, path: &str, fault: D) -> Status {
     let _ = writeln!(start_lines(rt), "{path}: {fault}");
-    TEXT_FAULTY
+    Status::TextFaulty
 }
 
 // What was told, or the exit status for want of memory.
-fn told<T>(rt: &HostRuntime, told: Result<T, AllocError>) -> Result<T, u8> {
+fn told<T>(rt: &HostRuntime, told: Result<T, AllocError>) -> Result<T, Status> {
     match told {
         Ok(told) => Ok(told),
         Err(_) => Err(memory_status(&mut start_lines(rt))),

@@ -1,12 +1,12 @@
 //! What a fault gives: it is told in one line, and gives the exit status.
 
 use labntpd_assembly::start_lines;
-use ntp_admin::{failed_status, memory_status};
+use ntp_admin::{Status, failed_status, memory_status};
 use std::alloc::AllocError;
 use std::io;
 
 /// What was made; else the exit status for want of memory.
-pub fn made<T>(rt: &HostRuntime, made: Result<T, AllocError>) -> Result<T, u8> {
+pub fn made<T>(rt: &HostRuntime, made: Result<T, AllocError>) -> Result<T, Status> {
     match made {
         Ok(made) => Ok(made),
         Err(_) => Err(memory_status(&mut start_lines(rt))),
@@ -14,7 +14,7 @@ pub fn made<T>(rt: &HostRuntime, made: Result<T, AllocError>) -> Result<T, u8> {
 }
 
 /// What the system gave under a name, as a path; else the exit status of its error.
-pub fn judged<T>(rt: &HostRuntime, name: &str, answer: io::Result<T>) -> Result<T, u8> {
+pub fn judged<T>(rt: &HostRuntime, name: &str, answer: io::Result<T>) -> Result<T, Status> {
     match answer {
         Ok(given) => Ok(given),
         Err(error) => Err(failed_status(name, &error, &mut start_lines(rt))),

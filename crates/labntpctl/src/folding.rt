@@ -10,7 +10,7 @@ use crate::placing::{put_in_place, write_beside};
 use crate::standing::Standing;
 use indexmap::IndexMap;
 use labntpd_assembly::{configuration_at, start_lines};
-use ntp_admin::{DONE, MOST_FILE_OCTETS, TEXT_FAULTY, memory_status};
+use ntp_admin::{MOST_FILE_OCTETS, Status, memory_status};
 use ntp_clerk::{FoldFault, Folded, GivenKey, Kept, NewKey, Terms, fold};
 use ntp_host::read_regular_file;
 use ntp_mac::{Algorithm, Key};
@@ -39,15 +39,15 @@ pub struct PairPaths<'a> {
 }
 
 /// Folds the commands file into the register, tells what was written, and gives the exit status. A fault is told in one line.
-pub fn fold_status(rt: &HostRuntime, asked: &FoldAsked<'_>) -> u8 {
+pub fn fold_status(rt: &HostRuntime, asked: &FoldAsked<'_>) -> Status {
     match folded(rt, asked) {
-        Ok(()) => DONE,
+        Ok(()) => Status::Done,
         Err(status) => status,
     }
 }
 
 // Folds while no clerk appends, or tells what would be written.
-fn folded(rt: &HostRuntime, asked: &FoldAsked<'_>) -> Result<(), u8> {
+fn folded(rt: &HostRuntime, asked: &FoldAsked<'_>) -> Result<(), Status> {
     let configuration = configuration_at(rt, rt.alloc(), asked.config, &mut start_lines(rt))?;
     let paths = PairPaths {
         register: configuration.register.as_str(),
@@ -60,7 +60,7 @@ fn folded(rt: &HostRuntime, asked: &FoldAsked<'_>) -> Result<(), u8> {
 }
 
 // The same for the files at these paths.
-fn folded_at(rt: &HostRuntime, asked: &FoldAsked<'_>, paths: PairPaths<'_>) -> Result<(), u8> {
+fn folded_at(rt: &HostRuntime, asked: &FoldAsked<'_>, paths: PairPaths<'_>) -> Result<(), Status> {
     let old = whole_standing(rt, paths.register, paths.commands)?;
     folded_from(rt, asked, paths, &old)
 }
@@ -71,7 +71,7 @@ fn folded_from(
     asked: &FoldAsked<'_>,
     paths: PairPaths<'_>,
     old: &Standing,
-) -> Result<(), u8> {
+) -> Result<(), Status> {
     let pair = pair_for(rt, paths, old)?;
     tell_sizes(rt, old, &pair)?;
     if asked.dry_run {
@@ -84,7 +84,7 @@ fn folded_from(
 }
 
 // The texts of the new files.
-fn pair_for(rt: &HostRuntime, paths: PairPaths<'_>, old: &Standing) -> Result<FoldedPair, u8> {
+fn pair_for(rt: &HostRuntime, paths: PairPaths<'_>, old: &Standing) -> Result<FoldedPair, Status> {
     let customers = made(rt, customers_of(rt.alloc(), old))?;
     let spare = spare_for(rt, old, &customers)?;
     let folded = folded_by(rt, old, &customers, &spare)?;
@@ -104,7 +104,7 @@ struct SpareKey {
 }
 
 // The key with which a customer who is revoked is enrolled before it is revoked again. With nobody revoked it is not used.
-fn spare_for(rt: &HostRuntime, old: &Standing, customers: &[Kept]) -> Result<SpareKey, u8> {
+fn spare_for(rt: &HostRuntime, old: &Standing, customers: &[Kept]) -> Result<SpareKey, Status> {
     let number = if customers.iter().any(|customer| customer.terms.is_none()) {
         free_number(rt, old)?
     } else {
@@ -120,7 +120,7 @@ fn folded_by(
     old: &Standing,
     customers: &[Kept],
     spare: &SpareKey,
-) -> Result<Folded, u8> {
+) -> Result<Folded, Status> {
     let Ok(key) = Key::new(spare.key.algorithm, &spare.key.octets) else {
         return Err(memory_status(&mut start_lines(rt)));
     };
@@ -132,7 +132,7 @@ fn folded_by(
 }
 
 // What was folded; else the exit status for a fault, which is told.
-fn unless_others<T>(rt: &HostRuntime, folded: Result<T, FoldFault>) -> Result<T, u8> {
+fn unless_others<T>(rt: &HostRuntime, folded: Result<T, FoldFault>) -> Result<T, Status> {
     match folded {
         Ok(folded) => Ok(folded),
         Err(FoldFault::NoMemory) => Err(memory_status(&mut start_lines(rt))),
@@ -146,7 +146,7 @@ fn written_in(
     paths: PairPaths<'_>,
     old: &Standing,
     spare: &SpareKey,
-) -> Result<(Value, KeyOctets), u8> {
+) -> Result<(Value, KeyOctets), Status> {
     let document = document_at(rt, paths.register)?;
     let lines = text_at(rt, paths.commands)?;
     let octets = octets_of(rt.alloc(), old, &document, lines.as_str(), spare);
@@ -154,16 +154,16 @@ fn written_in(
 }
 
 /// Tells that the customers would be others, and gives the exit status.
-pub fn others(rt: &HostRuntime) -> u8 {
+pub fn others(rt: &HostRuntime) -> Status {
     let _ = writeln!(
         start_lines(rt),
         "the customers would be others: nothing was changed"
     );
-    TEXT_FAULTY
+    Status::TextFaulty
 }
 
 // The document of the register file.
-fn document_at(rt: &HostRuntime, path: &str) -> Result<Value, u8> {
+fn document_at(rt: &HostRuntime, path: &str) -> Result<Value, Status> {
     let text = text_at(rt, path)?;
     match toml::table_from_str(rt.alloc(), text.as_str()) {
         Ok(document) => Ok(Value::Table(document)),
@@ -172,7 +172,7 @@ fn document_at(rt: &HostRuntime, path: &str) -> Result<Value, u8> {
 }
 
 // The text of a file that was read before.
-fn text_at(rt: &HostRuntime, path: &str) -> Result<String, u8> {
+fn text_at(rt: &HostRuntime, path: &str) -> Result<String, Status> {
     let octets = read_regular_file(rt, rt.alloc(), path, MOST_FILE_OCTETS as u32);
     match String::from_utf8(judged(rt, path, octets)?) {
         Ok(text) => Ok(text),
@@ -265,7 +265,7 @@ fn key_with(customer: &Customer, number: u16) -> Option<GivenKey> {
 }
 
 // Tells how long the new files are.
-fn tell_sizes(rt: &HostRuntime, old: &Standing, pair: &FoldedPair) -> Result<(), u8> {
+fn tell_sizes(rt: &HostRuntime, old: &Standing, pair: &FoldedPair) -> Result<(), Status> {
     let (register, commands, before) = (pair.register.len(), pair.commands.len(), old.octets);
     let customers = old.counts.len();
     tell(

@@ -4,6 +4,7 @@
 mod checked_commands;
 mod checked_configuration;
 mod checked_register;
+mod checked_text;
 mod checking;
 mod command_line;
 mod commands_file;
@@ -33,14 +34,14 @@ mod table;
 mod waiting;
 
 use checking::check_status;
-use clap::error::ErrorKind;
 use command_line::{Asked, parse};
 use customers::customers_status;
 use door::door_status;
 use explaining::explain_status;
 use folding::fold_status;
 use labntpd_assembly::start_lines;
-use ntp_admin::{memory_status, unread_status, write_status};
+use labntpd_files::command_line::refused_status;
+use ntp_admin::{Status, unread_status, write_status};
 use ntp_host::has_standard_streams;
 use ordering::order_status;
 use recovering::recover_status;
@@ -48,11 +49,11 @@ use std::process::ExitCode;
 use std::{env, io};
 
 fn main(rt: HostRuntime) -> ExitCode {
-    ExitCode::from(status(&rt))
+    ExitCode::from(status(&rt).code())
 }
 
 // Does what the command line asks for, and gives the exit status.
-fn status(rt: &HostRuntime) -> u8 {
+fn status(rt: &HostRuntime) -> Status {
     // Where one is closed, a file that is opened takes its place, and would get what is told.
     if !has_standard_streams() {
         return write_status(&mut start_lines(rt));
@@ -63,16 +64,12 @@ fn status(rt: &HostRuntime) -> u8 {
     };
     match parse(rt.alloc(), &words) {
         Ok(asked) => done(rt, asked),
-        Err(error) if error.kind() == ErrorKind::OutOfMemory => memory_status(&mut start_lines(rt)),
-        Err(error) => {
-            let _ = error.print(rt);
-            error.exit_code() as u8
-        }
+        Err(error) => refused_status(rt, &error, &mut start_lines(rt)),
     }
 }
 
 // Does what is asked for, and gives the exit status.
-fn done(rt: &HostRuntime, asked: Asked<'_>) -> u8 {
+fn done(rt: &HostRuntime, asked: Asked<'_>) -> Status {
     match asked {
         Asked::Customers { files, json } => customers_status(rt, files, json),
         Asked::Door(door) => door_status(rt, &door),

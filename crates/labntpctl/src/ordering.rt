@@ -9,28 +9,28 @@ use crate::retiring::is_wanted;
 use crate::waiting::{GOOD, answer_in_time, is_answered};
 use labntpd_assembly::{configuration_at, start_lines};
 use labntpd_files::Configuration;
-use ntp_admin::{Command, DONE, IO_FAILED, TEXT_FAULTY, write_status};
+use ntp_admin::{Command, Status, write_status};
 use std::alloc::{AllocError, Global};
 use std::fmt::Display;
 use std::fs;
 use std::io::{self, Write};
 
 /// Makes a change, tells what came of it, and gives the exit status. A fault is told in one line.
-pub fn order_status(rt: &HostRuntime, asked: &Ordered<'_>) -> u8 {
+pub fn order_status(rt: &HostRuntime, asked: &Ordered<'_>) -> Status {
     match ordered(rt, asked) {
         Ok(status) | Err(status) => status,
     }
 }
 
 // Makes a change, or only shows its line.
-fn ordered(rt: &HostRuntime, asked: &Ordered<'_>) -> Result<u8, u8> {
+fn ordered(rt: &HostRuntime, asked: &Ordered<'_>) -> Result<Status, Status> {
     let configuration = configuration_at(rt, rt.alloc(), asked.config, &mut start_lines(rt))?;
     if asked.dry_run {
         return only_shown(rt, asked, &configuration);
     }
     match confirmed(rt, asked, &configuration)? {
         Some(asked) => carried_out(rt, &asked, &configuration),
-        None => Ok(TEXT_FAULTY),
+        None => Ok(Status::TextFaulty),
     }
 }
 
@@ -39,9 +39,9 @@ fn only_shown(
     rt: &HostRuntime,
     asked: &Ordered<'_>,
     configuration: &Configuration,
-) -> Result<u8, u8> {
+) -> Result<Status, Status> {
     show(rt, &decide(rt, asked, configuration)?)?;
-    Ok(DONE)
+    Ok(Status::Done)
 }
 
 // Makes a change that is confirmed, and waits for the answer to it.
@@ -49,7 +49,7 @@ fn carried_out(
     rt: &HostRuntime,
     asked: &Ordered<'_>,
     configuration: &Configuration,
-) -> Result<u8, u8> {
+) -> Result<Status, Status> {
     let files = made(rt, answers_files(rt.alloc(), asked, configuration))?;
     let appended = append(rt, asked, configuration, &files)?;
     tell_appended(rt, &appended)?;
@@ -82,7 +82,7 @@ fn append(
     asked: &Ordered<'_>,
     configuration: &Configuration,
     files: &[&str],
-) -> Result<Appended, u8> {
+) -> Result<Appended, Status> {
     let path = configuration.commands.as_str();
     let mut held = judged(rt, path, HeldFile::hold(rt, path))?;
     let decided = decide(rt, asked, configuration)?;
@@ -117,7 +117,7 @@ fn confirmed<'a>(
     rt: &HostRuntime,
     asked: &Ordered<'a>,
     configuration: &Configuration,
-) -> Result<Option<Ordered<'a>>, u8> {
+) -> Result<Option<Ordered<'a>>, Status> {
     if !matches!(asked.change, Change::Retire { asks: true, .. }) {
         return Ok(Some(*asked));
     }
@@ -135,13 +135,13 @@ fn confirmed<'a>(
 }
 
 // Shows the line, without its key.
-fn show(rt: &HostRuntime, decided: &Decided) -> Result<(), u8> {
+fn show(rt: &HostRuntime, decided: &Decided) -> Result<(), Status> {
     let (number, shown) = (decided.number, decided.shown.as_str());
     tell(rt, format_args!("line {number}: {shown}"))
 }
 
 /// Writes to standard output; where that fails, the exit status.
-pub fn tell<D: Display + Drop>(rt: &HostRuntime, said: D) -> Result<(), u8> {
+pub fn tell<D: Display + Drop>(rt: &HostRuntime, said: D) -> Result<(), Status> {
     match write!(rt.stdout(), "{said}") {
         Ok(()) => Ok(()),
         Err(_) => Err(write_status(&mut start_lines(rt))),
@@ -173,7 +173,7 @@ fn give(
     asked: &Ordered<'_>,
     configuration: &Configuration,
     decided: &Decided,
-) -> Result<Option<String>, u8> {
+) -> Result<Option<String>, Status> {
     let (Some(number), Some(key)) = (decided.command.number_wanted(), decided.key) else {
         return Ok(None);
     };
@@ -200,7 +200,7 @@ fn take_back(rt: &HostRuntime, given: &Option<String>) {
 }
 
 // Tells which line was appended, and where that stands which the customer gets.
-fn tell_appended(rt: &HostRuntime, appended: &Appended) -> Result<(), u8> {
+fn tell_appended(rt: &HostRuntime, appended: &Appended) -> Result<(), Status> {
     show(rt, &appended.decided)?;
     match &appended.given {
         None => Ok(()),
@@ -209,21 +209,21 @@ fn tell_appended(rt: &HostRuntime, appended: &Appended) -> Result<(), u8> {
 }
 
 // Tells the answer of the daemon, and gives the exit status.
-fn told_answer(rt: &HostRuntime, appended: &Appended, answer: &str) -> Result<u8, u8> {
+fn told_answer(rt: &HostRuntime, appended: &Appended, answer: &str) -> Result<Status, Status> {
     let number = appended.decided.number;
     tell(rt, format_args!("line {number}: {answer}\n"))?;
     if answer == GOOD {
-        return Ok(DONE);
+        return Ok(Status::Done);
     }
     take_back(rt, &appended.given);
-    Ok(TEXT_FAULTY)
+    Ok(Status::TextFaulty)
 }
 
 // Tells that no answer came, and gives the exit status.
-fn not_answered(rt: &HostRuntime, number: u64) -> u8 {
+fn not_answered(rt: &HostRuntime, number: u64) -> Status {
     let _ = writeln!(
         start_lines(rt),
         "line {number}: no answer; where labntpd does not run, it carries the line out at its next start"
     );
-    IO_FAILED
+    Status::IoFailed
 }

@@ -9,7 +9,7 @@ use crate::ordering::tell;
 use crate::standing::{Standing, standing_at};
 use jiff::Timestamp;
 use labntpd_assembly::start_lines;
-use ntp_admin::{IO_FAILED, failed_status};
+use ntp_admin::{Status, failed_status};
 use ntp_clerk::leave_the_same;
 use std::alloc::{AllocError, Global};
 use std::fs::{self, Permissions};
@@ -45,7 +45,7 @@ pub fn write_beside(
     paths: PairPaths<'_>,
     pair: &FoldedPair,
     old: &Standing,
-) -> Result<(), u8> {
+) -> Result<(), Status> {
     let register = in_directory(rt, directory, paths.register)?;
     let commands = in_directory(rt, directory, paths.commands)?;
     let new = PairPaths {
@@ -63,14 +63,14 @@ fn write_pair(
     pair: &FoldedPair,
     paths: PairPaths<'_>,
     old: &Standing,
-) -> Result<(), u8> {
+) -> Result<(), Status> {
     write_new(rt, new.register, pair.register.as_str(), paths.register)?;
     write_new(rt, new.commands, pair.commands.as_str(), paths.commands)?;
     judge(rt, new.register, new.commands, old)
 }
 
 // Tells how new files are put in place.
-fn tell_moves(rt: &HostRuntime, new: PairPaths<'_>, paths: PairPaths<'_>) -> Result<(), u8> {
+fn tell_moves(rt: &HostRuntime, new: PairPaths<'_>, paths: PairPaths<'_>) -> Result<(), Status> {
     let (register, commands) = (new.register, new.commands);
     let (old_register, old_commands) = (paths.register, paths.commands);
     tell(
@@ -88,7 +88,7 @@ pub fn put_in_place(
     paths: PairPaths<'_>,
     pair: &FoldedPair,
     old: &Standing,
-) -> Result<(), u8> {
+) -> Result<(), Status> {
     let names = made(rt, names_at(rt.alloc(), paths, time_now(rt)?))?;
     if let Err(status) = placed(rt, paths, pair, old, &names) {
         for left in [&names.register.new, &names.commands.new, &names.between] {
@@ -112,7 +112,7 @@ fn placed(
     pair: &FoldedPair,
     old: &Standing,
     names: &Names,
-) -> Result<(), u8> {
+) -> Result<(), Status> {
     let (register, commands) = (names.register.new.as_str(), names.commands.new.as_str());
     let between = names.between.as_str();
     write_again(rt, register, pair.register.as_str(), paths.register)?;
@@ -129,7 +129,7 @@ fn placed(
 }
 
 // Keeps the old files, and puts the new ones in their place.
-fn moved(rt: &HostRuntime, paths: PairPaths<'_>, names: &Names) -> Result<(), u8> {
+fn moved(rt: &HostRuntime, paths: PairPaths<'_>, names: &Names) -> Result<(), Status> {
     keep(rt, paths.register, names.register.kept.as_str())?;
     keep(rt, paths.commands, names.commands.kept.as_str())?;
     rename(rt, names.between.as_str(), paths.commands)?;
@@ -138,14 +138,14 @@ fn moved(rt: &HostRuntime, paths: PairPaths<'_>, names: &Names) -> Result<(), u8
 }
 
 // Judges that a register and a commands file, as the daemon reads them, make the customers of the old ones.
-fn judge(rt: &HostRuntime, register: &str, commands: &str, old: &Standing) -> Result<(), u8> {
+fn judge(rt: &HostRuntime, register: &str, commands: &str, old: &Standing) -> Result<(), Status> {
     let mut faults = start_lines(rt);
     let new = standing_at(rt, rt.alloc(), register, Some(commands), &mut faults)?;
     judge_alike(rt, old, &new)
 }
 
 // Judges that files make the customers of the old ones.
-fn judge_alike(rt: &HostRuntime, old: &Standing, new: &Standing) -> Result<(), u8> {
+fn judge_alike(rt: &HostRuntime, old: &Standing, new: &Standing) -> Result<(), Status> {
     let is_same = leave_the_same(rt.alloc(), &old.history, &new.history);
     if made(rt, is_same)? {
         Ok(())
@@ -155,17 +155,17 @@ fn judge_alike(rt: &HostRuntime, old: &Standing, new: &Standing) -> Result<(), u
 }
 
 // Holds a commands file.
-fn hold(rt: &HostRuntime, path: &str) -> Result<HeldFile, u8> {
+fn hold(rt: &HostRuntime, path: &str) -> Result<HeldFile, Status> {
     judged(rt, path, HeldFile::hold(rt, path))
 }
 
 // Keeps a file under another name too, under which there is none yet.
-fn keep(rt: &HostRuntime, path: &str, kept: &str) -> Result<(), u8> {
+fn keep(rt: &HostRuntime, path: &str, kept: &str) -> Result<(), Status> {
     judged(rt, path, fs::hard_link(rt, path, kept))
 }
 
 // Puts a file in the place of another, and has the system store that.
-fn rename(rt: &HostRuntime, from: &str, to: &str) -> Result<(), u8> {
+fn rename(rt: &HostRuntime, from: &str, to: &str) -> Result<(), Status> {
     judged(rt, to, renamed(rt, from, to))
 }
 
@@ -184,7 +184,7 @@ fn directory_of(path: &str) -> &str {
 }
 
 // Writes a new file with the owner and the mode of another one. What is left of an earlier run goes.
-fn write_again(rt: &HostRuntime, path: &str, text: &str, like: &str) -> Result<(), u8> {
+fn write_again(rt: &HostRuntime, path: &str, text: &str, like: &str) -> Result<(), Status> {
     match fs::remove_file(rt, path) {
         Err(error) if error.kind() != ErrorKind::NotFound => {
             Err(failed_status(path, &error, &mut start_lines(rt)))
@@ -194,7 +194,7 @@ fn write_again(rt: &HostRuntime, path: &str, text: &str, like: &str) -> Result<(
 }
 
 // Writes a new file, where there is none, with the owner and the mode of another one.
-fn write_new(rt: &HostRuntime, path: &str, text: &str, like: &str) -> Result<(), u8> {
+fn write_new(rt: &HostRuntime, path: &str, text: &str, like: &str) -> Result<(), Status> {
     judged(rt, path, written(rt, path, text, like))
 }
 
@@ -209,7 +209,7 @@ fn written(rt: &HostRuntime, path: &str, text: &str, like: &str) -> io::Result<(
 }
 
 // The path of a file of the same name in a directory.
-fn in_directory(rt: &HostRuntime, directory: &str, path: &str) -> Result<String, u8> {
+fn in_directory(rt: &HostRuntime, directory: &str, path: &str) -> Result<String, Status> {
     let name = Path::new(path).file_name().unwrap_or(path);
     made(rt, format!(in rt.alloc(); "{directory}/{name}"))
 }
@@ -235,12 +235,12 @@ fn names_beside(alloc: Global, path: &str, time: Timestamp) -> Result<Beside, Al
 }
 
 // The time, to whole seconds.
-fn time_now(rt: &HostRuntime) -> Result<Timestamp, u8> {
+fn time_now(rt: &HostRuntime) -> Result<Timestamp, Status> {
     let seconds = judged(rt, "clock", SystemTime::now(rt))?
         .duration_since(SystemTime::UNIX_EPOCH)
         .map_or(0, |since| since.as_secs());
     match Timestamp::from_second(i64::try_from(seconds).unwrap_or(0)) {
         Ok(time) => Ok(time),
-        Err(_) => Err(IO_FAILED),
+        Err(_) => Err(Status::IoFailed),
     }
 }

@@ -9,7 +9,7 @@ use crate::reported::{Reported, reported_in, reported_text};
 use crate::standing::{Standing, standing_by};
 use labntpd_assembly::{configuration_at, start_lines};
 use labntpd_files::Configuration;
-use ntp_admin::{DONE, IO_FAILED, MOST_FILE_OCTETS, TEXT_FAULTY, failed_status};
+use ntp_admin::{MOST_FILE_OCTETS, Status, failed_status};
 use ntp_clerk::are_same;
 use ntp_host::read_regular_file;
 use std::alloc::{AllocError, Global};
@@ -52,14 +52,14 @@ struct ReadBack {
 }
 
 /// Writes a new commands file, tells what is had back and what is lost, and gives the exit status. A fault is told in one line.
-pub fn recover_status(rt: &HostRuntime, asked: &RecoverAsked<'_>) -> u8 {
+pub fn recover_status(rt: &HostRuntime, asked: &RecoverAsked<'_>) -> Status {
     match recover(rt, asked) {
         Ok(status) | Err(status) => status,
     }
 }
 
 // Writes a new commands file, and tells of it.
-fn recover(rt: &HostRuntime, asked: &RecoverAsked<'_>) -> Result<u8, u8> {
+fn recover(rt: &HostRuntime, asked: &RecoverAsked<'_>) -> Result<Status, Status> {
     let configuration = configuration_at(rt, rt.alloc(), asked.config, &mut start_lines(rt))?;
     let sources = read_sources(rt, asked, &configuration)?;
     recover_from(rt, asked, configuration.register.as_str(), &sources)
@@ -71,15 +71,15 @@ fn recover_from(
     asked: &RecoverAsked<'_>,
     register: &str,
     sources: &Sources,
-) -> Result<u8, u8> {
+) -> Result<Status, Status> {
     let found = had_back(rt.alloc(), &sources.files, &sources.daemon);
     let found = made(rt, found)?;
     let back = write_back(rt, asked, register, sources, &found)?;
     tell_found(rt, &found, &back, sources.daemon.len())?;
     if found.lost.is_empty() && back.others.is_empty() {
-        Ok(DONE)
+        Ok(Status::Done)
     } else {
-        Ok(TEXT_FAULTY)
+        Ok(Status::TextFaulty)
     }
 }
 
@@ -88,7 +88,7 @@ fn read_sources(
     rt: &HostRuntime,
     asked: &RecoverAsked<'_>,
     configuration: &Configuration,
-) -> Result<Sources, u8> {
+) -> Result<Sources, Status> {
     let register = configuration.register.as_str();
     let daemon = daemon_customers(rt, asked.config, configuration)?;
     let backup = backup_for(rt, asked, configuration.commands.as_str())?;
@@ -103,7 +103,7 @@ fn read_sources(
 }
 
 // What a register file has come to with a text in the place of a commands file.
-fn standing_of(rt: &HostRuntime, register: &str, commands: &str) -> Result<Standing, u8> {
+fn standing_of(rt: &HostRuntime, register: &str, commands: &str) -> Result<Standing, Status> {
     standing_by(
         rt,
         rt.alloc(),
@@ -114,7 +114,11 @@ fn standing_of(rt: &HostRuntime, register: &str, commands: &str) -> Result<Stand
 }
 
 // The answers to lines behind the first `lines`, as comments.
-fn answered_of(rt: &HostRuntime, configuration: &Configuration, lines: u64) -> Result<String, u8> {
+fn answered_of(
+    rt: &HostRuntime,
+    configuration: &Configuration,
+    lines: u64,
+) -> Result<String, Status> {
     let answers = answers_of(rt, configuration)?;
     made(rt, answered_lines(rt.alloc(), answers.as_str(), lines))
 }
@@ -126,7 +130,7 @@ fn write_back(
     register: &str,
     sources: &Sources,
     found: &HadBack,
-) -> Result<ReadBack, u8> {
+) -> Result<ReadBack, Status> {
     let text = text_of(rt, asked.output, sources, found)?;
     let back = made_by(rt, register, sources, text.as_str())?;
     judged(rt, asked.output, write_new(rt, asked.output, text.as_str()))?;
@@ -139,7 +143,7 @@ fn made_by(
     register: &str,
     sources: &Sources,
     text: &str,
-) -> Result<ReadBack, u8> {
+) -> Result<ReadBack, Status> {
     let new = standing_of(rt, register, text)?;
     made(rt, read_back(rt.alloc(), sources, &new))
 }
@@ -149,13 +153,13 @@ fn daemon_customers(
     rt: &HostRuntime,
     config: &str,
     configuration: &Configuration,
-) -> Result<Vec<Reported>, u8> {
+) -> Result<Vec<Reported>, Status> {
     let Some(path) = &configuration.customers else {
         let _ = writeln!(
             start_lines(rt),
             "{config}: customers: the path of labntpd's customers file is wanted"
         );
-        return Err(TEXT_FAULTY);
+        return Err(Status::TextFaulty);
     };
     match reported_text(rt, path.as_str())? {
         Some(text) => reported_in(rt, text.as_str()),
@@ -164,13 +168,17 @@ fn daemon_customers(
                 start_lines(rt),
                 "{path}: labntpd's customers file is wanted, and is not there"
             );
-            Err(IO_FAILED)
+            Err(Status::IoFailed)
         }
     }
 }
 
 // The whole lines of the backup, or of what is left of the commands file at a path. What is behind them is told.
-fn backup_for(rt: &HostRuntime, asked: &RecoverAsked<'_>, commands: &str) -> Result<String, u8> {
+fn backup_for(
+    rt: &HostRuntime,
+    asked: &RecoverAsked<'_>,
+    commands: &str,
+) -> Result<String, Status> {
     let path = asked.backup.unwrap_or(commands);
     let octets = match read_regular_file(rt, rt.alloc(), path, MOST_FILE_OCTETS as u32) {
         Ok(octets) => octets,
@@ -213,7 +221,7 @@ fn text_in(octets: &[u8]) -> &str {
 }
 
 // The text of the answers file, if there is one.
-fn answers_of(rt: &HostRuntime, configuration: &Configuration) -> Result<String, u8> {
+fn answers_of(rt: &HostRuntime, configuration: &Configuration) -> Result<String, Status> {
     let Some(path) = &configuration.answers else {
         return Ok(String::new(rt.alloc()));
     };
@@ -225,7 +233,12 @@ fn answers_of(rt: &HostRuntime, configuration: &Configuration) -> Result<String,
 }
 
 // The text of the new file, which is no longer than a commands file may be.
-fn text_of(rt: &HostRuntime, path: &str, sources: &Sources, found: &HadBack) -> Result<String, u8> {
+fn text_of(
+    rt: &HostRuntime,
+    path: &str,
+    sources: &Sources,
+    found: &HadBack,
+) -> Result<String, Status> {
     let (backup, answered) = (sources.backup.as_str(), sources.answered.as_str());
     let text = made(rt, whole_text(rt.alloc(), backup, found, answered))?;
     if text.len() <= MOST_FILE_OCTETS {
@@ -235,7 +248,7 @@ fn text_of(rt: &HostRuntime, path: &str, sources: &Sources, found: &HadBack) -> 
         start_lines(rt),
         "{path}: at most {MOST_FILE_OCTETS} octets are wanted"
     );
-    Err(TEXT_FAULTY)
+    Err(Status::TextFaulty)
 }
 
 // What the new file makes, beside what the daemon has.
@@ -260,7 +273,7 @@ fn tell_found(
     found: &HadBack,
     back: &ReadBack,
     customers: usize,
-) -> Result<(), u8> {
+) -> Result<(), Status> {
     for line in found.amendments.as_str().lines() {
         tell(rt, format_args!("amended: {line}\n"))?;
     }

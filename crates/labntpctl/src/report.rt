@@ -1,6 +1,6 @@
 //! What `check` tells: a line for each fault and for each warning.
 
-use ntp_admin::{DONE, TEXT_FAULTY};
+use ntp_admin::Status;
 use std::alloc::{AllocError, Global};
 use std::fmt::Display;
 use std::io::{BufWriter, Stdout, Write};
@@ -10,29 +10,32 @@ use std::io::{BufWriter, Stdout, Write};
 pub struct Report {
     /// Where it is told.
     pub out: BufWriter<Stdout>,
-    status: u8,
+    status: Status,
 }
 
 impl Report {
     /// Tells to `out` from here on, with no fault so far.
     pub fn new(out: BufWriter<Stdout>) -> Report {
-        Report { out, status: DONE }
+        Report {
+            out,
+            status: Status::Done,
+        }
     }
 
     /// The exit status so far: the greatest of what was told.
-    pub fn status(&self) -> u8 {
+    pub fn status(&self) -> Status {
         self.status
     }
 
     /// Takes an exit status, of a fault that was told.
-    pub fn take(&mut self, status: u8) {
+    pub fn take(&mut self, status: Status) {
         self.status = self.status.max(status);
     }
 
     /// Tells a fault of a file.
     pub fn fault<D: Display + Drop>(&mut self, path: &str, what: D) {
         let _ = writeln!(self.out, "{path}: {what}");
-        self.take(TEXT_FAULTY);
+        self.take(Status::TextFaulty);
     }
 
     /// Tells what is hardly meant in a file.

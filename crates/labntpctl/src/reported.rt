@@ -2,7 +2,7 @@
 
 use crate::table::{NoRow, no_row_status, number_at, object_in, text_at};
 use labntpd_assembly::start_lines;
-use ntp_admin::{TEXT_FAULTY, failed_status, words};
+use ntp_admin::{Status, failed_status, words};
 use ntp_clerk::{Seen, SeenKey, SeenTerms};
 use ntp_host::read_regular_file;
 use ntp_service::Address;
@@ -25,7 +25,7 @@ pub struct Reported {
 }
 
 /// The text of the daemon's customers file at a path, if it is there. A fault is told in one line, and gives the exit status.
-pub fn reported_text(rt: &HostRuntime, path: &str) -> Result<Option<String>, u8> {
+pub fn reported_text(rt: &HostRuntime, path: &str) -> Result<Option<String>, Status> {
     let mut faults = start_lines(rt);
     let octets = match read_regular_file(rt, rt.alloc(), path, MOST_OCTETS) {
         Ok(octets) => octets,
@@ -36,13 +36,13 @@ pub fn reported_text(rt: &HostRuntime, path: &str) -> Result<Option<String>, u8>
         Ok(text) => Ok(Some(text)),
         Err(_) => {
             let _ = writeln!(faults, "{path}: this is no UTF-8");
-            Err(TEXT_FAULTY)
+            Err(Status::TextFaulty)
         }
     }
 }
 
 /// The customers that these lines tell. A line that tells none is told, and gives the exit status.
-pub fn reported_in(rt: &HostRuntime, text: &str) -> Result<Vec<Reported>, u8> {
+pub fn reported_in(rt: &HostRuntime, text: &str) -> Result<Vec<Reported>, Status> {
     // The prover has to see which types stand within a `Reported`.
     let _types: (Option<SeenTerms>, Option<SeenKey>) = (None, None);
     let mut customers = Vec::new(rt.alloc());

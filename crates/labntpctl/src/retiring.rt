@@ -6,7 +6,7 @@ use crate::reported::reported_text;
 use crate::table::{NoRow, date, no_row_status, number_at, object_in, text_at};
 use labntpd_assembly::start_lines;
 use labntpd_files::Configuration;
-use ntp_admin::failed_status;
+use ntp_admin::{Status, failed_status};
 use ntp_service::Address;
 use serde_json::Value;
 use std::alloc::{AllocError, Global};
@@ -23,14 +23,14 @@ pub fn is_wanted(
     configuration: &Configuration,
     address: Address,
     number: NonZero<u16>,
-) -> Result<bool, u8> {
+) -> Result<bool, Status> {
     let used = last_use(rt, configuration, address, number)?;
     tell(rt, format_args!("key {number}: {used}; retire it? [y/N] "))?;
     is_yes(rt)
 }
 
 // Whether the next line of standard input is a yes; its end is none.
-fn is_yes(rt: &HostRuntime) -> Result<bool, u8> {
+fn is_yes(rt: &HostRuntime) -> Result<bool, Status> {
     let mut octets = [0; MOST_ANSWER_OCTETS];
     match rt.stdin().read(&mut octets) {
         Ok(count) => {
@@ -47,7 +47,7 @@ fn last_use(
     configuration: &Configuration,
     address: Address,
     number: NonZero<u16>,
-) -> Result<String, u8> {
+) -> Result<String, Status> {
     let text = match &configuration.customers {
         None => None,
         Some(path) => reported_text(rt, path.as_str())?,

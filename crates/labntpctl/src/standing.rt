@@ -3,7 +3,7 @@
 use crate::history::History;
 use labntpd_assembly::{ReadRegister, register_at};
 use ntp_admin::{
-    Command, Loaded, MOST_FILE_OCTETS, TEXT_FAULTY, apply_commands, failed_status, memory_status,
+    Command, Loaded, MOST_FILE_OCTETS, Status, apply_commands, failed_status, memory_status,
 };
 use ntp_host::{begin_commands, read_regular_file};
 use ntp_reply::Reference;
@@ -34,12 +34,12 @@ pub struct Standing {
 
 impl Standing {
     /// Tells in one line to `faults` that no line feed ends the commands file at this path, if none does, and gives the exit status.
-    pub fn judge_end<F: Write>(&self, path: &str, faults: &mut F) -> Result<(), u8> {
+    pub fn judge_end<F: Write>(&self, path: &str, faults: &mut F) -> Result<(), Status> {
         if self.is_ended {
             return Ok(());
         }
         write_unended(faults, path, self.lines);
-        Err(TEXT_FAULTY)
+        Err(Status::TextFaulty)
     }
 
     /// The numbers that are held. The memory for them is taken from `alloc`.
@@ -71,7 +71,7 @@ pub fn standing_at<R: Files, F: Write>(
     register: &str,
     commands: Option<&str>,
     faults: &mut F,
-) -> Result<Standing, u8> {
+) -> Result<Standing, Status> {
     let read = register_at(files, alloc, register, faults)?;
     let octets = match commands {
         None => Vec::new(alloc),
@@ -87,7 +87,7 @@ pub fn standing_by<R: Files, F: Write>(
     register: &str,
     octets: &[u8],
     faults: &mut F,
-) -> Result<Standing, u8> {
+) -> Result<Standing, Status> {
     let read = register_at(files, alloc, register, faults)?;
     standing_of(alloc, read, octets, faults)
 }
@@ -98,7 +98,7 @@ fn standing_of<F: Write>(
     read: ReadRegister,
     octets: &[u8],
     faults: &mut F,
-) -> Result<Standing, u8> {
+) -> Result<Standing, Status> {
     let ReadRegister {
         loaded,
         commands: enrolments,
@@ -118,7 +118,7 @@ fn commands_at<R: Files, F: Write>(
     alloc: Global,
     path: &str,
     faults: &mut F,
-) -> Result<Vec<u8>, u8> {
+) -> Result<Vec<u8>, Status> {
     begin_commands(files, alloc, path, faults)?;
     match read_regular_file(files, alloc, path, MOST_FILE_OCTETS as u32) {
         Ok(octets) => Ok(octets),

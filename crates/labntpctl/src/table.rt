@@ -2,7 +2,7 @@
 
 use httpdate::{HttpDate, fmt_http_date};
 use labntpd_assembly::start_lines;
-use ntp_admin::{TEXT_FAULTY, memory_status};
+use ntp_admin::{Status, memory_status};
 use serde_json::Value;
 use std::alloc::{AllocError, Global};
 use std::io::{self, Write};
@@ -27,7 +27,7 @@ impl From<AllocError> for NoRow {
 
 /// Writes a table of the customers that these lines tell, with a row for each key. Where a line is none of a customer, that is told and
 /// gives the exit status.
-pub fn write_table(rt: &HostRuntime, text: &str) -> Result<io::Result<()>, u8> {
+pub fn write_table(rt: &HostRuntime, text: &str) -> Result<io::Result<()>, Status> {
     let mut table = Vec::new(rt.alloc());
     if add_head(&mut table).is_err() {
         return Err(memory_status(&mut start_lines(rt)));
@@ -42,7 +42,7 @@ pub fn write_table(rt: &HostRuntime, text: &str) -> Result<io::Result<()>, u8> {
 }
 
 /// Tells why the line at a place is no row, and gives the exit status.
-pub fn no_row_status(rt: &HostRuntime, place: usize, fault: NoRow) -> u8 {
+pub fn no_row_status(rt: &HostRuntime, place: usize, fault: NoRow) -> Status {
     match fault {
         NoRow::Memory => memory_status(&mut start_lines(rt)),
         NoRow::Form => {
@@ -51,7 +51,7 @@ pub fn no_row_status(rt: &HostRuntime, place: usize, fault: NoRow) -> u8 {
                 "customers: line {}: an object of a customer is wanted",
                 (place as u64).saturating_add(1)
             );
-            TEXT_FAULTY
+            Status::TextFaulty
         }
     }
 }

@@ -6,10 +6,10 @@ use labntpd_assembly::{
     clock_source, log_form, observer, open_socket, set_up, start_lines, watch_from_now,
 };
 use labntpd_files::Configuration;
-use ntp_admin::{DONE, memory_status, write_status};
+use ntp_admin::{Status, memory_status, write_status};
 use ntp_host::{
-    BoundAt, ClockSource, HeldCommands, HostClocks, Log, QueuedUdp, SOCKETS_ROOM, UdpPort,
-    begin_commands, has_standard_streams,
+    BoundAt, BoundSocket, ClockSource, HeldCommands, HostClocks, Log, QueuedUdp, SOCKETS_ROOM,
+    UdpPort, begin_commands, has_standard_streams,
 };
 use ntp_port::FreshPort;
 use std::alloc::Global;
@@ -26,7 +26,7 @@ type HostObserver<'a> = ReportingObserver<'a, Stderr, LineWriter<File>>;
 
 /// Serves by what was prepared, for ever. Gives the exit status where that cannot begin; a fault is told in one line on
 /// standard error.
-pub fn serve_status(rt: &HostRuntime, alloc: Global, prepared: Prepared) -> u8 {
+pub fn serve_status(rt: &HostRuntime, alloc: Global, prepared: Prepared) -> Status {
     if !has_standard_streams() {
         return write_status(&mut start_lines(rt));
     }
@@ -70,7 +70,7 @@ impl<'a> Opened<'a> {
         clocks: &'a HostClocks,
         configuration: &Configuration,
         beginning: &mut Beginning,
-    ) -> Result<Opened<'a>, u8>
+    ) -> Result<Opened<'a>, Status>
         ensures { IfOk result (λ opened. opened.port.counts.failed_receives + opened.port.counts.failed_sends ≡ 0) }
     {
         let watch = watch_from_now(rt, clocks, configuration);
@@ -81,7 +81,7 @@ impl<'a> Opened<'a> {
         let Ok(room) = Vec::with_capacity(alloc, SOCKETS_ROOM) else {
             return Err(memory_status(&mut start_lines(rt)));
         };
-        let queued = QueuedUdp::new(socket, bound, rt, clocks, rt, room);
+        let queued = QueuedUdp::new(BoundSocket { socket, at: bound }, rt, clocks, rt, room);
         Ok(Opened {
             port: FreshPort::new(queued, watch),
             bound,
@@ -97,7 +97,7 @@ fn serve_opened<'a>(
     beginning: Beginning,
     commands: HeldCommands<'a, HostRuntime>,
     opened: Opened<'a>,
-) -> u8
+) -> Status
     requires { opened.port.counts.failed_receives + opened.port.counts.failed_sends ≡ 0 }
 {
     let rt = host.rt;
@@ -125,7 +125,7 @@ fn serve_opened<'a>(
     match Assembly::begin(host, parts, begun, &mut rt.stdout()) {
         Ok(mut assembly) => {
             assembly.serve(u64::MAX);
-            DONE
+            Status::Done
         }
         Err(ServeFault::NoMemory) => memory_status(&mut start_lines(rt)),
         Err(ServeFault::NotSaid) => write_status(&mut start_lines(rt)),
@@ -139,7 +139,7 @@ fn open_observer<'a>(
     clocks: &'a HostClocks,
     configuration: &Configuration,
     beginning: &mut Beginning,
-) -> Result<HostObserver<'a>, u8> {
+) -> Result<HostObserver<'a>, Status> {
     let answers = answers_file(rt, alloc, configuration)?;
     let Ok(log) = Log::new(alloc, rt.stderr(), log_form(rt)) else {
         return Err(memory_status(&mut start_lines(rt)));

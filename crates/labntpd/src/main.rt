@@ -4,22 +4,21 @@
 mod assembly;
 
 use assembly::serve_status;
-use clap::error::ErrorKind;
 use labntpd_assembly::{prepare, start_lines};
 use labntpd_files::Configuration;
-use labntpd_files::command_line::{Asked, parse};
-use ntp_admin::{DONE, memory_status, unread_status, write_status};
+use labntpd_files::command_line::{Asked, parse, refused_status};
+use ntp_admin::{Status, unread_status, write_status};
 use ntp_host::{begin_commands, is_nearly_full, write_nearly_full};
 use std::io::Write;
 use std::process::ExitCode;
 use std::{env, io};
 
 fn main(rt: HostRuntime) -> ExitCode {
-    ExitCode::from(status(&rt))
+    ExitCode::from(status(&rt).code())
 }
 
 // Does what the command line asks for, and gives the exit status.
-fn status(rt: &HostRuntime) -> u8 {
+fn status(rt: &HostRuntime) -> Status {
     let mut faults = start_lines(rt);
     let words = match command_line(rt) {
         Ok(words) => words,
@@ -27,16 +26,12 @@ fn status(rt: &HostRuntime) -> u8 {
     };
     match parse(rt.alloc(), &words) {
         Ok(Asked { check, config }) => job_status(rt, check, config),
-        Err(error) if error.kind() == ErrorKind::OutOfMemory => memory_status(&mut faults),
-        Err(error) => {
-            let _ = error.print(rt);
-            error.exit_code() as u8
-        }
+        Err(error) => refused_status(rt, &error, &mut faults),
     }
 }
 
 // Checks the files that a configuration names, or serves by them.
-fn job_status(rt: &HostRuntime, check: bool, config: &str) -> u8 {
+fn job_status(rt: &HostRuntime, check: bool, config: &str) -> Status {
     let mut faults = start_lines(rt);
     let prepared = match prepare(rt, rt.alloc(), config, &mut faults) {
         Ok(prepared) => prepared,
@@ -49,7 +44,7 @@ fn job_status(rt: &HostRuntime, check: bool, config: &str) -> u8 {
 }
 
 // Reads the commands file too, and says that all is well.
-fn check_status(rt: &HostRuntime, configuration: &Configuration) -> u8 {
+fn check_status(rt: &HostRuntime, configuration: &Configuration) -> Status {
     let mut faults = start_lines(rt);
     let path = configuration.commands.as_str();
     let octets = match begin_commands(rt, rt.alloc(), path, &mut faults) {
@@ -64,7 +59,7 @@ fn check_status(rt: &HostRuntime, configuration: &Configuration) -> u8 {
     if writeln!(rt.stdout(), "ok").is_err() {
         return write_status(&mut faults);
     }
-    DONE
+    Status::Done
 }
 
 // The words of the command line. The first is the program's name.

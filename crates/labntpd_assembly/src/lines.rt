@@ -1,6 +1,6 @@
 //! The lines that are told before the daemon serves.
 
-use ntp_admin::failed_status;
+use ntp_admin::{Status, failed_status};
 use ntp_host::{LogForm, StartLines, form_for};
 use std::env;
 use std::io::{self, Stderr};
@@ -19,7 +19,7 @@ pub fn log_form(rt: &HostRuntime) -> LogForm {
 }
 
 /// What a call of this name gave, or the exit status where it failed, which is told.
-pub(crate) fn judged<T>(rt: &HostRuntime, name: &str, answer: io::Result<T>) -> Result<T, u8> {
+pub(crate) fn judged<T>(rt: &HostRuntime, name: &str, answer: io::Result<T>) -> Result<T, Status> {
     match answer {
         Ok(made) => Ok(made),
         Err(error) => Err(failed_status(name, &error, &mut start_lines(rt))),

@@ -3,6 +3,7 @@
 use crate::lines::judged;
 use crate::prepared::Beginning;
 use labntpd_files::{ClockSource as ConfiguredClock, Configuration, Listen};
+use ntp_admin::Status;
 use ntp_host::{ClockSource, FollowedClock, HostClocks, emptied_file};
 use ntp_port::QueueWatch;
 use ntp_reports::AnswerLines;
@@ -16,7 +17,7 @@ pub fn answers_file(
     rt: &HostRuntime,
     alloc: Global,
     configuration: &Configuration,
-) -> Result<Option<AnswerLines<LineWriter<File>>>, u8> {
+) -> Result<Option<AnswerLines<LineWriter<File>>>, Status> {
     match &configuration.answers {
         None => Ok(None),
         Some(path) => {
@@ -33,7 +34,7 @@ pub fn clock_source<'a>(
     clocks: &'a HostClocks,
     configuration: &Configuration,
     beginning: &mut Beginning,
-) -> Result<ClockSource<'a, &'a HostRuntime>, u8> {
+) -> Result<ClockSource<'a, &'a HostRuntime>, Status> {
     let ConfiguredClock::Daemon(daemon) = &configuration.clock else {
         return Ok(ClockSource::Fixed(beginning.loaded.reference));
     };

@@ -1,7 +1,7 @@
 //! Where the files of a configuration stand: no two of them at one place, and those that are written in directories that are there.
 
 use labntpd_files::{ClockSource, Configuration};
-use ntp_admin::{TEXT_FAULTY, memory_status};
+use ntp_admin::{Status, memory_status};
 use ntp_host::{StartLines, not_regular};
 use std::alloc::Global;
 use std::fmt;
@@ -78,10 +78,10 @@ pub fn judge_places<R: Files, F: Write>(
     path: &str,
     configuration: &Configuration,
     faults: &mut F,
-) -> Result<(), u8> {
+) -> Result<(), Status> {
     match tell_places(files, alloc, NamedFiles::of(path, configuration), 1, faults)? {
         0 => Ok(()),
-        _ => Err(TEXT_FAULTY),
+        _ => Err(Status::TextFaulty),
     }
 }
 
@@ -93,7 +93,7 @@ pub fn tell_places<R: Files, F: Write>(
     named: NamedFiles<'_>,
     most: usize,
     faults: &mut F,
-) -> Result<usize, u8> {
+) -> Result<usize, Status> {
     let statistics = path_beside(alloc, named.statistics);
     let customers = path_beside(alloc, named.customers);
     match (statistics, customers) {

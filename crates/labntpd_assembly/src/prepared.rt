@@ -6,8 +6,7 @@ use labntpd_files::{
     ClockDaemon, ClockSource, Configuration, ConfigurationFault, key_in_file, read_configuration,
 };
 use ntp_admin::{
-    Loaded, MOST_FILE_OCTETS, TEXT_FAULTY, failed_status, load_register, memory_status,
-    read_register,
+    Loaded, MOST_FILE_OCTETS, Status, failed_status, load_register, memory_status, read_register,
 };
 use ntp_client::{ClockLimits, Follower};
 use ntp_host::{StartLines, read_regular_file};
@@ -64,7 +63,7 @@ pub fn prepare<R: Files, F: Write + Drop>(
     alloc: Global,
     path: &str,
     faults: &mut StartLines<F>,
-) -> Result<Prepared, u8> {
+) -> Result<Prepared, Status> {
     let text = small_text(files, alloc, path, faults)?;
     let configuration = configuration_in(alloc, path, text.as_str(), faults)?;
     judge_places(files, alloc, path, &configuration, faults)?;
@@ -99,7 +98,7 @@ pub fn configuration_at<R: Files, F: Write>(
     alloc: Global,
     path: &str,
     faults: &mut F,
-) -> Result<Configuration, u8> {
+) -> Result<Configuration, Status> {
     let text = small_text(files, alloc, path, faults)?;
     configuration_in(alloc, path, text.as_str(), faults)
 }
@@ -110,7 +109,7 @@ pub fn register_at<R: Files, F: Write>(
     alloc: Global,
     path: &str,
     faults: &mut F,
-) -> Result<ReadRegister, u8> {
+) -> Result<ReadRegister, Status> {
     let register = match read_regular_file(files, alloc, path, MOST_FILE_OCTETS as u32) {
         Ok(octets) => octets,
         Err(error) => return Err(failed_status(path, &error, faults)),
@@ -135,13 +134,13 @@ fn configuration_in<F: Write>(
     path: &str,
     text: &str,
     faults: &mut F,
-) -> Result<Configuration, u8> {
+) -> Result<Configuration, Status> {
     match read_configuration(alloc, text) {
         Ok(configuration) => Ok(configuration),
         Err(ConfigurationFault::NoMemory) => Err(memory_status(faults)),
         Err(fault) => {
             let _ = writeln!(faults, "{path}: {fault}");
-            Err(TEXT_FAULTY)
+            Err(Status::TextFaulty)
         }
     }
 }
@@ -174,12 +173,12 @@ fn follower<R: Files, F: Write + Drop>(
     alloc: Global,
     daemon: &ClockDaemon,
     faults: &mut StartLines<F>,
-) -> Result<Follower, u8> {
+) -> Result<Follower, Status> {
     let path = daemon.key_file.as_str();
     let text = small_text(files, alloc, path, faults)?;
     let Some(key) = key_in_file(&text, daemon.algorithm) else {
         let _ = writeln!(faults, "{path}: {KEY_LINE_WANTED}");
-        return Err(TEXT_FAULTY);
+        return Err(Status::TextFaulty);
     };
     let limits = ClockLimits {
         valid_for: daemon.valid_for,
@@ -197,7 +196,7 @@ pub fn small_text<R: Files, F: Write>(
     alloc: Global,
     path: &str,
     faults: &mut F,
-) -> Result<String, u8> {
+) -> Result<String, Status> {
     let octets = match read_regular_file(files, alloc, path, MOST_SMALL_FILE_OCTETS) {
         Ok(octets) => octets,
         Err(error) => return Err(failed_status(path, &error, faults)),
@@ -207,13 +206,13 @@ pub fn small_text<R: Files, F: Write>(
             faults,
             "{path}: at most {MOST_SMALL_FILE_OCTETS} octets are wanted"
         );
-        return Err(TEXT_FAULTY);
+        return Err(Status::TextFaulty);
     }
     match String::from_utf8(octets) {
         Ok(text) => Ok(text),
         Err(_) => {
             let _ = writeln!(faults, "{path}: this is no UTF-8");
-            Err(TEXT_FAULTY)
+            Err(Status::TextFaulty)
         }
     }
 }

@@ -4,8 +4,7 @@ use labntpd_files::{
     CustomerAt, Member, REFERENCE_FAULT, customers, place_in, wrong_at_top, wrong_in_customer,
 };
 use ntp_admin::{
-    LoadFault, MOST_FILE_OCTETS, RegisterFault, TEXT_FAULTY, line_without_text, load_status,
-    refusal_word,
+    LoadFault, MOST_FILE_OCTETS, RegisterFault, Status, line_without_text, load_status,
 };
 use std::alloc::Global;
 use std::io::{self, Write};
@@ -18,10 +17,10 @@ pub fn register_status<F: Write>(
     octets: &[u8],
     fault: LoadFault,
     faults: &mut F,
-) -> u8 {
+) -> Status {
     if fault == LoadFault::Read {
         tell_octets(path, octets, faults);
-        return TEXT_FAULTY;
+        return Status::TextFaulty;
     }
     // It is told as `labntp` does where there is no more to tell, as for want of memory.
     match tell(alloc, octets, fault, faults) {
@@ -73,7 +72,7 @@ fn tell_of<F: Write>(document: &Table, fault: LoadFault, faults: &mut F) -> Opti
         }
         LoadFault::Refused { place, refusal } => {
             let customer = CustomerAt::new(document, place);
-            let _ = writeln!(faults, "register: {customer}: {}", refusal_word(refusal));
+            let _ = writeln!(faults, "register: {customer}: {}", refusal.word());
             Some(())
         }
         _ => None,

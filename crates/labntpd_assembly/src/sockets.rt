@@ -2,7 +2,7 @@
 
 use crate::lines::{judged, start_lines};
 use labntpd_files::{Configuration, Listen};
-use ntp_admin::IO_FAILED;
+use ntp_admin::Status;
 use ntp_host::{
     BoundAt, LONGEST_WAIT, SOCKETS_ROOM, bound, inherited, is_of_other_protocol, receive_buffer,
     set_receive_buffer, set_send_buffer,
@@ -18,7 +18,7 @@ use std::{env, fs, process};
 const INHERITED: &str = "/proc/self/fd/3";
 
 /// The socket that is bound as the configuration says, or that was handed down.
-pub fn open_socket(rt: &HostRuntime, alloc: Global, listen: Listen) -> Result<UdpSocket, u8> {
+pub fn open_socket(rt: &HostRuntime, alloc: Global, listen: Listen) -> Result<UdpSocket, Status> {
     let made = match listen {
         Listen::Bound(endpoint) => bind(rt, endpoint.socket_address()),
         Listen::Inherited => handed_down(rt, alloc),
@@ -31,7 +31,7 @@ pub fn set_up(
     rt: &HostRuntime,
     socket: &UdpSocket,
     configuration: &Configuration,
-) -> Result<BoundAt, u8> {
+) -> Result<BoundAt, Status> {
     let limit = Duration::from_millis(u64::from(LONGEST_WAIT));
     judged(rt, "listen", socket.set_read_timeout(Some(limit)))?;
     // A socket that was handed down keeps its buffers, which may be larger than this process could have them made.
@@ -46,7 +46,7 @@ pub fn set_up(
         SocketAddr::V4(local) => Ok(BoundAt { local, buffer }),
         SocketAddr::V6(_) => {
             let _ = writeln!(start_lines(rt), "listen: an IPv4 socket is wanted");
-            Err(IO_FAILED)
+            Err(Status::IoFailed)
         }
     }
 }

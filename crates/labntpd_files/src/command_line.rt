@@ -2,7 +2,9 @@
 
 use clap::error::ErrorKind;
 use clap::{Arg, ArgAction, Command, Error};
+use ntp_admin::{Status, memory_status};
 use std::alloc::{AllocError, Global};
+use std::io::Write;
 
 /// The daemon's version.
 pub const VERSION: &str = "0.1.0";
@@ -37,6 +39,20 @@ pub fn parse<'a>(alloc: Global, words: &'a [String]) -> Result<Asked<'a>, Error>
         check: matches.get_flag("check"),
         config,
     })
+}
+
+/// Tells why words of a command line ask for nothing that is to be done, and gives the exit status. The help and the version go to
+/// standard output, a mistake to standard error, want of memory to `faults`. A failed write is passed over.
+pub fn refused_status<F: Write>(rt: &HostRuntime, error: &Error, faults: &mut F) -> Status {
+    if error.kind() == ErrorKind::OutOfMemory {
+        return memory_status(faults);
+    }
+    let _ = error.print(rt);
+    if error.use_stderr() {
+        Status::UsageRefused
+    } else {
+        Status::Done
+    }
 }
 
 // The command line, with its help.

@@ -1,12 +1,22 @@
--- Exit statuses of a server that failed to start.
+-- Exit statuses.
 use Rattle.std.specs.Prelude.{ℕ}
 use Rattle.ntp_service.specs.declared.refusal.Refusal.{Refusal}
 use Rattle.ntp_service.specs.declared.refusal.Refusal.TheVariants as refusal
 use Rattle.ntp_service.specs.declared.line_fault.LineFault.TheVariants as line_fault
 use Rattle.ntp_admin.specs.declared.fault.RegisterFault.{RegisterFault}
 use Rattle.ntp_admin.specs.declared.fault.RegisterFault.TheVariants as register_fault
+use Rattle.ntp_admin.specs.declared.status.Status.{Status}
+use Rattle.ntp_admin.specs.declared.status.Status.TheVariants as status
 use Rattle.ntp_admin.specs.declared.loading.LoadFault.{LoadFault}
 use Rattle.ntp_admin.specs.declared.loading.LoadFault.TheVariants as load_fault
+
+-- the exit status of a program that ends so
+abbrev pub status_code : Status → ℕ
+status_code status.Done = 0
+status_code status.TextFaulty = 1
+status_code status.UsageRefused = 2
+status_code status.IoFailed = 3
+status_code status.MemoryOut = 4
 
 -- the status for a fault of a register file: 4 for want of memory, else 1
 abbrev pub register_status : RegisterFault → ℕ

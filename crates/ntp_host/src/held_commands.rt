@@ -3,7 +3,7 @@
 use crate::CommandsFile;
 use crate::admitted_commands::AdmittedCommands;
 use ntp_admin::{
-    AdmitFault, MOST_FILE_OCTETS, TEXT_FAULTY, failed_status, line_without_text, memory_status,
+    AdmitFault, MOST_FILE_OCTETS, Status, failed_status, line_without_text, memory_status,
 };
 use std::alloc::Global;
 use std::fs::Files;
@@ -34,7 +34,7 @@ pub fn begin_commands<'a, R: Files, F: Write>(
     alloc: Global,
     path: &'a str,
     faults: &mut F,
-) -> Result<HeldCommands<'a, R>, u8> {
+) -> Result<HeldCommands<'a, R>, Status> {
     let mut file = CommandsFile::new(files, path, MOST_FILE_OCTETS as u32);
     let octets: Vec<u8> = match file.begin(alloc) {
         Ok(octets) => octets,
@@ -49,11 +49,11 @@ pub fn begin_commands<'a, R: Files, F: Write>(
                 faults,
                 "{path}: at most {MOST_FILE_OCTETS} octets are wanted"
             );
-            Err(TEXT_FAULTY)
+            Err(Status::TextFaulty)
         }
         Err(_) => {
             let _ = writeln!(faults, "{path}: line {line}: this is no UTF-8");
-            Err(TEXT_FAULTY)
+            Err(Status::TextFaulty)
         }
     }
 }

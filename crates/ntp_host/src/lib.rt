@@ -25,7 +25,7 @@ pub use held_commands::{HeldCommands, begin_commands, is_nearly_full, write_near
 pub use kernel_queue::{QueueState, SOCKETS_ROOM, is_of_other_protocol, queue_state};
 pub use log::{Log, LogForm, Priority, StartLines, form_for, has_standard_streams, pause};
 pub use pacing::EachMillisecond;
-pub use queued_udp::{BoundAt, HostClocks, LONGEST_WAIT, QueuedUdp};
+pub use queued_udp::{BoundAt, BoundSocket, HostClocks, LONGEST_WAIT, QueuedUdp};
 pub use socket::{bound, inherited, receive_buffer, set_receive_buffer, set_send_buffer};
 pub use udp_port::UdpPort;
 pub use whole_file::{emptied_file, new_file, replace_file};

@@ -66,6 +66,15 @@ pub struct BoundAt {
     pub buffer: u32,
 }
 
+/// A bound socket, and what is known of it.
+#[derive(Drop)]
+pub struct BoundSocket {
+    /// The socket.
+    pub socket: UdpSocket,
+    /// What is known of it.
+    pub at: BoundAt,
+}
+
 /// The calls of a port over one bound UDP socket, which tell of its queue too. It receives by another port over the same socket,
 /// here `UdpPort`, and hands on what that gives. No reply waits for room in the send buffer: one that would is not sent.
 #[derive(Drop)]
@@ -92,8 +101,7 @@ impl<'a, C: Clock + Copy + Drop, R: Files> QueuedUdp<'a, UdpPort<C>, C, R> {
     /// A port over a bound socket, with the longest wait that the socket's time limit gives. `room` is for what the kernel tells of its
     /// queue.
     pub fn new(
-        socket: UdpSocket,
-        bound: BoundAt,
+        bound: BoundSocket,
         clock: C,
         clocks: &'a HostClocks,
         files: &'a R,
@@ -101,13 +109,14 @@ impl<'a, C: Clock + Copy + Drop, R: Files> QueuedUdp<'a, UdpPort<C>, C, R> {
     ) -> QueuedUdp<'a, UdpPort<C>, C, R>
         ensures { failed_calls result.counts ≡ 0 }
     {
+        let BoundSocket { socket, at } = bound;
         QueuedUdp {
             descriptor: socket.as_raw_fd(),
             port: UdpPort::new(socket, clock),
             clock,
             clocks,
             files,
-            bound,
+            bound: at,
             room,
             shown: None,
             has_sent: false,

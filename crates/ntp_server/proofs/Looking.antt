@@ -14,7 +14,7 @@ use Rattle.ntp_port.specs.Port.{Told, CountsMore}
 use Rattle.ntp_port.proofs.Dropping.{CountsMore-nil, CountsMore-append}
 use Rattle.ntp_admin.specs.CommandsFile.{TakenLine, CarriesOut, CarriesOutDue, lines_taken, happened_at_lines, line_observations}
 use Rattle.ntp_port.specs.Sources.{Coming, Gives, CountsOn}
-use Rattle.ntp_server.specs.Rounds.{Look, Parts, AreDueAt, AreDueInTurn}
+use Rattle.ntp_server.specs.Rounds.{Look, ServerTold, AreDueAt, AreDueInTurn}
 use Rattle.ntp_server.specs.Steps.{Looks, LooksOnce, Waits, IsIdle, asked_of, given_of, happened_at_looks, looks_observations}
 
 -- ---- what sources gave
@@ -47,7 +47,7 @@ due-append [] ys a b c p q = subst (λ n. AreDueInTurn n ys c) p q
 due-append (x ∷ xs) ys a b c p q = (p.0, p.1, p.2, due-append xs ys p.0 b c p.3 q)
 
 module _ (A : Type 0) where
-  pub Looks-nil : (p : Parts) → Looks A [] p p
+  pub Looks-nil : (p : ServerTold) → Looks A [] p p
   Looks-nil p = record {
     due = refl;
     commands = Gives-nil p.commands;
@@ -55,7 +55,7 @@ module _ (A : Type 0) where
     tells = λ history stands. Tells-nil history p.service stands;
   }
 
-  pub Looks-append : (xs ys : List Look) (p q r : Parts) → Looks A xs p q → Looks A ys q r → Looks A (xs ++ ys) p r
+  pub Looks-append : (xs ys : List Look) (p q r : ServerTold) → Looks A xs p q → Looks A ys q r → Looks A (xs ++ ys) p r
   Looks-append xs ys p q r x y = record {
     due = due-append xs ys p.applied q.applied r.applied x.due y.due;
     commands = subst (λ l. Gives p.commands r.commands l (given_of (xs ++ ys))) (sym (map-append (λ l. l.asked) xs ys))
@@ -69,7 +69,7 @@ module _ (A : Type 0) where
         (x.tells history stands) (λ stood. y.tells _ stood));
   }
 
-  Looks-one : (asked : Option Moment) (given : Option (List ℕ)) (taken : List TakenLine) (p q : Parts)
+  Looks-one : (asked : Option Moment) (given : Option (List ℕ)) (taken : List TakenLine) (p q : ServerTold)
       → AreDueAt p.applied given (lines_taken taken) q.applied → Gives p.commands q.commands (asked ∷ []) (given ∷ [])
       → CarriesOut A p.applied taken p.service q.service p.seen q.seen → LooksOnce A asked p q
   Looks-one asked given taken p q due gives done = record {
@@ -85,14 +85,14 @@ module _ (A : Type 0) where
   }
 
   -- a look that gave octets
-  pub Looks-due : (asked : Option Moment) (octets items : List ℕ) (p q : Parts) → octets ≡ items
+  pub Looks-due : (asked : Option Moment) (octets items : List ℕ) (p q : ServerTold) → octets ≡ items
       → Gives p.commands q.commands (asked ∷ []) (Some items ∷ [])
       → CarriesOutDue A p.applied octets q.applied p.service q.service p.seen q.seen → LooksOnce A asked p q
   Looks-due asked octets items p q same gives due = Looks-one asked (Some octets) due.taken p q due.due
       (subst (λ o. Gives p.commands q.commands (asked ∷ []) (Some o ∷ [])) (sym same) gives) due.done
 
   -- a look that gave nothing, behind which all else is as it was
-  pub Looks-nothing : (asked : Option Moment) (given : Option (List ℕ)) (p q : Parts) → q.applied ≡ p.applied → q.seen ≡ p.seen
+  pub Looks-nothing : (asked : Option Moment) (given : Option (List ℕ)) (p q : ServerTold) → q.applied ≡ p.applied → q.seen ≡ p.seen
       → q.service ≡ p.service → given ≡ None → Gives p.commands q.commands (asked ∷ []) (given ∷ []) → LooksOnce A asked p q
   Looks-nothing asked given p q applied seen service none gives =
       Looks-one asked None [] p q (refl, applied) (subst (λ o. Gives p.commands q.commands (asked ∷ []) (o ∷ [])) none gives) (record {
@@ -101,7 +101,7 @@ module _ (A : Type 0) where
       })
 
   -- ---- a wait
-  pub Waits-none : (prompt : Bool) (p : Parts) → (w : Waits A prompt p p) × (length w.looks ≡ 0)
+  pub Waits-none : (prompt : Bool) (p : ServerTold) → (w : Waits A prompt p p) × (length w.looks ≡ 0)
   Waits-none prompt p = (
     record {
       looks = [];
@@ -120,7 +120,7 @@ module _ (A : Type 0) where
       idle false = tt
 
   -- it goes on only at a port that is not prompt; what the port, the source of the states and the reporter tell does not matter to a look
-  pub Waits-more : (prompt : Bool) (p q r : Parts) (port : Option Told) (counts : PortCounts) (states later : Option (Coming ReferenceState))
+  pub Waits-more : (prompt : Bool) (p q r : ServerTold) (port : Option Told) (counts : PortCounts) (states later : Option (Coming ReferenceState))
       (tended : Option ℕ) (blank shown : Option (List (Option Moment))) (n : ℕ) → prompt ≡ false
       → (w : Waits A prompt p q) × (length w.looks ≡ n)
       → LooksOnce A None (record q { port = port; counts = counts; states = states; shown = blank }) r
@@ -145,7 +145,7 @@ module _ (A : Type 0) where
       )
 
   -- the port goes on, as far as its waits are counted
-  pub Waits-port : (prompt : Bool) (p q : Parts) (port : Option Told) (counts : PortCounts) (w : Waits A prompt p q)
+  pub Waits-port : (prompt : Bool) (p q : ServerTold) (port : Option Told) (counts : PortCounts) (w : Waits A prompt p q)
       → CountsMore p.counts.idle_waits counts.idle_waits (length w.looks) → Waits A prompt p (record q { port = port; counts = counts })
   Waits-port prompt p q port counts w waited = record {
     looks = w.looks;

@@ -28,7 +28,7 @@ use Rattle.ntp_port.proofs.ManyTurns.{sent_of, count_of, if_so, count-more, Make
 use Rattle.ntp_port.proofs.Counting.{at-most-one, sent-one, noted-one}
 use Rattle.ntp_server.specs.declared.server.Totals.{Totals}
 use Rattle.ntp_port.specs.Sources.{Gives, CountsOn}
-use Rattle.ntp_server.specs.Rounds.{Look, Round, Parts, AreDueInTurn, HasLooks, AsksRight, ServesRounds, looks_of, made_in, receipt_in, happened_in_round, round_observations}
+use Rattle.ntp_server.specs.Rounds.{Look, Round, ServerTold, AreDueInTurn, HasLooks, AsksRight, ServesRounds, looks_of, made_in, receipt_in, happened_in_round, round_observations}
 use Rattle.ntp_server.specs.Steps.{LooksOnce, Waits, IsIdle, MakesRound, asked_of, given_of, happened_at_looks, looks_observations, receipts_of, states_of, arrivals_in, replies_of_turn, departures_in}
 use Rattle.ntp_server.proofs.Looking.{Gives-nil, Gives-append, CountsOn-nil, CountsOn-append, due-append, Looks-append}
 
@@ -47,7 +47,7 @@ came made r arrived = sym (ap (option_map (λ a. a.receipt)) arrived) ∙ any (t
     any None = refl
     any (Some d) = refl
 
-pub Makes-turn : (A : Type 0) (prompt may : Bool) (asked : Option Moment) (p q r s : Parts) (blank : Option (List (Option Moment)))
+pub Makes-turn : (A : Type 0) (prompt may : Bool) (asked : Option Moment) (p q r s : ServerTold) (blank : Option (List (Option Moment)))
     (reference : ReferenceState) (received : Result Arrival PortFault) (buffer : List ℕ) (outcome : TurnOutcome) → s.applied ≡ r.applied
     → s.commands ≡ r.commands → Waits A prompt p q → LooksOnce A asked (record q { shown = blank }) r
     → asked ≡ option_map (λ a. a.receipt) (result_ok received) → r.states ≡ p.states
@@ -122,7 +122,7 @@ few_such : (is : Made → Bool) (ms : List Made) → count_of is ms ≤ length m
 few_such is ms = omega (arith, length-filter is ms, count_by-le-length is ms)
 
 -- ---- one round more
-pub Serves-none : (A : Type 0) (prompt may : Bool) (p : Parts)
+pub Serves-none : (A : Type 0) (prompt may : Bool) (p : ServerTold)
     → ServesRounds A prompt may 0 p p (record { arrivals = 0; sent = 0; departed = 0 })
 Serves-none A prompt may p = record {
   rounds = [];
@@ -145,7 +145,7 @@ Serves-none A prompt may p = record {
   tells = λ history stands. Tells-nil history p.service stands;
 }
 
-pub Serves-round : (A : Type 0) (prompt may : Bool) (n : ℕ) (p q r : Parts) (a b : Totals) (outcome : TurnOutcome)
+pub Serves-round : (A : Type 0) (prompt may : Bool) (n : ℕ) (p q r : ServerTold) (a b : Totals) (outcome : TurnOutcome)
     → ServesRounds A prompt may n p q a → MakesRound A prompt may q r outcome → b.arrivals ≡ a.arrivals + arrivals_in outcome
     → b.sent ≡ a.sent + replies_of_turn outcome → b.departed ≡ a.departed + departures_in outcome → ServesRounds A prompt may (n + 1) p r b
 Serves-round A prompt may n p q r a b outcome s m arrivals sent departed =
@@ -219,7 +219,7 @@ Serves-round A prompt may n p q r a b outcome s m arrivals sent departed =
     }
 
 -- how many there can be
-pub Serves-few : (A : Type 0) (prompt may : Bool) (n : ℕ) (p q : Parts) (a : Totals) → ServesRounds A prompt may n p q a
+pub Serves-few : (A : Type 0) (prompt may : Bool) (n : ℕ) (p q : ServerTold) (a : Totals) → ServesRounds A prompt may n p q a
     → (a.arrivals ≤ n) × (a.sent ≤ n) × (a.departed ≤ n) × (failed_calls q.counts ≤ failed_calls p.counts + n)
 Serves-few A prompt may n p q a s =
     let made = made_in s.rounds in

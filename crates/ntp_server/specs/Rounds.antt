@@ -75,7 +75,7 @@ pub record AsksRight (r : Round) : Type 0 where
   pub come : last.asked ≡ receipt_in r.made
 
 -- what the parts of a server and its reporter tell, with what its port counted, how many lines were applied, and its service
-pub record Parts : Type 0 where
+pub record ServerTold : Type 0 where
   pub port : Option Told
   pub counts : PortCounts
   pub commands : Option (Coming (Option (List ℕ)))
@@ -87,7 +87,7 @@ pub record Parts : Type 0 where
   pub service : Registry
 
 -- `turns` rounds were made at a port that is prompt or not, and may drop or not; `before` was told of the server before, `after` after
-pub record ServesRounds (A : Type 0) (prompt may_drop : Bool) (turns : ℕ) (before after : Parts) (totals : Totals) : Type 0 where
+pub record ServesRounds (A : Type 0) (prompt may_drop : Bool) (turns : ℕ) (before after : ServerTold) (totals : Totals) : Type 0 where
   pub rounds : List Round
   pub each : length rounds ≡ turns
   pub looked : All (HasLooks prompt) rounds

@@ -15,7 +15,7 @@ use Rattle.ntp_port.specs.Serving.{Makes}
 use Rattle.ntp_port.specs.Sending.{was_sent, was_noted}
 use Rattle.ntp_admin.specs.CommandsFile.{happened_at_lines, line_observations}
 use Rattle.ntp_port.specs.Sources.{Gives, CountsOn}
-use Rattle.ntp_server.specs.Rounds.{Look, Round, Parts, AreDueInTurn, HasLooks, AsksRight, receipt_in, happened_in_round, round_observations}
+use Rattle.ntp_server.specs.Rounds.{Look, Round, ServerTold, AreDueInTurn, HasLooks, AsksRight, receipt_in, happened_in_round, round_observations}
 
 -- what looks were asked with, and what they gave
 abbrev pub asked_of : List Look → List (Option Moment)
@@ -39,14 +39,14 @@ abbrev pub states_of : List Round → List ReferenceState
 states_of rounds = map (λ r. r.reference) rounds
 
 -- these looks were made, between this and this of what is told
-pub record Looks (A : Type 0) (looks : List Look) (before after : Parts) : Type 0 where
+pub record Looks (A : Type 0) (looks : List Look) (before after : ServerTold) : Type 0 where
   pub due : AreDueInTurn before.applied looks after.applied
   pub commands : Gives before.commands after.commands (asked_of looks) (given_of looks)
   pub observed : Sees before.seen after.seen (looks_observations looks)
   pub tells : (history : List (Event A)) → StandsFor before.service history → Tells history (happened_at_looks looks) after.service
 
 -- a look was made, which asked with this
-pub record LooksOnce (A : Type 0) (asked : Option Moment) (before after : Parts) : Type 0 where
+pub record LooksOnce (A : Type 0) (asked : Option Moment) (before after : ServerTold) : Type 0 where
   pub look : Look
   pub asks : look.asked ≡ asked
   pub done : Looks A (look ∷ []) before after
@@ -57,7 +57,7 @@ IsIdle true looks = looks ≡ []
 IsIdle false looks = Unit {0}
 
 -- looks were made while waiting at a port that is prompt or not
-pub record Waits (A : Type 0) (prompt : Bool) (before after : Parts) : Type 0 where
+pub record Waits (A : Type 0) (prompt : Bool) (before after : ServerTold) : Type 0 where
   pub looks : List Look
   pub idle : IsIdle prompt looks
   pub asked : All (λ l. l.asked ≡ None) looks
@@ -67,7 +67,7 @@ pub record Waits (A : Type 0) (prompt : Bool) (before after : Parts) : Type 0 wh
   pub reported : Sees before.shown after.shown (asked_of looks)
 
 -- a round was made, and its turn came to this
-pub record MakesRound (A : Type 0) (prompt may_drop : Bool) (before after : Parts) (outcome : TurnOutcome) : Type 0 where
+pub record MakesRound (A : Type 0) (prompt may_drop : Bool) (before after : ServerTold) (outcome : TurnOutcome) : Type 0 where
   pub round : Round
   pub looked : HasLooks prompt round
   pub asked : AsksRight round

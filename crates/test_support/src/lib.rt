@@ -10,6 +10,7 @@ mod agreeing;
 mod broken;
 mod customer_and_clock;
 mod exchange_lines;
+mod packets;
 mod plain_calls;
 mod refusing;
 mod turn_packets;
@@ -18,9 +19,7 @@ pub use agreeing::Agreeing;
 pub use broken::Broken;
 pub use customer_and_clock::{CUSTOMER, enrolled_service, moment, reference};
 pub use exchange_lines::{ANSWERS, SCRIPT, events, printed};
+pub use packets::{PRIMARY, packet, query, reply, stamps};
 pub use plain_calls::{answered, ordered, run};
 pub use refusing::Refusing;
-pub use turn_packets::{
-    FIRST_QUERY, FIRST_REPLY, PLANNED_REPLY, SECOND_QUERY, SECOND_REPLY, THIRD_QUERY, THIRD_REPLY,
-    turn,
-};
+pub use turn_packets::{RECEIPTS, queries, replies, turn};

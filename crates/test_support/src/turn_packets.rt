@@ -1,52 +1,67 @@
 //! The packets of three turns of a server, and a turn with a datagram of the customer.
 
 use crate::customer_and_clock::{CUSTOMER, moment};
+use crate::packets::{PRIMARY, query, reply};
 use ntp_admin::Octets;
 use ntp_port::{Incoming, Turn};
 use std::alloc::Allocator;
 use std::test::Fail;
 
-/// A signed query of version 4 with transmit stamp ec00001080000000.
-pub const FIRST_QUERY: &[u8] = b"\x23\x00\x06\x00\
-    \x00\x00\x00\x00\x00\x00\x00\x00\x00\x00\x00\x00\x00\x00\x00\x00\x00\x00\x00\x00\
-    \x00\x00\x00\x00\x00\x00\x00\x00\x00\x00\x00\x00\x00\x00\x00\x00\xec\x00\x00\x10\x80\x00\x00\x00\
-    \x00\x00\x00\x07\xc5\x4a\x79\xb8\x7f\xf9\x95\x97\x51\x80\x76\x9b\xdd\x0a\x52\x36";
+/// When the datagrams of the three turns come.
+pub const RECEIPTS: [u64; 3] = [
+    0xec00_0010_9000_0000,
+    0xec00_0011_9000_0000,
+    0xec00_0012_9000_0000,
+];
 
-/// The next one, with transmit stamp ec00001180000000.
-pub const SECOND_QUERY: &[u8] = b"\x23\x00\x06\x00\
-    \x00\x00\x00\x00\x00\x00\x00\x00\x00\x00\x00\x00\x00\x00\x00\x00\x00\x00\x00\x00\
-    \x00\x00\x00\x00\x00\x00\x00\x00\x00\x00\x00\x00\x00\x00\x00\x00\xec\x00\x00\x11\x80\x00\x00\x00\
-    \x00\x00\x00\x07\x95\x3d\x5c\xa8\x72\xa6\xfd\x39\x92\x92\x0c\xf3\xd9\xa2\xc6\xbb";
+// Their transmit stamps.
+const TRANSMITS: [u64; 3] = [
+    0xec00_0010_8000_0000,
+    0xec00_0011_8000_0000,
+    0xec00_0012_8000_0000,
+];
 
-/// One that names the second exchange, whose receive stamp is ec00001190000000 and whose reply came at ec000011a0000000.
-pub const THIRD_QUERY: &[u8] = b"\x23\x00\x06\x00\
-    \x00\x00\x00\x00\x00\x00\x00\x00\x00\x00\x00\x00\x00\x00\x00\x00\x00\x00\x00\x00\
-    \xec\x00\x00\x11\x90\x00\x00\x00\xec\x00\x00\x11\xa0\x00\x00\x00\xec\x00\x00\x12\x80\x00\x00\x00\
-    \x00\x00\x00\x07\x2d\x22\x6b\x9c\xb8\xa0\x9d\xb9\x2a\xf3\x20\xf9\xfa\x20\x97\x8f";
+// When the reply to the second came.
+const ARRIVAL: u64 = 0xec00_0011_a000_0000;
 
-/// The basic reply to the first query, which came at ec00001090000000.
-pub const FIRST_REPLY: &[u8] = b"\x24\x01\x06\xec\
-    \x00\x00\x00\x00\x00\x00\x00\x10\x4e\x49\x53\x54\xec\x00\x00\x00\x00\x00\x00\x00\
-    \xec\x00\x00\x10\x80\x00\x00\x00\xec\x00\x00\x10\x90\x00\x00\x00\xec\x00\x00\x10\x90\x00\x01\x00\
-    \x00\x00\x00\x07\xb2\x6e\x57\x65\x47\xe4\x15\xeb\xd8\x46\x1f\x86\x48\x49\x12\xfe";
+// The digests of the queries, and of the replies.
+const QUERY_DIGESTS: [u128; 3] = [
+    0xc54a_79b8_7ff9_9597_5180_769b_dd0a_5236,
+    0x953d_5ca8_72a6_fd39_9292_0cf3_d9a2_c6bb,
+    0x2d22_6b9c_b8a0_9db9_2af3_20f9_fa20_978f,
+];
 
-/// The basic reply to the second, which came at ec00001190000000.
-pub const SECOND_REPLY: &[u8] = b"\x24\x01\x06\xec\
-    \x00\x00\x00\x00\x00\x00\x00\x10\x4e\x49\x53\x54\xec\x00\x00\x00\x00\x00\x00\x00\
-    \xec\x00\x00\x11\x80\x00\x00\x00\xec\x00\x00\x11\x90\x00\x00\x00\xec\x00\x00\x11\x90\x00\x01\x00\
-    \x00\x00\x00\x07\xe8\x6c\xf7\x8d\x3f\x39\xb6\xd2\xd8\xc9\x46\xb0\x09\xcc\xab\x85";
+const REPLY_DIGESTS: [u128; 4] = [
+    0xb26e_5765_47e4_15eb_d846_1f86_4849_12fe,
+    0xe86c_f78d_3f39_b6d2_d8c9_46b0_09cc_ab85,
+    0x9271_486f_924b_6d3d_2493_2f2f_4a26_6db6,
+    0x5b64_9aeb_0baa_0030_1212_0d8b_3164_b7ac,
+];
 
-/// The interleaved reply to the third, which came at ec00001290000000: it tells when the second reply departed.
-pub const THIRD_REPLY: &[u8] = b"\x24\x01\x06\xec\
-    \x00\x00\x00\x00\x00\x00\x00\x10\x4e\x49\x53\x54\xec\x00\x00\x00\x00\x00\x00\x00\
-    \xec\x00\x00\x11\xa0\x00\x00\x00\xec\x00\x00\x12\x90\x00\x00\x00\xec\x00\x00\x11\x90\x00\x01\x80\
-    \x00\x00\x00\x07\x92\x71\x48\x6f\x92\x4b\x6d\x3d\x24\x93\x2f\x2f\x4a\x26\x6d\xb6";
+/// The signed queries of the three turns. The third names the exchange of the second.
+pub fn queries() -> [[u8; 68]; 3] {
+    let [first, second, third] = TRANSMITS;
+    let [a, b, c] = QUERY_DIGESTS;
+    [
+        query(0, 0, first, a),
+        query(0, 0, second, b),
+        query(RECEIPTS[1], ARRIVAL, third, c),
+    ]
+}
 
-/// The same where the second reply did not depart: it tells when that was to depart.
-pub const PLANNED_REPLY: &[u8] = b"\x24\x01\x06\xec\
-    \x00\x00\x00\x00\x00\x00\x00\x10\x4e\x49\x53\x54\xec\x00\x00\x00\x00\x00\x00\x00\
-    \xec\x00\x00\x11\xa0\x00\x00\x00\xec\x00\x00\x12\x90\x00\x00\x00\xec\x00\x00\x11\x90\x00\x01\x00\
-    \x00\x00\x00\x07\x5b\x64\x9a\xeb\x0b\xaa\x00\x30\x12\x12\x0d\x8b\x31\x64\xb7\xac";
+/// The basic replies to the first and the second; the interleaved reply to the third, which tells when the second reply departed;
+/// and the same where that did not depart: it tells when that was to depart.
+pub fn replies() -> [[u8; 68]; 4] {
+    let [first, second, third] = RECEIPTS;
+    let [asked, again, _] = TRANSMITS;
+    let [a, b, c, d] = REPLY_DIGESTS;
+    [
+        reply(PRIMARY, asked, first, first + 0x100, a),
+        reply(PRIMARY, again, second, second + 0x100, b),
+        reply(PRIMARY, ARRIVAL, third, second + 0x180, c),
+        reply(PRIMARY, ARRIVAL, third, second + 0x100, d),
+    ]
+}
 
 /// A turn in which the customer's octets come from a UDP port at a stamp. The reply is to leave 0x100 units of a stamp behind
 /// it, and leaves 0x180 behind it, if it can be sent.

@@ -1,7 +1,6 @@
 //! What the model says that a daemon does.
 
 use crate::script::{Happening, Script};
-use ntp_admin::{fault_word, refusal_word};
 use ntp_mac::Reply;
 use ntp_port::Sent;
 use ntp_reply::Answer;
@@ -110,7 +109,7 @@ impl Expected {
                 self.line(LineOutcome::Done);
             }
             Outcome::Refused(refusal) => {
-                let word = refusal_word(refusal);
+                let word = refusal.word();
                 writeln!(self.answers, "{number} refused {word}")?;
                 self.line(LineOutcome::Refused(refusal));
             }
@@ -121,7 +120,7 @@ impl Expected {
 
     // A line that is no command is answered.
     fn faulty(&mut self, number: u64, fault: LineFault) -> Result<(), Fail> {
-        let word = fault_word(fault);
+        let word = fault.word();
         writeln!(self.answers, "{number} faulty {word}")?;
         self.line(LineOutcome::Faulty(fault));
         Ok(())

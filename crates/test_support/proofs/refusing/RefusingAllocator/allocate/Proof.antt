@@ -1,9 +1,8 @@
 -- It refuses the call, or answers what the inner allocator answers. Assumes `Logic`.
 use Rattle.std.proofs.Common.{◌≡◌, ℕ, ◌+◌, ◌^◌, ◌<◌, true, false, List, [], ◌∷◌, Ok, Err, refl, w64, Bor}
 use seplogic.Ra.Ura.{Ura}
-use mir.Syntax.{Ty, Fn}
+use mir.Syntax.{Ty}
 use mir.Val.{Val, vint, vptr}
-use mir.MapTy.{inst_fn}
 use base.Logic.{SProp, ent, id⊢}
 use base.Fml.{Lft, Share, ftrue, fsep, froom, flft}
 use prog.Memory.{Memory, size, align, capped, up}
@@ -13,7 +12,7 @@ use types.Logic.{Logic}
 use contract.BorrowLft.{◌⊑◌, ⊑_trans}
 use contract.Monad.{Fun, fact}
 use contract.Running.{tables, tables_of}
-use sound.WpLaws.{fm_of, WpFn-mono}
+use sound.WpLaws.{fm_of}
 use types.Kit.{Item, ‵, raw, ◌⊛◌, later, prop, at_ret, Sq, ◌$◌, ◌∵◌, !, qed, done}
 use types.Kit.{move, keep, use0, use1, use2, learn, pick, split, join, fsplit, fjoin, suffices, await}
 use types.Part.{agg}
@@ -32,24 +31,22 @@ use denote.Triple.Clauses.{Ended, Clauses}
 use denote.Triple.Spec.{triple_of}
 use denote.Triple.Statement.{Triple}
 use denote.Triple.Table.{entered, cited}
-use denote.Triple.Walked.{Stays, stay_dropped, walk_of, ends_at, walked, Goes-dropped, walk_Meets}
+use denote.Triple.Walked.{Stays, stay_dropped, walk_of, ends_at, Goes-dropped}
 use Rattle.std.proofs.VecSteps.Shapes.{after}
 use Rattle.std.proofs.alloc.Calls.{Al, α, seen, token, Answer, answer_val, Answer-typed, Answer-Ok, Answer-err, answers, takes_key, Takes, at_takes, Answered, Takes-goes, Takes-gives}
 use Rattle.test_support.proofs.Asking.{Asks, at_asks, Asks-taken, Asked, Asks-given}
 use Rattle.test_support.proofs.refusing.refuses.Symbol as asked
 use Rattle.test_support.proofs.refusing.refuses.Met as asked_met
-use Rattle.test_support.proofs.Handed.{args, self, word}
+use Rattle.test_support.proofs.Handed.{args, at_inner, self, word}
+use Rattle.test_support.proofs.Walking.{meets}
 use Rattle.test_support.specs.contracts.refusing.Refusing as refusing
 use Rattle.test_support.specs.contracts.refusing.RefusingAllocator.allocate as F
 use Rattle.test_support.specs.contracts.refusing.RefusingAllocator.allocate.Key as key
 use Rattle.test_support.proofs.refusing.RefusingAllocator.allocate.Statement as stated
 use Rattle.test_support.proofs.refusing.RefusingAllocator.allocate.Code as code
 
--- the code and the contract at an inner allocator
+-- the contract at an inner allocator
 module _ (Z : Al) where
-  abbrev here : Fn
-  here = inst_fn (args Z) code.function
-
   abbrev ended : Ended
   ended = F.ended Z.row Z.g Z.d Z.drops
 
@@ -98,7 +95,7 @@ module _ (Z : Al) {M : Type 1} {𝓤 : Ura M} (𝓛 : Logic 𝓤) (at_mem : Memo
         use0 𝓛 (‵ (Answer.own_val (Ok (block_ptr b o)) (answer_val true b o ∷ []))) (Answer-Ok 𝓛 b o) $ nothing ! $ nothing ! $ fjoin ! $
         nothing ! $ fjoin ! $ nothing ! $ fjoin ! $ join ! $ move ! (2 ∷ 3 ∷ []) $ join ! $ join ! $ done !
 
-    walk : n < 2 ^ 64 → a < 2 ^ 64 → ent 𝓤 ((walk_of 𝓛 (ended Z) (stayed Z) held).pre bound) (WpFn 𝓤 H 𝓣.C 𝓣.Λ (here Z) vs Post)
+    walk : n < 2 ^ 64 → a < 2 ^ 64 → ent 𝓤 ((walk_of 𝓛 (ended Z) (stayed Z) held).pre bound) (WpFn 𝓤 H 𝓣.C 𝓣.Λ (at_inner Z code.function) vs Post)
     walk fn fa =
         let h : Z.row.Denot = r.now.inner in
         let p : ℕ × ℕ = (r.ref_ptr.0, r.ref_ptr.1 + up (align (α Z)) 0) in
@@ -111,7 +108,7 @@ module _ (Z : Al) {M : Type 1} {𝓤 : Ura M} (𝓛 : Logic 𝓤) (at_mem : Memo
         move ! (1 ∷ []) $ split ! $ heard ! (κ₂ ⊑ Z.row.lives) (λ le. heard ! Said (λ said.
         split ! $ split ! $ move ! (2 ∷ []) $ fsplit ! $ fsplit ! $ move ! (1 ∷ []) $ unhide ! $ fsplit ! $ fsplit ! $
         use1 𝓛 (‵ (seen Z κ₁ p h)) (id⊢ 𝓤 _) $ move ! (1 ∷ []) $ fsplit ! $ keep ! (0 ∷ 6 ∷ 2 ∷ 7 ∷ []) $
-        enter ! 𝓣.C 𝓣.Λ (here Z) vs _ $
+        enter ! 𝓣.C 𝓣.Λ (at_inner Z code.function) vs _ $
         alloc_all ! (λ l. pass_all ! refl ((tt, tt), ((tt, record { fits = fn }), ((tt, record { fits = fa }), tt))) $
         -- [the shared cell; the token of κ₁; the inner allocator, shared; the token of κ₂]
         sets ! (addr ! (through ! refl (fld ! refl (stop !)))) refl (tt, tt) $
@@ -122,7 +119,7 @@ module _ (Z : Al) {M : Type 1} {𝓤 : Ura M} (𝓛 : Logic 𝓤) (at_mem : Memo
         (λ _. sets ! (agg ! (no_more !)) refl (tt, tt) $
         sets ! (agg ! (and_then ! (lit ! tt) (and_then ! (get ! refl) (no_more !)))) refl (Answer-typed false 0 0) $
         returns_within ! Post refl (look_at ! 0 refl) $ free_all ! refl $ keep ! (0 ∷ 2 ∷ []) $ none)
-        (λ _. skips ! $ exec ! 𝓣.C 𝓣.Λ (env (here Z).locals l) (after 3 (here Z).body) (at_ret _ Post) $ move ! (1 ∷ []) $
+        (λ _. skips ! $ exec ! 𝓣.C 𝓣.Λ (env (at_inner Z code.function).locals l) (after 3 (at_inner Z code.function).body) (at_ret _ Post) $ move ! (1 ∷ []) $
         sets ! (addr ! (through ! refl (fld ! refl (stop !)))) refl (tt, tt) $
         use2 𝓛 (raw ((Takes Z 𝓛 at_mem run).pre takes))
         (Takes-goes Z 𝓛 at_mem run κ₁ q₁ p h (⊑_trans κ₁ κ₂ Z.row.lives inn le) n a τ said.0 said.1 fn fa) $
@@ -138,15 +135,14 @@ unfolding tables_of
 allocate_spec 𝓤 𝓛 𝓜 𝓡 wired Y L g d d' met _ =
     let Z : Al = record { row = Y; laws = L; g = g; d = d; drops = d' } in
     let 𝓣 : Tables 𝓤 𝓛.H = tables_of 𝓤 𝓛.H 𝓜 (tables 𝓤 𝓛.H 𝓜 𝓡 𝓡.env) in
-    let c = F.clauses Y g d d' 𝓛 𝓜.mem 𝓡.returns in
     let met_by = asked_met.met 𝓤 𝓛 𝓜 𝓡 (code.calls-test_support::refusing::refuses 𝓡.env wired) in
     let ask = cited 𝓤 𝓛.H _ 𝓜 𝓡 𝓡.env asked.name (𝓡.env asked.name) refl met_by in
     let goes = Goes-dropped 𝓛 2 word yes (λ κs x f. refl) in
-    entered 𝓤 𝓛.H (triple_of 𝓛 (F.signature Y) (F.spec Y g d d' 𝓛 𝓜.mem 𝓡.returns)) 𝓣.C 𝓣.Λ (key.name (args Z)) (here Z)
+    entered 𝓤 𝓛.H (triple_of 𝓛 (F.signature Y) (F.spec Y g d d' 𝓛 𝓜.mem 𝓡.returns)) 𝓣.C 𝓣.Λ (key.name (args Z)) (at_inner Z code.function)
     (code.unfolded 𝓤 𝓛.H 𝓜 𝓡 wired (Y, tt) d d')
-    (walk_Meets 𝓛 (ended Z) (stayed Z) (Goes-dropped 𝓛 2 (self Z) yes (λ κs x f. refl), (goes, (goes, tt))) c
-    (WpFn 𝓤 𝓛.H 𝓣.C 𝓣.Λ (here Z)) (WpFn-mono 𝓤 𝓛.H 𝓛.laws 𝓣 (here Z))
-    (walked 𝓛 (ended Z) (stayed Z) c (WpFn 𝓤 𝓛.H 𝓣.C 𝓣.Λ (here Z)) (λ κs. (shr_vals, (uint_vals w64, (uint_vals w64, tt))))
+    (meets 𝓛 𝓣 (at_inner Z code.function) (ended Z) (stayed Z) (F.clauses Y g d d' 𝓛 𝓜.mem 𝓡.returns)
+    (Goes-dropped 𝓛 2 (self Z) yes (λ κs x f. refl), (goes, (goes, tt)))
+    (λ κs. (shr_vals, (uint_vals w64, (uint_vals w64, tt))))
     (λ κs. ((λ r vs s. s.0), (uint_Tells w64, (uint_Tells w64, tt))))
     (λ κs qs bounds a τ are.
-    walk Z 𝓛 𝓜.mem 𝓡.returns 𝓣 (met.allocate d') ask κs.0 κs.1.0 qs.0 qs.1.0 bounds.0 a.0 a.1.0 a.1.1.0 τ are.1.0.1 are.1.1.0.1)))
+    walk Z 𝓛 𝓜.mem 𝓡.returns 𝓣 (met.allocate d') ask κs.0 κs.1.0 qs.0 qs.1.0 bounds.0 a.0 a.1.0 a.1.1.0 τ are.1.0.1 are.1.1.0.1))

@@ -1,9 +1,8 @@
 -- It gives the block back to the inner allocator. Assumes `Logic`.
 use Rattle.std.proofs.Common.{◌≡◌, ℕ, ◌+◌, ◌^◌, ◌<◌, List, [], ◌∷◌, refl, w64, Bor}
 use seplogic.Ra.Ura.{Ura}
-use mir.Syntax.{Ty, Fn}
+use mir.Syntax.{Ty}
 use mir.Val.{Val, vint, vptr, vunit}
-use mir.MapTy.{inst_fn}
 use base.Logic.{SProp, ent, id⊢, never_e}
 use base.Fml.{Lft, Share, ftrue, ffalse, fsep, froom, flft}
 use prog.Memory.{Memory, size, align, capped, up}
@@ -13,7 +12,7 @@ use types.Logic.{Logic}
 use contract.BorrowLft.{◌⊑◌, ⊑_trans}
 use contract.Monad.{Fun, fact}
 use contract.Running.{tables, tables_of}
-use sound.WpLaws.{fm_of, WpFn-mono}
+use sound.WpLaws.{fm_of}
 use types.Kit.{Item, ‵, raw, ◌⊛◌, later, given, ◌$◌, ◌∵◌, !, qed, by, done}
 use types.Kit.{move, keep, use1, learn, split, split3, join, fsplit, fjoin, feq_i, suffices, await}
 use types.Run.{stop, fld, addr, unit_lit, of_opd, no_more, and_then, returns, enter}
@@ -31,20 +30,18 @@ use denote.Triple.Clauses.{Ended, Clauses}
 use denote.Triple.Spec.{triple_of}
 use denote.Triple.Statement.{Triple}
 use denote.Triple.Table.{entered}
-use denote.Triple.Walked.{Stays, stay_dropped, walk_of, ends_at, walked, Goes-dropped, walk_Meets}
+use denote.Triple.Walked.{Stays, stay_dropped, walk_of, ends_at, Goes-dropped}
 use Rattle.std.proofs.alloc.Calls.{Al, α, seen, token, gives_key, Gives, at_gives, Gives-goes, Gives-Gives}
-use Rattle.test_support.proofs.Handed.{args, self, word, pointer}
+use Rattle.test_support.proofs.Handed.{args, at_inner, self, word, pointer}
+use Rattle.test_support.proofs.Walking.{meets}
 use Rattle.test_support.specs.contracts.refusing.Refusing as refusing
 use Rattle.test_support.specs.contracts.refusing.RefusingAllocator.deallocate as F
 use Rattle.test_support.specs.contracts.refusing.RefusingAllocator.deallocate.Key as key
 use Rattle.test_support.proofs.refusing.RefusingAllocator.deallocate.Statement as stated
 use Rattle.test_support.proofs.refusing.RefusingAllocator.deallocate.Code as code
 
--- the code and the contract at an inner allocator
+-- the contract at an inner allocator
 module _ (Z : Al) where
-  abbrev here : Fn
-  here = inst_fn (args Z) code.function
-
   abbrev ended : Ended
   ended = F.ended Z.row Z.g Z.d Z.drops
 
@@ -86,7 +83,7 @@ module _ (Z : Al) {M : Type 1} {𝓤 : Ura M} (𝓛 : Logic 𝓤) (at_mem : Memo
         ⊛ ‵ (owns (types_at (ended Z).signature.params (bound x).0.0) (bound x).0.3 (bound x).0.4)
 
     walk : n < 2 ^ 64 → a < 2 ^ 64 → (x : Ptr)
-        → ent 𝓤 ((walk_of 𝓛 (ended Z) (stayed Z) held).pre (bound x)) (WpFn 𝓤 H 𝓣.C 𝓣.Λ (here Z) (vs x) (Post x))
+        → ent 𝓤 ((walk_of 𝓛 (ended Z) (stayed Z) held).pre (bound x)) (WpFn 𝓤 H 𝓣.C 𝓣.Λ (at_inner Z code.function) (vs x) (Post x))
     -- no block lies at null
     walk fn fa null_ptr =
         qed 𝓛 (entry null_ptr
@@ -101,7 +98,7 @@ module _ (Z : Al) {M : Type 1} {𝓤 : Ura M} (𝓛 : Logic 𝓤) (at_mem : Memo
         move ! (1 ∷ []) $ split3 ! $ heard ! (κ₂ ⊑ Z.row.lives) (λ le. heard ! Said (λ said. move ! (1 ∷ []) $
         split ! $ split ! $ move ! (2 ∷ []) $ fsplit ! $ fsplit ! $ move ! (1 ∷ []) $ unhide ! $ fsplit ! $ fsplit ! $
         use1 𝓛 (‵ (seen Z κ₁ p h)) (id⊢ 𝓤 _) $ keep ! (0 ∷ 5 ∷ 6 ∷ 7 ∷ []) $
-        enter ! 𝓣.C 𝓣.Λ (here Z) (vs x) _ $
+        enter ! 𝓣.C 𝓣.Λ (at_inner Z code.function) (vs x) _ $
         alloc_all ! (λ l. pass_all ! refl ((tt, tt), ((tt, tt), ((tt, record { fits = fn }), ((tt, record { fits = fa }), tt)))) $
         -- [the inner allocator, shared; the token of κ₁; the token of κ₂; the block with the right to free it]
         sets ! (addr ! (through ! refl (fld ! refl (stop !)))) refl (tt, tt) $
@@ -121,16 +118,13 @@ unfolding tables_of
 deallocate_spec 𝓤 𝓛 𝓜 𝓡 wired Y L g d d' met _ =
     let Z : Al = record { row = Y; laws = L; g = g; d = d; drops = d' } in
     let 𝓣 : Tables 𝓤 𝓛.H = tables_of 𝓤 𝓛.H 𝓜 (tables 𝓤 𝓛.H 𝓜 𝓡 𝓡.env) in
-    let c = F.clauses Y g d d' 𝓛 𝓜.mem 𝓡.returns in
     let goes = Goes-dropped 𝓛 2 word yes (λ κs x f. refl) in
-    entered 𝓤 𝓛.H (triple_of 𝓛 (F.signature Y) (F.spec Y g d d' 𝓛 𝓜.mem 𝓡.returns)) 𝓣.C 𝓣.Λ (key.name (args Z)) (here Z)
+    entered 𝓤 𝓛.H (triple_of 𝓛 (F.signature Y) (F.spec Y g d d' 𝓛 𝓜.mem 𝓡.returns)) 𝓣.C 𝓣.Λ (key.name (args Z)) (at_inner Z code.function)
     (code.unfolded 𝓤 𝓛.H 𝓜 𝓡 wired (Y, tt) d d')
-    (walk_Meets 𝓛 (ended Z) (stayed Z)
-    (Goes-dropped 𝓛 2 (self Z) yes (λ κs x f. refl), (Goes-dropped 𝓛 2 pointer yes (λ κs x f. refl), (goes, (goes, tt)))) c
-    (WpFn 𝓤 𝓛.H 𝓣.C 𝓣.Λ (here Z)) (WpFn-mono 𝓤 𝓛.H 𝓛.laws 𝓣 (here Z))
-    (walked 𝓛 (ended Z) (stayed Z) c (WpFn 𝓤 𝓛.H 𝓣.C 𝓣.Λ (here Z))
+    (meets 𝓛 𝓣 (at_inner Z code.function) (ended Z) (stayed Z) (F.clauses Y g d d' 𝓛 𝓜.mem 𝓡.returns)
+    (Goes-dropped 𝓛 2 (self Z) yes (λ κs x f. refl), (Goes-dropped 𝓛 2 pointer yes (λ κs x f. refl), (goes, (goes, tt))))
     (λ κs. (shr_vals, (rawptr_vals, (uint_vals w64, (uint_vals w64, tt)))))
     (λ κs. ((λ r vs s. s.0), (rawptr_Tells, (uint_Tells w64, (uint_Tells w64, tt)))))
     (λ κs qs bounds a τ are.
     walk Z 𝓛 𝓜.mem 𝓡.returns 𝓣 (met.deallocate d') κs.0 κs.1.0 qs.0 qs.1.0 bounds.0 a.0 a.1.1.0 a.1.1.1.0 τ
-    are.1.1.0.1 are.1.1.1.0.1 a.1.0)))
+    are.1.1.0.1 are.1.1.1.0.1 a.1.0))

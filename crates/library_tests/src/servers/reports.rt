@@ -1,0 +1,453 @@
+//! What is written, and each call once with its answer.
+
+use ntp_mac::Reply;
+use ntp_packet::{Malformed, Short, Stamp};
+use ntp_reply::{Answer, Reason};
+use ntp_reports::{
+    AnswerLines, Ask, Belief, Both, ClockGauges, Counting, Counts, Doubt, FileGauges, Gauges, Kind,
+    LineAllowance, write_statistics,
+};
+use ntp_service::{
+    Arrival, Command, LineFault, LineOutcome, Observer, Refusal, Sending, TurnOutcome,
+};
+use std::alloc::{AllocError, Global};
+use std::io::Write;
+use std::process::Abort;
+use std::test::Fail;
+use test_support::{Broken, CUSTOMER, Refusing, moment};
+
+// What is written of counts in which each metric has a number of its own: these texts, and between them a line for each of the silences
+// and then of the refusals.
+const BEFORE_SILENCES: &str = r#"# HELP labntp_answers_total Answers to datagrams.
+# TYPE labntp_answers_total counter
+labntp_answers_total{answer="time",mode="basic"} 3
+labntp_answers_total{answer="time",mode="interleaved"} 2
+labntp_answers_total{answer="rate"} 4
+labntp_answers_total{answer="deny"} 5
+labntp_answers_total{answer="nak"} 6
+"#;
+
+const BEFORE_REFUSALS: &str =
+    r#"# HELP labntp_receive_failures_total Calls that received no datagram.
+# TYPE labntp_receive_failures_total counter
+labntp_receive_failures_total 7
+# HELP labntp_send_failures_total Replies that could not be sent.
+# TYPE labntp_send_failures_total counter
+labntp_send_failures_total 5
+# HELP labntp_stale_total Datagrams that were dropped, since they may have waited for too long.
+# TYPE labntp_stale_total counter
+labntp_stale_total 50
+# HELP labntp_kernel_drops_total Datagrams that the kernel dropped for want of room.
+# TYPE labntp_kernel_drops_total counter
+labntp_kernel_drops_total 51
+# HELP labntp_departures_noted_total Replies whose departure was noted.
+# TYPE labntp_departures_noted_total counter
+labntp_departures_noted_total 5
+# HELP labntp_receive_buffer_octets The socket's receive buffer, as the kernel counts.
+# TYPE labntp_receive_buffer_octets gauge
+labntp_receive_buffer_octets 55
+# HELP labntp_queue_wait_seconds How long a datagram can have waited at most.
+# TYPE labntp_queue_wait_seconds gauge
+labntp_queue_wait_seconds 0.012500000
+# HELP labntp_send_would_wait_total Replies that were not sent, since the socket would have waited.
+# TYPE labntp_send_would_wait_total counter
+labntp_send_would_wait_total 56
+# HELP labntp_sweeps_total Times that the queue was swept.
+# TYPE labntp_sweeps_total counter
+labntp_sweeps_total 57
+# HELP labntp_commands_total Lines of commands.
+# TYPE labntp_commands_total counter
+labntp_commands_total{answer="done"} 8
+"#;
+
+const BEHIND_REFUSALS: &str = r#"labntp_commands_total{answer="faulty"} 9
+# HELP labntp_commands_lines Lines of the commands file that are applied.
+# TYPE labntp_commands_lines gauge
+labntp_commands_lines 58
+# HELP labntp_commands_octets Octets of the commands file.
+# TYPE labntp_commands_octets gauge
+labntp_commands_octets 59
+# HELP labntp_commands_other_line The first line that is not the one that was applied; 0 for none.
+# TYPE labntp_commands_other_line gauge
+labntp_commands_other_line 60
+# HELP labntp_register_digest The first six octets of the register file's SHA-256 digest.
+# TYPE labntp_register_digest gauge
+labntp_register_digest 205024940494593
+# HELP labntp_customers Customers that are enrolled.
+# TYPE labntp_customers gauge
+labntp_customers 52
+# HELP labntp_clock_synchronised Whether replies say that the clock is synchronised.
+# TYPE labntp_clock_synchronised gauge
+labntp_clock_synchronised 1
+# HELP labntp_clock_age_seconds How old what is known of the clock is.
+# TYPE labntp_clock_age_seconds gauge
+labntp_clock_age_seconds 1.050000000
+# HELP labntp_clock_stratum The stratum that replies tell.
+# TYPE labntp_clock_stratum gauge
+labntp_clock_stratum 2
+# HELP labntp_clock_leap The leap indicator that replies tell.
+# TYPE labntp_clock_leap gauge
+labntp_clock_leap 1
+# HELP labntp_clock_root_delay_seconds The root delay that replies tell.
+# TYPE labntp_clock_root_delay_seconds gauge
+labntp_clock_root_delay_seconds 0.500000000
+# HELP labntp_clock_root_dispersion_seconds The root dispersion that replies tell.
+# TYPE labntp_clock_root_dispersion_seconds gauge
+labntp_clock_root_dispersion_seconds 16.000015258
+# HELP labntp_clock_offset_seconds How far the daemon's clock was from the host's at its last answer.
+# TYPE labntp_clock_offset_seconds gauge
+labntp_clock_offset_seconds -1.000000002
+# HELP labntp_clock_believed Whether the clock's daemon is believed, or why not.
+# TYPE labntp_clock_believed gauge
+labntp_clock_believed{why="believed"} 0
+labntp_clock_believed{why="fixed"} 0
+labntp_clock_believed{why="no-answer"} 0
+labntp_clock_believed{why="old"} 0
+labntp_clock_believed{why="unsynchronised"} 0
+labntp_clock_believed{why="reference-old"} 0
+labntp_clock_believed{why="reference-ahead"} 0
+labntp_clock_believed{why="far"} 1
+labntp_clock_believed{why="set"} 0
+# HELP labntp_log_lines_dropped_total Lines of the log that were not written.
+# TYPE labntp_log_lines_dropped_total counter
+labntp_log_lines_dropped_total 53
+# HELP labntp_files_unreadable_total Times that a file began to fail, at reading or writing.
+# TYPE labntp_files_unreadable_total counter
+labntp_files_unreadable_total 54
+# HELP labntp_file_ok Whether a file can be read or written.
+# TYPE labntp_file_ok gauge
+labntp_file_ok{file="commands"} 1
+labntp_file_ok{file="answers"} 0
+labntp_file_ok{file="statistics"} 1
+labntp_file_ok{file="customers"} 0
+# HELP labntp_start_time_seconds When the server was started, since 1970.
+# TYPE labntp_start_time_seconds gauge
+labntp_start_time_seconds 1790000000.000000001
+# HELP labntp_build_info The version of the server.
+# TYPE labntp_build_info gauge
+labntp_build_info{version="0.1.0"} 1
+"#;
+
+// How these lines begin.
+const SILENT: &str = r#"labntp_answers_total{answer="silent""#;
+
+const REFUSED: &str = r#"labntp_commands_total{answer="refused""#;
+
+// A turn in which a datagram was answered.
+fn answered(answer: Answer, sending: Sending) -> TurnOutcome {
+    TurnOutcome::Answered {
+        arrival: Arrival {
+            address: CUSTOMER,
+            port: 123,
+            length: 68,
+            receipt: moment(1),
+        },
+        answer,
+        sending,
+    }
+}
+
+// A reply with these stamps.
+fn reply(receive: u64, transmit: u64) -> Option<Reply> {
+    let mut octets = [0; 68];
+    octets[32..40].copy_from_slice(&receive.to_be_bytes());
+    octets[40..48].copy_from_slice(&transmit.to_be_bytes());
+    Reply::from_octets(&octets)
+}
+
+// Time, with these stamps, that was sent and whose departure was noted.
+fn time(receive: u64, transmit: u64) -> Option<TurnOutcome> {
+    let answer = Answer::Time {
+        reply: reply(receive, transmit)?,
+        saved: Stamp(receive),
+    };
+    Some(answered(answer, Sending::Noted))
+}
+
+// The receive stamp and the transmit stamp of replies.
+const STAMPS: [(u64, u64); 5] = [
+    // The departure of the same reply: at once, later, and in the next era.
+    (7, 7),
+    (7, 8),
+    (u64::MAX, 1),
+    // That of an earlier reply: a little before, and in the era before.
+    (7, 6),
+    (1, u64::MAX),
+];
+
+// Tells an observer of a turn so often.
+fn hear_of<O: Observer>(observer: &mut O, times: u64, outcome: &TurnOutcome) {
+    for _ in 0..times {
+        observer.turn(outcome);
+    }
+}
+
+// Tells an observer of turns with a reply.
+fn hear_of_replies<O: Observer>(observer: &mut O) -> Option<()> {
+    for (receive, transmit) in STAMPS {
+        hear_of(observer, 1, &time(receive, transmit)?);
+    }
+    let rate = Answer::Rate(reply(0, 0)?);
+    let deny = Answer::Deny(reply(0, 0)?);
+    let nak = Answer::Nak(reply(0, 0)?);
+    hear_of(observer, 4, &answered(rate, Sending::Sent));
+    hear_of(observer, 5, &answered(deny, Sending::NotSent));
+    hear_of(observer, 6, &answered(nak, Sending::Sent));
+    Some(())
+}
+
+// How often there is no answer, for each reason, and its word.
+const SILENCES: [(u64, Reason, &str); 12] = [
+    (10, Reason::Unregistered, "unregistered"),
+    (11, Reason::Malformed(Malformed::Short), "short"),
+    (12, Reason::Malformed(Malformed::Long), "long"),
+    (
+        13,
+        Reason::Malformed(Malformed::FieldShort { at: 48 }),
+        "field-short",
+    ),
+    (
+        14,
+        Reason::Malformed(Malformed::FieldUnaligned { at: 48 }),
+        "field-unaligned",
+    ),
+    (
+        15,
+        Reason::Malformed(Malformed::FieldPastEnd { at: 48 }),
+        "field-past-end",
+    ),
+    (16, Reason::Malformed(Malformed::Rest { at: 48 }), "rest"),
+    (17, Reason::Version, "version"),
+    (18, Reason::Mode, "mode"),
+    (19, Reason::Bare, "bare"),
+    (20, Reason::Muted, "muted"),
+    (21, Reason::OverBudget, "over-budget"),
+];
+
+// Tells an observer of turns without a reply.
+fn hear_of_silences<O: Observer>(observer: &mut O) {
+    hear_of(observer, 7, &TurnOutcome::NothingReceived);
+    for (times, reason, _) in SILENCES {
+        hear_of(
+            observer,
+            times,
+            &answered(Answer::Silent(reason), Sending::NoReply),
+        );
+    }
+}
+
+// How often lines of commands are refused, for each reason, and its word.
+const REFUSALS: [(u64, Refusal, &str); 8] = [
+    (30, Refusal::AlreadyEnrolled, "already-enrolled"),
+    (31, Refusal::KeyTaken, "key-taken"),
+    (32, Refusal::NoMemory, "no-memory"),
+    (33, Refusal::NotEnrolled, "not-enrolled"),
+    (34, Refusal::SameNumber, "same-number"),
+    (35, Refusal::RoomFull, "room-full"),
+    (36, Refusal::OnlyKey, "only-key"),
+    (37, Refusal::NotHeld, "not-held"),
+];
+
+// Tells an observer of lines of commands that are answered so.
+fn hear_of_line<O: Observer>(observer: &mut O, times: u64, outcome: LineOutcome) {
+    for number in 0..times {
+        observer.line(number, outcome);
+    }
+}
+
+// Tells an observer of lines of commands.
+fn hear_of_lines<O: Observer>(observer: &mut O) {
+    hear_of_line(observer, 8, LineOutcome::Done);
+    hear_of_line(observer, 9, LineOutcome::Faulty(LineFault::Budget));
+    for (times, refusal, _) in REFUSALS {
+        hear_of_line(observer, times, LineOutcome::Refused(refusal));
+    }
+}
+
+// Adds a line: how often an answer was given for the reason with this word.
+fn push_line(text: &mut String, answer: &str, word: &str, times: u64) -> Result<(), AllocError> {
+    writeln!(text, r#"{answer},reason="{word}"}} {times}"#)
+}
+
+// What is written of all that.
+fn statistics(alloc: Global) -> Result<String, Fail> {
+    let mut text = String::from_str(alloc, BEFORE_SILENCES)?;
+    for (times, _, word) in SILENCES {
+        push_line(&mut text, SILENT, word, times)?;
+    }
+    text.push_str(BEFORE_REFUSALS)?;
+    for (times, _, word) in REFUSALS {
+        push_line(&mut text, REFUSED, word, times)?;
+    }
+    text.push_str(BEHIND_REFUSALS)?;
+    Ok(text)
+}
+
+// What is told beside the counts.
+const GAUGES: Gauges<'static> = Gauges {
+    stale: 50,
+    kernel_drops: 51,
+    receive_buffer: 55,
+    queue_wait: Some(12_500_000),
+    send_would_wait: 56,
+    sweeps: 57,
+    commands_lines: 58,
+    commands_octets: Some(59),
+    commands_other_line: Some(60),
+    register_digest: 0xba78_16bf_8f01,
+    customers: 52,
+    clock: ClockGauges {
+        is_synchronised: true,
+        age: Some(1_050_000_000),
+        stratum: 2,
+        leap: 1,
+        root_delay: Short(0x8000),
+        root_dispersion: Short(0x0010_0001),
+        offset: Some(-1_000_000_002),
+        belief: Belief::Doubted(Doubt::Far),
+    },
+    files: FileGauges {
+        commands: true,
+        answers: false,
+        statistics: true,
+        customers: false,
+    },
+    log_lines_dropped: 53,
+    files_unreadable: 54,
+    start_time: 1_790_000_000_000_000_001,
+    version: "0.1.0",
+};
+
+// An observer that tells nobody.
+#[derive(Drop)]
+struct Nobody;
+
+impl Observer for Nobody {
+    fn command(&mut self, _command: &Command) {}
+
+    fn line(&mut self, _number: u64, _outcome: LineOutcome) {}
+
+    fn turn(&mut self, _outcome: &TurnOutcome) {}
+}
+
+// Just this is written of these counts, without memory.
+fn assert_statistics(
+    rt: &impl Abort,
+    memory: &Refusing<Global>,
+    counts: &Counts,
+    wanted: &str,
+) -> Result<(), Fail> {
+    let mut text = Vec::with_capacity(memory, 8192)?;
+    memory.refuse_all();
+    let written = write_statistics(&mut text, counts, &GAUGES);
+    assert!(rt; written.is_ok() && memory.refused() == 0);
+    assert_eq!(rt; str::from_utf8(text.as_slice()), Ok(wanted));
+    Ok(())
+}
+
+#[test]
+fn statistics_are_written_without_memory(rt: HostRuntime) -> Result<(), Fail> {
+    let mut counting = Counting {
+        counts: Counts::new(),
+        inner: Nobody,
+    };
+    assert!(rt; hear_of_replies(&mut counting) == Some(()));
+    hear_of_silences(&mut counting);
+    hear_of_lines(&mut counting);
+    assert!(rt; counting.counts.count(Kind::Noted) == 5);
+    let memory = Refusing::new(rt.alloc());
+    let wanted = statistics(rt.alloc())?;
+    assert_statistics(&rt, &memory, &counting.counts, wanted.as_str())
+}
+
+// Where nothing is known of the clock, and little of the files.
+fn unknown() -> Gauges<'static> {
+    let clock = ClockGauges {
+        is_synchronised: false,
+        age: None,
+        offset: None,
+        ..GAUGES.clock
+    };
+    Gauges {
+        clock,
+        queue_wait: None,
+        commands_octets: None,
+        commands_other_line: None,
+        ..GAUGES
+    }
+}
+
+// Lines of what is written then.
+const UNKNOWN_LINES: [&str; 6] = [
+    "\nlabntp_clock_synchronised 0\n",
+    "\nlabntp_commands_other_line 0\n",
+    "\nlabntp_clock_age_seconds NaN\n",
+    "\nlabntp_clock_offset_seconds NaN\n",
+    "\nlabntp_queue_wait_seconds NaN\n",
+    "\nlabntp_commands_octets NaN\n",
+];
+
+// Whether it can be written what is not known.
+fn writes_unknown<W: Write>(out: &mut W) -> bool {
+    write_statistics(out, &Counts::new(), &unknown()).is_ok()
+}
+
+#[test]
+fn a_clock_of_which_nothing_is_known_has_no_age(rt: HostRuntime) -> Result<(), Fail> {
+    let mut octets = Vec::new(rt.alloc());
+    assert!(rt; writes_unknown(&mut octets));
+    let text = str::from_utf8(octets.as_slice())?;
+    for line in UNKNOWN_LINES {
+        assert!(rt; text.contains(line), "{line}");
+    }
+    assert!(rt; !writes_unknown(&mut Broken));
+    Ok(())
+}
+
+// Tells an observer of three lines, between which is a turn.
+fn hear_of_three_lines<O: Observer>(observer: &mut O) {
+    observer.line(1, LineOutcome::Done);
+    observer.turn(&TurnOutcome::NothingReceived);
+    observer.line(3, LineOutcome::Refused(Refusal::AlreadyEnrolled));
+    observer.line(12, LineOutcome::Faulty(LineFault::KeyText));
+}
+
+#[test]
+fn lines_are_answered_without_memory(rt: HostRuntime) -> Result<(), Fail> {
+    let memory = Refusing::new(rt.alloc());
+    let mut first = Vec::with_capacity(&memory, 100)?;
+    memory.refuse_all();
+    let mut both = Both {
+        first: AnswerLines::new(&mut first),
+        second: AnswerLines::new(Broken),
+    };
+    hear_of_three_lines(&mut both);
+    assert!(rt; both.first.fault().is_none() && both.second.fault().is_some());
+    assert!(rt; memory.refused() == 0);
+    let answers = b"1 done\n3 refused already-enrolled\n12 faulty key\n";
+    assert!(rt; first.as_slice() == answers.as_slice());
+    Ok(())
+}
+
+// In which minute, how often, and what is then answered to whether a line may be said.
+const ASKS: [(u64, u64, Ask); 7] = [
+    (0, 10, Ask::Say),
+    (0, 2, Ask::Hold),
+    (1, 1, Ask::SayWithMore(2)),
+    (1, 9, Ask::Say),
+    (1, 1, Ask::Hold),
+    (29_000_000, 1, Ask::SayWithMore(1)),
+    (29_000_001, 1, Ask::Say),
+];
+
+#[test]
+fn ten_lines_a_minute_are_allowed(rt: HostRuntime) {
+    let mut allowance = LineAllowance::new();
+    for (minute, times, answer) in ASKS {
+        for _ in 0..times {
+            let has_room = allowance.has_room(minute);
+            assert!(rt; has_room == (answer != Ask::Hold), "in minute {minute}");
+            assert!(rt; allowance.ask(minute) == answer, "in minute {minute}");
+        }
+    }
+}

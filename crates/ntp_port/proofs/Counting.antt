@@ -18,7 +18,8 @@ use Rattle.ntp_port.specs.declared.serving.Served.{Served}
 use Rattle.ntp_port.specs.Port.{IncomingValue, Readings, Told}
 use Rattle.ntp_port.specs.Made.{Made, Missed, Received, happened_in_turn, sent_in, has_arrived, has_departed, sending_of, turn_outcome}
 use Rattle.ntp_port.specs.Serving.{ServeMakes}
-use Rattle.ntp_port.specs.Sending.{counted, was_sent, was_noted}
+use Rattle.ntp_port.specs.Sending.{counted}
+use Rattle.ntp_service.specs.Sending.{was_sent, was_noted}
 use Rattle.ntp_port.proofs.Taking.{TakesTurn}
 use Rattle.ntp_port.proofs.ManyTurns.{sent_of, if_so, count-more, Makes-nil, Makes-append}
 

@@ -6,12 +6,12 @@ use Rattle.ntp_service.specs.Registry.{Registry}
 use Rattle.ntp_reply.specs.declared.answers.Answer.{Answer}
 use Rattle.ntp_reply.specs.declared.answers.Answer.TheVariants as answer
 use Rattle.ntp_service.specs.declared.observation.Sending.{Sending}
-use Rattle.ntp_service.specs.declared.observation.Sending.TheVariants.{NoReply, NotSent, Noted}
 use Rattle.ntp_service.specs.declared.observation.TurnOutcome.{TurnOutcome}
 use Rattle.ntp_service.specs.declared.observation.TurnOutcome.TheVariants.{NothingReceived, Answered}
 use Rattle.ntp_service.specs.declared.event.Event.{Event}
 use Rattle.ntp_service.specs.declared.event.Event.TheVariants as event
 use Rattle.ntp_service.specs.Model.{departure_outcome}
+use Rattle.ntp_service.specs.Sending.{was_sent, was_noted}
 use Rattle.ntp_service.specs.Headline.{StandsFor, Tells}
 use Rattle.ntp_port.specs.declared.port.PortCounts.{PortCounts}
 use Rattle.ntp_port.specs.declared.serving.Served.{Served}
@@ -58,17 +58,6 @@ pub record SendingMakes (A : Type 0) (answer : Answer) (from : IncomingValue) (t
   pub counts : b ≡ counted_send (is_unsent (Received from clock sends answer noted)) a
   pub tells : (history : List (Event A)) → StandsFor service history
       → Tells history (map (λ saved. (event.Departed from.address saved (clock true 1), departure_outcome noted)) (departing sends answer)) after
-
--- whether a reply was sent
-abbrev pub was_sent : Sending → Bool
-was_sent NoReply = false
-was_sent NotSent = false
-was_sent other = true
-
--- whether the departure of a reply was noted
-abbrev pub was_noted : Sending → Bool
-was_noted Noted = true
-was_noted other = false
 
 -- the counts after a turn
 abbrev pub counted : TurnOutcome → Served → Served

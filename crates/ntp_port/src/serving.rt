@@ -136,13 +136,11 @@ impl Served {
             return;
         };
         self.arrivals += 1;
-        match sending {
-            Sending::NoReply | Sending::NotSent => {}
-            Sending::Sent | Sending::NotNoted => self.sent += 1,
-            Sending::Noted => {
-                self.sent += 1;
-                self.departed += 1;
-            }
+        if sending.was_sent() {
+            self.sent += 1;
+        }
+        if sending.was_noted() {
+            self.departed += 1;
         }
     }
 }

@@ -23,7 +23,7 @@ use Rattle.ntp_port.proofs.Dropping.{CountsMore-nil, CountsMore-append}
 use Rattle.ntp_port.specs.Made.{Made, Missed, Received, turn_of, arrival_of, happened_in_turn, sent_in, has_arrived, has_departed, is_unsent, turn_outcome}
 use Rattle.ntp_port.specs.Serving.{Makes}
 use Rattle.ntp_port.proofs.Taking.{TakesTurn}
-use Rattle.ntp_port.specs.Sending.{was_sent}
+use Rattle.ntp_service.specs.Sending.{was_sent}
 use Rattle.ntp_port.proofs.ManyTurns.{sent_of, count_of, if_so, count-more, Makes-nil, Makes-append, Makes-few}
 use Rattle.ntp_port.proofs.Counting.{at-most-one, sent-one, noted-one}
 use Rattle.ntp_server.specs.declared.server.Totals.{Totals}

@@ -12,7 +12,7 @@ use Rattle.ntp_service.specs.Headline.{StandsFor, Tells}
 use Rattle.ntp_port.specs.Port.{CountsMore}
 use Rattle.ntp_port.specs.Made.{turn_outcome}
 use Rattle.ntp_port.specs.Serving.{Makes}
-use Rattle.ntp_port.specs.Sending.{was_sent, was_noted}
+use Rattle.ntp_service.specs.Sending.{was_sent, was_noted}
 use Rattle.ntp_admin.specs.CommandsFile.{happened_at_lines, line_observations}
 use Rattle.ntp_port.specs.Sources.{Gives, CountsOn}
 use Rattle.ntp_server.specs.Rounds.{Look, Round, ServerTold, AreDueInTurn, HasLooks, AsksRight, receipt_in, happened_in_round, round_observations}

@@ -5,6 +5,7 @@ pub mod Registry
 pub mod Lends
 pub mod Codes
 pub mod Sees
+pub mod Sending
 pub mod Events
 pub mod Model
 pub mod Headline

@@ -1,4 +1,6 @@
 //! What comes of the lines of commands and of the turns of a server.
+ghost use Rattle.std.specs.Prelude.{◌≡◌};
+ghost use Rattle.ntp_service.specs.Sending.{was_sent, was_noted};
 
 use crate::{Address, Command, LineFault, Refusal};
 use ntp_packet::Moment;
@@ -30,6 +32,22 @@ pub enum Sending {
     Noted,
     /// It was sent, and the report of its departure was not noted.
     NotNoted,
+}
+
+impl Sending {
+    /// Whether the reply was sent.
+    pub fn was_sent(self) -> bool
+        ensures { result ≡ was_sent self }
+    {
+        matches!(self, Sending::Sent | Sending::Noted | Sending::NotNoted)
+    }
+
+    /// Whether the reply's departure was noted.
+    pub fn was_noted(self) -> bool
+        ensures { result ≡ was_noted self }
+    {
+        matches!(self, Sending::Noted)
+    }
 }
 
 /// What was done in one turn of a server.

@@ -16,7 +16,7 @@ use Rattle.labntp_jobs.specs.Script.{IsReadable, event_lines}
 use Rattle.labntp_jobs.specs.Replay.{Replays, Causes}
 use Rattle.labntp_jobs.specs.Lines.{CutsShort}
 use Rattle.labntp_jobs.specs.Engine.{AnswersLines, Halts}
-use Rattle.ntp_service.proofs.Runs.{Tells-nil, Tells-push}
+use Rattle.ntp_service.proofs.PublicLaws.{Tells-nil, Tells-push}
 
 -- two lists that agree place by place, each with one member more
 AllZip-more : {X Y : Type 0} (R : X → Y → Type 0) (xs : List X) (ys : List Y) (x : X) (y : Y) → AllZip R xs ys → R x y

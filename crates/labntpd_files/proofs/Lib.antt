@@ -1,2 +1,2 @@
-pub mod Tables
-pub mod Lines
+mod Tables
+mod Lines

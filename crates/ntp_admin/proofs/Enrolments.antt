@@ -10,7 +10,7 @@ use Rattle.ntp_service.specs.declared.event.Event.TheVariants as event
 use Rattle.ntp_service.specs.declared.outcome.Outcome.{Outcome}
 use Rattle.ntp_service.specs.declared.outcome.Outcome.TheVariants as outcome
 use Rattle.ntp_service.specs.Headline.{StandsFor, TellsOne, Tells, not_struck}
-use Rattle.ntp_service.proofs.Runs.{Tells-nil, Tells-push}
+use Rattle.ntp_service.proofs.PublicLaws.{Tells-nil, Tells-push}
 use Rattle.ntp_admin.specs.Loading.{orders, all_done, Enrols, IsRefused}
 
 -- a service was given commands and nothing before them, and each was done

@@ -1,10 +1,11 @@
-pub mod Cuts
-pub mod Numbers
-pub mod Counts
-pub mod Wholes
-pub mod FileOrder
+pub mod PublicLaws
+mod Cuts
+mod Numbers
+mod Counts
+mod Wholes
+mod FileOrder
 mod LinesCut
 mod SameLines
-pub mod LinesTaken
+mod LinesTaken
 mod LinesApplied
 mod Enrolments

@@ -15,9 +15,8 @@ use Rattle.ntp_service.specs.declared.observation.LineOutcome.TheVariants.{Fault
 use Rattle.ntp_service.specs.declared.observation.Observation.{Observation}
 use Rattle.ntp_service.specs.declared.observation.Observation.TheVariants as observation
 use Rattle.ntp_service.specs.Sees.{Sees}
-use Rattle.ntp_service.proofs.Seen.{Sees-nil, Sees-append}
+use Rattle.ntp_service.proofs.PublicLaws.{Sees-nil, Sees-append, Tells-nil, Tells-one}
 use Rattle.ntp_service.specs.Headline.{StandsFor, TellsOne, command_outcome}
-use Rattle.ntp_service.proofs.Runs.{Tells-nil, Tells-one}
 use Rattle.ntp_admin.specs.FileText.{IsText}
 use Rattle.ntp_admin.specs.CommandsFile.{complete_lines, line_reading, TakenLine, carried_out, observed_read, CarriesOutDue}
 use Rattle.ntp_admin.specs.Applying.{told_before, ComesTo, AppliesLine, Applies}

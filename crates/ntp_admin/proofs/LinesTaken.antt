@@ -5,9 +5,8 @@ use Rattle.ntp_service.specs.Registry.{Registry}
 use Rattle.ntp_service.specs.declared.event.Event.{Event}
 use Rattle.ntp_service.specs.declared.observation.Observation.{Observation}
 use Rattle.ntp_service.specs.Sees.{Sees}
-use Rattle.ntp_service.proofs.Seen.{Sees-nil, Sees-append}
+use Rattle.ntp_service.proofs.PublicLaws.{Sees-nil, Sees-append, Tells-nil, Tells-append}
 use Rattle.ntp_service.specs.Headline.{StandsFor, Tells}
-use Rattle.ntp_service.proofs.Runs.{Tells-nil, Tells-append}
 use Rattle.ntp_admin.specs.CommandsFile.{line_reading, TakenLine, happened_read, observed_read, happened_at_lines, line_observations, CarriesOut}
 
 -- ---- some lines and then others

@@ -6,7 +6,7 @@ use Rattle.std.specs.Str.Pattern.{FindsTextPrefix, StripsPrefix}
 use Rattle.std.proofs.lemmas.Str.Pattern.{IsSplitOnceResult, starts_text, split_parts}
 use Rattle.std.proofs.lemmas.List.Splits.{length-slice_split}
 use Rattle.ntp_admin.specs.Words.{parts}
-use Rattle.ntp_admin.proofs.Cuts.{parts-split}
+use Rattle.ntp_admin.proofs.PublicLaws.{parts-split}
 use Rattle.ntp_clerk.specs.AnswersFile.{answer_in, answer_behind}
 
 -- the first line with other parts behind it

@@ -1,12 +1,12 @@
-pub mod AnswerLines
-pub mod Held
-pub mod Joined
-pub mod Spelled
-pub mod CommandLines
-pub mod KeyText
-pub mod SameKeys
-pub mod SameTerms
-pub mod Standings
-pub mod Amended
-pub mod Windows
-pub mod Passing
+mod AnswerLines
+mod Held
+mod Joined
+mod Spelled
+mod CommandLines
+mod KeyText
+mod SameKeys
+mod SameTerms
+mod Standings
+mod Amended
+mod Windows
+mod Passing

@@ -15,7 +15,7 @@ use Rattle.hex.specs.Hex.{encode_lower, lower_digits, IsBytes, is_hex_digit}
 use Rattle.hex.proofs.HexLemmas.{decode_of-encode_lower, decode_of-ok, length-encode_with}
 use Rattle.ntp_service.specs.declared.address.Address.{Address}
 use Rattle.ntp_admin.specs.Words.{is_decimal, decimal_in, number_in, key_in, hex_in, address_in, address_from, non_zero, ◌>>=◌}
-use Rattle.ntp_admin.proofs.Numbers.{new-non_zero}
+use Rattle.ntp_admin.proofs.PublicLaws.{new-non_zero}
 use Rattle.ntp_clerk.specs.declared.new_key.NewKey.{NewKey}
 use Rattle.ntp_clerk.specs.CommandText.{address_text, number_text, AreKeyOctets, IsAddress, IsNewKey, IsNumber}
 use Rattle.ntp_clerk.proofs.Joined.{lacks, lacks-by, lacks-joined, parts-joined}

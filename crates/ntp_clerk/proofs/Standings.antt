@@ -10,7 +10,7 @@ use Rattle.ntp_customer.specs.Customer.{Enrolment, CustomerState, enrolment_at, 
 use Rattle.ntp_customer.specs.Past.{short}
 use Rattle.ntp_service.specs.declared.address.Address.{Address}
 use Rattle.ntp_service.specs.Registry.{Registry, Agrees, customer_at, holder_of, numbers_at}
-use Rattle.ntp_service.proofs.AddressLaws.{same_or_other_address}
+use Rattle.ntp_service.proofs.PublicLaws.{same_or_other_address, other-address, Tells-nil, Tells-push}
 use Rattle.ntp_service.specs.declared.command.Command.{Command}
 use Rattle.ntp_service.specs.declared.event.Event.{Event}
 use Rattle.ntp_service.specs.declared.event.Event.TheVariants as event
@@ -20,8 +20,6 @@ use Rattle.ntp_service.specs.declared.outcome.Outcome.TheVariants as outcome
 use Rattle.ntp_service.specs.Events.{names, own}
 use Rattle.ntp_service.specs.Model.{life_of}
 use Rattle.ntp_service.specs.Headline.{StandsFor, TellsOne, is_struck, not_struck}
-use Rattle.ntp_service.proofs.Histories.{other-address}
-use Rattle.ntp_service.proofs.Runs.{Tells-nil, Tells-push}
 use Rattle.ntp_service.specs.Commands.{address_named}
 use Rattle.ntp_clerk.specs.Alike.{standing_at, ComesOf, LeaveTheSame}
 

@@ -9,12 +9,10 @@ use Rattle.ntp_packet.specs.Kiss.{rate_code}
 use Rattle.ntp_packet.specs.FirstCase.{◌>>◌, provided, decided}
 use Rattle.ntp_packet.specs.Tail.{TailValue, NoTail, BareTail, MacTail}
 use Rattle.ntp_packet.specs.Request.{RequestValue, IsRequest}
-use Rattle.ntp_packet.proofs.FirstCase.{after-provided, after-ok_or, after-map_err}
-use Rattle.ntp_packet.proofs.Octets.{AreOctets}
+use Rattle.ntp_packet.proofs.PublicLaws.{after-provided, after-ok_or, after-map_err, AreOctets}
 use Rattle.ntp_mac.specs.Reading.{Reads, reading_of}
 use Rattle.ntp_mac.specs.Signed.{IsSigned}
-use Rattle.ntp_mac.proofs.ReadAs.{Reads-reading_of}
-use Rattle.ntp_mac.proofs.Signing.{is-signed}
+use Rattle.ntp_mac.proofs.PublicLaws.{Reads-reading_of, is-signed}
 use Rattle.ntp_client.specs.declared.exchange.Outstanding.{Outstanding}
 use Rattle.ntp_client.specs.declared.pairing.Pairing.{Pairing}
 use Rattle.ntp_client.specs.declared.sample.Sample.{Sample}

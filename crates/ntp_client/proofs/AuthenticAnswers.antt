@@ -2,7 +2,7 @@
 use Rattle.std.proofs.Common.{◌≡◌, ℕ, List, refl}
 use Rattle.ntp_packet.specs.declared.moment.Moment.{Moment}
 use Rattle.ntp_packet.specs.Request.{RequestValue, IsRequest}
-use Rattle.ntp_packet.proofs.Octets.{AreOctets}
+use Rattle.ntp_packet.proofs.PublicLaws.{AreOctets}
 use Rattle.ntp_mac.specs.Signed.{IsSigned}
 use Rattle.ntp_client.specs.declared.taken.Taken.{Taken}
 use Rattle.ntp_client.specs.declared.taken.Taken.TheVariants as taken

@@ -1,5 +1,6 @@
-pub mod Pairings
-pub mod Authentic
-pub mod Samples
-pub mod Takings
-pub mod AuthenticAnswers
+pub mod PublicLaws
+mod Pairings
+mod Authentic
+mod Samples
+mod Takings
+mod AuthenticAnswers

@@ -2,8 +2,8 @@
 use Rattle.std.proofs.Common.{◌≡◌, ℕ, List, Some, Ok, inl, inr, refl, sym, ap, ◌∙◌}
 use Rattle.ntp_packet.specs.declared.moment.Moment.{Moment}
 use Rattle.ntp_packet.specs.FirstCase.{decided}
-use Rattle.ntp_packet.proofs.Octets.{AreOctets}
-use Rattle.ntp_mac.proofs.ReadAs.{only-reading_of}
+use Rattle.ntp_packet.proofs.PublicLaws.{AreOctets}
+use Rattle.ntp_mac.proofs.PublicLaws.{only-reading_of}
 use Rattle.ntp_client.specs.declared.pairing.Pairing.{Pairing}
 use Rattle.ntp_client.specs.declared.pairing.Pairing.TheVariants.{Basic, Interleaved}
 use Rattle.ntp_client.specs.declared.sample.Sample.{Sample}

@@ -5,7 +5,7 @@ use Rattle.std.specs.Result.{result_ok}
 use Rattle.std.proofs.lemmas.Bool.{eq-eqb}
 use Rattle.ntp_packet.specs.declared.stamp.Stamp.{Stamp}
 use Rattle.ntp_packet.specs.declared.moment.Moment.{Moment}
-use Rattle.ntp_packet.proofs.Freshness.{fresh-apart, fresh-nonzero}
+use Rattle.ntp_packet.proofs.PublicLaws.{fresh-apart, fresh-nonzero}
 use Rattle.ntp_packet.specs.Header.{HeaderFields}
 use Rattle.ntp_packet.specs.FirstCase.{◌>>◌, decided}
 use Rattle.ntp_packet.specs.Request.{RequestValue}
@@ -13,7 +13,7 @@ use Rattle.ntp_packet.specs.declared.malformed.Malformed.{Malformed}
 use Rattle.ntp_mac.specs.Key.{SymmetricKey}
 use Rattle.ntp_mac.specs.Reading.{reading_of}
 use Rattle.ntp_mac.specs.Signed.{IsSigned}
-use Rattle.ntp_mac.proofs.Signing.{is-signed}
+use Rattle.ntp_mac.proofs.PublicLaws.{is-signed}
 use Rattle.ntp_client.specs.declared.exchange.Exchange.{Exchange}
 use Rattle.ntp_client.specs.declared.exchange.Outstanding.{Outstanding}
 use Rattle.ntp_client.specs.declared.pairing.Pairing.{Pairing}

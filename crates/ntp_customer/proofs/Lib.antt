@@ -1,10 +1,11 @@
-pub mod Tallies
-pub mod Recents
-pub mod Changes
-pub mod Saved
+pub mod PublicLaws
+mod Tallies
+mod Recents
+mod Changes
+mod Saved
 mod NewStamps
 mod Places
 mod Listed
 mod Charged
-pub mod Customers
-pub mod Pasts
+mod Customers
+mod Pasts

@@ -9,7 +9,7 @@ use Rattle.std.proofs.lemmas.List.Quantifiers.{all_pairs_push}
 use Rattle.ntp_packet.specs.declared.stamp.Stamp.{Stamp}
 use Rattle.ntp_packet.specs.declared.moment.Moment.{Moment}
 use Rattle.ntp_packet.specs.Fresh.{is_free, fresh, IsFresh}
-use Rattle.ntp_packet.proofs.Freshness.{free-nonzero, free-apart, free-from_apart, IsFresh-fresh}
+use Rattle.ntp_packet.proofs.PublicLaws.{free-nonzero, free-apart, free-from_apart, IsFresh-fresh}
 use Rattle.ntp_customer.specs.declared.slot.Slot.{Slot}
 use Rattle.ntp_customer.specs.Exchanges.{most_slots, recent, new_exchange, receives, transmits, all_stamps, AreSaved, is_received_at, is_unused_at, exchange_at, unused_at, unless_used, with_unused, spent, with_departure}
 use Rattle.ntp_customer.proofs.Changes.{find-member, length-with_unused, receives-with_unused}

@@ -1,4 +1,5 @@
-pub mod KeyPadding
-pub mod Sealing
-pub mod Signing
-pub mod ReadAs
+pub mod PublicLaws
+mod KeyPadding
+mod Sealing
+mod Signing
+mod ReadAs

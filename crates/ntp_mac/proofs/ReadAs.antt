@@ -4,10 +4,8 @@ use Rattle.ntp_packet.specs.Request.{RequestValue, IsRequest}
 use Rattle.ntp_packet.specs.Faults.{Fails}
 use Rattle.ntp_packet.specs.OneAnswer.{HasOneReading, HasOneFault}
 use Rattle.ntp_packet.specs.declared.malformed.Malformed.{Malformed}
-use Rattle.ntp_packet.proofs.Octets.{AreOctets}
-use Rattle.ntp_packet.proofs.Answered.{one-answer}
+use Rattle.ntp_packet.proofs.PublicLaws.{AreOctets, one-answer, low, AreOctets-low, the_one}
 use Rattle.ntp_mac.specs.Reading.{Reads, reading_of}
-use Rattle.ntp_packet.proofs.TheReading.{low, AreOctets-low, the_one}
 
 -- octets are their own low bits
 low-same : (octets : List ℕ) → AreOctets octets → low octets ≡ octets

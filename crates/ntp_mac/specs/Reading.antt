@@ -3,7 +3,7 @@ use Rattle.std.specs.Prelude.{ℕ, List, Result, Ok, Err}
 use Rattle.ntp_packet.specs.Request.{RequestValue, IsRequest}
 use Rattle.ntp_packet.specs.Faults.{Fails}
 use Rattle.ntp_packet.specs.declared.malformed.Malformed.{Malformed}
-use Rattle.ntp_packet.proofs.TheReading.{the_reading}
+use Rattle.ntp_packet.proofs.PublicLaws.{the_reading}
 
 -- the octets are this request, or have this fault (RFC 5905, 7.3; RFC 7822, 3; the split: profile)
 abbrev pub Reads : List ℕ → Result RequestValue Malformed → Type 0

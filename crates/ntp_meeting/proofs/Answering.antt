@@ -11,7 +11,7 @@ use Rattle.ntp_port.specs.declared.port.PortFault.{PortFault}
 use Rattle.ntp_port.specs.Port.{Told, failed_calls, counted_send, CountsReceive}
 use Rattle.ntp_port.specs.Made.{Made, Missed, Received, turn_of, arrival_of, is_unsent}
 use Rattle.ntp_port.specs.Serving.{TurnMakes}
-use Rattle.ntp_port.proofs.Counting.{at-most-one}
+use Rattle.ntp_port.proofs.PublicLaws.{at-most-one}
 
 -- a call that received failed or not, and a turn fails once at most: in that call, or behind it
 pub one-fails : (A : Type 0) (reference : ReferenceState) (r : Result Arrival PortFault) (buffer : List ℕ) (t u : Option Told)

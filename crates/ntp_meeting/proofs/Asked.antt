@@ -3,7 +3,7 @@ use Rattle.std.proofs.Common.{◌≡◌, ℕ, ◌^◌, ◌<◌, Some, IfSome, Ok
 use Rattle.ntp_packet.specs.declared.moment.Moment.{Moment}
 use Rattle.ntp_mac.specs.Key.{SymmetricKey}
 use Rattle.ntp_mac.specs.Reading.{reading_of}
-use Rattle.ntp_mac.proofs.Signing.{is-signed}
+use Rattle.ntp_mac.proofs.PublicLaws.{is-signed}
 use Rattle.ntp_client.specs.declared.exchange.Outstanding.{Outstanding}
 use Rattle.ntp_client.specs.State.{ClientState}
 use Rattle.ntp_client.specs.Query.{query_fields, next_query, after_query}

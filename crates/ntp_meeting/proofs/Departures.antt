@@ -7,10 +7,9 @@ use Rattle.ntp_packet.specs.declared.moment.Moment.{Moment}
 use Rattle.ntp_packet.specs.Fresh.{fresh}
 use Rattle.ntp_customer.specs.declared.slot.Slot.{Slot}
 use Rattle.ntp_customer.specs.Exchanges.{recent, receives, is_unused_at, unused_at, with_unused, with_departure}
-use Rattle.ntp_customer.proofs.Recents.{recent-departed}
+use Rattle.ntp_customer.proofs.PublicLaws.{recent-departed, by_past}
 use Rattle.ntp_reply.specs.Life.{recent_of}
 use Rattle.ntp_customer.specs.Past.{Past}
-use Rattle.ntp_customer.proofs.Pasts.{by_past}
 use Rattle.ntp_reply.specs.Exchanged.{after_departure}
 
 -- where an exchange is found, it is found with its change

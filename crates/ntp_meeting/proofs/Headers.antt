@@ -4,7 +4,7 @@ use Rattle.std.proofs.Math.Facts.{sfits_lit}
 use Rattle.std.specs.Prelude.{if◌then◌else◌, IfSome}
 use Rattle.ntp_packet.specs.declared.stamp.Stamp.{Stamp}
 use Rattle.ntp_packet.specs.declared.moment.Moment.{Moment}
-use Rattle.ntp_packet.proofs.Freshness.{fresh-below}
+use Rattle.ntp_packet.proofs.PublicLaws.{fresh-below}
 use Rattle.ntp_packet.specs.Header.{IsHeader}
 use Rattle.ntp_client.specs.declared.exchange.Exchange.{Exchange}
 use Rattle.ntp_client.specs.declared.exchange.Outstanding.{Outstanding}

@@ -7,8 +7,7 @@ use Rattle.ntp_packet.specs.declared.stamp.Stamp.{Stamp}
 use Rattle.ntp_packet.specs.Header.{HeaderFields, no_stamp}
 use Rattle.ntp_customer.specs.declared.slot.Slot.{Slot}
 use Rattle.ntp_customer.specs.Exchanges.{AreSaved, unused_at, is_unused_at, is_received_at}
-use Rattle.ntp_customer.proofs.Changes.{find-member}
-use Rattle.ntp_customer.proofs.Saved.{stamps-apart}
+use Rattle.ntp_customer.proofs.PublicLaws.{find-member, stamps-apart}
 use Rattle.ntp_client.specs.declared.exchange.Exchange.{Exchange}
 use Rattle.ntp_client.specs.declared.exchange.Outstanding.{Outstanding}
 use Rattle.ntp_client.specs.State.{IsOutstanding}

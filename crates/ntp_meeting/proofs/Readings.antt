@@ -2,11 +2,9 @@
 use Rattle.std.proofs.Common.{◌≡◌, ℕ, ◌^◌, ◌<◌, List, [], ◌++◌, Ok, refl, sym, ap, subst, ◌∙◌, append-nil, arith}
 use Rattle.std.proofs.lemmas.List.Elements.{All-append}
 use Rattle.ntp_packet.specs.Header.{HeaderFields, IsHeader, header_octets}
-use Rattle.ntp_packet.proofs.Readings.{length-header_octets}
+use Rattle.ntp_packet.proofs.PublicLaws.{length-header_octets, AreOctets-all, length-tail}
 use Rattle.ntp_packet.specs.Tail.{TailValue, NoTail, BareTail, MacTail, tail_octets, IsTail}
 use Rattle.ntp_packet.specs.Request.{RequestValue, IsRequest, signed_octets}
-use Rattle.ntp_packet.proofs.Octets.{AreOctets-all}
-use Rattle.ntp_packet.proofs.Tails.{length-tail}
 use Rattle.ntp_mac.specs.Key.{SymmetricKey}
 use Rattle.ntp_mac.specs.Digest.{hash, digest_of}
 use Rattle.ntp_mac.specs.Mac.{mac_of, nak_octets}
@@ -14,9 +12,9 @@ use Rattle.ntp_mac.specs.Reading.{reading_of}
 use Rattle.ntp_mac.specs.Signed.{IsSigned}
 use Rattle.ntp_mac.specs.declared.key.Algorithm.{Algorithm}
 use Rattle.ntp_mac.specs.declared.key.Algorithm.TheVariants.{Md5, Sha1}
-use Rattle.ntp_mac.proofs.ReadAs.{only-reading_of}
+use Rattle.ntp_mac.proofs.PublicLaws.{only-reading_of}
 use Rattle.md5.proofs.StandardFacts.{length-md5}
-use Rattle.ntp_reply.proofs.ReplyLengths.{length-sha1}
+use Rattle.ntp_reply.proofs.PublicLaws.{length-sha1}
 use Rattle.ntp_meeting.proofs.Octets.{Octets, Octets-header, Octets-zeros, Octets-mac}
 
 -- a packet of a header and a tail, with no field

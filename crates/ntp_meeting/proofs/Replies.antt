@@ -20,9 +20,7 @@ use Rattle.ntp_client.specs.Pairing.{pairing_of, sample_of}
 use Rattle.ntp_client.specs.Sample.{IsTimeReply}
 use Rattle.ntp_client.specs.Taking.{taken_for}
 use Rattle.ntp_client.specs.Judging.{authentic_steps, tail_steps}
-use Rattle.ntp_client.proofs.Pairings.{basic-pairing}
-use Rattle.ntp_client.proofs.Authentic.{time-taken}
-use Rattle.ntp_client.proofs.Takings.{read-taken, paired-taken, signed-taken}
+use Rattle.ntp_client.proofs.PublicLaws.{basic-pairing, time-taken, read-taken, paired-taken, signed-taken}
 use Rattle.ntp_customer.specs.Past.{Past}
 use Rattle.ntp_reply.specs.Reference.{ReferenceState, IsReference}
 use Rattle.ntp_reply.specs.Replies.{reply_fields, basic_fields, kiss_fields, shown_stratum, sealed}

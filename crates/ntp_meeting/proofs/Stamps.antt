@@ -1,10 +1,10 @@
 -- The new stamps of a reply are of known time, and have 64 bits.
 use Rattle.std.proofs.Common.{◌≢◌, ◌^◌, ◌<◌, List, [], ◌∷◌, ◌++◌, length, arith}
 use Rattle.std.proofs.lemmas.List.{length-append, length-map}
-use Rattle.ntp_packet.proofs.Freshness.{fresh-nonzero, fresh-below}
+use Rattle.ntp_packet.proofs.PublicLaws.{fresh-nonzero, fresh-below}
 use Rattle.ntp_customer.specs.declared.slot.Slot.{Slot}
 use Rattle.ntp_customer.specs.Exchanges.{receives, transmits, all_stamps}
-use Rattle.ntp_customer.proofs.Recents.{length-recent}
+use Rattle.ntp_customer.proofs.PublicLaws.{length-recent}
 use Rattle.ntp_customer.specs.Customer.{exchanges_of}
 use Rattle.ntp_customer.specs.Past.{Past}
 use Rattle.ntp_reply.specs.declared.occasion.Occasion.{Occasion}

@@ -9,7 +9,7 @@ use Rattle.ntp_packet.specs.Fresh.{fresh}
 use Rattle.ntp_packet.specs.Header.{header_octets}
 use Rattle.ntp_customer.specs.declared.slot.Slot.{Slot}
 use Rattle.ntp_customer.specs.Exchanges.{AreSaved, unused_at}
-use Rattle.ntp_customer.proofs.Saved.{stamps-apart}
+use Rattle.ntp_customer.proofs.PublicLaws.{stamps-apart}
 use Rattle.ntp_client.specs.declared.exchange.Exchange.{Exchange}
 use Rattle.ntp_client.specs.declared.exchange.Outstanding.{Outstanding}
 use Rattle.ntp_client.specs.declared.pairing.Pairing.TheVariants.{Basic, Interleaved}
@@ -18,7 +18,7 @@ use Rattle.ntp_client.specs.declared.taken.Distrust.TheVariants as distrust
 use Rattle.ntp_client.specs.State.{ClientState, IsOutstanding}
 use Rattle.ntp_client.specs.Query.{query_fields}
 use Rattle.ntp_client.specs.Taking.{taken_for}
-use Rattle.ntp_client.proofs.Pairings.{basic-pairing, interleaved-pairing}
+use Rattle.ntp_client.proofs.PublicLaws.{basic-pairing, interleaved-pairing}
 use Rattle.ntp_customer.specs.Past.{Past}
 use Rattle.ntp_reply.specs.Replies.{time_fields, sealed}
 use Rattle.ntp_reply.specs.declared.occasion.Occasion.{Occasion}

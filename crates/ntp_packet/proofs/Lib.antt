@@ -1,19 +1,20 @@
-pub mod Parts
-pub mod Readings
-pub mod Octets
-pub mod Spelling
-pub mod Spelled
-pub mod Headers
-pub mod RestFaults
-pub mod Places
-pub mod Tails
-pub mod Ends
-pub mod Unique
-pub mod Found
-pub mod Padding
-pub mod Composed
-pub mod Answered
-pub mod TheReading
-pub mod FirstCase
-pub mod Freshness
-pub mod Signed
+pub mod PublicLaws
+mod Parts
+mod Readings
+mod Octets
+mod Spelling
+mod Spelled
+mod Headers
+mod RestFaults
+mod Places
+mod Tails
+mod Ends
+mod Unique
+mod Found
+mod Padding
+mod Composed
+mod Answered
+mod TheReading
+mod FirstCase
+mod Freshness
+mod Signed

@@ -12,7 +12,7 @@ use Rattle.ntp_service.specs.declared.event.Event.{Event}
 use Rattle.ntp_service.specs.declared.event.Event.TheVariants as event
 use Rattle.ntp_service.specs.declared.outcome.Outcome.TheVariants as outcome
 use Rattle.ntp_service.specs.Headline.{StandsFor, TellsOne}
-use Rattle.ntp_service.proofs.Runs.{Tells-nil, Tells-one, Tells-append}
+use Rattle.ntp_service.proofs.PublicLaws.{Tells-nil, Tells-one, Tells-append}
 use Rattle.ntp_port.specs.declared.memory_port.Sent.{Sent}
 use Rattle.ntp_port.specs.declared.port.PortCounts.{PortCounts}
 use Rattle.ntp_port.specs.declared.port.PortFault.{PortFault}

@@ -11,7 +11,7 @@ use Rattle.ntp_service.specs.declared.observation.Sending.{Sending}
 use Rattle.ntp_service.specs.declared.observation.TurnOutcome.{TurnOutcome}
 use Rattle.ntp_service.specs.declared.observation.TurnOutcome.TheVariants.{NothingReceived, Answered}
 use Rattle.ntp_service.specs.Headline.{Tells}
-use Rattle.ntp_service.proofs.Runs.{Tells-nil, Tells-append}
+use Rattle.ntp_service.proofs.PublicLaws.{Tells-nil, Tells-append}
 use Rattle.ntp_port.specs.declared.port.PortCounts.{PortCounts}
 use Rattle.ntp_port.specs.declared.port.PortFault.{PortFault}
 use Rattle.ntp_port.specs.declared.serving.Served.{Served}

@@ -1,16 +1,17 @@
-pub mod Sequences
-pub mod Dropping
-pub mod ManyTurns
-pub mod Taking
+pub mod PublicLaws
+mod Sequences
+mod Dropping
+mod ManyTurns
+mod Taking
 mod OneTurn
 mod Answering
-pub mod Counting
+mod Counting
 mod Receiving
-pub mod Watching
-pub mod Seeing
-pub mod Keeping
-pub mod Passing
-pub mod DroppingStale
-pub mod Waiting
-pub mod Looking
-pub mod OneTake
+mod Watching
+mod Seeing
+mod Keeping
+mod Passing
+mod DroppingStale
+mod Waiting
+mod Looking
+mod OneTake

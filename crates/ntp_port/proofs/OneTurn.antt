@@ -14,7 +14,7 @@ use Rattle.ntp_service.specs.declared.event.Event.{Event}
 use Rattle.ntp_service.specs.declared.event.Event.TheVariants as event
 use Rattle.ntp_service.specs.Model.{departure_outcome}
 use Rattle.ntp_service.specs.Headline.{StandsFor, Tells, TellsOne}
-use Rattle.ntp_service.proofs.Runs.{Tells-nil, Tells-one}
+use Rattle.ntp_service.proofs.PublicLaws.{Tells-nil, Tells-one}
 use Rattle.ntp_port.specs.declared.memory_port.Sent.{Sent}
 use Rattle.ntp_port.specs.declared.port.PortCounts.{PortCounts}
 use Rattle.ntp_port.specs.declared.port.PortFault.{PortFault}

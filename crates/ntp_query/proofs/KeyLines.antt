@@ -7,7 +7,7 @@ use Rattle.std.proofs.lemmas.Str.Pattern.{IsSplitOnceResult, split_parts}
 use Rattle.ntp_packet.specs.FirstCase.{◌>>=◌}
 use Rattle.ntp_mac.specs.Key.{SymmetricKey}
 use Rattle.ntp_admin.specs.Words.{parts}
-use Rattle.ntp_admin.proofs.Cuts.{parts-split}
+use Rattle.ntp_admin.proofs.PublicLaws.{parts-split}
 use Rattle.ntp_query.specs.declared.key_file.KeyFileFault.{KeyFileFault}
 use Rattle.ntp_query.specs.declared.key_file.KeyFileFault.TheVariants.{Missing}
 use Rattle.ntp_query.specs.KeyFile.{words, is_key_line, key_in_line, key_in_lines}

@@ -6,15 +6,12 @@ use Rattle.ntp_packet.specs.declared.moment.Moment.{Moment}
 use Rattle.ntp_packet.specs.Header.{HeaderFields}
 use Rattle.ntp_customer.specs.declared.slot.Slot.{Slot}
 use Rattle.ntp_customer.specs.Exchanges.{AreSaved, recent, new_exchange, unused_at, is_unused_at, spent}
-use Rattle.ntp_customer.proofs.Changes.{find-member, receives-spent, all_stamps-spent}
-use Rattle.ntp_customer.proofs.Recents.{recent-departed}
-use Rattle.ntp_customer.proofs.Saved.{AreSaved-nil, AreSaved-push, AreSaved-spent, AreSaved-departed}
+use Rattle.ntp_customer.proofs.PublicLaws.{find-member, receives-spent, all_stamps-spent, recent-departed, AreSaved-nil, AreSaved-push, AreSaved-spent, AreSaved-departed, by_past}
 use Rattle.ntp_reply.specs.declared.occasion.Occasion.{Occasion}
 use Rattle.ntp_reply.specs.Replies.{new_stamps}
 use Rattle.ntp_reply.proofs.DistinctStamps.{receive-free, transmit-free}
 use Rattle.ntp_customer.specs.Customer.{budget_of}
 use Rattle.ntp_customer.specs.Past.{Past, with_query}
-use Rattle.ntp_customer.proofs.Pasts.{by_past}
 use Rattle.ntp_reply.specs.Life.{recent_of}
 use Rattle.ntp_reply.specs.Exchanged.{matched, with_match_used, after_time, after_departure}
 use Rattle.ntp_reply.specs.Kind.{Kind, PassedOver, RefusedByDeny, RefusedByNak, Signed}

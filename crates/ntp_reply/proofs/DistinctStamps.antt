@@ -4,11 +4,11 @@ use Rattle.std.specs.Prelude.{IsTrue}
 use Rattle.std.proofs.lemmas.List.{length-append, length-map}
 use Rattle.std.proofs.lemmas.List.Elements.{Contains-append_right}
 use Rattle.ntp_packet.specs.Fresh.{is_free}
-use Rattle.ntp_packet.proofs.Freshness.{free-nonzero, free-apart, IsFresh-fresh}
+use Rattle.ntp_packet.proofs.PublicLaws.{free-nonzero, free-apart, IsFresh-fresh}
 use Rattle.ntp_packet.specs.Header.{HeaderFields}
 use Rattle.ntp_customer.specs.declared.slot.Slot.{Slot}
 use Rattle.ntp_customer.specs.Exchanges.{AreSaved, receives, transmits, all_stamps}
-use Rattle.ntp_customer.proofs.Saved.{Contains-map, stamps-apart}
+use Rattle.ntp_customer.proofs.PublicLaws.{Contains-map, stamps-apart}
 use Rattle.ntp_reply.specs.declared.occasion.Occasion.{Occasion}
 use Rattle.ntp_reply.specs.Replies.{HasDistinctStamps, new_stamps, basic_fields, time_fields}
 

@@ -6,11 +6,9 @@ use Rattle.ntp_packet.specs.declared.moment.Moment.{Moment}
 use Rattle.ntp_packet.specs.Header.{HeaderFields}
 use Rattle.ntp_customer.specs.declared.slot.Slot.{Slot}
 use Rattle.ntp_customer.specs.Exchanges.{recent, with_recent, new_exchange, unused_at, spent, with_departure}
-use Rattle.ntp_customer.proofs.Recents.{recent-all, recent-append, recent-with_recent, recent-departed, length-spent}
+use Rattle.ntp_customer.proofs.PublicLaws.{recent-all, recent-append, recent-with_recent, recent-departed, length-spent, by_customer, revoked-absent, by_past}
 use Rattle.ntp_customer.specs.Customer.{Enrolment, CustomerState, new_customer, customer_from, enrolment_at, is_enrolled, exchanges_of, with_saved}
 use Rattle.ntp_customer.specs.Past.{Past, with_query, short}
-use Rattle.ntp_customer.proofs.Customers.{by_customer, revoked-absent}
-use Rattle.ntp_customer.proofs.Pasts.{by_past}
 use Rattle.ntp_reply.specs.declared.occasion.Occasion.{Occasion}
 use Rattle.ntp_reply.specs.declared.occasion.NewStamps.{NewStamps}
 use Rattle.ntp_reply.specs.Replies.{new_stamps}

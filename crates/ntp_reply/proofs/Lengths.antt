@@ -3,7 +3,7 @@ use Rattle.std.proofs.Common.{◌≡◌, ℕ, ◌+◌, ◌≤◌, List, length, 
 use Rattle.ntp_packet.specs.Tail.{TailValue, NoTail, BareTail, MacTail, tail_octets, IsTail}
 use Rattle.ntp_packet.specs.Request.{RequestValue, IsReading}
 use Rattle.ntp_packet.specs.declared.digests.Digest.TheVariants as digest
-use Rattle.ntp_packet.proofs.Headers.{length-signed}
+use Rattle.ntp_packet.proofs.PublicLaws.{length-signed}
 use Rattle.ntp_mac.specs.Key.{SymmetricKey}
 use Rattle.ntp_mac.specs.Digest.{digest_length, hash}
 use Rattle.ntp_mac.specs.Signed.{IsSigned}

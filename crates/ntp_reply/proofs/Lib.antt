@@ -1,7 +1,8 @@
-pub mod DistinctStamps
+pub mod PublicLaws
+mod DistinctStamps
 mod Lengths
 mod Answering
-pub mod ReplyLengths
-pub mod KeptExchanges
-pub mod ApartExchanges
-pub mod ShortPasts
+mod ReplyLengths
+mod KeptExchanges
+mod ApartExchanges
+mod ShortPasts

@@ -5,7 +5,7 @@ use Rattle.std.specs.Int.{w32, to_be_bytes}
 use Rattle.md5.proofs.StandardFacts.{length-md5}
 use Rattle.sha1.specs.Sha1.{sha1, digest_bytes as sha1_octets}
 use Rattle.ntp_packet.specs.Header.{HeaderFields, header_octets}
-use Rattle.ntp_packet.proofs.Parts.{four-cells}
+use Rattle.ntp_packet.proofs.PublicLaws.{four-cells}
 use Rattle.ntp_customer.specs.declared.slot.Slot.{Slot}
 use Rattle.ntp_packet.specs.FirstCase.{◌>>=◌, ◌>>◌, provided, decided}
 use Rattle.ntp_packet.specs.Tail.{TailValue, NoTail, BareTail, MacTail, digest_octets, tail_octets}
@@ -18,7 +18,7 @@ use Rattle.ntp_mac.specs.Reading.{Reads, reading_of}
 use Rattle.ntp_mac.specs.Signed.{is_signed}
 use Rattle.ntp_mac.specs.declared.key.Algorithm.{Algorithm}
 use Rattle.ntp_mac.specs.declared.key.Algorithm.TheVariants.{Md5, Sha1}
-use Rattle.ntp_mac.proofs.Signing.{is-signed}
+use Rattle.ntp_mac.proofs.PublicLaws.{is-signed}
 use Rattle.ntp_customer.specs.Customer.{Enrolment, held_in, enrolment_at, budget_of}
 use Rattle.ntp_customer.specs.Past.{Past}
 use Rattle.ntp_reply.specs.declared.kiss.Kiss.{Kiss}

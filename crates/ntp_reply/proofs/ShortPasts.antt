@@ -4,14 +4,12 @@ use Rattle.std.specs.Prelude.{if◌then◌else◌}
 use Rattle.std.specs.Option.{option_map_or}
 use Rattle.std.proofs.lemmas.Bool.Decides.{nat_tests}
 use Rattle.ntp_customer.specs.Tally.{tally, count_in, most_counted}
-use Rattle.ntp_customer.proofs.Tallies.{tally-tells_all}
+use Rattle.ntp_customer.proofs.PublicLaws.{tally-tells_all, with_queries, enrolment_at-short, queries_kept, queries-short, short-with_query}
 use Rattle.ntp_packet.specs.Header.{HeaderFields, header_octets}
 use Rattle.ntp_mac.specs.Mac.{nak_octets}
 use Rattle.ntp_mac.specs.Reading.{reading_of}
 use Rattle.ntp_customer.specs.Customer.{enrolment_at, budget_of, changing}
-use Rattle.ntp_customer.proofs.Customers.{with_queries}
 use Rattle.ntp_customer.specs.Past.{Past, queries_in, with_refusal, with_query, short}
-use Rattle.ntp_customer.proofs.Pasts.{enrolment_at-short, queries_kept, queries-short, short-with_query}
 use Rattle.ntp_reply.specs.Replies.{new_stamps, basic_fields, kiss_fields, sealed}
 use Rattle.ntp_reply.specs.declared.kiss.Kiss.TheVariants.{Rate, Deny}
 use Rattle.ntp_reply.specs.declared.occasion.Occasion.{Occasion}

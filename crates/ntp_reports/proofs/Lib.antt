@@ -1,3 +1,3 @@
-pub mod Adding
-pub mod Reports
-pub mod LogLines
+mod Adding
+mod Reports
+mod LogLines

@@ -6,12 +6,11 @@ use Rattle.std.proofs.lemmas.Grind.{flat_map-append}
 use Rattle.ntp_packet.specs.declared.moment.Moment.{Moment}
 use Rattle.ntp_reply.specs.Reference.{ReferenceState}
 use Rattle.ntp_service.specs.Sees.{Sees}
-use Rattle.ntp_service.proofs.Seen.{Sees-nil, Sees-append}
+use Rattle.ntp_service.proofs.PublicLaws.{Sees-nil, Sees-append, Tells-nil, Tells-append}
 use Rattle.ntp_service.specs.Headline.{Tells}
-use Rattle.ntp_service.proofs.Runs.{Tells-nil, Tells-append}
 use Rattle.ntp_port.specs.declared.port.PortCounts.{PortCounts}
 use Rattle.ntp_port.specs.Port.{Told, CountsMore}
-use Rattle.ntp_port.proofs.Dropping.{CountsMore-nil, CountsMore-append}
+use Rattle.ntp_port.proofs.PublicLaws.{CountsMore-nil, CountsMore-append}
 use Rattle.ntp_admin.specs.CommandsFile.{TakenLine, CarriesOut, CarriesOutDue, lines_taken, happened_at_lines, line_observations}
 use Rattle.ntp_port.specs.Sources.{Coming, Gives, CountsOn}
 use Rattle.ntp_server.specs.Rounds.{Look, ServerTold, AreDueAt, AreDueInTurn}

@@ -13,19 +13,15 @@ use Rattle.ntp_service.specs.declared.observation.Observation.TheVariants.{Turn}
 use Rattle.ntp_service.specs.declared.observation.TurnOutcome.{TurnOutcome}
 use Rattle.ntp_service.specs.declared.observation.TurnOutcome.TheVariants.{NothingReceived, Answered}
 use Rattle.ntp_service.specs.Sees.{Sees}
-use Rattle.ntp_service.proofs.Seen.{Sees-nil, Sees-append}
+use Rattle.ntp_service.proofs.PublicLaws.{Sees-nil, Sees-append, Tells-nil, Tells-append}
 use Rattle.ntp_service.specs.Headline.{Tells}
-use Rattle.ntp_service.proofs.Runs.{Tells-nil, Tells-append}
 use Rattle.ntp_port.specs.declared.port.PortCounts.{PortCounts}
 use Rattle.ntp_port.specs.declared.port.PortFault.{PortFault}
 use Rattle.ntp_port.specs.Port.{IncomingValue, failed_calls, counted_send, CountsMore}
-use Rattle.ntp_port.proofs.Dropping.{CountsMore-nil, CountsMore-append}
+use Rattle.ntp_port.proofs.PublicLaws.{CountsMore-nil, CountsMore-append, TakesTurn, sent_of, count_of, if_so, count-more, Makes-nil, Makes-append, Makes-few, at-most-one, sent-one, noted-one}
 use Rattle.ntp_port.specs.Made.{Made, Missed, Received, turn_of, arrival_of, happened_in_turn, sent_in, has_arrived, has_departed, is_unsent, turn_outcome}
 use Rattle.ntp_port.specs.Serving.{Makes}
-use Rattle.ntp_port.proofs.Taking.{TakesTurn}
 use Rattle.ntp_service.specs.Sending.{was_sent}
-use Rattle.ntp_port.proofs.ManyTurns.{sent_of, count_of, if_so, count-more, Makes-nil, Makes-append, Makes-few}
-use Rattle.ntp_port.proofs.Counting.{at-most-one, sent-one, noted-one}
 use Rattle.ntp_server.specs.declared.server.Totals.{Totals}
 use Rattle.ntp_port.specs.Sources.{Gives, CountsOn}
 use Rattle.ntp_server.specs.Rounds.{Look, Round, ServerTold, AreDueInTurn, HasLooks, AsksRight, ServesRounds, looks_of, made_in, receipt_in, happened_in_round, round_observations}

@@ -14,7 +14,7 @@ use Rattle.ntp_service.specs.declared.address.Address.{Address}
 use Rattle.ntp_service.specs.Address.{address_cmp}
 use Rattle.ntp_customer.specs.declared.numbered_key.NumberedKey.{NumberedKey}
 use Rattle.ntp_customer.specs.Customer.{Enrolment, CustomerState, enrolment_of, enrolment_at, new_customer, revoked, rebudgeted, rolled_over, retired, is_enrolled, numbers_in, numbers_of}
-use Rattle.ntp_customer.proofs.Customers.{revoked-absent, numbers-rebudgeted}
+use Rattle.ntp_customer.proofs.PublicLaws.{revoked-absent, numbers-rebudgeted}
 use Rattle.ntp_service.specs.declared.refusal.Refusal.TheVariants.{NotEnrolled}
 use Rattle.ntp_service.specs.declared.command.Command.{Command}
 use Rattle.ntp_service.specs.declared.command.Command.TheVariants.{Enrol, Revoke, Budget, Rollover, Retire}

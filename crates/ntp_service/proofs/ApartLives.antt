@@ -3,13 +3,12 @@ use Rattle.std.proofs.Common.{◌≡◌, Bool, true, false, List, [], ◌∷◌,
 use Rattle.std.specs.Prelude.{if◌then◌else◌}
 use Rattle.std.specs.Int.NonZero.{non_zero_u16_get}
 use Rattle.ntp_customer.specs.Exchanges.{AreSaved}
-use Rattle.ntp_customer.proofs.Saved.{AreSaved-nil}
+use Rattle.ntp_customer.proofs.PublicLaws.{AreSaved-nil, with_key, without_key}
 use Rattle.ntp_customer.specs.Customer.{Enrolment, with_terms}
-use Rattle.ntp_customer.proofs.Customers.{with_key, without_key}
 use Rattle.ntp_reply.specs.Life.{Life, enrolment_in, recent_in}
 use Rattle.ntp_reply.specs.Kind.{kind_of}
 use Rattle.ntp_reply.specs.Replies.{occasion_of}
-use Rattle.ntp_reply.proofs.ApartExchanges.{AreSaved-none, AreSaved-after_kind, AreSaved-after_departure}
+use Rattle.ntp_reply.proofs.PublicLaws.{AreSaved-none, AreSaved-after_kind, AreSaved-after_departure}
 use Rattle.ntp_service.specs.declared.command.Command.{Command}
 use Rattle.ntp_service.specs.declared.command.Command.TheVariants.{Enrol, Revoke, Budget, Rollover, Retire}
 use Rattle.ntp_service.specs.declared.event.Event.{Event}

@@ -5,7 +5,7 @@ use Rattle.std.proofs.lemmas.Bool.{eq-eqb}
 use Rattle.std.proofs.lemmas.Bool.Decides.{nat_tests}
 use Rattle.std.proofs.lemmas.Option.{none-some}
 use Rattle.ntp_customer.specs.Tally.{count_in}
-use Rattle.ntp_customer.proofs.Tallies.{count_in-append}
+use Rattle.ntp_customer.proofs.PublicLaws.{count_in-append, by_past}
 use Rattle.ntp_packet.specs.Header.{HeaderFields, header_octets}
 use Rattle.ntp_mac.specs.Mac.{nak_octets}
 use Rattle.ntp_mac.specs.Key.{SymmetricKey}
@@ -14,7 +14,6 @@ use Rattle.ntp_packet.specs.Request.{RequestValue}
 use Rattle.ntp_packet.specs.declared.malformed.Malformed.{Malformed}
 use Rattle.ntp_customer.specs.Customer.{Enrolment, AccountOf, enrolment_at, is_enrolled}
 use Rattle.ntp_customer.specs.Past.{Past, with_refusal}
-use Rattle.ntp_customer.proofs.Pasts.{by_past}
 use Rattle.ntp_reply.specs.Life.{Life, enrolment_in}
 use Rattle.ntp_reply.specs.Replies.{basic_fields, kiss_fields}
 use Rattle.ntp_reply.specs.declared.kiss.Kiss.TheVariants.{Deny}

@@ -3,7 +3,7 @@ use Rattle.std.proofs.Common.{◌≡◌, false, Option, Some, None, option_map, 
 use Rattle.std.specs.Option.{option_map_or}
 use Rattle.std.specs.Int.NonZero.{non_zero_u16_get}
 use Rattle.ntp_customer.specs.Customer.{Enrolment, enrolment_of, numbers_in}
-use Rattle.ntp_customer.proofs.Customers.{with_key, without_key}
+use Rattle.ntp_customer.proofs.PublicLaws.{with_key, without_key}
 use Rattle.ntp_service.specs.declared.address.Address.{Address}
 use Rattle.ntp_reply.specs.Life.{Life, enrolment_in}
 use Rattle.ntp_reply.specs.Replies.{occasion_of}

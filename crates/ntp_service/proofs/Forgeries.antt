@@ -4,7 +4,7 @@ use Rattle.ntp_packet.specs.declared.moment.Moment.{Moment}
 use Rattle.ntp_packet.specs.Header.{HeaderFields}
 use Rattle.ntp_service.specs.declared.address.Address.{Address}
 use Rattle.ntp_service.specs.Registry.{Registry}
-use Rattle.ntp_customer.proofs.Customers.{with_refusals}
+use Rattle.ntp_customer.proofs.PublicLaws.{with_refusals}
 use Rattle.ntp_customer.specs.Past.{Past}
 use Rattle.ntp_reply.specs.Life.{Life}
 use Rattle.ntp_reply.specs.Replies.{occasion_of}

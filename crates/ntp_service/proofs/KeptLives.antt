@@ -9,8 +9,7 @@ use Rattle.ntp_customer.specs.Customer.{CustomerState, enrolment_of, enrolment_a
 use Rattle.ntp_customer.specs.Past.{Past, short}
 use Rattle.ntp_reply.specs.Life.{Life, budget_in}
 use Rattle.ntp_reply.specs.Replies.{occasion_of}
-use Rattle.ntp_reply.proofs.KeptExchanges.{short-new, departure-alike}
-use Rattle.ntp_reply.proofs.ShortPasts.{datagram-alike}
+use Rattle.ntp_reply.proofs.PublicLaws.{short-new, departure-alike, datagram-alike}
 use Rattle.ntp_service.specs.declared.command.Command.{Command}
 use Rattle.ntp_service.specs.declared.command.Command.TheVariants.{Enrol}
 use Rattle.ntp_service.specs.declared.event.Event.{Event}

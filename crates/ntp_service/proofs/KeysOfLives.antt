@@ -10,7 +10,7 @@ use Rattle.std.proofs.lemmas.List.Kept.{AllPairs-filter}
 use Rattle.std.proofs.lemmas.List.Quantifiers.{all_pairs_push}
 use Rattle.ntp_customer.specs.declared.numbered_key.NumberedKey.{NumberedKey}
 use Rattle.ntp_customer.specs.Customer.{Enrolment, HasKeys, enrolment_of, with_terms, numbers_in, most_keys}
-use Rattle.ntp_customer.proofs.Customers.{with_key, without_key}
+use Rattle.ntp_customer.proofs.PublicLaws.{with_key, without_key}
 use Rattle.ntp_service.specs.declared.refusal.Refusal.{Refusal}
 use Rattle.ntp_reply.specs.Life.{Life, enrolment_in}
 use Rattle.ntp_reply.specs.Replies.{occasion_of}

@@ -1,16 +1,17 @@
+pub mod PublicLaws
 mod Keys
 mod Entries
 mod Loans
-pub mod AddressLaws
-pub mod Members
+mod AddressLaws
+mod Members
 mod Numbers
-pub mod Lookups
-pub mod Agreement
-pub mod Seen
-pub mod Histories
+mod Lookups
+mod Agreement
+mod Seen
+mod Histories
 mod Datagrams
 mod CommandSteps
-pub mod Runs
+mod Runs
 mod Holders
 mod Lives
 mod KeptLives

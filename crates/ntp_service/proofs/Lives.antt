@@ -5,7 +5,7 @@ use Rattle.std.specs.Option.{option_map_or}
 use Rattle.std.proofs.lemmas.Option.{none-some, same_Some}
 use Rattle.ntp_customer.specs.Customer.{AccountOf, CustomerState, enrolment_at}
 use Rattle.ntp_customer.specs.Past.{Past, short}
-use Rattle.ntp_customer.proofs.Pasts.{by_past}
+use Rattle.ntp_customer.proofs.PublicLaws.{by_past}
 use Rattle.ntp_service.specs.declared.refusal.Refusal.{Refusal}
 use Rattle.ntp_reply.specs.Life.{Life, enrolment_in}
 use Rattle.ntp_service.specs.declared.command.Command.{Command}

@@ -5,7 +5,7 @@ use Rattle.std.proofs.lemmas.Bool.Decides.{nat_tests}
 use Rattle.std.proofs.lemmas.List.{map-append}
 use Rattle.ntp_customer.specs.declared.numbered_key.NumberedKey.{NumberedKey}
 use Rattle.ntp_customer.specs.Customer.{CustomerState, rolled_over, retired, is_enrolled, numbers_of}
-use Rattle.ntp_customer.proofs.Customers.{by_customer}
+use Rattle.ntp_customer.proofs.PublicLaws.{by_customer}
 use Rattle.ntp_service.proofs.Members.{Contains-here, Contains-there, Contains-cases, Contains-none}
 
 abbrev numbers : List NumberedKey → List ℕ

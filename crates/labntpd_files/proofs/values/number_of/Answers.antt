@@ -1,6 +1,6 @@
 use Rattle.std.proofs.Common.{◌∙◌, ap, ℕ, Option}
 use Rattle.ntp_admin.specs.Words.{non_zero, ◌>>=◌}
-use Rattle.ntp_admin.proofs.Numbers.{new-non_zero}
+use Rattle.ntp_admin.proofs.PublicLaws.{new-non_zero}
 use Rattle.labntpd_files.proofs.values.number_of.Goals as goal
 
 pub returns : goal.returns

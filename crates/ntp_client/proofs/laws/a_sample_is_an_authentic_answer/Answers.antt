@@ -1,4 +1,4 @@
-use Rattle.ntp_packet.proofs.Octets.{AreOctets-all}
+use Rattle.ntp_packet.proofs.PublicLaws.{AreOctets-all}
 use Rattle.ntp_client.proofs.Samples.{sample-given, given-taken}
 use Rattle.ntp_client.proofs.laws.a_sample_is_an_authentic_answer.Goals as goal
 

@@ -1,4 +1,4 @@
-use Rattle.ntp_packet.proofs.Octets.{AreOctets-all}
+use Rattle.ntp_packet.proofs.PublicLaws.{AreOctets-all}
 use Rattle.ntp_mac.proofs.ReadAs.{Reads-reading_of, only-reading_of}
 use Rattle.ntp_mac.proofs.laws.octets_are_what_they_are_read_as.Goals as goal
 

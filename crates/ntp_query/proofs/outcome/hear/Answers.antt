@@ -1,6 +1,6 @@
 use Rattle.std.proofs.Common.{None, Some, sym, ap, ◌∙◌, arith}
-use Rattle.ntp_packet.proofs.Octets.{AreOctets}
-use Rattle.ntp_client.proofs.Samples.{sample-read}
+use Rattle.ntp_packet.proofs.PublicLaws.{AreOctets}
+use Rattle.ntp_client.proofs.PublicLaws.{sample-read}
 use Rattle.ntp_query.proofs.outcome.hear.Goals as goal
 
 -- a sample has a header

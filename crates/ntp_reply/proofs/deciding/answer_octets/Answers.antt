@@ -1,5 +1,5 @@
 use Rattle.std.proofs.Common.{rules, sym, arith}
-use Rattle.ntp_mac.proofs.ReadAs.{answers-so}
+use Rattle.ntp_mac.proofs.PublicLaws.{answers-so}
 use Rattle.ntp_reply.proofs.deciding.answer_octets.Goals as goal
 
 pub returns-in-Ok-clause-answer : goal.returns-in-Ok-clause-answer

@@ -1,4 +1,4 @@
-use Rattle.ntp_customer.proofs.Changes.{all_stamps-spent, receives-spent}
+use Rattle.ntp_customer.proofs.PublicLaws.{all_stamps-spent, receives-spent}
 use Rattle.ntp_reply.proofs.exchanging.use_match.Goals as goal
 
 pub returns-clause-stamps : goal.returns-clause-stamps

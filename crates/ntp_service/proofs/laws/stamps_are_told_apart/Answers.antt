@@ -1,7 +1,6 @@
 use Rattle.ntp_reply.specs.Life.{recent_in}
 use Rattle.ntp_reply.specs.Exchanged.{matched}
-use Rattle.ntp_reply.proofs.ApartExchanges.{matched-saved}
-use Rattle.ntp_reply.proofs.DistinctStamps.{basic-distinct, time-distinct}
+use Rattle.ntp_reply.proofs.PublicLaws.{matched-saved, basic-distinct, time-distinct}
 use Rattle.ntp_service.specs.Model.{life_of}
 use Rattle.ntp_service.proofs.ApartLives.{AreSaved-life_of}
 use Rattle.ntp_service.proofs.laws.stamps_are_told_apart.Goals as goal

@@ -1,6 +1,6 @@
 use Rattle.std.proofs.Common.{◌≡◌, Some, sym, ap, ◌∙◌, arith}
-use Rattle.ntp_mac.proofs.ReadAs.{answers-so}
-use Rattle.ntp_packet.proofs.Octets.{AreOctets}
+use Rattle.ntp_mac.proofs.PublicLaws.{answers-so}
+use Rattle.ntp_packet.proofs.PublicLaws.{AreOctets}
 use Rattle.ntp_client.specs.State.{IsClient}
 use Rattle.ntp_client.proofs.Takings.{read-taken, header-taken}
 use Rattle.ntp_client.proofs.Samples.{sample-given, given-taken}

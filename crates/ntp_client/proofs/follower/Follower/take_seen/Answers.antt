@@ -1,5 +1,5 @@
 use Rattle.std.proofs.Common.{◌≡◌, sym, ap, ◌∙◌, arith}
-use Rattle.ntp_packet.proofs.Octets.{AreOctets}
+use Rattle.ntp_packet.proofs.PublicLaws.{AreOctets}
 use Rattle.std.specs.Prelude.{option_map, option_and_then}
 use Rattle.ntp_client.specs.declared.taken.Taken.TheVariants as taken
 use Rattle.ntp_client.specs.declared.taken.Distrust.TheVariants as distrust

@@ -1,5 +1,5 @@
 use Rattle.std.proofs.Common.{rules, arith, ◌∙◌}
-use Rattle.ntp_packet.proofs.Freshness.{fresh-from_IsFresh}
+use Rattle.ntp_packet.proofs.PublicLaws.{fresh-from_IsFresh}
 use Rattle.ntp_customer.specs.Exchanges.{receives}
 use Rattle.ntp_customer.proofs.NewStamps.{few-receives, received-of_pieces}
 use Rattle.ntp_customer.proofs.slots.Slots.new_departure.Goals as goal

@@ -1,5 +1,5 @@
 use Rattle.std.proofs.Common.{rules, arith, ◌∙◌}
-use Rattle.ntp_packet.proofs.Freshness.{IsFresh-fresh, fresh-from_IsFresh}
+use Rattle.ntp_packet.proofs.PublicLaws.{IsFresh-fresh, fresh-from_IsFresh}
 use Rattle.ntp_customer.specs.Exchanges.{all_stamps}
 use Rattle.ntp_customer.proofs.NewStamps.{few-stamps, either-of_pieces}
 use Rattle.ntp_customer.proofs.slots.Slots.new_receive.Goals as goal

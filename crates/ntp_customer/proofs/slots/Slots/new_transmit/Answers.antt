@@ -1,7 +1,7 @@
 use Rattle.std.proofs.Common.{rules, arith, ◌≡◌, ◌||◌, ◌==◌, ◌++◌, ◌∷◌, [], ap, ◌∙◌}
 use Rattle.std.specs.List.{list_any}
 use Rattle.std.proofs.lemmas.List.{length-append}
-use Rattle.ntp_packet.proofs.Freshness.{IsFresh-fresh, fresh-from_IsFresh}
+use Rattle.ntp_packet.proofs.PublicLaws.{IsFresh-fresh, fresh-from_IsFresh}
 use Rattle.ntp_customer.specs.Exchanges.{receives, is_received_at}
 use Rattle.ntp_customer.proofs.NewStamps.{few-receives, received-of_pieces, received-or_last}
 use Rattle.ntp_customer.proofs.slots.Slots.new_transmit.Goals as goal

@@ -1,7 +1,7 @@
 use Rattle.std.proofs.Common.{refl, sym, ap, ◌∙◌, subst}
 use Rattle.std.specs.Prelude.{is_err}
 use Rattle.ntp_port.specs.Port.{CountsReceive, Receives}
-use Rattle.ntp_port.proofs.Taking.{takes-turn}
+use Rattle.ntp_port.proofs.PublicLaws.{takes-turn}
 use Rattle.ntp_server.proofs.Making.{Makes-turn}
 use Rattle.ntp_server.proofs.server.Server.turn.Goals as goal
 

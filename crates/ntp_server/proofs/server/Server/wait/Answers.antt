@@ -1,7 +1,7 @@
 use Rattle.std.proofs.Common.{rules, ap, sym, subst, ◌∙◌, arith, length}
 use Rattle.ntp_port.specs.declared.port.PortCounts.{PortCounts}
 use Rattle.ntp_port.specs.Port.{CountsMore, DropsAny}
-use Rattle.ntp_port.proofs.Dropping.{DropsAny-none, DropsAny-append, Receives-after}
+use Rattle.ntp_port.proofs.PublicLaws.{DropsAny-none, DropsAny-append, Receives-after}
 use Rattle.ntp_server.proofs.Looking.{Waits-none, Waits-more, Waits-port}
 use Rattle.ntp_server.proofs.server.Server.wait.Goals as goal
 

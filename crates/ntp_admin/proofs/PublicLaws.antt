@@ -1,0 +1,6 @@
+-- The laws of this crate that the proofs of other crates cite, each passed on from the module that proves it.
+
+-- the parts of a text are those of the first cut and of what stands behind it
+pub use Rattle.ntp_admin.proofs.Cuts.{parts-split}
+-- what `NonZero::new` gives is a number that is not 0
+pub use Rattle.ntp_admin.proofs.Numbers.{new-non_zero}

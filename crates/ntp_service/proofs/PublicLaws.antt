@@ -1,0 +1,18 @@
+-- The laws of this crate that the proofs of other crates cite, each passed on from the module that proves it.
+
+-- two addresses are one, or not
+pub use Rattle.ntp_service.proofs.AddressLaws.{same_or_other_address}
+-- a test of addresses says no where they differ
+pub use Rattle.ntp_service.proofs.Histories.{other-address}
+-- of nothing that happened a service tells nothing
+pub use Rattle.ntp_service.proofs.Runs.{Tells-nil}
+-- a service tells of one event as it tells of a list of one
+pub use Rattle.ntp_service.proofs.Runs.{Tells-one}
+-- a service that told of a list tells of the list with one event more
+pub use Rattle.ntp_service.proofs.Runs.{Tells-push}
+-- a service that told of two lists, one after the other, tells of both
+pub use Rattle.ntp_service.proofs.Runs.{Tells-append}
+-- who was told nothing has seen what it had
+pub use Rattle.ntp_service.proofs.Seen.{Sees-nil}
+-- who was told two lists, one after the other, was told both
+pub use Rattle.ntp_service.proofs.Seen.{Sees-append}

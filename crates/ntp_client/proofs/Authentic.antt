@@ -10,9 +10,9 @@ use Rattle.ntp_packet.specs.FirstCase.{◌>>◌, provided, decided}
 use Rattle.ntp_packet.specs.Tail.{TailValue, NoTail, BareTail, MacTail}
 use Rattle.ntp_packet.specs.Request.{RequestValue, IsRequest}
 use Rattle.ntp_packet.proofs.PublicLaws.{after-provided, after-ok_or, after-map_err, AreOctets}
-use Rattle.ntp_mac.specs.Reading.{Reads, reading_of}
+use Rattle.ntp_mac.specs.Reading.{reading_of}
 use Rattle.ntp_mac.specs.Signed.{IsSigned}
-use Rattle.ntp_mac.proofs.PublicLaws.{Reads-reading_of, is-signed}
+use Rattle.ntp_mac.proofs.PublicLaws.{Reads, Reads-reading_of, is-signed}
 use Rattle.ntp_client.specs.declared.exchange.Outstanding.{Outstanding}
 use Rattle.ntp_client.specs.declared.pairing.Pairing.{Pairing}
 use Rattle.ntp_client.specs.declared.sample.Sample.{Sample}

@@ -1,5 +1,7 @@
 -- The laws of this crate that the proofs of other crates cite, each passed on from the module that proves it.
 
+-- octets are this request, or have this fault
+pub use Rattle.ntp_mac.proofs.ReadAs.{Reads}
 -- octets are what they are read as
 pub use Rattle.ntp_mac.proofs.ReadAs.{Reads-reading_of}
 -- they are nothing else

@@ -5,7 +5,12 @@ use Rattle.ntp_packet.specs.Faults.{Fails}
 use Rattle.ntp_packet.specs.OneAnswer.{HasOneReading, HasOneFault}
 use Rattle.ntp_packet.specs.declared.malformed.Malformed.{Malformed}
 use Rattle.ntp_packet.proofs.PublicLaws.{AreOctets, one-answer, low, AreOctets-low, the_one}
-use Rattle.ntp_mac.specs.Reading.{Reads, reading_of}
+use Rattle.ntp_mac.specs.Reading.{reading_of}
+
+-- the octets are this request, or have this fault
+abbrev pub Reads : List ℕ → Result RequestValue Malformed → Type 0
+Reads octets (Ok request) = IsRequest octets request
+Reads octets (Err fault) = Fails octets fault
 
 -- octets are their own low bits
 low-same : (octets : List ℕ) → AreOctets octets → low octets ≡ octets

@@ -9,12 +9,12 @@ use Rattle.ntp_packet.proofs.PublicLaws.{four-cells}
 use Rattle.ntp_customer.specs.declared.slot.Slot.{Slot}
 use Rattle.ntp_packet.specs.FirstCase.{◌>>=◌, ◌>>◌, provided, decided}
 use Rattle.ntp_packet.specs.Tail.{TailValue, NoTail, BareTail, MacTail, digest_octets, tail_octets}
-use Rattle.ntp_packet.specs.Request.{RequestValue, IsReading}
+use Rattle.ntp_packet.specs.Request.{RequestValue, IsReading, IsRequest}
 use Rattle.ntp_packet.specs.declared.malformed.Malformed.{Malformed}
 use Rattle.ntp_mac.specs.Key.{SymmetricKey}
 use Rattle.ntp_mac.specs.Digest.{digest_length, hash, digest_of}
 use Rattle.ntp_mac.specs.Mac.{mac_of, nak_octets}
-use Rattle.ntp_mac.specs.Reading.{Reads, reading_of}
+use Rattle.ntp_mac.specs.Reading.{reading_of}
 use Rattle.ntp_mac.specs.Signed.{is_signed}
 use Rattle.ntp_mac.specs.declared.key.Algorithm.{Algorithm}
 use Rattle.ntp_mac.specs.declared.key.Algorithm.TheVariants.{Md5, Sha1}
@@ -141,7 +141,7 @@ module _ (most : ℕ) where
   abbrev Fits : Kind → Type 0
   Fits kind = most_of kind ≤ most
 
-  -- a step of which either end fits
+  -- a step that fits at either end
   step : {X : Type 0} (first : Result X Kind) (rest : X → Result Kind Kind) → ((why : Kind) → first ≡ Err why → Fits why)
       → ((x : X) → first ≡ Ok x → Fits (decided (rest x))) → Fits (decided (first >>= rest))
   step (Ok x) rest ends goes = goes x refl
@@ -177,19 +177,20 @@ kind-fits enrolment r is =
     (λ k _. tested most (is_signed k.key k.number r) _ _ nak
     (λ signed. signed-fits k.key k.number r is ((is-signed k.key k.number r).0 signed)))))))
 
-reading-fits : (enrolment : Option Enrolment) (octets : List ℕ) (read : Result RequestValue Malformed) → Reads octets read
-    → most_of (octets_kind enrolment read) ≤ length octets
-reading-fits enrolment octets (Err fault) fails = omega arith
-reading-fits enrolment octets (Ok r) is =
+reading-fits : (enrolment : Option Enrolment) (octets : List ℕ) (read : Result RequestValue Malformed)
+    → ((r : RequestValue) → read ≡ Ok r → IsRequest octets r) → most_of (octets_kind enrolment read) ≤ length octets
+reading-fits enrolment octets (Err fault) requests = omega arith
+reading-fits enrolment octets (Ok r) requests =
+    let is = requests r refl in
     omega (arith, ap length is.spelled, length-append r.signed (tail_octets r.tail), kind-fits enrolment r is.reading)
 
 -- ---- replies to datagrams
 
-pub fits-datagram : (life : Life) (o : Occasion) (octets : List ℕ) → Reads octets (reading_of octets) → length o.reference.reference_id ≡ 4
-    → reply_length (verdict life o octets) ≤ length octets
-fits-datagram None o octets reads id = omega arith
-fits-datagram (Some past) o octets reads id =
-    omega (arith, (within past o id (kind_of past octets)).1, reading-fits (enrolment_at past) octets (reading_of octets) reads)
+pub fits-datagram : (life : Life) (o : Occasion) (octets : List ℕ) → ((r : RequestValue) → reading_of octets ≡ Ok r → IsRequest octets r)
+    → length o.reference.reference_id ≡ 4 → reply_length (verdict life o octets) ≤ length octets
+fits-datagram None o octets requests id = omega arith
+fits-datagram (Some past) o octets requests id =
+    omega (arith, (within past o id (kind_of past octets)).1, reading-fits (enrolment_at past) octets (reading_of octets) requests)
 
 pub fits-answer : (life : Life) (o : Occasion) (octets : List ℕ) → length o.reference.reference_id ≡ 4
     → reply_length (verdict life o octets) ≤ most_octets (verdict life o octets)

@@ -6,6 +6,10 @@ use Rattle.ntp_port.specs.Port.{Told}
 use Rattle.ntp_port.specs.declared.queue_event.QueueEvent.{QueueEvent}
 use Rattle.ntp_port.specs.declared.queue_event.QueueEvent.TheVariants.{Held, Taken, Read}
 use Rattle.ntp_port.specs.declared.queue_watch.QueueWatch.{QueueWatch}
+use Rattle.ntp_port.specs.declared.fresh_port.FreshPort.{FreshPort}
+use Rattle.ntp_port.specs.declared.queued_port.QueuedPort as queued
+use Rattle.ntp_port.specs.declared.port.TimedPort as timed
+use Rattle.ntp_port.specs.declared.port.Port as port
 use Rattle.ntp_port.specs.Freshness.{takes, moment_of, IsInOrder, MayBeAnswered, WasLookedAt, WasCounted, oldest_look}
 use Rattle.ntp_port.specs.Queue.{last_reading, SeesMore}
 use Rattle.ntp_port.specs.Watch.{Watches, Counts, longest_of}
@@ -101,7 +105,7 @@ IsSeen old new history after = (more : List QueueEvent) × (after ≡ more ++ hi
 abbrev pub IsSeenFrom : ℕ → ℕ → Option (List QueueEvent) → Option (List QueueEvent) → List QueueEvent → List QueueEvent → Type 0
 IsSeenFrom reading now old new history after = IsShown reading old → IsShown now new × IsSeen old new history after
 
--- what a port keeps that passes on only what may be answered, and what the port below it tells of its turns and of its queue
+-- what a port keeps that passes on only what may be answered, and what the port below it tells
 pub record Kept : Type 0 where
   pub watch : QueueWatch
   pub reading : ℕ
@@ -110,9 +114,10 @@ pub record Kept : Type 0 where
   pub told : Option Told
   pub history : Option (List QueueEvent)
 
-abbrev pub kept : QueueWatch → ℕ → ℕ → ℕ → Option Told → Option (List QueueEvent) → Kept
-kept watch reading next_look stale told history =
-    record { watch = watch; reading = reading; next_look = next_look; stale = stale; told = told; history = history }
+-- what it keeps, by what the port below tells of its turns and of its queue
+abbrev pub kept_by : {P : Type 0} {queue : queued.Ghosts P} {timed : timed.Ghosts P} {port : port.Ghosts P} → FreshPort P queue timed port → Kept
+kept_by {queue = q} {port = p} f =
+    record { watch = f.watch; reading = f.reading; next_look = f.next_look; stale = f.counts.dropped; told = p.told f.port; history = q.history f.port }
 
 -- it is that of a history
 abbrev pub Stands : Kept → List QueueEvent → Type 0

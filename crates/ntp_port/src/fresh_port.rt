@@ -6,8 +6,6 @@ ghost use Rattle.ntp_port.specs.declared.queue_event.QueueEvent.{QueueEvent};
 ghost use Rattle.ntp_port.specs.Freshness.{moment_of, IsInOrder, oldest_look};
 ghost use Rattle.ntp_port.specs.Queue.{ReadsClock};
 ghost use Rattle.ntp_port.specs.Watch.{Watches, Counts, longest_of, IsCounted, kept_after};
-ghost use Rattle.ntp_port.specs.Fresh.{KeepsHistory, IsShown, counted_on, kept, PassesOnFresh};
-ghost use Rattle.ntp_port.specs.Next.{TakesNext, LooksAtQueue, Drops, CountsNext};
 
 use crate::queue_watch::QueueWatch;
 use crate::queued_port::QueuedPort;
@@ -60,6 +58,9 @@ enum Next {
 }
 
 impl<P: QueuedPort> FreshPort<P> {
+    ghost use Rattle.ntp_port.specs.Fresh.{KeepsHistory, IsShown, counted_on, kept_by, PassesOnFresh};
+    ghost use Rattle.ntp_port.specs.Next.{TakesNext, LooksAtQueue, Drops, CountsNext};
+
     /// A port that passes on what may be answered of what comes at `port`, by what `watch` was told and will be. It has dropped
     /// nothing, and calls of `port` that failed before are counted as receives. `watch` may know the queue already, by the port's
     /// clock: a queue that is new was empty just before.
@@ -133,8 +134,7 @@ impl<P: QueuedPort> FreshPort<P> {
         ensures length { IfSome result (λ received. IfOk received (λ arrival. arrival.length ≤ most_received_octets)) }
         ensures fault { IfSome result (λ received. IfErr received (λ fault. fault ≡ PortFault.Receive)) }
         ensures counts { CountsWait self.old.counts self.new.counts result }
-        ensures fresh { PassesOnFresh (kept self.old.watch self.old.reading self.old.next_look self.old.counts.dropped (P.told self.old.port) (P.history self.old.port))
-            (kept self.new.watch self.new.reading self.new.next_look self.new.counts.dropped (P.told self.new.port) (P.history self.new.port)) result datagram.new }
+        ensures fresh { PassesOnFresh (kept_by self.old) (kept_by self.new) result datagram.new }
     {
         for _sweep in 0..MOST_SWEEPS {
             match self.take_next(datagram) {
@@ -160,8 +160,7 @@ impl<P: QueuedPort> FreshPort<P> {
         ensures fresh { (arrival : Arrival) → result ≡ Next.Fresh arrival → arrival.length ≤ most_received_octets }
         ensures fault { (fault : PortFault) → result ≡ Next.Fault fault → fault ≡ PortFault.Receive }
         ensures counts { CountsNext self.old.counts self.new.counts result }
-        ensures next { TakesNext (kept self.old.watch self.old.reading self.old.next_look self.old.counts.dropped (P.told self.old.port) (P.history self.old.port))
-            (kept self.new.watch self.new.reading self.new.next_look self.new.counts.dropped (P.told self.new.port) (P.history self.new.port)) result datagram.new }
+        ensures next { TakesNext (kept_by self.old) (kept_by self.new) result datagram.new }
     {
         self.look();
         let received = self.port.take_in_time(datagram);
@@ -192,8 +191,7 @@ impl<P: QueuedPort> FreshPort<P> {
     // Drops what was in the queue when it was looked at last, as long as it may not be answered.
     fn sweep(&mut self)
         ensures counts { CountsNext self.old.counts self.new.counts Next.Stale }
-        ensures drops { Drops (kept self.old.watch self.old.reading self.old.next_look self.old.counts.dropped (P.told self.old.port) (P.history self.old.port))
-            (kept self.new.watch self.new.reading self.new.next_look self.new.counts.dropped (P.told self.new.port) (P.history self.new.port)) }
+        ensures drops { Drops (kept_by self.old) (kept_by self.new) }
     {
         for _ in 0..self.watch.waiting() {
             if !self.drop_next() {
@@ -205,8 +203,7 @@ impl<P: QueuedPort> FreshPort<P> {
     // Drops the next datagram, where it is one of those that were counted and may not be answered by what is known. Whether it did.
     fn drop_next(&mut self) -> bool
         ensures counts { CountsNext self.old.counts self.new.counts Next.Stale }
-        ensures drops { Drops (kept self.old.watch self.old.reading self.old.next_look self.old.counts.dropped (P.told self.old.port) (P.history self.old.port))
-            (kept self.new.watch self.new.reading self.new.next_look self.new.counts.dropped (P.told self.new.port) (P.history self.new.port)) }
+        ensures drops { Drops (kept_by self.old) (kept_by self.new) }
         ensures did { self.new.counts.dropped ≡ counted_on self.old.counts.dropped (if result then 1 else 0) }
     {
         let dropped = self.counts.dropped;
@@ -227,8 +224,7 @@ impl<P: QueuedPort> FreshPort<P> {
     // LooksAtQueue at the queue where it is time to, once in a ten-thousandth of a second at most.
     fn look(&mut self)
         ensures counts { self.new.counts ≡ self.old.counts }
-        ensures looks { LooksAtQueue (kept self.old.watch self.old.reading self.old.next_look self.old.counts.dropped (P.told self.old.port) (P.history self.old.port))
-            (kept self.new.watch self.new.reading self.new.next_look self.new.counts.dropped (P.told self.new.port) (P.history self.new.port)) (Some (oldest_look (longest_of self.old.watch))) }
+        ensures looks { LooksAtQueue (kept_by self.old) (kept_by self.new) (Some (oldest_look (longest_of self.old.watch))) }
         ensures counted { self.old.next_look ≤ self.old.reading → IsCounted self.new.watch self.old.reading }
     {
         if self.reading >= self.next_look {
@@ -240,8 +236,7 @@ impl<P: QueuedPort> FreshPort<P> {
     // LooksAtQueue at the queue where what is known of it is old.
     fn look_where_due(&mut self)
         ensures counts { self.new.counts ≡ self.old.counts }
-        ensures looks { LooksAtQueue (kept self.old.watch self.old.reading self.old.next_look self.old.counts.dropped (P.told self.old.port) (P.history self.old.port))
-            (kept self.new.watch self.new.reading self.new.next_look self.new.counts.dropped (P.told self.new.port) (P.history self.new.port)) (Some (longest_of self.old.watch / 10)) }
+        ensures looks { LooksAtQueue (kept_by self.old) (kept_by self.new) (Some (longest_of self.old.watch / 10)) }
         ensures counted { IsCounted self.new.watch self.old.reading }
     {
         if self.watch.is_due(self.reading) {
@@ -252,8 +247,7 @@ impl<P: QueuedPort> FreshPort<P> {
     // LooksAtQueue whether the queue is empty, and how many datagrams are in it where that has to be known.
     fn look_now(&mut self)
         ensures counts { self.new.counts ≡ self.old.counts }
-        ensures looks { LooksAtQueue (kept self.old.watch self.old.reading self.old.next_look self.old.counts.dropped (P.told self.old.port) (P.history self.old.port))
-            (kept self.new.watch self.new.reading self.new.next_look self.new.counts.dropped (P.told self.new.port) (P.history self.new.port)) (Some 0) }
+        ensures looks { LooksAtQueue (kept_by self.old) (kept_by self.new) (Some 0) }
         ensures counted { IsCounted self.new.watch self.old.reading }
     {
         self.look_whether_empty();
@@ -263,8 +257,7 @@ impl<P: QueuedPort> FreshPort<P> {
     // LooksAtQueue whether the queue is empty.
     fn look_whether_empty(&mut self)
         ensures counts { self.new.counts ≡ self.old.counts }
-        ensures looks { LooksAtQueue (kept self.old.watch self.old.reading self.old.next_look self.old.counts.dropped (P.told self.old.port) (P.history self.old.port))
-            (kept self.new.watch self.new.reading self.new.next_look self.new.counts.dropped (P.told self.new.port) (P.history self.new.port)) (Some 0) }
+        ensures looks { LooksAtQueue (kept_by self.old) (kept_by self.new) (Some 0) }
     {
         if self.port.is_empty() {
             self.watch.saw(0, self.reading);
@@ -274,8 +267,7 @@ impl<P: QueuedPort> FreshPort<P> {
     // LooksAtQueue how many datagrams are in the queue, where no earlier look is waited for and what is known is old: that costs more.
     fn look_how_many(&mut self)
         ensures counts { self.new.counts ≡ self.old.counts }
-        ensures looks { LooksAtQueue (kept self.old.watch self.old.reading self.old.next_look self.old.counts.dropped (P.told self.old.port) (P.history self.old.port))
-            (kept self.new.watch self.new.reading self.new.next_look self.new.counts.dropped (P.told self.new.port) (P.history self.new.port)) None }
+        ensures looks { LooksAtQueue (kept_by self.old) (kept_by self.new) None }
         ensures counted { IsCounted self.new.watch self.old.reading }
     {
         if !self.watch.is_waiting() && self.watch.is_old(self.reading) {
@@ -286,6 +278,8 @@ impl<P: QueuedPort> FreshPort<P> {
 }
 
 impl<P: QueuedPort> Port for FreshPort<P> {
+    ghost use Rattle.ntp_port.specs.Fresh.{kept_by, PassesOnFresh};
+
     // It tells what the other port does, and drops some of that port's turns.
     ghost told = { λ f. P.told f.port };
 
@@ -300,8 +294,7 @@ impl<P: QueuedPort> Port for FreshPort<P> {
         ensures fault { IfErr result (λ fault. fault ≡ PortFault.Receive) }
         ensures counts { CountsReceive self.old.counts self.new.counts (is_err result) }
         ensures turns { Receives true self.old.counts.dropped self.new.counts.dropped (P.told self.old.port) (P.told self.new.port) result datagram.new }
-        ensures fresh { (given : Option (Result Arrival PortFault)) × PassesOnFresh (kept self.old.watch self.old.reading self.old.next_look self.old.counts.dropped (P.told self.old.port) (P.history self.old.port))
-            (kept self.new.watch self.new.reading self.new.next_look self.new.counts.dropped (P.told self.new.port) (P.history self.new.port)) given datagram.new
+        ensures fresh { (given : Option (Result Arrival PortFault)) × PassesOnFresh (kept_by self.old) (kept_by self.new) given datagram.new
             × (result ≡ option_map_or (λ received. received) given (Err PortFault.Receive)) }
     {
         for _wait in 0..u64::MAX {
@@ -349,6 +342,8 @@ impl<P: QueuedPort> Port for FreshPort<P> {
 }
 
 impl<P: QueuedPort> TimedPort for FreshPort<P> {
+    ghost use Rattle.ntp_port.specs.Fresh.{kept_by, PassesOnFresh};
+
     /// As `receive_fresh`.
     fn receive_in_time(&mut self, datagram: &mut DatagramRoom) -> Option<Result<Arrival, PortFault>>
         requires { failed_calls self.old.counts < 2 ^ 64 - 1 }
@@ -359,8 +354,7 @@ impl<P: QueuedPort> TimedPort for FreshPort<P> {
             Receives true self.old.counts.dropped self.new.counts.dropped (P.told self.old.port) (P.told self.new.port) received datagram.new) }
         ensures nothing { IfNone result ((false ≡ false)
             × DropsAny true self.old.counts.dropped self.new.counts.dropped (P.told self.old.port) (P.told self.new.port)) }
-        ensures fresh { PassesOnFresh (kept self.old.watch self.old.reading self.old.next_look self.old.counts.dropped (P.told self.old.port) (P.history self.old.port))
-            (kept self.new.watch self.new.reading self.new.next_look self.new.counts.dropped (P.told self.new.port) (P.history self.new.port)) result datagram.new }
+        ensures fresh { PassesOnFresh (kept_by self.old) (kept_by self.new) result datagram.new }
     {
         self.receive_fresh(datagram)
     }

@@ -1,7 +1,6 @@
 -- Some looks and then others.
 use Rattle.std.proofs.Common.{◌≡◌, ℕ, ◌+◌, Bool, true, false, Option, None, Some, List, [], ◌∷◌, ◌++◌, length, refl, sym, ap, ◌∙◌, subst, append-nil, length-append, arith}
 use Rattle.std.proofs.lemmas.List.{append_assoc, map-append}
-use Rattle.std.proofs.lemmas.List.Elements.{All-push}
 use Rattle.std.proofs.lemmas.Grind.{flat_map-append}
 use Rattle.ntp_packet.specs.declared.moment.Moment.{Moment}
 use Rattle.ntp_reply.specs.Reference.{ReferenceState}
@@ -14,7 +13,7 @@ use Rattle.ntp_port.proofs.PublicLaws.{CountsMore-nil, CountsMore-append}
 use Rattle.ntp_admin.specs.CommandsFile.{TakenLine, CarriesOut, CarriesOutDue, lines_taken, happened_at_lines, line_observations}
 use Rattle.ntp_port.specs.Sources.{Coming, Gives, CountsOn}
 use Rattle.ntp_server.specs.Rounds.{Look, ServerTold, AreDueAt, AreDueInTurn}
-use Rattle.ntp_server.specs.Steps.{Looks, LooksOnce, Waits, IsIdle, asked_of, given_of, happened_at_looks, looks_observations}
+use Rattle.ntp_server.specs.Steps.{Looks, LooksOnce, Waits, unasked, given_of, happened_at_looks, looks_observations}
 
 -- ---- what sources gave
 pub Gives-nil : {X : Type 0} (t : Option (Coming X)) → Gives t t [] []
@@ -45,8 +44,11 @@ pub due-append : (xs ys : List Look) (a b c : ℕ) → AreDueInTurn a xs b → A
 due-append [] ys a b c p q = subst (λ n. AreDueInTurn n ys c) p q
 due-append (x ∷ xs) ys a b c p q = (p.0, p.1, p.2, due-append xs ys p.0 b c p.3 q)
 
+unasked-append : (xs ys : List Look) → unasked (xs ++ ys) ≡ unasked xs ++ unasked ys
+unasked-append xs ys = map-append (λ l. None) xs ys
+
 module _ (A : Type 0) where
-  pub Looks-nil : (p : ServerTold) → Looks A [] p p
+  pub Looks-nil : (p : ServerTold) → Looks A [] [] p p
   Looks-nil p = record {
     due = refl;
     commands = Gives-nil p.commands;
@@ -54,12 +56,12 @@ module _ (A : Type 0) where
     tells = λ history stands. Tells-nil history p.service stands;
   }
 
-  pub Looks-append : (xs ys : List Look) (p q r : ServerTold) → Looks A xs p q → Looks A ys q r → Looks A (xs ++ ys) p r
-  Looks-append xs ys p q r x y = record {
+  pub Looks-append : (xs ys : List Look) (earlier later : List (Option Moment)) (p q r : ServerTold) → Looks A xs earlier p q
+      → Looks A ys later q r → Looks A (xs ++ ys) (earlier ++ later) p r
+  Looks-append xs ys earlier later p q r x y = record {
     due = due-append xs ys p.applied q.applied r.applied x.due y.due;
-    commands = subst (λ l. Gives p.commands r.commands l (given_of (xs ++ ys))) (sym (map-append (λ l. l.asked) xs ys))
-        (subst (λ l. Gives p.commands r.commands (asked_of xs ++ asked_of ys) l) (sym (map-append (λ l. l.given) xs ys))
-        (Gives-append p.commands q.commands r.commands (asked_of xs) (asked_of ys) (given_of xs) (given_of ys) x.commands y.commands));
+    commands = subst (λ l. Gives p.commands r.commands (earlier ++ later) l) (sym (map-append (λ l. l.given) xs ys))
+        (Gives-append p.commands q.commands r.commands earlier later (given_of xs) (given_of ys) x.commands y.commands);
     observed = subst (λ l. Sees p.seen r.seen l) (sym (flat_map-append (λ l. line_observations l.applied l.taken) xs ys))
         (Sees-append p.seen q.seen r.seen (looks_observations xs) (looks_observations ys) x.observed y.observed);
     tells = λ history stands.
@@ -72,8 +74,7 @@ module _ (A : Type 0) where
       → AreDueAt p.applied given (lines_taken taken) q.applied → Gives p.commands q.commands (asked ∷ []) (given ∷ [])
       → CarriesOut A p.applied taken p.service q.service p.seen q.seen → LooksOnce A asked p q
   Looks-one asked given taken p q due gives done = record {
-    look = record { asked = asked; applied = p.applied; given = given; taken = taken };
-    asks = refl;
+    look = record { applied = p.applied; given = given; taken = taken };
     done = record {
       due = (q.applied, refl, due, refl);
       commands = gives;
@@ -104,8 +105,7 @@ module _ (A : Type 0) where
   Waits-none prompt p = (
     record {
       looks = [];
-      idle = idle prompt;
-      asked = λ k d below. absurd (omega (arith, below));
+      idle = λ is. refl;
       done = Looks-nil p;
       waited = CountsMore-nil p.counts.idle_waits;
       tended = CountsOn-nil p.tended;
@@ -113,10 +113,6 @@ module _ (A : Type 0) where
     },
     refl,
   )
-    where
-      idle : (prompt : Bool) → IsIdle prompt []
-      idle true = refl
-      idle false = tt
 
   -- it goes on only at a port that is not prompt; what the port, the source of the states and the reporter tell does not matter to a look
   pub Waits-more : (prompt : Bool) (p q r : ServerTold) (port : Option Told) (counts : PortCounts) (states later : Option (Coming ReferenceState))
@@ -129,16 +125,16 @@ module _ (A : Type 0) where
       let all : length (w.looks ++ l.look ∷ []) ≡ length w.looks + 1 = length-append w.looks (l.look ∷ []) in (
         record {
           looks = w.looks ++ l.look ∷ [];
-          idle = subst (λ b. IsIdle b (w.looks ++ l.look ∷ [])) (sym waits) tt;
-          asked = All-push (λ x. x.asked ≡ None) w.looks l.look w.asked l.asks;
-          done = Looks-append w.looks (l.look ∷ []) p q (record r { states = later; tended = tended; shown = shown }) w.done
-              (record { due = l.done.due; commands = l.done.commands; observed = l.done.observed; tells = l.done.tells });
+          idle = λ is. let bad : false ≡ true = sym waits ∙ is in absurd cc;
+          done = subst (λ asked. Looks A (w.looks ++ l.look ∷ []) asked p (record r { states = later; tended = tended; shown = shown }))
+              (sym (unasked-append w.looks (l.look ∷ [])))
+              (Looks-append w.looks (l.look ∷ []) (unasked w.looks) (None ∷ []) p q (record r { states = later; tended = tended; shown = shown })
+              w.done (record { due = l.done.due; commands = l.done.commands; observed = l.done.observed; tells = l.done.tells }));
           waited = CountsMore-append p.counts.idle_waits q.counts.idle_waits r.counts.idle_waits (length w.looks) 1 _ all w.waited waited;
           tended = subst (λ n. CountsOn p.tended tended n) (sym all)
               (CountsOn-append p.tended q.tended tended (length w.looks) 1 w.tended (subst (λ c. CountsOn c tended 1) same tends));
-          reported = subst (λ xs. Sees p.shown shown xs) (sym (map-append (λ x. x.asked) w.looks (l.look ∷ [])))
-              (Sees-append p.shown q.shown shown (asked_of w.looks) (l.look.asked ∷ []) w.reported
-              (subst (λ a. Sees q.shown shown (a ∷ [])) (sym l.asks) shows));
+          reported = subst (λ xs. Sees p.shown shown xs) (sym (unasked-append w.looks (l.look ∷ [])))
+              (Sees-append p.shown q.shown shown (unasked w.looks) (None ∷ []) w.reported shows);
         },
         all ∙ ap (λ m. m + 1) many,
       )
@@ -149,7 +145,6 @@ module _ (A : Type 0) where
   Waits-port prompt p q port counts w waited = record {
     looks = w.looks;
     idle = w.idle;
-    asked = w.asked;
     done = record { due = w.done.due; commands = w.done.commands; observed = w.done.observed; tells = w.done.tells };
     waited = waited;
     tended = w.tended;

@@ -1,9 +1,8 @@
 -- One round after another.
-use Rattle.std.proofs.Common.{◌≡◌, ℕ, ◌+◌, ◌≤◌, Bool, true, false, Option, None, Some, Result, List, [], ◌∷◌, ◌++◌, length, refl, sym, ap, ◌∙◌, subst, append-nil, length-append, arith}
+use Rattle.std.proofs.Common.{◌≡◌, ℕ, ◌+◌, ◌≤◌, Bool, Option, None, Some, Result, List, [], ◌∷◌, ◌++◌, length, refl, sym, ap, ◌∙◌, subst, append-nil, length-append, arith}
 use Rattle.std.specs.Prelude.{option_map, flat_map}
 use Rattle.std.specs.Result.{result_ok}
 use Rattle.std.proofs.lemmas.List.{map-append, length-map}
-use Rattle.std.proofs.lemmas.List.Elements.{All-push}
 use Rattle.std.proofs.lemmas.Grind.{flat_map-append}
 use Rattle.std.proofs.lemmas.List.Sums.{length-filter, count_by-le-length}
 use Rattle.ntp_packet.specs.declared.moment.Moment.{Moment}
@@ -24,16 +23,11 @@ use Rattle.ntp_port.specs.Serving.{Makes}
 use Rattle.ntp_service.specs.Sending.{was_sent}
 use Rattle.ntp_server.specs.declared.server.Totals.{Totals}
 use Rattle.ntp_port.specs.Sources.{Gives, CountsOn}
-use Rattle.ntp_server.specs.Rounds.{Look, Round, ServerTold, AreDueInTurn, HasLooks, AsksRight, ServesRounds, looks_of, made_in, receipt_in, happened_in_round, round_observations}
-use Rattle.ntp_server.specs.Steps.{LooksOnce, Waits, IsIdle, MakesRound, asked_of, given_of, happened_at_looks, looks_observations, receipts_of, states_of, arrivals_in, replies_of_turn, departures_in}
+use Rattle.ntp_server.specs.Rounds.{Round, ServerTold, AreDueInTurn, ServesRounds, looks_in, looks_of, idle_looks, made_in, receipt_in, asked_in, happened_in_round, round_observations}
+use Rattle.ntp_server.specs.Steps.{LooksOnce, Waits, MakesRound, unasked, given_of, happened_at_looks, looks_observations, receipts_of, states_of, arrivals_in, replies_of_turn, departures_in}
 use Rattle.ntp_server.proofs.Looking.{Gives-nil, Gives-append, CountsOn-nil, CountsOn-append, due-append, Looks-append}
 
 -- ---- a turn behind a wait and a look
-one_look : (prompt : Bool) (looks : List Look) (l : Look) (reference : ReferenceState) (made : Made) → IsIdle prompt looks
-    → HasLooks prompt (record { looks = looks ++ l ∷ []; reference = reference; made = made })
-one_look false looks l reference made idle = omega (arith, length-append looks (l ∷ []))
-one_look true looks l reference made idle = ap (λ ls. length (ls ++ l ∷ [])) idle
-
 -- when the datagram of a turn came, as it was received
 came : (made : Made) (r : Result Arrival PortFault) → option_map arrival_of (turn_of made).arrival ≡ result_ok r
     → option_map (λ a. a.receipt) (result_ok r) ≡ receipt_in made
@@ -55,24 +49,21 @@ Makes-turn A prompt may asked p q r s blank reference received buffer outcome ap
     taken seen shows =
     let turn = taken.turn in
     let looks = waits.looks ++ looked.look ∷ [] in
-    let all = Looks-append A waits.looks (looked.look ∷ []) p q r waits.done
+    let all = Looks-append A waits.looks (looked.look ∷ []) (unasked waits.looks) (asked ∷ []) p q r waits.done
     (record { due = looked.done.due; commands = looked.done.commands; observed = looked.done.observed; tells = looked.done.tells }) in
     let right : asked ≡ receipt_in turn.made = receipt ∙ came turn.made received turn.arrived in
     record {
-      round = record { looks = looks; reference = reference; made = turn.made };
-      looked = one_look prompt waits.looks looked.look reference turn.made waits.idle;
-      asked = record { idle = waits.looks; last = looked.look; all = refl; waiting = waits.asked; come = looked.asks ∙ right };
+      round = record { idle = waits.looks; last = looked.look; reference = reference; made = turn.made };
+      idle = waits.idle;
       due = subst (λ n. AreDueInTurn p.applied looks n) (sym applied) all.due;
-      commands = subst (λ c. Gives p.commands c (asked_of looks) (given_of looks)) (sym commands) all.commands;
+      commands = subst (λ a. Gives p.commands s.commands (unasked waits.looks ++ a ∷ []) (given_of looks)) right
+          (subst (λ c. Gives p.commands c (unasked waits.looks ++ asked ∷ []) (given_of looks)) (sym commands) all.commands);
       states = subst (λ a. Gives p.states s.states (a ∷ []) (reference ∷ [])) right
           (subst (λ l. Gives l s.states (asked ∷ []) (reference ∷ [])) same states);
-      idle = length waits.looks;
-      looks = sym (length-append waits.looks (looked.look ∷ []));
       waits = subst (λ n. CountsMore p.counts.idle_waits n (length waits.looks)) (sym (ap (λ (k : PortCounts). k.idle_waits) (turn.counts ∙ ap (counted_send (is_unsent turn.made)) counts))) waits.waited;
       tended = subst (λ c. CountsOn p.tended c (length waits.looks)) (sym tended) waits.tended;
-      reported = subst (λ xs. Sees p.shown s.shown xs) (sym (map-append (λ l. l.asked) waits.looks (looked.look ∷ [])))
-          (Sees-append p.shown q.shown s.shown (asked_of waits.looks) (looked.look.asked ∷ []) waits.reported
-          (subst (λ a. Sees q.shown s.shown (a ∷ [])) (sym looked.asks) shows));
+      reported = subst (λ a. Sees p.shown s.shown (unasked waits.looks ++ a ∷ [])) right
+          (Sees-append p.shown q.shown s.shown (unasked waits.looks) (asked ∷ []) waits.reported shows);
       port = taken.port;
       observed = Sees-append p.seen r.seen s.seen (looks_observations looks) (Turn (turn_outcome turn.made) ∷ []) all.observed
           (subst (λ l. Sees r.seen s.seen (Turn l ∷ [])) turn.comes_to seen);
@@ -84,9 +75,6 @@ Makes-turn A prompt may asked p q r s blank reference received buffer outcome ap
 -- ---- what lists of rounds come to
 flat_map-push : {X Y : Type 0} (f : X → List Y) (xs : List X) (x : X) → flat_map f (xs ++ x ∷ []) ≡ flat_map f xs ++ f x
 flat_map-push f xs x = flat_map-append f xs (x ∷ []) ∙ ap (λ l. flat_map f xs ++ l) (append-nil (f x))
-
-looks_of-push : (rounds : List Round) (r : Round) → looks_of (rounds ++ r ∷ []) ≡ looks_of rounds ++ r.looks
-looks_of-push rounds r = flat_map-push (λ x. x.looks) rounds r
 
 made_in-push : (rounds : List Round) (r : Round) → made_in (rounds ++ r ∷ []) ≡ made_in rounds ++ r.made ∷ []
 made_in-push rounds r = map-append (λ x. x.made) rounds (r ∷ [])
@@ -123,13 +111,10 @@ pub Serves-none : (A : Type 0) (prompt may : Bool) (p : ServerTold)
 Serves-none A prompt may p = record {
   rounds = [];
   each = refl;
-  looked = λ k d below. absurd (omega (arith, below));
-  asked = λ k d below. absurd (omega (arith, below));
+  idle = λ is. refl;
   due = refl;
   commands = Gives-nil p.commands;
   states = Gives-nil p.states;
-  idle = 0;
-  looks = refl;
   waits = CountsMore-nil p.counts.idle_waits;
   tended = CountsOn-nil p.tended;
   reported = Sees-nil p.shown;
@@ -149,34 +134,34 @@ Serves-round A prompt may n p q r a b outcome s m arrivals sent departed =
     let round = m.round in
     let made = round.made in
     let turns : made_in (rounds ++ round ∷ []) ≡ made_in rounds ++ made ∷ [] = made_in-push rounds round in
-    let looks : looks_of (rounds ++ round ∷ []) ≡ looks_of rounds ++ round.looks = looks_of-push rounds round in
+    let looks : looks_of (rounds ++ round ∷ []) ≡ looks_of rounds ++ looks_in round = flat_map-push looks_in rounds round in
+    let asked : flat_map asked_in (rounds ++ round ∷ []) ≡ flat_map asked_in rounds ++ asked_in round = flat_map-push asked_in rounds round in
+    let idle : idle_looks (rounds ++ round ∷ []) ≡ idle_looks rounds ++ round.idle = flat_map-push (λ x. x.idle) rounds round in
+    let many = ap length idle ∙ length-append (idle_looks rounds) round.idle in
     record {
       rounds = rounds ++ round ∷ [];
       each = length-append rounds (round ∷ []) ∙ ap (λ l. l + 1) s.each;
-      looked = All-push (HasLooks prompt) rounds round s.looked m.looked;
-      asked = All-push AsksRight rounds round s.asked m.asked;
+      idle = λ is. idle ∙ ap (λ l. l ++ round.idle) (s.idle is) ∙ m.idle is;
       due = subst (λ l. AreDueInTurn p.applied l r.applied) (sym looks)
-          (due-append (looks_of rounds) round.looks p.applied q.applied r.applied s.due m.due);
-      commands = subst (λ l. Gives p.commands r.commands (asked_of l) (given_of l)) (sym looks)
-          (subst (λ l. Gives p.commands r.commands l (given_of (looks_of rounds ++ round.looks)))
-          (sym (map-append (λ l. l.asked) (looks_of rounds) round.looks))
-          (subst (λ l. Gives p.commands r.commands (asked_of (looks_of rounds) ++ asked_of round.looks) l)
-          (sym (map-append (λ l. l.given) (looks_of rounds) round.looks))
-          (Gives-append p.commands q.commands r.commands (asked_of (looks_of rounds)) (asked_of round.looks) (given_of (looks_of rounds))
-          (given_of round.looks) s.commands m.commands)));
+          (due-append (looks_of rounds) (looks_in round) p.applied q.applied r.applied s.due m.due);
+      commands = subst (λ l. Gives p.commands r.commands l (given_of (looks_of (rounds ++ round ∷ [])))) (sym asked)
+          (subst (λ l. Gives p.commands r.commands (flat_map asked_in rounds ++ asked_in round) (given_of l)) (sym looks)
+          (subst (λ l. Gives p.commands r.commands (flat_map asked_in rounds ++ asked_in round) l)
+          (sym (map-append (λ l. l.given) (looks_of rounds) (looks_in round)))
+          (Gives-append p.commands q.commands r.commands (flat_map asked_in rounds) (asked_in round) (given_of (looks_of rounds))
+          (given_of (looks_in round)) s.commands m.commands)));
       states = subst (λ l. Gives p.states r.states l (states_of (rounds ++ round ∷ [])))
           (sym (map-append (λ l. receipt_in l.made) rounds (round ∷ [])))
           (subst (λ l. Gives p.states r.states (receipts_of rounds ++ receipt_in round.made ∷ []) l)
           (sym (map-append (λ l. l.reference) rounds (round ∷ [])))
           (Gives-append p.states q.states r.states (receipts_of rounds) (receipt_in round.made ∷ []) (states_of rounds)
           (round.reference ∷ []) s.states m.states));
-      idle = s.idle + m.idle;
-      looks = omega (arith, s.looks, m.looks, ap length looks, length-append (looks_of rounds) round.looks);
-      waits = CountsMore-append p.counts.idle_waits q.counts.idle_waits r.counts.idle_waits s.idle m.idle (s.idle + m.idle) refl s.waits m.waits;
-      tended = CountsOn-append p.tended q.tended r.tended s.idle m.idle s.tended m.tended;
-      reported = subst (λ l. Sees p.shown r.shown (asked_of l)) (sym looks)
-          (subst (λ xs. Sees p.shown r.shown xs) (sym (map-append (λ l. l.asked) (looks_of rounds) round.looks))
-          (Sees-append p.shown q.shown r.shown (asked_of (looks_of rounds)) (asked_of round.looks) s.reported m.reported));
+      waits = CountsMore-append p.counts.idle_waits q.counts.idle_waits r.counts.idle_waits (length (idle_looks rounds)) (length round.idle) _ many
+          s.waits m.waits;
+      tended = subst (λ n. CountsOn p.tended r.tended n) (sym many)
+          (CountsOn-append p.tended q.tended r.tended (length (idle_looks rounds)) (length round.idle) s.tended m.tended);
+      reported = subst (λ l. Sees p.shown r.shown l) (sym asked)
+          (Sees-append p.shown q.shown r.shown (flat_map asked_in rounds) (asked_in round) s.reported m.reported);
       port = subst (λ l. Makes may l p.counts r.counts p.port r.port) (sym turns)
           (Makes-append may (made_in rounds) (made ∷ []) p.counts q.counts r.counts p.port q.port r.port s.port m.port);
       observed = subst (λ l. Sees p.seen r.seen l) (sym (flat_map-push round_observations rounds round))

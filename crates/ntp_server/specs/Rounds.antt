@@ -1,5 +1,5 @@
 -- What a server with its commands does.
-use Rattle.std.specs.Prelude.{◌≡◌, ℕ, ◌+◌, ◌<◌, Bool, true, false, Option, None, Some, option_map, List, [], ◌∷◌, ◌++◌, length, map, filter, flat_map, All}
+use Rattle.std.specs.Prelude.{◌≡◌, ℕ, Bool, true, Option, None, Some, option_map, List, [], ◌∷◌, ◌++◌, length, map, filter, flat_map}
 use Rattle.ntp_packet.specs.declared.moment.Moment.{Moment}
 use Rattle.ntp_service.specs.Registry.{Registry}
 use Rattle.ntp_reply.specs.Reference.{ReferenceState}
@@ -17,17 +17,17 @@ use Rattle.ntp_admin.specs.CommandsFile.{TakenLine, AreDue, lines_taken, happene
 use Rattle.ntp_server.specs.declared.server.Totals.{Totals}
 use Rattle.ntp_port.specs.Sources.{Coming, Gives, CountsOn}
 
--- a look at the commands: what the source was asked with, how many lines were applied before, the octets that it gave, if any, and the
--- lines that were taken
+-- a look at the commands: how many lines were applied before, the octets that their source gave, if any, and the lines that were taken
 pub record Look : Type 0 where
-  pub asked : Option Moment
   pub applied : ℕ
   pub given : Option (List ℕ)
   pub taken : List TakenLine
 
--- a turn with the looks before it, and the state of the clock that was in force
+-- a turn, with the looks while the port waited for nothing, the last look, once a datagram had come or none could be received, and the
+-- state of the clock that was in force
 pub record Round : Type 0 where
-  pub looks : List Look
+  pub idle : List Look
+  pub last : Look
   pub reference : ReferenceState
   pub made : Made
 
@@ -42,37 +42,35 @@ AreDueInTurn applied [] after = after ≡ applied
 AreDueInTurn applied (l ∷ looks) after = (next : ℕ)
     × (l.applied ≡ applied) × AreDueAt applied l.given (lines_taken l.taken) next × AreDueInTurn next looks after
 
--- the looks and the turns of rounds, in their order
+-- the looks of a round, and of rounds, in their order
+abbrev pub looks_in : Round → List Look
+looks_in r = r.idle ++ r.last ∷ []
+
 abbrev pub looks_of : List Round → List Look
-looks_of rounds = flat_map (λ r. r.looks) rounds
+looks_of rounds = flat_map looks_in rounds
+
+-- the looks while the port waited for nothing, and the turns
+abbrev pub idle_looks : List Round → List Look
+idle_looks rounds = flat_map (λ r. r.idle) rounds
 
 abbrev pub made_in : List Round → List Made
 made_in rounds = map (λ r. r.made) rounds
 
 -- what happened in a round: at the lines that were taken at its looks, then in its turn
 abbrev pub happened_in_round : {A : Type 0} → Round → List (Event A × Outcome)
-happened_in_round r = flat_map (λ l. happened_at_lines l.taken) r.looks ++ happened_in_turn r.reference r.made
+happened_in_round r = flat_map (λ l. happened_at_lines l.taken) (looks_in r) ++ happened_in_turn r.reference r.made
 
 -- what an observer is told of a round: each line that was taken, then the turn
 abbrev pub round_observations : Round → List Observation
-round_observations r = flat_map (λ l. line_observations l.applied l.taken) r.looks ++ Turn (turn_outcome r.made) ∷ []
+round_observations r = flat_map (λ l. line_observations l.applied l.taken) (looks_in r) ++ Turn (turn_outcome r.made) ∷ []
 
 -- when the datagram of a turn came
 abbrev pub receipt_in : Made → Option Moment
 receipt_in m = option_map (λ d. d.receipt) (turn_of m).arrival
 
--- commands are looked at in each turn, and just once at a port at which no wait ends with none
-abbrev pub HasLooks : Bool → Round → Type 0
-HasLooks true r = length r.looks ≡ 1
-HasLooks false r = 0 < length r.looks
-
--- the last look of a round is asked with when its datagram came, and those before it, while none had come, with nothing
-pub record AsksRight (r : Round) : Type 0 where
-  pub idle : List Look
-  pub last : Look
-  pub all : r.looks ≡ idle ++ last ∷ []
-  pub waiting : All (λ l. l.asked ≡ None) idle
-  pub come : last.asked ≡ receipt_in r.made
+-- what the source of commands is asked with at the looks of a round: while none had come with nothing, and last with when the datagram came
+abbrev pub asked_in : Round → List (Option Moment)
+asked_in r = map (λ l. None) r.idle ++ receipt_in r.made ∷ []
 
 -- what the parts of a server and its reporter tell, with what its port counted, how many lines were applied, and its service
 pub record ServerTold : Type 0 where
@@ -90,19 +88,16 @@ pub record ServerTold : Type 0 where
 pub record ServesRounds (A : Type 0) (prompt may_drop : Bool) (turns : ℕ) (before after : ServerTold) (totals : Totals) : Type 0 where
   pub rounds : List Round
   pub each : length rounds ≡ turns
-  pub looked : All (HasLooks prompt) rounds
-  pub asked : All AsksRight rounds
+  -- where no wait of the port ends with nothing, there is one look a round
+  pub idle : prompt ≡ true → idle_looks rounds ≡ []
   pub due : AreDueInTurn before.applied (looks_of rounds) after.applied
-  pub commands : Gives before.commands after.commands (map (λ l. l.asked) (looks_of rounds)) (map (λ l. l.given) (looks_of rounds))
+  pub commands : Gives before.commands after.commands (flat_map asked_in rounds) (map (λ l. l.given) (looks_of rounds))
   pub states : Gives before.states after.states (map (λ r. receipt_in r.made) rounds) (map (λ r. r.reference) rounds)
-  -- as many waits of the port ended with nothing as there were looks but each round's last, and the source of the states was given time
-  -- as often
-  pub idle : ℕ
-  pub looks : idle + turns ≡ length (looks_of rounds)
-  pub waits : CountsMore before.counts.idle_waits after.counts.idle_waits idle
-  pub tended : CountsOn before.tended after.tended idle
-  -- the reporter was shown the server after each look, with what that had been asked with
-  pub reported : Sees before.shown after.shown (map (λ l. l.asked) (looks_of rounds))
+  -- the port waited for nothing just before each look but each round's last, and the source of the states was given time as often
+  pub waits : CountsMore before.counts.idle_waits after.counts.idle_waits (length (idle_looks rounds))
+  pub tended : CountsOn before.tended after.tended (length (idle_looks rounds))
+  -- the reporter was shown the server after each look, with what the source had been asked with
+  pub reported : Sees before.shown after.shown (flat_map asked_in rounds)
   pub port : Makes may_drop (made_in rounds) before.counts after.counts before.port after.port
   pub observed : Sees before.seen after.seen (flat_map round_observations rounds)
   pub arrivals : totals.arrivals ≡ length (filter has_arrived (made_in rounds))

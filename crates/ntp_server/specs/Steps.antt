@@ -1,5 +1,5 @@
 -- Not to be believed: for proofs. What one look, a wait and one turn do.
-use Rattle.std.specs.Prelude.{◌≡◌, ℕ, ◌+◌, Bool, true, false, Option, None, List, [], ◌∷◌, length, map, flat_map, if◌then◌else◌, All}
+use Rattle.std.specs.Prelude.{◌≡◌, ℕ, Bool, true, Option, None, List, [], ◌∷◌, length, map, flat_map, if◌then◌else◌}
 use Rattle.ntp_packet.specs.declared.moment.Moment.{Moment}
 use Rattle.ntp_reply.specs.Reference.{ReferenceState}
 use Rattle.ntp_service.specs.declared.event.Event.{Event}
@@ -15,11 +15,11 @@ use Rattle.ntp_port.specs.Serving.{Makes}
 use Rattle.ntp_service.specs.Sending.{was_sent, was_noted}
 use Rattle.ntp_admin.specs.CommandsFile.{happened_at_lines, line_observations}
 use Rattle.ntp_port.specs.Sources.{Gives, CountsOn}
-use Rattle.ntp_server.specs.Rounds.{Look, Round, ServerTold, AreDueInTurn, HasLooks, AsksRight, receipt_in, happened_in_round, round_observations}
+use Rattle.ntp_server.specs.Rounds.{Look, Round, ServerTold, AreDueInTurn, looks_in, asked_in, receipt_in, happened_in_round, round_observations}
 
--- what looks were asked with, and what they gave
-abbrev pub asked_of : List Look → List (Option Moment)
-asked_of looks = map (λ l. l.asked) looks
+-- what is asked with at looks while nothing came, and what looks gave
+abbrev pub unasked : List Look → List (Option Moment)
+unasked looks = map (λ l. None) looks
 
 abbrev pub given_of : List Look → List (Option (List ℕ))
 given_of looks = map (λ l. l.given) looks
@@ -38,47 +38,41 @@ receipts_of rounds = map (λ r. receipt_in r.made) rounds
 abbrev pub states_of : List Round → List ReferenceState
 states_of rounds = map (λ r. r.reference) rounds
 
--- these looks were made, between this and this of what is told
-pub record Looks (A : Type 0) (looks : List Look) (before after : ServerTold) : Type 0 where
+-- these looks were made, which asked with these, between this and this of what is told
+pub record Looks (A : Type 0) (looks : List Look) (asked : List (Option Moment)) (before after : ServerTold) : Type 0 where
   pub due : AreDueInTurn before.applied looks after.applied
-  pub commands : Gives before.commands after.commands (asked_of looks) (given_of looks)
+  pub commands : Gives before.commands after.commands asked (given_of looks)
   pub observed : Sees before.seen after.seen (looks_observations looks)
   pub tells : (history : List (Event A)) → StandsFor before.service history → Tells history (happened_at_looks looks) after.service
 
 -- a look was made, which asked with this
 pub record LooksOnce (A : Type 0) (asked : Option Moment) (before after : ServerTold) : Type 0 where
   pub look : Look
-  pub asks : look.asked ≡ asked
-  pub done : Looks A (look ∷ []) before after
+  pub done : Looks A (look ∷ []) (asked ∷ []) before after
 
 -- at a port that is prompt nobody looks while waiting
 abbrev pub IsIdle : Bool → List Look → Type 0
-IsIdle true looks = looks ≡ []
-IsIdle false looks = Unit {0}
+IsIdle prompt looks = prompt ≡ true → looks ≡ []
 
 -- looks were made while waiting at a port that is prompt or not
 pub record Waits (A : Type 0) (prompt : Bool) (before after : ServerTold) : Type 0 where
   pub looks : List Look
   pub idle : IsIdle prompt looks
-  pub asked : All (λ l. l.asked ≡ None) looks
-  pub done : Looks A looks before after
+  pub done : Looks A looks (unasked looks) before after
   pub waited : CountsMore before.counts.idle_waits after.counts.idle_waits (length looks)
   pub tended : CountsOn before.tended after.tended (length looks)
-  pub reported : Sees before.shown after.shown (asked_of looks)
+  pub reported : Sees before.shown after.shown (unasked looks)
 
 -- a round was made, and its turn came to this
 pub record MakesRound (A : Type 0) (prompt may_drop : Bool) (before after : ServerTold) (outcome : TurnOutcome) : Type 0 where
   pub round : Round
-  pub looked : HasLooks prompt round
-  pub asked : AsksRight round
-  pub due : AreDueInTurn before.applied round.looks after.applied
-  pub commands : Gives before.commands after.commands (asked_of round.looks) (given_of round.looks)
+  pub idle : IsIdle prompt round.idle
+  pub due : AreDueInTurn before.applied (looks_in round) after.applied
+  pub commands : Gives before.commands after.commands (asked_in round) (given_of (looks_in round))
   pub states : Gives before.states after.states (receipt_in round.made ∷ []) (round.reference ∷ [])
-  pub idle : ℕ
-  pub looks : idle + 1 ≡ length round.looks
-  pub waits : CountsMore before.counts.idle_waits after.counts.idle_waits idle
-  pub tended : CountsOn before.tended after.tended idle
-  pub reported : Sees before.shown after.shown (asked_of round.looks)
+  pub waits : CountsMore before.counts.idle_waits after.counts.idle_waits (length round.idle)
+  pub tended : CountsOn before.tended after.tended (length round.idle)
+  pub reported : Sees before.shown after.shown (asked_in round)
   pub port : Makes may_drop (round.made ∷ []) before.counts after.counts before.port after.port
   pub observed : Sees before.seen after.seen (round_observations round)
   pub comes_to : outcome ≡ turn_outcome round.made

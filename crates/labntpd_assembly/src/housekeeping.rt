@@ -117,6 +117,9 @@ struct Seen {
     log_dropped: u64,
     // How long a datagram that was taken since the statistics were written last can have waited at most, where that is known.
     queue_wait: Option<u64>,
+    // How many receives had failed, and how many stale datagrams had been dropped, when the server was shown last.
+    failed: u64,
+    stale: u64,
 }
 
 /// Writes statistics, customers and the log, once a second at most; a large customers file in pieces.
@@ -128,9 +131,6 @@ pub struct Housekeeping<'a, R: Files + Clock, L: Write + Drop> {
     written: Written<'a, R>,
     times: Times,
     seen: Seen,
-    // How many receives had failed, and how many stale datagrams had been dropped, when it was shown the server last.
-    failed: u64,
-    stale: u64,
 }
 
 impl<'a, R: Files + Clock, L: Write + Drop> Housekeeping<'a, R, L> {
@@ -163,9 +163,9 @@ impl<'a, R: Files + Clock, L: Write + Drop> Housekeeping<'a, R, L> {
                 drops: 0,
                 log_dropped: 0,
                 queue_wait: Some(0),
+                failed: 0,
+                stale: 0,
             },
-            failed: 0,
-            stale: 0,
         })
     }
 
@@ -308,7 +308,7 @@ impl<'a, R: Files + Clock, L: Write + Drop> Housekeeping<'a, R, L> {
         S: DaemonClock,
         O: DaemonObserver,
     {
-        if receipt.is_some() || server.port.stale() != self.stale {
+        if receipt.is_some() || server.port.stale() != self.seen.stale {
             self.seen.queue_wait = match (self.seen.queue_wait, server.port.waited()) {
                 (Some(longest), Some(waited)) => Some(longest.max(waited)),
                 _ => None,
@@ -400,15 +400,15 @@ impl<
     L: Write + Drop,
 > Reporter<Daemon<P, C, S, O>> for Housekeeping<'a, R, L> {
     // It knows how many receives of a server have failed, and how many stale datagrams it has dropped.
-    ghost knows = { λ h server. (h.failed ≡ count_at (O.counted server.observer) NothingReceived) × (h.stale ≡ server.port.counts.dropped) };
+    ghost knows = { λ h server. (h.seen.failed ≡ count_at (O.counted server.observer) NothingReceived) × (h.seen.stale ≡ server.port.counts.dropped) };
 
     fn report(&mut self, server: &Daemon<P, C, S, O>, receipt: Option<Moment>) {
         let failed = server.observer.counts().count(Kind::NothingReceived);
-        self.seen.receives.see(failed != self.failed);
+        self.seen.receives.see(failed != self.seen.failed);
         self.do_what_is_due(server, receipt);
         self.seen.receives.pause();
-        self.failed = failed;
-        self.stale = server.port.stale();
+        self.seen.failed = failed;
+        self.seen.stale = server.port.stale();
     }
 }
 

@@ -85,8 +85,8 @@ where
             (daemon_told (λ p. P.told p.port) (λ p. p.counts) C.coming S.coming S.tended O.seen self.old.daemon)
             (daemon_told (λ p. P.told p.port) (λ p. p.counts) C.coming S.coming S.tended O.seen self.new.daemon) result }
         // Behind the last turn it is known how many receives have failed, and how many stale datagrams were dropped.
-        ensures receives { 0 < turns → self.new.beside.failed ≡ count_at (O.counted self.new.daemon.observer) Kind.NothingReceived }
-        ensures stale { 0 < turns → self.new.beside.stale ≡ self.new.daemon.port.counts.dropped }
+        ensures receives { 0 < turns → self.new.beside.seen.failed ≡ count_at (O.counted self.new.daemon.observer) Kind.NothingReceived }
+        ensures stale { 0 < turns → self.new.beside.seen.stale ≡ self.new.daemon.port.counts.dropped }
     {
         self.daemon.serve_reported(turns, &mut self.beside)
     }

@@ -26,9 +26,9 @@ type HostObserver<'a> = ReportingObserver<'a, Stderr, LineWriter<File>>;
 
 /// Serves by what was prepared, for ever. Gives the exit status where that cannot begin; a fault is told in one line on
 /// standard error.
-pub fn serve_status(rt: &HostRuntime, alloc: Global, prepared: Prepared) -> Status {
+pub fn serve(rt: &HostRuntime, alloc: Global, prepared: Prepared) -> Result<(), Status> {
     if !has_standard_streams() {
-        return write_status(&mut start_lines(rt));
+        return Err(write_status(&mut start_lines(rt)));
     }
     let Prepared {
         configuration,
@@ -36,10 +36,7 @@ pub fn serve_status(rt: &HostRuntime, alloc: Global, prepared: Prepared) -> Stat
     } = prepared;
     // It is judged before anything is written.
     let path = configuration.commands.as_str();
-    let commands = match begin_commands(rt, alloc, path, &mut start_lines(rt)) {
-        Ok(commands) => commands,
-        Err(status) => return status,
-    };
+    let commands = begin_commands(rt, alloc, path, &mut start_lines(rt))?;
     let clocks = HostClocks::new();
     let host = Host {
         rt,
@@ -47,10 +44,8 @@ pub fn serve_status(rt: &HostRuntime, alloc: Global, prepared: Prepared) -> Stat
         clocks: &clocks,
         configuration: &configuration,
     };
-    match Opened::open(rt, alloc, &clocks, &configuration, &mut beginning) {
-        Ok(opened) => serve_opened(host, beginning, commands, opened),
-        Err(status) => status,
-    }
+    let opened = Opened::open(rt, alloc, &clocks, &configuration, &mut beginning)?;
+    serve_opened(host, beginning, commands, opened)
 }
 
 // What was opened for a server on its host.
@@ -91,13 +86,13 @@ impl<'a> Opened<'a> {
     }
 }
 
-// Serves for ever by what was prepared and opened, and gives the exit status.
+// Serves for ever by what was prepared and opened. Gives the exit status where that cannot begin.
 fn serve_opened<'a>(
     host: Host<'a, HostRuntime>,
     beginning: Beginning,
     commands: HeldCommands<'a, HostRuntime>,
     opened: Opened<'a>,
-) -> Status
+) -> Result<(), Status>
     requires { opened.port.counts.failed_receives + opened.port.counts.failed_sends ≡ 0 }
 {
     let rt = host.rt;
@@ -122,13 +117,19 @@ fn serve_opened<'a>(
         service: loaded.service,
         log: rt.stderr(),
     };
-    match Assembly::begin(host, parts, begun, &mut rt.stdout()) {
-        Ok(mut assembly) => {
-            assembly.serve(u64::MAX);
-            Status::Done
-        }
-        Err(ServeFault::NoMemory) => memory_status(&mut start_lines(rt)),
-        Err(ServeFault::NotSaid) => write_status(&mut start_lines(rt)),
+    let mut assembly = match Assembly::begin(host, parts, begun, &mut rt.stdout()) {
+        Ok(assembly) => assembly,
+        Err(fault) => return Err(serve_fault_status(rt, fault)),
+    };
+    assembly.serve(u64::MAX);
+    Ok(())
+}
+
+// Tells why a daemon did not begin to serve.
+fn serve_fault_status(rt: &HostRuntime, fault: ServeFault) -> Status {
+    match fault {
+        ServeFault::NoMemory => memory_status(&mut start_lines(rt)),
+        ServeFault::NotSaid => write_status(&mut start_lines(rt)),
     }
 }
 

@@ -3,7 +3,7 @@
 
 mod assembly;
 
-use assembly::serve_status;
+use assembly::serve;
 use labntpd_assembly::{prepare, start_lines};
 use labntpd_files::Configuration;
 use labntpd_files::command_line::{Asked, parse, refused_status};
@@ -30,36 +30,38 @@ fn status(rt: &HostRuntime) -> Status {
     }
 }
 
-// Checks the files that a configuration names, or serves by them.
+// Does a job, and gives the exit status.
 fn job_status(rt: &HostRuntime, check: bool, config: &str) -> Status {
-    let mut faults = start_lines(rt);
-    let prepared = match prepare(rt, rt.alloc(), config, &mut faults) {
-        Ok(prepared) => prepared,
-        Err(status) => return status,
-    };
-    if !check {
-        return serve_status(rt, rt.alloc(), prepared);
+    match do_job(rt, check, config) {
+        Ok(()) => Status::Done,
+        Err(status) => status,
     }
-    check_status(rt, &prepared.configuration)
+}
+
+// Checks the files that a configuration names, or serves by them.
+fn do_job(rt: &HostRuntime, check: bool, config: &str) -> Result<(), Status> {
+    let prepared = prepare(rt, rt.alloc(), config, &mut start_lines(rt))?;
+    if check {
+        check_commands(rt, &prepared.configuration)
+    } else {
+        serve(rt, rt.alloc(), prepared)
+    }
 }
 
 // Reads the commands file too, and says that all is well.
-fn check_status(rt: &HostRuntime, configuration: &Configuration) -> Status {
+fn check_commands(rt: &HostRuntime, configuration: &Configuration) -> Result<(), Status> {
     let mut faults = start_lines(rt);
     let path = configuration.commands.as_str();
-    let octets = match begin_commands(rt, rt.alloc(), path, &mut faults) {
-        Ok(commands) => commands.length(),
-        Err(status) => return status,
-    };
+    let octets = begin_commands(rt, rt.alloc(), path, &mut faults)?.length();
     if is_nearly_full(octets) {
         let _ = write!(faults.warning(), "{path}: ");
         write_nearly_full(&mut faults, octets);
         let _ = writeln!(faults);
     }
     if writeln!(rt.stdout(), "ok").is_err() {
-        return write_status(&mut faults);
+        return Err(write_status(&mut faults));
     }
-    Status::Done
+    Ok(())
 }
 
 // The words of the command line. The first is the program's name.

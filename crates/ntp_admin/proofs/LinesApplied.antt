@@ -62,7 +62,7 @@ AppliesLine-read A number line o old new seen heard told taken c before behind =
     rw taken (c.0, subst (λ os. Sees seen told os) (sym (c.1 number)) (Sees-append seen heard told _ _ before behind), c.2)
 
 -- ---- the lines of a text
--- what was applied of a text, of which the rest is still to be read
+-- what was applied of a text whose rest is still to be read
 pub record Applied (A : Type 0) (old : Registry) (seen : Option (List Observation)) (text : List ℕ) (applied : ℕ) (rest : List ℕ)
     (number : ℕ) (new : Registry) (told : Option (List Observation)) : Type 0 where
   pub done : List (List ℕ)

@@ -59,7 +59,7 @@ lacks-by p c none (x ∷ word) all =
     other false e passes = refl
     other true e passes = let bad : false ≡ true = sym none ∙ ap p (sym (eqb-true x c e)) ∙ passes in absurd cc
 
--- the same of words of which there is one
+-- the same of one word or more
 pub parts-all : (c : ℕ) (words : List (List ℕ)) → 0 < length words → AllLack c words → parts c (join_with_byte c words) ≡ words
 parts-all c [] some lack = absurd (omega arith)
 parts-all c (word ∷ words) some lack = parts-joined c word words lack

@@ -44,7 +44,7 @@ comes-agrees commands service comes = comes.3.stands.agrees
 
 -- ---- an address that no command names
 
--- what is kept has no event of an address of which nothing happened
+-- what is kept has no event of an address without events
 abbrev NoneKept : Address → List (Event Global × Outcome) → Type 0
 NoneKept address happened = own address (map (λ p. p.0) happened) ≡ [] → own address (not_struck happened) ≡ []
 

@@ -138,7 +138,7 @@ impl Client {
     }
 }
 
-// Octets of which no header is read.
+// What octets are taken for before a header of theirs is judged: refused.
 fn unread(why: Distrust) -> TakenPacket
     ensures taken { result.taken ≡ Taken.Refused why }
     ensures header { result.header ≡ None }

@@ -8,7 +8,7 @@ use Rattle.ntp_packet.specs.declared.stamp.Stamp.{Stamp}
 use Rattle.ntp_customer.specs.declared.slot.Slot.{Slot}
 use Rattle.ntp_customer.specs.Exchanges.{most_slots, receives, transmits, all_stamps, is_received_at, AreSaved}
 
--- four tests, of which two change places
+-- four tests: two change places
 changed : (a b c d : Bool) → ((a || b) || (c || d)) ≡ (a || (c || (b || d)))
 changed true b c d = refl
 changed false true true d = refl

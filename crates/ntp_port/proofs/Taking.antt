@@ -24,7 +24,7 @@ record DropsOne (t u : Option Told) : Type 0 where
   sends : Bool
   port : Follows (turn_with from clock sends ∷ []) [] t u
 
--- the datagram of a turn of which nothing is told
+-- the datagram of a turn that no port tells
 abbrev anything : IncomingValue
 anything = record { address = record { 0 = [] }; port = 0; receipt = no_turn.clock false 0; octets = [] }
 

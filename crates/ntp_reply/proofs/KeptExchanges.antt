@@ -108,7 +108,7 @@ kept-after_departure past c receive m xs saved kept some lent is =
     let before : with_saved c saved ≡ with_saved (short past) (with_departure (recent_of past) receive m) = rw (is, recents, ← kept) refl in
     before ∙ short-after_departure past receive m
 
--- pasts of which the same is kept have the same recent exchanges, and the same is kept of them afterwards
+-- pasts that leave the same have the same recent exchanges, and leave the same afterwards
 module _ (one other : Past) (same : short one ≡ short other) where
   pub recent-alike : recent_of one ≡ recent_of other
   recent-alike = sym (saved-recent one) ∙ ap exchanges_of same ∙ saved-recent other

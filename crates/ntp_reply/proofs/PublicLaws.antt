@@ -1,8 +1,8 @@
 -- The laws of this crate that the proofs of other crates cite, each passed on from the module that proves it.
 
--- pasts of which the same is kept answer a datagram alike, and of both the same is kept afterwards
+-- pasts that leave the same answer a datagram alike, and leave the same afterwards
 pub use Rattle.ntp_reply.proofs.ShortPasts.{datagram-alike}
--- pasts of which the same is kept note a departure alike, and of both the same is kept afterwards
+-- pasts that leave the same note a departure alike, and leave the same afterwards
 pub use Rattle.ntp_reply.proofs.KeptExchanges.{departure-alike}
 -- what is kept of a past that begins is a new customer
 pub use Rattle.ntp_reply.proofs.KeptExchanges.{short-new}

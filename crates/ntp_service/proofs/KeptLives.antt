@@ -1,4 +1,4 @@
--- An event in lives of which the same is kept.
+-- An event in lives that leave the same.
 use Rattle.std.proofs.Common.{◌≡◌, ◌<◌, [], Option, Some, None, is_some, option_map, refl, sym, ap, ◌∙◌, arith}
 use Rattle.std.specs.Prelude.{if◌then◌else◌}
 use Rattle.std.specs.Option.{option_map_or}
@@ -36,7 +36,7 @@ kept-command : (c : Command) (life : Life)
 kept-command c life = grind (arith, enrolment-kept life, kept-done c life)
 
 module _ {A : Type 0} where
-  -- with two pasts of which the same is kept an event is answered alike, and the same is kept afterwards
+  -- two pasts that leave the same answer an event alike, and leave the same afterwards
   alike : (one other : Past) (e : Event A) → short one ≡ short other → budget_of one < most_counted
       → (answer_to (Some one) e ≡ answer_to (Some other) e)
       × (option_map short (after (Some one) e) ≡ option_map short (after (Some other) e))

@@ -20,13 +20,13 @@ module _ (P : Life → Type 0) (never : P None) (out : (refusals : List ℕ) →
   by_life None = never
   by_life (Some past) = by_past (λ p. P (Some p)) out enrolled past
 
--- what holds of each past of which this is kept holds of a life of which it is kept
+-- what holds of each past that leaves this holds of a life that leaves it
 pub by_kept : (P : Life → Type 0) (c : CustomerState) → ((past : Past) → short past ≡ c → P (Some past))
     → (life : Life) → option_map short life ≡ Some c → P life
 by_kept P c so None is = absurd (none-some c is)
 by_kept P c so (Some past) is = so past (same_Some (short past) c is)
 
--- a life of which nothing is kept
+-- a life that leaves nothing
 pub never-enrolled : (life : Life) → option_map short life ≡ None → life ≡ None
 never-enrolled None is = refl
 never-enrolled (Some past) is = absurd (none-some (short past) (sym is))

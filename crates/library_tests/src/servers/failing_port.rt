@@ -1,5 +1,5 @@
-//! A port to which nothing comes, and of which nothing more is known than how often its calls fail.
-ghost use Rattle.std.specs.Prelude.{◌≡◌, ◌<◌, ◌^◌};
+//! A port to which nothing comes. It tells nothing but how often its calls fail.
+ghost use Rattle.std.specs.Prelude.{◌<◌, ◌^◌};
 ghost use Rattle.ntp_port.specs.Port.{failed_calls};
 
 use ntp_packet::Moment;
@@ -16,7 +16,7 @@ pub(crate) struct FailingPort {
 }
 
 impl FailingPort {
-    /// One of which so many waits end with none.
+    /// A port whose first `waits` waits end with nothing.
     pub(crate) fn new(waits: u8) -> FailingPort {
         FailingPort {
             waits,

@@ -1,4 +1,4 @@
-use Rattle.std.proofs.Common.{None, Some, sym, ap, ◌∙◌, arith}
+use Rattle.std.proofs.Common.{sym, ◌∙◌, arith}
 use Rattle.ntp_packet.proofs.PublicLaws.{AreOctets}
 use Rattle.ntp_client.proofs.PublicLaws.{sample-read}
 use Rattle.ntp_query.proofs.outcome.hear.Goals as goal

@@ -95,6 +95,30 @@ What `labntpd` has besides
 """,
 }
 
+# A trait with two values for contracts, and a definition that takes one of them.
+KEEPING = """//! Keepers.
+ghost use Rattle.std.specs.Prelude.{◌≡◌, ℕ};
+
+/// What keeps numbers.
+pub trait Keeper {
+    // How many it has.
+    ghost kept: { Self → ℕ } = { λ _. 0 };
+
+    // How many it had.
+    ghost lost: { Self → ℕ } = { λ _. 0 };
+
+    /// Looks.
+    fn look(&self)
+        ensures same { kept self.now ≡ kept self.now }
+        ensures none { lost self.now ≡ lost self.now };
+}
+"""
+HAD = """
+-- what a keeper has
+abbrev pub had : {P : Type 0} {given : keeper.Ghosts P} → P → ℕ
+had {given} p = given.kept p
+"""
+
 
 class Belief(unittest.TestCase):
     """Each case has a repository of its own."""
@@ -146,6 +170,15 @@ class Belief(unittest.TestCase):
 
     def test_types_of_the_code_stand_apart(self):
         self.assertIn("Count (low/src/counts.rt)", self.run_belief("daemon"))
+
+    def test_a_definition_takes_of_a_trait_what_it_names(self):
+        self.write("crates/low/src/keeping.rt", KEEPING)
+        self.replace("crates/low/src/lib.rt", "mod counts;\n", "mod counts;\nmod keeping;\n")
+        self.replace("crates/low/specs/Sums.antt", "\n-- one more,\n", f"use Rattle.low.specs.declared.keeping.Keeper as keeper\n{HAD}\n-- one more,\n")
+        self.replace("crates/low/src/adding.rt", "{more, two_more, number_in}", "{more, had, two_more, number_in}")
+        self.replace("crates/low/src/adding.rt", "ensures value { result ≡ more n }", "ensures value { result ≡ had n }")
+        # `requires` and `ensures` of add, three lines of had, two of the ghost that it names and the clause of that; none of the other.
+        self.assertEqual(2 + 3 + 2 + 1, self.lines_together("headline"))
 
     def test_private_functions_are_no_contracts(self):
         self.assertNotIn("add_less", self.run_belief("contracts"))

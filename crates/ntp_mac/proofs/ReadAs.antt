@@ -2,9 +2,8 @@
 use Rattle.std.proofs.Common.{◌≡◌, ℕ, suc, ◌%◌, List, [], ◌∷◌, Result, Ok, Err, ◌⊎◌, inl, inr, refl, sym, ap, subst, ◌∙◌, arith}
 use Rattle.ntp_packet.specs.Request.{RequestValue, IsRequest}
 use Rattle.ntp_packet.specs.Faults.{Fails}
-use Rattle.ntp_packet.specs.OneAnswer.{HasOneReading, HasOneFault}
 use Rattle.ntp_packet.specs.declared.malformed.Malformed.{Malformed}
-use Rattle.ntp_packet.proofs.PublicLaws.{AreOctets, one-answer, low, AreOctets-low, the_one}
+use Rattle.ntp_packet.proofs.PublicLaws.{AreOctets, HasOneReading, HasOneFault, one-answer, low, AreOctets-low, the_one}
 use Rattle.ntp_mac.specs.Reading.{reading_of}
 
 -- the octets are this request, or have this fault

@@ -11,7 +11,7 @@ use Rattle.ntp_packet.specs.Tail.{TailValue, NoTail, BareTail, MacTail, digest_o
 use Rattle.ntp_packet.specs.Request.{RequestValue, IsRequest, request_of, signed_octets}
 use Rattle.ntp_packet.specs.Faults.{Stands, Fails}
 use Rattle.ntp_packet.proofs.RestFaults.{IsFieldShort, IsFieldUnaligned, IsFieldPastEnd, IsNoTail}
-use Rattle.ntp_packet.specs.OneAnswer.{HasOneReading, HasOneFault}
+use Rattle.ntp_packet.proofs.OneAnswer.{HasOneReading, HasOneFault}
 use Rattle.ntp_packet.specs.declared.malformed.Malformed.{Malformed}
 use Rattle.ntp_packet.specs.declared.malformed.Malformed.TheVariants.{Short, Long, FieldShort, FieldUnaligned, FieldPastEnd, Rest}
 use Rattle.ntp_packet.proofs.Octets.{AreOctets, AreOctets-take}

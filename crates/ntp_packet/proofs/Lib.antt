@@ -13,6 +13,7 @@ mod Unique
 mod Found
 mod Padding
 mod Composed
+mod OneAnswer
 mod Answered
 mod TheReading
 mod FirstCase

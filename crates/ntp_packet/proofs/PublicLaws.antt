@@ -32,7 +32,9 @@ pub use Rattle.ntp_packet.proofs.Readings.{length-header_octets}
 pub use Rattle.ntp_packet.proofs.Headers.{length-signed}
 -- a tail has at most 24 octets
 pub use Rattle.ntp_packet.proofs.Tails.{length-tail}
--- octets have one reading or one fault
+-- octets have one reading and no fault, or one fault and no reading
+pub use Rattle.ntp_packet.proofs.OneAnswer.{HasOneReading, HasOneFault}
+-- all octets do
 pub use Rattle.ntp_packet.proofs.Answered.{one-answer}
 -- that reading or that fault
 pub use Rattle.ntp_packet.proofs.TheReading.{the_one}

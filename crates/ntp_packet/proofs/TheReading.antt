@@ -2,7 +2,7 @@
 use Rattle.std.specs.Prelude.{ℕ, zero, suc, ◌%◌, List, [], ◌∷◌, map, Result, Ok, Err}
 use Rattle.std.proofs.Common.{◌⊎◌, inl, inr, arith}
 use Rattle.ntp_packet.specs.Request.{RequestValue}
-use Rattle.ntp_packet.specs.OneAnswer.{HasOneReading, HasOneFault}
+use Rattle.ntp_packet.proofs.OneAnswer.{HasOneReading, HasOneFault}
 use Rattle.ntp_packet.specs.declared.malformed.Malformed.{Malformed}
 use Rattle.ntp_packet.proofs.Octets.{AreOctets}
 use Rattle.ntp_packet.proofs.Answered.{one-answer}

@@ -6,7 +6,6 @@ pub mod Tail
 pub mod Request
 pub mod Faults
 pub mod Fields
-pub mod OneAnswer
 pub mod Fresh
 pub mod Moment
 pub mod Unix

@@ -1,13 +1,12 @@
 //! What holds of the spelling of headers, whatever code reads or writes it. Each function is a law: a call of
 //! it does nothing.
-ghost use Rattle.std.specs.Prelude.{◌≡◌, ℕ, ◌<◌, List, length, All, ◌+◌, ◌≤◌, ◌⊎◌, ◌++◌};
+ghost use Rattle.std.specs.Prelude.{◌≡◌, ℕ, ◌<◌, List, length, All, ◌+◌, ◌≤◌, ◌++◌};
 ghost use Rattle.ntp_packet.specs.Header.{HeaderFields, header_length, header_octets, IsHeader};
 ghost use Rattle.std.specs.List.{flat_map};
 ghost use Rattle.ntp_packet.specs.Field.{Field, field_octets, IsField, AreFields};
 ghost use Rattle.ntp_packet.specs.Tail.{TailValue, tail_octets, IsTail};
 ghost use Rattle.ntp_packet.specs.Request.{most_datagram_octets, signed_octets, IsRequest, request_of};
 ghost use Rattle.ntp_packet.specs.Fields.{fields_of};
-ghost use Rattle.ntp_packet.specs.OneAnswer.{HasOneReading, HasOneFault};
 
 /// The spelling of a header has 48 octets.
 pub fn spelling_has_48_octets()
@@ -19,11 +18,6 @@ pub fn any_48_octets_are_one_header()
     ensures { (octets : List ℕ) → length octets ≡ header_length → All (λ octet. octet < 256) octets
         → (h : HeaderFields) × IsHeader h × (header_octets h ≡ octets)
         × ((other : HeaderFields) → IsHeader other → header_octets other ≡ octets → other ≡ h) }
-{}
-
-/// Any octets have exactly one reading and no fault, or exactly one fault and no reading.
-pub fn octets_have_one_reading_or_one_fault()
-    ensures { (octets : List ℕ) → All (λ octet. octet < 256) octets → HasOneReading octets ⊎ HasOneFault octets }
 {}
 
 /// A header, fields and a MAC, one behind another and of at most 1,024 octets, are the request of those.

@@ -34,8 +34,8 @@ pub use free_stamp::{first_free, fresh};
 pub use header::{HEADER_OCTETS, Header};
 pub use kiss::{DENY_CODE, RATE_CODE};
 pub use laws::{
-    any_48_octets_are_one_header, fields_are_read_back, octets_have_one_reading_or_one_fault,
-    parts_are_a_request, parts_with_mac_are_a_request, spelling_has_48_octets,
+    any_48_octets_are_one_header, fields_are_read_back, parts_are_a_request,
+    parts_with_mac_are_a_request, spelling_has_48_octets,
 };
 pub use malformed::Malformed;
 pub use moment::{Moment, TimeFault};

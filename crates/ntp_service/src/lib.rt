@@ -24,9 +24,10 @@ pub use address::Address;
 pub use command::Command;
 pub use event::Event;
 pub use laws::{
-    a_customer_has_one_or_two_keys, a_number_has_one_holder, few_replies_are_told,
-    forged_datagrams_change_nothing, no_forgery_is_felt, no_neighbour_is_felt,
-    replies_in_a_window_are_few, stamps_are_told_apart, what_is_kept_of_a_life_tells_all,
+    a_customer_has_one_or_two_keys, a_number_has_one_holder, a_split_is_not_felt,
+    a_split_of_commands_is_not_felt, few_replies_are_told, forged_datagrams_change_nothing,
+    no_forgery_is_felt, no_neighbour_is_felt, replies_in_a_window_are_few, stamps_are_told_apart,
+    what_is_kept_of_a_life_tells_all,
 };
 pub use line_fault::LineFault;
 pub use ntp_customer::{Customer, NoMemory, NumberedKey};

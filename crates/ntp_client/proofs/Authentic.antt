@@ -1,6 +1,6 @@
 -- What only an authentic reply is taken for.
 use Rattle.std.proofs.Common.{◌≡◌, ◌≢◌, ℕ, ◌≤◌, Bool, true, false, ◌==◌, List, Some, Result, Ok, refl, ap, ◌∙◌, sym, subst, true≢false, arith}
-use Rattle.std.specs.Prelude.{not, nat_lt, if◌then◌else◌}
+use Rattle.std.specs.Prelude.{not, nat_le, if◌then◌else◌}
 use Rattle.std.proofs.lemmas.Bool.{eqb-true, ne_eqb}
 use Rattle.std.proofs.lemmas.Bool.Decides.{nat_tests}
 use Rattle.ntp_packet.specs.declared.moment.Moment.{Moment}
@@ -22,7 +22,7 @@ use Rattle.ntp_client.specs.declared.taken.Distrust.TheVariants as distrust
 use Rattle.ntp_client.specs.State.{ClientState}
 use Rattle.ntp_client.specs.Pairing.{pairing_of, sample_of}
 use Rattle.ntp_client.specs.Sample.{IsTimeReply}
-use Rattle.ntp_client.specs.Taking.{is_kiss, is_unsynchronised, lacks_stamp, with_mac, taken_for}
+use Rattle.ntp_client.specs.Taking.{is_kiss, is_synchronised, lacks_stamp, with_mac, taken_for}
 use Rattle.ntp_client.specs.Judging.{authentic_steps}
 
 -- what is taken for this has a MAC that was found right
@@ -88,18 +88,18 @@ authentic c octets at t are told is =
     }
 
 -- no refusal and no kiss is left
-none-applies : (kiss unsynchronised lacking : Bool) (x s : Sample)
-    → decided (provided (not kiss) taken.Rate >> (provided (not unsynchronised) (taken.Refused distrust.Unsynchronised)
+none-applies : (kiss synchronised lacking : Bool) (x s : Sample)
+    → decided (provided (not kiss) taken.Rate >> (provided synchronised (taken.Refused distrust.Unsynchronised)
     >> (provided (not lacking) (taken.Refused distrust.Stamps) >> Ok (taken.Sample x)))) ≡ taken.Sample s
-    → (unsynchronised ≡ false) × (lacking ≡ false) × (x ≡ s)
+    → (synchronised ≡ true) × (lacking ≡ false) × (x ≡ s)
 none-applies true u l x s is = absurd (cc)
-none-applies false true l x s is = absurd (cc)
-none-applies false false true x s is = absurd (cc)
-none-applies false false false x s is = (refl, refl, cc)
+none-applies false false l x s is = absurd (cc)
+none-applies false true true x s is = absurd (cc)
+none-applies false true false x s is = (refl, refl, cc)
 
--- a clock that is not unsynchronised
-synchronised : (h : HeaderFields) → is_unsynchronised h ≡ false → (h.clock.leap ≢ 3) × (1 ≤ h.clock.stratum) × (h.clock.stratum ≤ 15)
-synchronised h is = (grind (arith, nat_tests), grind (arith, nat_tests), grind (arith, nat_tests))
+-- a clock that is synchronised
+synchronised : (leap stratum : ℕ) → is_synchronised leap stratum ≡ true → (leap ≢ 3) × (1 ≤ stratum) × (stratum ≤ 15)
+synchronised leap stratum is = (grind (arith, nat_tests), grind (arith, nat_tests), grind (arith, nat_tests))
 
 -- stamps of known time
 stamped : (h : HeaderFields) → lacks_stamp h ≡ false → (h.receive.0 ≢ 0) × (h.transmit.0 ≢ 0)
@@ -109,8 +109,8 @@ stamped h is = (grind (arith, nat_tests), grind (arith, nat_tests))
 pub authentic-sample : (p : Pairing) (h : HeaderFields) (x s : Sample) → h.mode ≡ 4 → h.version ≡ 4
     → decided (authentic_steps p h x) ≡ taken.Sample s → IsTimeReply h × (x ≡ s)
 authentic-sample p h x s mode version is =
-    let none = none-applies (is_kiss rate_code h p) (is_unsynchronised h) (lacks_stamp h) x s is in
-    let clock = synchronised h none.0 in
+    let none = none-applies (is_kiss rate_code h p) (is_synchronised h.clock.leap h.clock.stratum) (lacks_stamp h) x s is in
+    let clock = synchronised h.clock.leap h.clock.stratum none.0 in
     let stamps = stamped h none.1 in (
       record {
         mode = mode;
@@ -131,7 +131,8 @@ time-taken p h x is =
     let most = is.stratum_to in
     let a : (h.clock.stratum == 0) ≡ false = grind (arith, nat_tests) in
     let b : (h.clock.leap == 3) ≡ false = ne_eqb h.clock.leap 3 is.leap in
-    let c : nat_lt 15 h.clock.stratum ≡ false = grind (arith, nat_tests) in
+    let c : nat_le 1 h.clock.stratum ≡ true = grind (arith, nat_tests) in
+    let f : nat_le h.clock.stratum 15 ≡ true = grind (arith, nat_tests) in
     let d : (h.receive.0 == 0) ≡ false = ne_eqb h.receive.0 0 is.receive in
     let e : (h.transmit.0 == 0) ≡ false = ne_eqb h.transmit.0 0 is.transmit in
-    simp (a, b, c, d, e)
+    simp (a, b, c, f, d, e)

@@ -1,6 +1,6 @@
 -- The pairing of a reply with a request, and the sample of it.
 use Rattle.std.proofs.Common.{◌≡◌, ◌≢◌, Bool, true, false, ◌==◌, Option, Some, None, ◌⊎◌, inl, inr, refl, sym, ap, ◌∙◌}
-use Rattle.std.specs.Prelude.{if◌then◌else◌}
+use Rattle.std.specs.Prelude.{option_and_then, if◌then◌else◌}
 use Rattle.std.proofs.lemmas.Bool.{eqb-true, eq-eqb, ne_eqb}
 use Rattle.ntp_packet.specs.declared.stamp.Stamp.{Stamp}
 use Rattle.ntp_packet.specs.declared.moment.Moment.{Moment}
@@ -10,14 +10,18 @@ use Rattle.ntp_client.specs.declared.exchange.Outstanding.{Outstanding}
 use Rattle.ntp_client.specs.declared.pairing.Pairing.{Pairing}
 use Rattle.ntp_client.specs.declared.pairing.Pairing.TheVariants.{Basic, Interleaved}
 use Rattle.ntp_client.specs.declared.sample.Sample.{Sample}
-use Rattle.ntp_client.specs.Pairing.{earlier_pairing, pairing_of, sample_of}
+use Rattle.ntp_client.specs.Pairing.{pairing_of, sample_of}
 use Rattle.ntp_client.specs.Sample.{IsBasic, IsInterleaved}
 
 -- stamps of one number are one
 same-stamp : (a b : Stamp) → a.0 ≡ b.0 → a ≡ b
 same-stamp a b e = ap (λ n. record { 0 = n }) e
 
--- no pairing but with the earlier exchange, by its arrival
+-- the pairing of a reply with the earlier exchange
+abbrev earlier_pairing : Option Exchange → Stamp → Option Pairing
+earlier_pairing earlier origin = option_and_then (λ e. if origin.0 == e.arrival.0 then Some (Interleaved e) else None) earlier
+
+-- no pairing but with that, by its arrival
 earlier-found : (earlier : Option Exchange) (origin : Stamp) (p : Pairing) → earlier_pairing earlier origin ≡ Some p
     → (e : Exchange) × (earlier ≡ Some e) × (origin ≡ e.arrival) × (p ≡ Interleaved e)
 earlier-found None origin p is = absurd (cc)

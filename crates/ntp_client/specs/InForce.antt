@@ -1,5 +1,5 @@
 -- The reference state that replies tell, by the last answer of the host's clock daemon.
-use Rattle.std.specs.Prelude.{ℕ, ℤ, pos, neg_ℤ, ◌+◌, ◌-◌, ◌*◌, ◌^◌, ◌*ℤ◌, min, unsigned_abs, Bool, false, not, ◌&&◌, ◌==◌, nat_lt, nat_le, int_le, if◌then◌else◌, Option, Some, None}
+use Rattle.std.specs.Prelude.{ℕ, ℤ, pos, neg_ℤ, ◌+◌, ◌-◌, ◌*◌, ◌^◌, ◌*ℤ◌, min, unsigned_abs, Bool, false, not, ◌&&◌, ◌==◌, nat_lt, nat_le, int_le, if◌then◌else◌, Option, Some, None, is_none}
 use Rattle.std.specs.Int.{div_ceil}
 use Rattle.ntp_packet.specs.declared.moment.Moment.{Moment}
 use Rattle.ntp_packet.specs.Moment.{units}
@@ -12,6 +12,7 @@ use Rattle.ntp_client.specs.declared.doubt.Doubt.TheVariants.{Old, Unsynchronise
 use Rattle.ntp_client.specs.declared.limits.ClockLimits.{ClockLimits}
 use Rattle.ntp_client.specs.declared.reading.Reading.{Reading}
 use Rattle.ntp_client.specs.Reading.{apart}
+use Rattle.ntp_client.specs.Taking.{is_synchronised}
 
 -- the state of an unsynchronised clock: leap 3, stratum 16 and the greatest dispersion, 16 seconds (RFC 5905, 7.2, 7.3; its precision
 -- of 2^-20 seconds: profile)
@@ -21,10 +22,6 @@ unsynchronised = record blank_clock { leap = 3; stratum = 16; precision = neg_�
 -- a moment is one that the host's clock showed: the first one of era 0 stands for a clock that could not be read (profile)
 abbrev pub is_read : Moment → Bool
 is_read clock = not (units clock == 0)
-
--- the state that is told in a turn whose clock showed a moment: unsynchronised, where it could not be read (profile)
-abbrev pub where_read : Moment → ReferenceState → ReferenceState
-where_read clock state = if is_read clock then state else unsynchronised
 
 -- how long ago the question of an answer left, in nanoseconds (profile)
 abbrev pub age : ClockAnswer → ℕ → ℕ
@@ -56,17 +53,9 @@ precision_told p = if int_le p (neg_ℤ (pos 16)) then neg_ℤ (pos 16) else p
 abbrev pub grown : ClockAnswer → Reading → ReferenceState
 grown a now = record a.state { precision = precision_told a.state.precision; root_dispersion = record { 0 = dispersion a now } }
 
--- twice the root distance, which is half the root delay and the root dispersion, in units of 2^-16 seconds (RFC 5905, 11.2)
-abbrev pub root_distance_twice : ClockAnswer → Reading → ℕ
-root_distance_twice a now = a.state.root_delay.0 + 2 * dispersion a now
-
 -- an answer is young (profile)
 abbrev pub is_young : ClockLimits → ClockAnswer → Reading → Bool
 is_young limits a now = nat_lt (age a now.ticks) limits.valid_for
-
--- its clock is synchronised (RFC 5905, 7.3)
-abbrev pub is_synchronised : ReferenceState → Bool
-is_synchronised s = not (s.leap == 3) && nat_le 1 s.stratum && nat_le s.stratum 15
 
 -- its clock was set, and not long ago by the host's clock (profile)
 abbrev pub was_set_lately : ClockLimits → ClockAnswer → Reading → Bool
@@ -79,26 +68,22 @@ was_set_lately limits a now =
 abbrev pub is_past : ClockLimits → ClockAnswer → Bool
 is_past limits a = int_le (difference a.state.reference a.sent *ℤ pos (10 ^ 9)) (pos (limits.most_step * 2 ^ 32))
 
--- its root distance by now is within the limit (profile)
+-- its root distance by now, half the root delay and the root dispersion, is within the limit (RFC 5905, 11.2; the limit: profile). Either
+-- side is counted twice
 abbrev pub is_near : ClockLimits → ClockAnswer → Reading → Bool
-is_near limits a now = nat_le (root_distance_twice a now) (2 * limits.most_root_distance.0)
+is_near limits a now = nat_le (a.state.root_delay.0 + 2 * dispersion a now) (2 * limits.most_root_distance.0)
 
 -- the host's clock was not set by more than a step may be, since the daemon last showed an update (profile). Either side counts in units
 -- of 2^-32 nanoseconds
 abbrev pub went_on : ClockLimits → ClockAnswer → Reading → Bool
 went_on limits a now = nat_le (apart a.base now) (limits.most_step * 2 ^ 32)
 
--- an answer is believed, by a reading of the host's clocks (profile)
-abbrev pub is_believed : ClockLimits → ClockAnswer → Reading → Bool
-is_believed limits a now =
-    is_young limits a now && is_synchronised a.state && was_set_lately limits a now && is_past limits a && is_near limits a now
-    && went_on limits a now
-
--- why an answer is not believed, by a reading of the host's clocks, if it is not: the first reason that applies, in this order (profile)
+-- why an answer is not believed, by a reading of the host's clocks: the first reason that applies, in this order; it is believed where none
+-- does (profile)
 abbrev pub doubt_of : ClockLimits → ClockAnswer → Reading → Option Doubt
 doubt_of limits a now =
     if not (is_young limits a now) then Some Old
-    else (if not (is_synchronised a.state) then Some Unsynchronised
+    else (if not (is_synchronised a.state.leap a.state.stratum) then Some Unsynchronised
     else (if not (was_set_lately limits a now) then Some ReferenceOld
     else (if not (is_past limits a) then Some ReferenceAhead
     else (if not (is_near limits a now) then Some Far
@@ -107,9 +92,9 @@ doubt_of limits a now =
 -- an answer was learned, and is believed (profile)
 abbrev pub is_followed : ClockLimits → Option ClockAnswer → Reading → Bool
 is_followed limits None now = false
-is_followed limits (Some a) now = is_believed limits a now
+is_followed limits (Some a) now = is_none (doubt_of limits a now)
 
 -- the state that replies tell: the grown one of an answer that is believed, or unsynchronised (profile)
 abbrev pub in_force : ClockLimits → Option ClockAnswer → Reading → ReferenceState
 in_force limits None now = unsynchronised
-in_force limits (Some a) now = if is_believed limits a now then grown a now else unsynchronised
+in_force limits (Some a) now = if is_none (doubt_of limits a now) then grown a now else unsynchronised

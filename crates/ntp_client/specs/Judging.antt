@@ -14,13 +14,13 @@ use Rattle.ntp_client.specs.declared.taken.Taken.{Taken}
 use Rattle.ntp_client.specs.declared.taken.Taken.TheVariants as taken
 use Rattle.ntp_client.specs.declared.taken.Distrust.TheVariants as distrust
 use Rattle.ntp_client.specs.Pairing.{pairing_of, sample_of}
-use Rattle.ntp_client.specs.Taking.{is_kiss, is_unsynchronised, lacks_stamp, with_mac}
+use Rattle.ntp_client.specs.Taking.{is_kiss, is_synchronised, lacks_stamp, with_mac}
 
 -- of an authentic reply (profile)
 abbrev pub authentic_steps : Pairing → HeaderFields → Sample → Result Taken Taken
 authentic_steps pairing h sample = do
   provided (not (is_kiss rate_code h pairing)) taken.Rate
-  provided (not (is_unsynchronised h)) (taken.Refused distrust.Unsynchronised)
+  provided (is_synchronised h.clock.leap h.clock.stratum) (taken.Refused distrust.Unsynchronised)
   provided (not (lacks_stamp h)) (taken.Refused distrust.Stamps)
   Ok (taken.Sample sample)
 

@@ -1,23 +1,23 @@
 -- What is learned from the answers of the host's clock daemon.
-use Rattle.std.specs.Prelude.{ℕ, ℤ, ◌+◌, ◌+ℤ◌, ◌-◌, ◌-ℤ◌, ◌*◌, ◌^◌, min, unsigned_abs, nat_lt, if◌then◌else◌, Option, Some, None, option_map, option_and_then}
+use Rattle.std.specs.Prelude.{ℕ, ◌+◌, ◌-◌, ◌*◌, ◌^◌, min, unsigned_abs, Bool, false, ◌&&◌, ◌||◌, nat_lt, if◌then◌else◌, Option, Some, None, option_map, option_and_then}
 use Rattle.std.specs.Int.{div_ceil}
 use Rattle.ntp_packet.specs.declared.stamp.Stamp.{Stamp}
 use Rattle.ntp_packet.specs.declared.stamp.Short.{Short}
-use Rattle.ntp_packet.specs.Difference.{difference}
 use Rattle.ntp_packet.specs.Header.{HeaderFields, no_stamp}
 use Rattle.ntp_mac.specs.Key.{SymmetricKey}
 use Rattle.ntp_client.specs.declared.exchange.Outstanding.{Outstanding}
 use Rattle.ntp_client.specs.State.{ClientState, new_client}
-use Rattle.ntp_client.specs.Query.{next_query, after_query}
+use Rattle.ntp_client.specs.Query.{transmit_of}
 use Rattle.ntp_client.specs.declared.sample.Sample.{Sample}
+use Rattle.ntp_client.specs.Sample.{offset_twice, delay}
 use Rattle.ntp_client.specs.declared.taken.Taken.{Taken}
 use Rattle.ntp_client.specs.declared.taken.Taken.TheVariants as taken
 use Rattle.ntp_client.specs.declared.taken.Distrust.TheVariants as distrust
-use Rattle.ntp_reply.specs.Reference.{ReferenceState}
 use Rattle.ntp_client.specs.declared.answer.ClockAnswer.{ClockAnswer}
 use Rattle.ntp_client.specs.declared.limits.ClockLimits.{ClockLimits}
 use Rattle.ntp_client.specs.declared.reading.Reading.{Reading}
 use Rattle.ntp_client.specs.declared.watch.ClockWatch.{ClockWatch}
+use Rattle.ntp_client.specs.InForce.{is_read}
 use Rattle.ntp_client.specs.Watching.{new_watch, is_set_since, after_set, shows_update}
 
 -- what a follower of the host's clock daemon knows: the client that asks it, the limits, how the host's clock was set, the last answer
@@ -34,46 +34,43 @@ abbrev pub new_follower : SymmetricKey → ℕ → ClockLimits → FollowerState
 new_follower key number limits =
     record { client = new_client key number; limits = limits; watch = new_watch; learned = None; slowed = None }
 
--- the client of a follower, as one that has asked nothing (profile)
-abbrev pub client_anew : FollowerState → ClientState
-client_anew f = new_client f.client.key f.client.number
-
 -- a follower that has looked at the host's clocks: where they show that the host's was set, no question waits any more (profile)
 abbrev pub looked : FollowerState → Reading → FollowerState
-looked f now = if is_set_since f.watch.seen now then record f { client = client_anew f; watch = after_set now } else f
+looked f now =
+    if is_set_since f.watch.seen now then record f { client = record f.client { outstanding = None; sampled = None }; watch = after_set now }
+    else f
+
+-- what was learned rests on a reading from before the host's clock was last seen to be set (profile)
+abbrev pub rests_before : Option ClockAnswer → Option Reading → Bool
+rests_before (Some a) (Some set) = nat_lt a.base.ticks set.ticks
+rests_before learned set = false
+
+-- after a reading the clocks have to be read anew: it is one, and either it shows that the host's was set, or what was learned rests on a
+-- reading from before that was last seen (profile)
+abbrev pub has_to_read_anew : FollowerState → Reading → Bool
+has_to_read_anew f shown = is_read shown.clock && (is_set_since f.watch.seen shown || rests_before f.learned f.watch.set)
 
 -- the question that a follower asks at a reading: a basic one, which carries no earlier exchange (profile)
-abbrev pub question : FollowerState → Reading → Outstanding
-question f now = next_query (client_anew f) now.clock
+abbrev pub question : Reading → Outstanding
+question now = record { transmit = transmit_of None now.clock; earlier = None }
 
 -- the follower that has looked at the clocks and has asked it (profile)
 abbrev pub asked : FollowerState → Reading → FollowerState
 asked f now = record (looked f now) {
-  client = after_query (client_anew f) now.clock;
+  client = record f.client { outstanding = Some (question now); sampled = None };
   watch = record (looked f now).watch { seen = Some now };
 }
 
--- the size of the round trip delay of a sample, in units of 2^-16 seconds and rounded up (RFC 5905, 8; rounded up: profile)
-abbrev pub delay_size : Sample → ℕ
-delay_size s = div_ceil (unsigned_abs (difference s.t4 s.t1 -ℤ difference s.t3 s.t2)) (2 ^ 16)
-
--- the root delay by way of a time reply: the one that it tells, and the delay of the exchange, to the most that a packet can tell
--- (RFC 5905, 11.2; to the most: profile)
+-- the root delay by way of a time reply: the one that it tells, and the size of the exchange's delay, in units of 2^-16 seconds and rounded
+-- up; to the most that a packet can tell (RFC 5905, 11.2; rounded up, to the most: profile)
 abbrev pub root_delay_by : HeaderFields → Sample → Short
-root_delay_by h s = record { 0 = min (2 ^ 32 - 1) (h.clock.root_delay.0 + delay_size s) }
+root_delay_by h s = record { 0 = min (2 ^ 32 - 1) (h.clock.root_delay.0 + div_ceil (unsigned_abs (delay s)) (2 ^ 16)) }
 
--- the state of its clock that a time reply tells (RFC 5905, 7.3), with that root delay
-abbrev pub state_told : HeaderFields → Sample → ReferenceState
-state_told h s = record h.clock { root_delay = root_delay_by h s }
-
--- twice the offset of a sample, in units of 2^-32 seconds (RFC 5905, 8)
-abbrev pub offset_twice : Sample → ℤ
-offset_twice s = difference s.t2 s.t1 +ℤ difference s.t3 s.t4
-
--- the answer that a time reply is to the question of a reading, with what it rests on (profile)
-abbrev pub answer_of : HeaderFields → Sample → Reading → Reading → ClockAnswer
-answer_of h sample question base = record {
-  state = state_told h sample;
+-- the answer that a time reply is to the question of a reading: the state of its clock that it tells, with that root delay, and what it
+-- rests on (RFC 5905, 7.3; rests on: profile)
+abbrev pub clock_answer : HeaderFields → Sample → Reading → Reading → ClockAnswer
+clock_answer h sample question base = record {
+  state = record h.clock { root_delay = root_delay_by h sample };
   offset_twice = offset_twice sample;
   sent = h.transmit;
   ticks = question.ticks;
@@ -88,7 +85,7 @@ base_of w learned h question = if shows_update w h.clock.reference h.transmit th
 -- what is learned of a time reply to the last question: the answer that it is, where it rests on something (profile)
 abbrev pub learned_of : ClockWatch → Option ClockAnswer → HeaderFields → Sample → Option ClockAnswer
 learned_of w learned h sample =
-    option_and_then (λ question. option_map (answer_of h sample question) (base_of w learned h question)) w.seen
+    option_and_then (λ question. option_map (clock_answer h sample question) (base_of w learned h question)) w.seen
 
 -- what is learned after a packet with this header was taken for something: the answer of a sample; nothing, where an authentic reply
 -- says that its clock is unsynchronised; and all else changes nothing (profile)

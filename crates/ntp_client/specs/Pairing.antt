@@ -1,5 +1,5 @@
 -- Which exchange a reply belongs to.
-use Rattle.std.specs.Prelude.{Bool, true, false, Option, Some, None, ◌==◌, if◌then◌else◌, []}
+use Rattle.std.specs.Prelude.{Bool, true, false, Option, Some, None, option_and_then, ◌==◌, if◌then◌else◌, []}
 use Rattle.ntp_packet.specs.declared.stamp.Stamp.{Stamp}
 use Rattle.ntp_packet.specs.declared.moment.Moment.{Moment}
 use Rattle.ntp_packet.specs.Fresh.{fresh}
@@ -10,14 +10,12 @@ use Rattle.ntp_client.specs.declared.pairing.Pairing.{Pairing}
 use Rattle.ntp_client.specs.declared.pairing.Pairing.TheVariants.{Basic, Interleaved}
 use Rattle.ntp_client.specs.declared.sample.Sample.{Sample}
 
--- the pairing of a reply whose origin is no transmit stamp of a request: with the earlier exchange, by its arrival (RFC 9769, 2)
-abbrev pub earlier_pairing : Option Exchange → Stamp → Option Pairing
-earlier_pairing None origin = None
-earlier_pairing (Some earlier) origin = if origin.0 == earlier.arrival.0 then Some (Interleaved earlier) else None
-
--- the pairing of a reply, by its origin: with the request that it answers, or with the earlier exchange (RFC 5905, 8; RFC 9769, 2)
+-- the pairing of a reply, by its origin: with the request, by its transmit stamp, or with the earlier exchange, by its arrival (RFC 5905,
+-- 8; RFC 9769, 2)
 abbrev pub pairing_of : Outstanding → Stamp → Option Pairing
-pairing_of q origin = if origin.0 == q.transmit.0 then Some Basic else earlier_pairing q.earlier origin
+pairing_of q origin =
+    if origin.0 == q.transmit.0 then Some Basic
+    else option_and_then (λ e. if origin.0 == e.arrival.0 then Some (Interleaved e) else None) q.earlier
 
 -- whether a reply answers the request by its transmit stamp (RFC 5905, 8)
 abbrev pub is_basic : Pairing → Bool

@@ -1,11 +1,11 @@
 -- The request of a client.
-use Rattle.std.specs.Prelude.{ℕ, pos, Option, Some, None, List, [], ◌∷◌, ◌++◌}
+use Rattle.std.specs.Prelude.{ℕ, pos, Option, Some, None, List, [], ◌∷◌}
 use Rattle.ntp_packet.specs.declared.stamp.Stamp.{Stamp}
 use Rattle.ntp_packet.specs.declared.moment.Moment.{Moment}
 use Rattle.ntp_packet.specs.Fresh.{fresh}
-use Rattle.ntp_packet.specs.Header.{HeaderFields, no_stamp, blank_header, header_octets}
+use Rattle.ntp_packet.specs.Header.{HeaderFields, no_stamp, blank_header}
 use Rattle.ntp_mac.specs.Key.{SymmetricKey}
-use Rattle.ntp_mac.specs.Mac.{mac_of}
+use Rattle.ntp_reply.specs.Replies.{sealed}
 use Rattle.ntp_client.specs.declared.exchange.Exchange.{Exchange}
 use Rattle.ntp_client.specs.declared.exchange.Outstanding.{Outstanding}
 use Rattle.ntp_client.specs.State.{ClientState}
@@ -32,7 +32,7 @@ query_fields q =
 
 -- the octets of a request: the header, and its MAC (RFC 5905, 7.3)
 abbrev pub query_octets : SymmetricKey → ℕ → Outstanding → List ℕ
-query_octets key number q = header_octets (query_fields q) ++ mac_of key number (header_octets (query_fields q))
+query_octets key number q = sealed key number (query_fields q)
 
 -- the request that a client makes at a moment: it carries the exchange that was sampled since the last one (profile)
 abbrev pub next_query : ClientState → Moment → Outstanding

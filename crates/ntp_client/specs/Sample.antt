@@ -1,6 +1,7 @@
 -- What gives a client a sample.
-use Rattle.std.specs.Prelude.{◌≡◌, ◌≢◌, ℕ, ◌≤◌, ◌⊎◌, true, false, Some, List, []}
+use Rattle.std.specs.Prelude.{◌≡◌, ◌≢◌, ℕ, ℤ, ◌≤◌, ◌+ℤ◌, ◌-ℤ◌, ◌⊎◌, true, false, Some, List, []}
 use Rattle.ntp_packet.specs.declared.moment.Moment.{Moment}
+use Rattle.ntp_packet.specs.Difference.{difference}
 use Rattle.ntp_packet.specs.Fresh.{fresh}
 use Rattle.ntp_packet.specs.Header.{HeaderFields}
 use Rattle.ntp_packet.specs.Request.{RequestValue, IsRequest}
@@ -9,6 +10,14 @@ use Rattle.ntp_client.specs.declared.exchange.Exchange.{Exchange}
 use Rattle.ntp_client.specs.declared.exchange.Outstanding.{Outstanding}
 use Rattle.ntp_client.specs.declared.sample.Sample.{Sample}
 use Rattle.ntp_client.specs.State.{ClientState}
+
+-- twice the offset of the server's clock from the client's, in units of 2^-32 seconds (RFC 5905, 8)
+abbrev pub offset_twice : Sample → ℤ
+offset_twice s = difference s.t2 s.t1 +ℤ difference s.t3 s.t4
+
+-- the round trip delay between client and server, in units of 2^-32 seconds (RFC 5905, 8)
+abbrev pub delay : Sample → ℤ
+delay s = difference s.t4 s.t1 -ℤ difference s.t3 s.t2
 
 -- a server's reply of version 4, from a clock that is synchronised and with stamps of known time (RFC 5905, 7.3)
 pub record IsTimeReply (h : HeaderFields) : Type 0 where

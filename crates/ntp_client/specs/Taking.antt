@@ -1,5 +1,5 @@
 -- What a client makes of octets that arrive.
-use Rattle.std.specs.Prelude.{ℕ, List, Bool, not, ◌==◌, ◌&&◌, ◌||◌, nat_eq, nat_lt, if◌then◌else◌, Option, None, ok_or, option_map, option_and_then, Result, Ok, Err}
+use Rattle.std.specs.Prelude.{ℕ, List, Bool, not, ◌==◌, ◌&&◌, ◌||◌, nat_eq, nat_le, if◌then◌else◌, Option, None, ok_or, option_map, option_and_then, Result, Ok, Err}
 use Rattle.std.specs.Result.{result_ok}
 use Rattle.std.specs.Cmp.Lexicographic.{pointwise}
 use Rattle.ntp_packet.specs.declared.moment.Moment.{Moment}
@@ -10,8 +10,6 @@ use Rattle.ntp_packet.specs.Tail.{TailValue, NoTail, BareTail, MacTail}
 use Rattle.ntp_packet.specs.Request.{RequestValue}
 use Rattle.ntp_mac.specs.Reading.{reading_of}
 use Rattle.ntp_mac.specs.Signed.{is_signed}
-use Rattle.ntp_client.specs.declared.exchange.Exchange.{Exchange}
-use Rattle.ntp_client.specs.declared.exchange.Outstanding.{Outstanding}
 use Rattle.ntp_client.specs.declared.pairing.Pairing.{Pairing}
 use Rattle.ntp_client.specs.declared.taken.Taken.{Taken}
 use Rattle.ntp_client.specs.declared.taken.Taken.TheVariants as taken
@@ -23,9 +21,9 @@ use Rattle.ntp_client.specs.Pairing.{pairing_of, is_basic, exchange_of, sample_o
 abbrev pub is_kiss : List ℕ → HeaderFields → Pairing → Bool
 is_kiss code h pairing = (h.clock.stratum == 0) && pointwise nat_eq h.clock.reference_id code && is_basic pairing
 
--- whether a reply's clock is unsynchronised (RFC 5905, 7.3)
-abbrev pub is_unsynchronised : HeaderFields → Bool
-is_unsynchronised h = (h.clock.leap == 3) || (h.clock.stratum == 0) || nat_lt 15 h.clock.stratum
+-- whether a clock of this leap indicator and this stratum is synchronised (RFC 5905, 7.3)
+abbrev pub is_synchronised : ℕ → ℕ → Bool
+is_synchronised leap stratum = not (leap == 3) && nat_le 1 stratum && nat_le stratum 15
 
 -- whether a stamp of a reply is that of unknown time (RFC 5905, 6)
 abbrev pub lacks_stamp : HeaderFields → Bool
@@ -49,7 +47,7 @@ taken_for c octets at = decided do
   with_mac r pairing r.tail
   provided (is_signed c.key c.number r) (taken.Refused distrust.Mac)
   provided (not (is_kiss rate_code r.header pairing)) taken.Rate
-  provided (not (is_unsynchronised r.header)) (taken.Refused distrust.Unsynchronised)
+  provided (is_synchronised r.header.clock.leap r.header.clock.stratum) (taken.Refused distrust.Unsynchronised)
   provided (not (lacks_stamp r.header)) (taken.Refused distrust.Stamps)
   Ok (taken.Sample (sample_of q pairing r.header at))
 
@@ -57,13 +55,12 @@ taken_for c octets at = decided do
 abbrev pub header_taken : ClientState → List ℕ → Option HeaderFields
 header_taken c octets = option_and_then (λ q. option_map (λ r. r.header) (result_ok (reading_of octets))) c.outstanding
 
--- the exchange of the request that waits for its reply with octets that arrive at a moment (profile)
-abbrev pub exchange_with : Option Outstanding → List ℕ → Moment → Option Exchange
-exchange_with waiting octets at = option_and_then (λ q. option_map (λ r. exchange_of q r.header at) (result_ok (reading_of octets))) waiting
-
 -- the client that has taken octets for something that arrived at a moment: a sample and a RATE end the outstanding request, and a
 -- sample leaves the exchange for the next one; all else changes nothing (profile)
 abbrev pub after_taken : ClientState → List ℕ → Moment → Taken → ClientState
-after_taken c octets at (taken.Sample sample) = record c { outstanding = None; sampled = exchange_with c.outstanding octets at }
+after_taken c octets at (taken.Sample sample) = record c {
+  outstanding = None;
+  sampled = option_and_then (λ q. option_map (λ h. exchange_of q h at) (header_taken c octets)) c.outstanding;
+}
 after_taken c octets at taken.Rate = record c { outstanding = None }
 after_taken c octets at _ = c

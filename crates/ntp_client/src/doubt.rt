@@ -2,7 +2,8 @@
 ghost use Rattle.std.specs.Prelude.{◌≡◌};
 ghost use Rattle.ntp_client.specs.InForce.{doubt_of};
 
-use crate::believing::{is_near, is_past, is_synchronised, is_young, was_set_lately, went_on};
+use crate::believing::{is_near, is_past, is_young, was_set_lately, went_on};
+use crate::judging::is_synchronised;
 use crate::{ClockAnswer, ClockLimits, Reading};
 
 /// Why an answer of the host's clock daemon is not believed: the first of these that applies (profile).
@@ -28,7 +29,7 @@ pub(crate) fn doubt_of(limits: &ClockLimits, answer: &ClockAnswer, now: Reading)
 {
     if !is_young(limits, answer, now) {
         Some(Doubt::Old)
-    } else if !is_synchronised(&answer.state) {
+    } else if !is_synchronised(answer.state.leap(), answer.state.stratum()) {
         Some(Doubt::Unsynchronised)
     } else if !was_set_lately(limits, answer, now) {
         Some(Doubt::ReferenceOld)

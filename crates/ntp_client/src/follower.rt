@@ -1,5 +1,5 @@
 //! A follower of the host's clock daemon.
-ghost use Rattle.std.specs.Prelude.{◌≡◌, ◌<◌, Some, IfSome, option_and_then, option_copied, option_map};
+ghost use Rattle.std.specs.Prelude.{◌≡◌, ◌<◌, Some, option_and_then, option_copied, option_map};
 ghost use Rattle.ntp_packet.specs.Request.{RequestValue, IsRequest};
 ghost use Rattle.ntp_mac.specs.Signed.{IsSigned};
 ghost use Rattle.ntp_client.specs.Query.{query_octets};
@@ -7,15 +7,14 @@ ghost use Rattle.ntp_client.specs.Sample.{IsTimeReply};
 ghost use Rattle.ntp_client.specs.Taking.{taken_for, header_taken, after_taken};
 ghost use Rattle.ntp_client.specs.InForce.{age, is_followed, doubt_of, in_force};
 ghost use Rattle.ntp_client.specs.Watching.{is_set_since};
-ghost use Rattle.ntp_client.specs.Learning.{new_follower, looked, question, asked, root_delay_by, base_of, learned_of, learned_after, told_after, slowed_after, period};
+ghost use Rattle.ntp_client.specs.Learning.{new_follower, looked, rests_before, has_to_read_anew, question, asked, root_delay_by, base_of, learned_of, learned_after, told_after, slowed_after, period};
 
-use crate::believing::is_believed;
 use crate::doubt::doubt_of;
 use crate::growing::age;
 use crate::pacing::period;
 use crate::{
     Client, ClockAnswer, ClockLimits, ClockWatch, Distrust, Doubt, Outgoing, Reading, Sample,
-    Taken, TakenPacket, state_in_force,
+    Taken, TakenPacket, is_read, state_in_force,
 };
 use ntp_mac::Key;
 use ntp_packet::{ClockFields, Header, Short, Stamp};
@@ -66,12 +65,14 @@ impl Follower {
         }
     }
 
-    /// Whether a reading of the host's clocks shows that the host's was set since the last question left, or since it was seen
-    /// to be set after that: by more than a thousandth of a second (profile).
-    pub fn is_set_since(&self, now: Reading) -> bool
-        ensures { result ≡ is_set_since self.now.watch.seen now }
+    /// Whether the clocks have to be read anew after a reading: it is one, and either it shows that the host's was set since it was
+    /// seen, or what was learned rests on a reading from before the host's was last seen to be set (profile).
+    pub fn has_to_read_anew(&self, shown: Reading) -> bool
+        ensures { result ≡ has_to_read_anew self.now shown }
     {
-        self.watch.is_set_since(now)
+        is_read(shown.clock)
+            && (self.watch.is_set_since(shown)
+                || rests_before(self.learned.as_ref(), self.watch.set))
     }
 
     /// Looks whether the host's clock was set, and says it. Where it was, no question waits any longer, and the daemon has to show
@@ -97,7 +98,7 @@ impl Follower {
     /// its answer gives a sample of this exchange. It takes the place of one that still waits for its answer (profile).
     #[must_use]
     pub fn request(&mut self, now: Reading) -> Outgoing
-        ensures octets { result ≡ query_octets self.old.client.key self.old.client.number (question self.old now) }
+        ensures octets { result ≡ query_octets self.old.client.key self.old.client.number (question now) }
         ensures asked { self.new ≡ asked self.old now }
     {
         let _was_set = self.look(now);
@@ -143,7 +144,7 @@ impl Follower {
     {
         let TakenPacket { taken, header } = self.client.take_packet(octets, now.clock);
         match taken {
-            Taken::Sample(sample) => self.learn(header, sample),
+            Taken::Sample(sample) => self.learn(&header.unwrap(), sample),
             Taken::Refused(Distrust::Unsynchronised) => {
                 self.learned = None;
                 self.watch.told = Some(Stamp(0));
@@ -154,20 +155,18 @@ impl Follower {
         taken
     }
 
-    // Learns of a sample and the header of its packet, which it always has.
-    fn learn(&mut self, header: Option<Header>, sample: Sample)
+    // Learns of a sample and the header of its packet.
+    fn learn(&mut self, header: &Header, sample: Sample)
         ensures client { self.new.client ≡ self.old.client }
         ensures limits { self.new.limits ≡ self.old.limits }
         ensures seen { self.new.watch.seen ≡ self.old.watch.seen }
         ensures set { self.new.watch.set ≡ self.old.watch.set }
-        ensures told { IfSome header (λ h. self.new.watch.told ≡ Some h.clock.reference) }
-        ensures learned { IfSome header (λ h. IsTimeReply h → self.new.learned ≡ learned_of self.old.watch self.old.learned h sample) }
+        ensures told { self.new.watch.told ≡ Some header.now.clock.reference }
+        ensures learned { IsTimeReply header.now → self.new.learned ≡ learned_of self.old.watch self.old.learned header.now sample }
         ensures slowed { self.new.slowed ≡ self.old.slowed }
     {
-        if let Some(header) = header {
-            self.learned = learned_of(&self.watch, self.learned.as_ref(), &header, sample);
-            self.watch.told = Some(header.reference());
-        }
+        self.learned = learned_of(&self.watch, self.learned.as_ref(), header, sample);
+        self.watch.told = Some(header.reference());
     }
 
     /// How long after a question the next one is due when the monotonic clock shows `ticks`, in nanoseconds: a second, and eight for an
@@ -193,7 +192,7 @@ impl Follower {
         let limits = &self.limits;
         self.learned
             .as_ref()
-            .is_some_and(|answer| is_believed(limits, answer, now))
+            .is_some_and(|answer| doubt_of(limits, answer, now).is_none())
     }
 
     /// Why the last answer is not believed, if there is one and it is not: the first reason that applies.
@@ -218,6 +217,16 @@ impl Follower {
         ensures { result ≡ option_map (λ answer. age answer ticks) self.now.learned }
     {
         self.learned.as_ref().map(|answer| age(answer, ticks))
+    }
+}
+
+// Whether what was learned rests on a reading from before the host's clock was last seen to be set.
+fn rests_before(learned: Option<&ClockAnswer>, set: Option<Reading>) -> bool
+    ensures { result ≡ rests_before (option_copied learned.entry) set }
+{
+    match (learned, set) {
+        (Some(answer), Some(set)) => answer.base.ticks < set.ticks,
+        _ => false,
     }
 }
 

@@ -1,6 +1,6 @@
 //! How the dispersion of an answer grows.
 ghost use Rattle.std.specs.Prelude.{◌≡◌, ◌^◌, ◌<◌, ◌≤◌};
-ghost use Rattle.ntp_client.specs.InForce.{age, offset_size, drift, set_by, dispersion, root_distance_twice};
+ghost use Rattle.ntp_client.specs.InForce.{age, offset_size, drift, set_by, dispersion};
 
 use crate::reading::apart;
 use crate::{ClockAnswer, Reading};
@@ -33,14 +33,6 @@ pub(crate) fn dispersion(answer: &ClockAnswer, now: Reading) -> u32
     let drift = u128::from(drift(age(answer, now.ticks)));
     let grown = told + offset_size(answer) + drift + set_by(answer, now);
     grown.min(u128::from(u32::MAX)) as u32
-}
-
-// Twice the root distance some time after an answer, in units of 2^-16 seconds.
-pub(crate) fn root_distance_twice(answer: &ClockAnswer, now: Reading) -> u64
-    ensures { result ≡ root_distance_twice answer.now now }
-{
-    let delay = u64::from(answer.state.root_delay().0);
-    delay + 2 * u64::from(dispersion(answer, now))
 }
 
 // The size of an answer's offset, in units of 2^-16 seconds and rounded up.

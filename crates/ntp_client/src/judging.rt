@@ -1,21 +1,19 @@
 //! What a reply is taken for, in the order of the cases.
 ghost use Rattle.std.specs.Prelude.{◌≡◌};
 ghost use Rattle.ntp_packet.specs.FirstCase.{decided};
-ghost use Rattle.ntp_client.specs.Taking.{is_kiss, is_unsynchronised, lacks_stamp};
+ghost use Rattle.ntp_client.specs.Taking.{is_kiss, is_synchronised, lacks_stamp};
 ghost use Rattle.ntp_client.specs.Judging.{authentic_steps, mac_steps, tail_steps, packet_steps};
 
 use crate::exchange::Outstanding;
 use crate::pairing::{Pairing, is_basic, pairing_of, sample_of};
 use crate::query::VERSION;
+use crate::state::UNSYNCHRONISED_LEAP;
 use crate::{Distrust, Sample, Taken};
 use ntp_mac::{Key, verifies};
 use ntp_packet::{DENY_CODE, Header, Moment, RATE_CODE, Request, Tail};
 
 /// The mode of a packet from a server (RFC 5905, 7.3).
 const SERVER_MODE: u8 = 4;
-
-/// The leap indicator of an unsynchronised clock (RFC 5905, 7.3).
-const UNSYNCHRONISED_LEAP: u8 = 3;
 
 /// The highest stratum of a synchronised clock (RFC 5905, 7.3).
 const HIGHEST_STRATUM: u8 = 15;
@@ -79,7 +77,7 @@ fn judge_authentic(pairing: Pairing, reply: &Header, sample: Sample) -> Taken
 {
     if is_kiss(reply, RATE_CODE, pairing) {
         Taken::Rate
-    } else if is_unsynchronised(reply) {
+    } else if !is_synchronised(reply.leap(), reply.stratum()) {
         Taken::Refused(Distrust::Unsynchronised)
     } else if lacks_stamp(reply) {
         Taken::Refused(Distrust::Stamps)
@@ -95,12 +93,11 @@ fn is_kiss(reply: &Header, code: [u8; 4], pairing: Pairing) -> bool
     reply.stratum() == 0 && reply.reference_id() == code && is_basic(pairing)
 }
 
-// Whether the server's clock is unsynchronised.
-fn is_unsynchronised(reply: &Header) -> bool
-    ensures { result ≡ is_unsynchronised reply.now }
+// Whether a clock of this leap indicator and this stratum is synchronised.
+pub(crate) fn is_synchronised(leap: u8, stratum: u8) -> bool
+    ensures { result ≡ is_synchronised leap stratum }
 {
-    let stratum = reply.stratum();
-    reply.leap() == UNSYNCHRONISED_LEAP || stratum == 0 || stratum > HIGHEST_STRATUM
+    leap != UNSYNCHRONISED_LEAP && 1 <= stratum && stratum <= HIGHEST_STRATUM
 }
 
 // Whether the receive or the transmit stamp is that of unknown time.

@@ -1,6 +1,6 @@
 //! A sample of a server's clock.
-ghost use Rattle.std.specs.Prelude.{◌≡◌, ◌^◌, ◌<◌, ◌≤◌, ◌+ℤ◌, ◌-ℤ◌, unsigned_abs};
-ghost use Rattle.ntp_packet.specs.Difference.{difference};
+ghost use Rattle.std.specs.Prelude.{◌≡◌, ◌^◌, ◌<◌, ◌≤◌, unsigned_abs};
+ghost use Rattle.ntp_client.specs.Sample.{offset_twice, delay};
 
 use ntp_packet::{Stamp, difference};
 use std::fmt;
@@ -33,7 +33,7 @@ pub struct Sample {
 impl Sample {
     /// Twice the offset of the server's clock from the client's, in units of 2^-32 seconds (RFC 5905, 8).
     pub fn offset_twice(&self) -> i128
-        ensures sum { result ≡ difference self.now.t2 self.now.t1 +ℤ difference self.now.t3 self.now.t4 }
+        ensures sum { result ≡ offset_twice self.now }
         ensures most { unsigned_abs result ≤ 2 ^ 64 }
     {
         i128::from(difference(self.t2, self.t1)) + i128::from(difference(self.t3, self.t4))
@@ -41,7 +41,7 @@ impl Sample {
 
     /// The round trip delay between client and server, in units of 2^-32 seconds (RFC 5905, 8).
     pub fn delay(&self) -> i128
-        ensures sum { result ≡ difference self.now.t4 self.now.t1 -ℤ difference self.now.t3 self.now.t2 }
+        ensures sum { result ≡ delay self.now }
         ensures most { unsigned_abs result ≤ 2 ^ 64 }
     {
         i128::from(difference(self.t4, self.t1)) - i128::from(difference(self.t3, self.t2))

@@ -1,8 +1,9 @@
 //! The state that replies tell.
-ghost use Rattle.std.specs.Prelude.{◌≡◌, true, option_copied};
-ghost use Rattle.ntp_client.specs.InForce.{unsynchronised, is_read, where_read, is_synchronised, precision_told, grown, in_force};
+ghost use Rattle.std.specs.Prelude.{◌≡◌, true, option_copied, if◌then◌else◌};
+ghost use Rattle.ntp_client.specs.InForce.{unsynchronised, is_read, precision_told, grown, in_force};
+ghost use Rattle.ntp_client.specs.Taking.{is_synchronised};
 
-use crate::believing::is_believed;
+use crate::doubt::doubt_of;
 use crate::growing::dispersion;
 use crate::{ClockAnswer, ClockLimits, Reading};
 use ntp_packet::{ClockFields, Moment, Short, Stamp};
@@ -45,7 +46,7 @@ pub fn reference_unsynchronised() -> Reference
 /// which is told as stamp 0 of era 0; else `state` (profile).
 #[must_use]
 pub fn reference_where_read(clock: Moment, state: Reference) -> Reference
-    ensures { result ≡ where_read clock state }
+    ensures { result ≡ (if is_read clock then state else unsynchronised) }
 {
     if is_read(clock) {
         state
@@ -72,14 +73,14 @@ pub fn state_in_force(
     ensures { result ≡ in_force limits.now (option_copied learned.entry) now }
 {
     match learned {
-        Some(answer) if is_believed(limits, answer, now) => grown(answer, now),
+        Some(answer) if doubt_of(limits, answer, now).is_none() => grown(answer, now),
         _ => reference_unsynchronised(),
     }
 }
 
 // The state of an answer, with its dispersion grown since.
 fn grown(answer: &ClockAnswer, now: Reading) -> Reference
-    requires { is_synchronised answer.now.state ≡ true }
+    requires { is_synchronised answer.now.state.leap answer.now.state.stratum ≡ true }
     ensures { result ≡ grown answer.now now }
 {
     let fields = ClockFields {

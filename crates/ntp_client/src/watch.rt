@@ -4,7 +4,7 @@ ghost use Rattle.ntp_client.specs.Watching.{new_watch, is_set_since, after_set, 
 
 use crate::Reading;
 use crate::reading::apart;
-use ntp_packet::{Moment, Stamp, difference};
+use ntp_packet::{Stamp, difference};
 
 /// How far the clocks go apart at most where the host's was not set, in units of 2^-32 nanoseconds: a thousandth of a second (profile).
 const MOST_APART: u128 = 1_000_000 << 32;
@@ -14,8 +14,8 @@ const MOST_APART: u128 = 1_000_000 << 32;
 pub struct ClockWatch {
     /// What the host's clocks showed when the last question left, or when the host's was seen to be set after that.
     pub seen: Option<Reading>,
-    /// What the host's clock showed when it was last seen to be set.
-    pub set: Option<Moment>,
+    /// What the host's clocks showed when the host's was last seen to be set.
+    pub set: Option<Reading>,
     /// The reference time of the daemon's last answer since then, 0 where that told none.
     pub told: Option<Stamp>,
 }
@@ -38,7 +38,7 @@ impl ClockWatch {
     {
         ClockWatch {
             seen: Some(now),
-            set: Some(now.clock),
+            set: Some(now),
             told: None,
         }
     }
@@ -75,11 +75,11 @@ fn is_another(told: Option<Stamp>, reference: Stamp) -> bool
 }
 
 // Whether a reference time is not before the clock was seen to be set.
-fn is_behind(set: Option<Moment>, reference: Stamp) -> bool
+fn is_behind(set: Option<Reading>, reference: Stamp) -> bool
     ensures { result ≡ is_behind set reference }
 {
     match set {
-        Some(set) => difference(reference, set.stamp) >= 0,
+        Some(set) => difference(reference, set.clock.stamp) >= 0,
         None => true,
     }
 }

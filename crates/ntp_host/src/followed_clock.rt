@@ -40,9 +40,8 @@ pub struct FollowedClock<'a, C: Clock + Copy + Drop> {
     // When the daemon was asked last, if it was since the host's clock was set.
     asked: Option<u64>,
     is_outstanding: bool,
-    // When an answer was looked for last, and when the host's clock was last seen to be set; 0 where it never was.
+    // When an answer was looked for last.
     looked: u64,
-    set_at: u64,
     has_answered: bool,
     // Whether the last answer said that its clock is not synchronised.
     is_unsynchronised: bool,
@@ -71,7 +70,6 @@ impl<'a, C: Clock + Copy + Drop> FollowedClock<'a, C> {
             asked: None,
             is_outstanding: false,
             looked: 0,
-            set_at: 0,
             has_answered: false,
             is_unsynchronised: false,
         }
@@ -82,7 +80,7 @@ impl<'a, C: Clock + Copy + Drop> FollowedClock<'a, C> {
         &self.follower
     }
 
-    /// Whether the daemon has told the state of its clock at all, were it that this is not synchronised.
+    /// Whether the daemon has told the state of its clock at all, even if only that it is not synchronised.
     pub fn has_answered(&self) -> bool {
         self.has_answered
     }
@@ -120,20 +118,10 @@ impl<'a, C: Clock + Copy + Drop> FollowedClock<'a, C> {
         }
     }
 
-    // Whether the host's clock was seen to be set since the reading that the daemon's last answer rests on.
-    fn is_set_since_update(&self) -> bool {
-        match self.follower.learned() {
-            Some(answer) => answer.base.ticks < self.set_at,
-            None => false,
-        }
-    }
-
-    // Looks whether the host's clock was set, where a reading shows it. That may be one in which the process was held up, so the clocks
-    // are read anew, and the new reading takes its place: else it would tell as much less than the clock was set by. So it is as long as
-    // that is told.
+    // Looks whether the host's clock was set, where a reading shows it. The process may have been held up within that reading, which would
+    // then tell too little of the setting. So both clocks are read anew, and that reading is used, as long as a setting is told.
     fn glance(&mut self, shown: Reading) -> Reading {
-        let is_doubtful = self.follower.is_set_since(shown) || self.is_set_since_update();
-        if !is_read(shown.clock) || !is_doubtful {
+        if !self.follower.has_to_read_anew(shown) {
             return shown;
         }
         let Some(now) = self.reading() else {
@@ -146,7 +134,6 @@ impl<'a, C: Clock + Copy + Drop> FollowedClock<'a, C> {
     // Looks whether the host's clock was set. Where it was, no answer is waited for, and the daemon is asked again at once.
     fn look(&mut self, now: Reading) {
         if self.follower.look(now) {
-            self.set_at = now.ticks;
             self.asked = None;
             self.expect_nothing();
         }

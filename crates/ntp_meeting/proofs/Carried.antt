@@ -1,6 +1,6 @@
 -- What a time reply leaves on both sides.
 use Rattle.std.proofs.Common.{◌≡◌, ℕ, ◌^◌, ◌<◌, List, [], Option, Some, None, Ok, refl, sym, ap, ◌∙◌}
-use Rattle.std.specs.Prelude.{IfSome}
+use Rattle.std.specs.Prelude.{IfSome, option_map, option_and_then}
 use Rattle.ntp_packet.specs.declared.stamp.Stamp.{Stamp}
 use Rattle.ntp_packet.specs.declared.moment.Moment.{Moment}
 use Rattle.ntp_packet.specs.Fresh.{fresh}
@@ -15,7 +15,7 @@ use Rattle.ntp_client.specs.declared.taken.Taken.TheVariants as taken
 use Rattle.ntp_client.specs.State.{ClientState}
 use Rattle.ntp_client.specs.Query.{query_fields}
 use Rattle.ntp_client.specs.Pairing.{exchange_of}
-use Rattle.ntp_client.specs.Taking.{exchange_with, after_taken}
+use Rattle.ntp_client.specs.Taking.{header_taken, after_taken}
 use Rattle.ntp_customer.specs.Past.{Past}
 use Rattle.ntp_reply.specs.Replies.{time_fields}
 use Rattle.ntp_reply.specs.declared.occasion.Occasion.{Occasion}
@@ -62,7 +62,7 @@ module _ (c : ClientState) (q : Outstanding) (past : Past) (o : Occasion) (reply
       let header = time-header past o q (matched (recent_of past) (query_fields q)) state_fits waits.header fits in
       let read : reading_of reply ≡ Ok (sealed_packet c.key c.number h) =
       ap reading_of told.0 ∙ read-sealed c.key c.number h header.0 waits.number in
-      let exchange : exchange_with c.outstanding reply at ≡ Some (exchange_of q h at) =
+      let exchange : option_and_then (λ q. option_map (λ h. exchange_of q h at) (header_taken c reply)) c.outstanding ≡ Some (exchange_of q h at) =
       rw (waits.outstanding, read) refl in
       ap (λ (e : Option Exchange). record c { outstanding = None; sampled = e }) (exchange
       ∙ ap (λ r. Some (record { transmit = q.transmit; receive = r; arrival = fresh at.stamp [] })) (header.1 ∙ sym told.1))

@@ -148,7 +148,7 @@ fn before_an_answer_nothing_is_known(rt: HostRuntime) -> Result<(), Fail> {
     let state = follower.in_force(at(ANSWERED));
     assert!(rt; state == reference_unsynchronised());
     assert!(rt; follower.age(SECOND).is_none());
-    assert!(rt; !follower.is_set_since(at(ANSWERED)));
+    assert!(rt; !follower.has_to_read_anew(at(ANSWERED)));
     Ok(())
 }
 
@@ -340,6 +340,19 @@ fn a_step_within_an_exchange_refuses_the_answer(rt: HostRuntime) -> Result<(), F
     let taken = follower.take(&CHRONYD.answer(), set);
     assert!(rt; taken == Taken::Refused(Distrust::NothingAsked));
     assert!(rt; follower.learned().is_none());
+    Ok(())
+}
+
+#[test]
+fn the_clocks_are_read_anew_behind_a_step(rt: HostRuntime) -> Result<(), Fail> {
+    let mut follower = following()?;
+    let mut shown = seconds_later(1);
+    assert!(rt; !follower.has_to_read_anew(shown));
+    shown.ticks = shown.ticks.wrapping_sub(2 * MILLISECOND);
+    assert!(rt; follower.has_to_read_anew(shown));
+    // The step was seen, and no answer has come since.
+    assert!(rt; follower.look(shown));
+    assert!(rt; follower.has_to_read_anew(shown));
     Ok(())
 }
 

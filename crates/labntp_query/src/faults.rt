@@ -1,5 +1,6 @@
 //! What hinders a query, in one line, and the exit status.
 
+use ntp_admin::Escaped;
 use std::fmt::Display;
 use std::io::{self, ErrorKind};
 
@@ -36,7 +37,7 @@ impl Faults {
         if error.kind() == ErrorKind::OutOfMemory {
             return self.memory(rt);
         }
-        self.told(rt, format_args!("{what}: {error}"))
+        self.told(rt, format_args!("{}: {error}", Escaped(what)))
     }
 
     /// Tells of want of memory, and gives the exit status.

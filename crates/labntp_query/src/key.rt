@@ -2,6 +2,7 @@
 
 use crate::command_line::Asked;
 use crate::faults::Faults;
+use ntp_admin::Escaped;
 use ntp_host::read_regular_file;
 use ntp_mac::Key;
 use ntp_query::{KeyFileFault, KeyLineFault, key_in_text, spaced};
@@ -16,6 +17,7 @@ pub fn read_key(rt: &HostRuntime, asked: &Asked<'_>, faults: Faults) -> Result<K
         Ok(octets) => octets,
         Err(error) => return Err(faults.of_system(rt, path, &error)),
     };
+    let path = Escaped(path);
     if octets.len() > MOST_OCTETS as usize {
         return Err(faults.told(
             rt,

@@ -7,7 +7,7 @@ use assembly::serve;
 use labntpd_assembly::{prepare, start_lines};
 use labntpd_files::Configuration;
 use labntpd_files::command_line::{Asked, parse, refused_status};
-use ntp_admin::{Status, unread_status, write_status};
+use ntp_admin::{Escaped, Status, unread_status, write_status};
 use ntp_host::{begin_commands, is_nearly_full, write_nearly_full};
 use std::io::Write;
 use std::process::ExitCode;
@@ -54,7 +54,7 @@ fn check_commands(rt: &HostRuntime, configuration: &Configuration) -> Result<(),
     let path = configuration.commands.as_str();
     let octets = begin_commands(rt, rt.alloc(), path, &mut faults)?.length();
     if is_nearly_full(octets) {
-        let _ = write!(faults.warning(), "{path}: ");
+        let _ = write!(faults.warning(), "{}: ", Escaped(path));
         write_nearly_full(&mut faults, octets);
         let _ = writeln!(faults);
     }

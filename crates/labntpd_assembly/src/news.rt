@@ -7,6 +7,7 @@ use crate::parts::Begun;
 use crate::watched::Watched;
 use labntpd_files::Configuration;
 use labntpd_files::command_line::VERSION;
+use ntp_admin::Escaped;
 use ntp_client::reference_unsynchronised;
 use ntp_host::{BoundAt, Log, LogForm, Priority, is_nearly_full, write_nearly_full};
 use ntp_reply::Reference;
@@ -236,7 +237,7 @@ impl<L: Write + Drop> News<L> {
         self.told.is_nearly_full = is_nearly_full;
         if is_nearly_full {
             let line = self.log.begin(Priority::Warning);
-            let _ = write!(line, "commands file {path}: ");
+            let _ = write!(line, "commands file {}: ", Escaped(path));
             write_nearly_full(line, octets);
             self.log.end();
         }
@@ -257,7 +258,7 @@ impl<L: Write + Drop> News<L> {
             return;
         }
         self.told.files[place] = fault;
-        let path = which.path_in(configuration);
+        let path = Escaped(which.path_in(configuration));
         let (name, again) = which.words();
         let _ = match fault {
             Some(fault) => write!(

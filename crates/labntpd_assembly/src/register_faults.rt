@@ -4,7 +4,7 @@ use labntpd_files::{
     CustomerAt, Member, REFERENCE_FAULT, customers, place_in, wrong_at_top, wrong_in_customer,
 };
 use ntp_admin::{
-    LoadFault, MOST_FILE_OCTETS, RegisterFault, Status, line_without_text, load_status,
+    Escaped, LoadFault, MOST_FILE_OCTETS, RegisterFault, Status, line_without_text, load_status,
 };
 use std::alloc::Global;
 use std::io::{self, Write};
@@ -31,6 +31,7 @@ pub fn register_status<F: Write>(
 
 /// Tells why the octets of a file are no text.
 pub fn tell_octets<F: Write>(path: &str, octets: &[u8], faults: &mut F) {
+    let path = Escaped(path);
     if octets.len() > MOST_FILE_OCTETS {
         let _ = writeln!(
             faults,

@@ -5,6 +5,7 @@
 mod applied_lines;
 mod commands;
 mod customers;
+mod escaped;
 mod fault;
 mod fault_lines;
 mod file_text;
@@ -22,6 +23,7 @@ pub mod words;
 pub use applied_lines::{AdmitFault, AppliedLines};
 pub use commands::{apply_commands, commands_step};
 pub use customers::customer_in;
+pub use escaped::Escaped;
 pub use fault::RegisterFault;
 pub use fault_lines::FaultLines;
 pub use file_text::{MOST_FILE_OCTETS, line_without_text};

@@ -3,6 +3,7 @@ ghost use Rattle.std.specs.Prelude.{◌≡◌, ◌≢◌};
 ghost use Rattle.std.specs.IoError.{error_kind};
 ghost use Rattle.ntp_admin.specs.Starts.{status_code};
 
+use crate::Escaped;
 use std::io::{self, ErrorKind, Write};
 
 /// How a program ends. The least comes first.
@@ -63,7 +64,7 @@ pub fn failed_status<F: Write>(name: &str, error: &io::Error, faults: &mut F) ->
     if error.kind() == ErrorKind::OutOfMemory {
         return memory_status(faults);
     }
-    let _ = writeln!(faults, "{name}: {error}");
+    let _ = writeln!(faults, "{}: {error}", Escaped(name));
     Status::IoFailed
 }
 

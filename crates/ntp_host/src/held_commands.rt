@@ -3,14 +3,14 @@
 use crate::CommandsFile;
 use crate::admitted_commands::AdmittedCommands;
 use ntp_admin::{
-    AdmitFault, MOST_FILE_OCTETS, Status, failed_status, line_without_text, memory_status,
+    AdmitFault, Escaped, MOST_FILE_OCTETS, Status, failed_status, line_without_text, memory_status,
 };
 use std::alloc::Global;
 use std::fs::Files;
 use std::io::Write;
 
-/// From how many octets on a commands file is told to be nearly full: 80 in 100 of the most.
-const NEARLY_FULL_OCTETS: usize = 838_860;
+/// From how many octets on a commands file is told to be nearly full: 80 in 100 of the most, rounded up.
+const NEARLY_FULL_OCTETS: usize = 838_861;
 
 /// A commands file that is held to what was applied of it.
 pub type HeldCommands<'a, R> = AdmittedCommands<CommandsFile<'a, R>, Global>;
@@ -47,12 +47,13 @@ pub fn begin_commands<'a, R: Files, F: Write>(
         Err(AdmitFault::TooLong) => {
             let _ = writeln!(
                 faults,
-                "{path}: at most {MOST_FILE_OCTETS} octets are wanted"
+                "{}: at most {MOST_FILE_OCTETS} octets are wanted",
+                Escaped(path)
             );
             Err(Status::TextFaulty)
         }
         Err(_) => {
-            let _ = writeln!(faults, "{path}: line {line}: this is no UTF-8");
+            let _ = writeln!(faults, "{}: line {line}: this is no UTF-8", Escaped(path));
             Err(Status::TextFaulty)
         }
     }

@@ -1,7 +1,8 @@
 -- Commands that are done one after another.
-use Rattle.std.proofs.Common.{◌≡◌, ℕ, ◌+◌, ◌<◌, List, [], ◌∷◌, ◌++◌, length, take, drop, get_or, arith, refl, sym, ap, ◌∙◌}
+use Rattle.std.proofs.Common.{◌≡◌, ℕ, ◌<◌, List, [], ◌∷◌, ◌++◌, length, map, take, get_or, Some, refl, sym, ap, ◌∙◌}
 use Rattle.std.specs.declared.alloc.Global.{Global}
-use Rattle.std.proofs.lemmas.List.{map-append, drop_more, take-append-drop, length-take-le}
+use Rattle.std.proofs.lemmas.List.{map-append}
+use Rattle.std.proofs.lemmas.Option.{slice_get-get_or}
 use Rattle.ntp_service.specs.Registry.{Registry}
 use Rattle.ntp_service.specs.declared.refusal.Refusal.{Refusal}
 use Rattle.ntp_service.specs.declared.command.Command.{Command}
@@ -11,7 +12,14 @@ use Rattle.ntp_service.specs.declared.outcome.Outcome.{Outcome}
 use Rattle.ntp_service.specs.declared.outcome.Outcome.TheVariants as outcome
 use Rattle.ntp_service.specs.Headline.{StandsFor, TellsOne, Tells, not_struck}
 use Rattle.ntp_service.proofs.PublicLaws.{Tells-nil, Tells-push}
-use Rattle.ntp_admin.specs.Loading.{orders, all_done, Enrols, IsRefused}
+use Rattle.ntp_admin.specs.Loading.{Enrols, IsRefused}
+
+-- the events that commands are, and for each that it was done
+abbrev orders : {A : Type 0} → List Command → List (Event A)
+orders commands = map event.Command commands
+
+abbrev all_done : {A : Type 0} → List Command → List (Event A × Outcome)
+all_done commands = map (λ command. (event.Command command, outcome.Done)) commands
 
 -- a service was given commands and nothing before them, and each was done
 pub record Enrolled (commands : List Command) (service : Registry) : Type 0 where
@@ -43,12 +51,8 @@ pub Enrolled-refused : (commands : List Command) (place : ℕ) (c : Command) (re
     → ((history : List (Event Global)) → StandsFor old history → TellsOne history (event.Command c) (outcome.Refused refusal) new)
     → IsRefused commands place refusal
 Enrolled-refused commands place c refusal old new e inside is tells = record {
-  before = take place commands;
   command = c;
-  after = drop (place + 1) commands;
-  whole = sym (take-append-drop place commands) ∙ ap (λ l. take place commands ++ l)
-      (drop_more commands place c inside ∙ ap (λ x. x ∷ drop (place + 1) commands) (sym is));
-  at = length-take-le place commands (omega arith);
+  at = slice_get-get_or commands place c inside ∙ ap Some (sym is);
   service = old;
   enrols = Enrolled-tells (take place commands) old e;
   left = new;

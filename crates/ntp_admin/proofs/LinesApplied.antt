@@ -19,24 +19,24 @@ use Rattle.ntp_service.proofs.PublicLaws.{Sees-nil, Sees-append, Tells-nil, Tell
 use Rattle.ntp_service.specs.Headline.{StandsFor, TellsOne, command_outcome}
 use Rattle.ntp_admin.specs.FileText.{IsText}
 use Rattle.ntp_admin.specs.CommandsFile.{complete_lines, line_reading, TakenLine, carried_out, observed_read, CarriesOutDue}
-use Rattle.ntp_admin.specs.Applying.{told_before, ComesTo, AppliesLine, Applies}
+use Rattle.ntp_admin.specs.Applying.{told_before, LeadsTo, AppliesLine, Applies}
 use Rattle.ntp_admin.proofs.LinesTaken.{CarriesOut-none, CarriesOut-more}
 
 -- ---- one line
 -- a command was carried out or refused
-pub ComesTo-command : (A : Type 0) (old new : Registry) (read : Result Command LineFault) (c : Command) (r : Result (Unit {0}) Refusal)
+pub LeadsTo-command : (A : Type 0) (old new : Registry) (read : Result Command LineFault) (c : Command) (r : Result (Unit {0}) Refusal)
     (o : LineOutcome) → read ≡ Ok c → o ≡ carried_out r
     → ((history : List (Event A)) → StandsFor old history → TellsOne history (event.Command c) (command_outcome r) new)
-    → ComesTo A read o old new
-ComesTo-command A old new read c r o is said tells =
-    subst (λ x. ComesTo A x o old new) (sym is)
+    → LeadsTo A read o old new
+LeadsTo-command A old new read c r o is said tells =
+    subst (λ x. LeadsTo A x o old new) (sym is)
     (r, λ number. ap (λ x. observation.Command c ∷ observation.Line number x ∷ []) (sym said), λ history stands. Tells-one history _ _ new (tells history stands))
 
 -- there is no command
-pub ComesTo-fault : (A : Type 0) (s : Registry) (read : Result Command LineFault) (f : LineFault) → read ≡ Err f
-    → ComesTo A read (Faulty f) s s
-ComesTo-fault A s read f is =
-    subst (λ x. ComesTo A x (Faulty f) s s) (sym is) (Ok tt, λ number. refl, λ history stands. Tells-nil history s stands)
+pub LeadsTo-fault : (A : Type 0) (s : Registry) (read : Result Command LineFault) (f : LineFault) → read ≡ Err f
+    → LeadsTo A read (Faulty f) s s
+LeadsTo-fault A s read f is =
+    subst (λ x. LeadsTo A x (Faulty f) s s) (sym is) (Ok tt, λ number. refl, λ history stands. Tells-nil history s stands)
 
 -- a line that is passed over
 pub AppliesLine-none : (A : Type 0) (number : ℕ) (line : List ℕ) (s : Registry) (seen : Option (List Observation))
@@ -55,7 +55,7 @@ told-fault read f t is = subst (λ x. Sees t t (told_before x)) (sym is) (Sees-n
 
 -- one that is not, of whose command an observer heard before
 pub AppliesLine-read : (A : Type 0) (number : ℕ) (line : List ℕ) (o : LineOutcome) (old new : Registry)
-    (seen heard told : Option (List Observation)) → is_passed_over line ≡ false → ComesTo A (command_in (words line)) o old new
+    (seen heard told : Option (List Observation)) → is_passed_over line ≡ false → LeadsTo A (command_in (words line)) o old new
     → Sees seen heard (told_before (command_in (words line))) → Sees heard told (observation.Line number o ∷ [])
     → AppliesLine A number line old new seen told
 AppliesLine-read A number line o old new seen heard told taken c before behind =
@@ -142,5 +142,6 @@ pub Due-none : (A : Type 0) (applied : ℕ) (octets : List ℕ) (s : Registry) (
 Due-none A applied octets s seen not = record {
   taken = [];
   due = (λ yes. absurd (not yes), λ no. (refl, refl));
-  done = CarriesOut-none A applied s seen;
+  observed = Sees-nil seen;
+  tells = λ history stands. Tells-nil history s stands;
 }

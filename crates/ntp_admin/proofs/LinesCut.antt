@@ -6,9 +6,12 @@ use Rattle.std.proofs.lemmas.List.Splits.{length-slice_split}
 use Rattle.std.proofs.lemmas.Str.Pattern.{IsSplitOnceResult, split_parts}
 use Rattle.ntp_admin.specs.Words.{parts}
 use Rattle.ntp_admin.proofs.Cuts.{parts-split}
-use Rattle.ntp_admin.specs.CommandsFile.{all_but_last, complete_lines}
+use Rattle.ntp_admin.specs.CommandsFile.{complete_lines}
 
 -- all but the last, where there are more than one
+abbrev all_but_last : {X : Type 0} → List X → List X
+all_but_last xs = take (length xs - 1) xs
+
 all_but_last-cons : {X : Type 0} (x : X) (xs : List X) → 0 < length xs → all_but_last (x ∷ xs) ≡ x ∷ all_but_last xs
 all_but_last-cons x [] some = absurd (omega arith)
 all_but_last-cons x (y ∷ ys) some =

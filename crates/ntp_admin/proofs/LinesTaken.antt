@@ -7,7 +7,8 @@ use Rattle.ntp_service.specs.declared.observation.Observation.{Observation}
 use Rattle.ntp_service.specs.Sees.{Sees}
 use Rattle.ntp_service.proofs.PublicLaws.{Sees-nil, Sees-append, Tells-nil, Tells-append}
 use Rattle.ntp_service.specs.Headline.{StandsFor, Tells}
-use Rattle.ntp_admin.specs.CommandsFile.{line_reading, TakenLine, happened_read, observed_read, happened_at_lines, line_observations, CarriesOut}
+use Rattle.ntp_admin.specs.CommandsFile.{line_reading, TakenLine, happened_read, observed_read, happened_at_lines, line_observations}
+use Rattle.ntp_admin.specs.Applying.{CarriesOut}
 
 -- ---- some lines and then others
 pub line_observations-append : (before : ℕ) (xs ys : List TakenLine)

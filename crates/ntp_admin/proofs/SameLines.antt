@@ -1,6 +1,7 @@
 -- A file whose lines are those that were applied, as far as they were compared.
-use Rattle.std.proofs.Common.{◌≡◌, ℕ, ◌+◌, List, [], ◌∷◌, ◌++◌, length, drop, arith, refl, sym, ap, ◌∙◌, append_assoc, append-nil}
-use Rattle.std.proofs.lemmas.List.{length-append}
+use Rattle.std.proofs.Common.{◌≡◌, ℕ, ◌+◌, ◌-◌, List, [], ◌∷◌, ◌++◌, length, take, drop, arith, refl, sym, ap, ◌∙◌, subst, append_assoc, append-nil}
+use Rattle.std.specs.Prelude.{◌≢◌, slice_get}
+use Rattle.std.proofs.lemmas.List.{length-append, take-append-le}
 use Rattle.std.proofs.Math.Seq.{drop-append_seam}
 use Rattle.ntp_admin.specs.CommandsFile.{complete_lines, AreDue}
 use Rattle.ntp_admin.specs.Admitting.{Continues, IsFirstOther}
@@ -15,6 +16,13 @@ pub record Same (applied text were are : List ℕ) (number : ℕ) : Type 0 where
 pub Same-none : (applied text : List ℕ) → Same applied text applied text 0
 Same-none applied text = record { same = []; applied_is = refl; text_is = refl; counted = refl }
 
+-- behind what is the same another one stands, or none
+other-there : {X : Type 0} (same : List X) (line : X) (later rest : List X) → ((behind : List X) → rest ≡ line ∷ behind → ⊥)
+    → slice_get (same ++ rest) (length same) ≢ slice_get (same ++ line ∷ later) (length same)
+other-there [] line later [] other e = cc
+other-there [] line later (x ∷ rest) other e = other rest (cc)
+other-there (x ∷ same) line later rest other e = other-there same line later rest other e
+
 module _ (applied text were are line later : List ℕ) (number : ℕ) (s : Same applied text were are number)
     (cut : complete_lines were ≡ line ∷ complete_lines later) where
   -- and one line more
@@ -26,18 +34,23 @@ module _ (applied text were are line later : List ℕ) (number : ℕ) (s : Same 
     counted = omega (arith, length-append s.same (line ∷ []), s.counted);
   }
 
+  were-all : complete_lines applied ≡ s.same ++ line ∷ complete_lines later
+  were-all = s.applied_is ∙ ap (λ l. s.same ++ l) cut
+
+  place : number + 1 - 1 ≡ length s.same
+  place = omega (arith, s.counted)
+
   -- or another one
   pub Same-other : ((more : List (List ℕ)) → complete_lines are ≡ line ∷ more → ⊥)
       → IsFirstOther (complete_lines applied) (complete_lines text) (number + 1)
   Same-other other = record {
-    same = s.same;
-    line = line;
-    later = complete_lines later;
-    rest = complete_lines are;
-    were = s.applied_is ∙ ap (λ l. s.same ++ l) cut;
-    are = s.text_is;
-    other = other;
-    counted = omega (arith, s.counted);
+    within = (omega arith, omega (arith, s.counted, ap length were-all, length-append s.same (line ∷ complete_lines later)));
+    same = subst (λ n. take n (complete_lines text) ≡ take n (complete_lines applied)) (sym place)
+        (ap (take (length s.same)) s.text_is ∙ take-append-le (length s.same) s.same (complete_lines are) (omega arith)
+        ∙ sym (ap (take (length s.same)) were-all ∙ take-append-le (length s.same) s.same (line ∷ complete_lines later) (omega arith)));
+    other = subst (λ n. slice_get (complete_lines text) n ≢ slice_get (complete_lines applied) n) (sym place)
+        (λ e. other-there s.same line (complete_lines later) (complete_lines are) other
+        (sym (ap (λ l. slice_get l (length s.same)) s.text_is) ∙ e ∙ ap (λ l. slice_get l (length s.same)) were-all));
   }
 
 -- all of them

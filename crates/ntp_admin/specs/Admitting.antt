@@ -1,5 +1,5 @@
 -- Which octets of a commands file are admitted where some of its lines were applied.
-use Rattle.std.specs.Prelude.{◌≡◌, ℕ, ◌+◌, ◌<◌, ◌≤◌, List, ◌∷◌, ◌++◌, length, Result, Ok, Err, IsUtf8}
+use Rattle.std.specs.Prelude.{◌≡◌, ◌≢◌, ℕ, ◌-◌, ◌<◌, ◌≤◌, List, ◌++◌, length, take, slice_get, Result, Ok, Err, IsUtf8}
 use Rattle.ntp_admin.specs.FileText.{IsText}
 use Rattle.ntp_admin.specs.CommandsFile.{complete_lines}
 use Rattle.ntp_admin.specs.declared.applied_lines.AdmitFault.{AdmitFault}
@@ -13,14 +13,9 @@ pub record Continues (applied : List (List ℕ)) (octets : List ℕ) : Type 0 wh
 
 -- of the lines that were applied the one with this number, counted from 1, is the first in whose place another line stands, or none
 pub record IsFirstOther (applied lines : List (List ℕ)) (number : ℕ) : Type 0 where
-  pub same : List (List ℕ)
-  pub line : List ℕ
-  pub later : List (List ℕ)
-  pub rest : List (List ℕ)
-  pub were : applied ≡ same ++ line ∷ later
-  pub are : lines ≡ same ++ rest
-  pub other : (behind : List (List ℕ)) → rest ≡ line ∷ behind → ⊥
-  pub counted : number ≡ length same + 1
+  pub within : (1 ≤ number) × (number ≤ length applied)
+  pub same : take (number - 1) lines ≡ take (number - 1) applied
+  pub other : slice_get lines (number - 1) ≢ slice_get applied (number - 1)
 
 -- why octets are not admitted
 abbrev pub HasAdmitFault : List (List ℕ) → List ℕ → AdmitFault → Type 0

@@ -1,5 +1,5 @@
 -- Not to be believed: for proofs. What becomes of a text, of its lines, and of one of them.
-use Rattle.std.specs.Prelude.{◌≡◌, ℕ, max, List, [], ◌∷◌, ◌++◌, length, drop, Option, Some, Result, Ok, Err}
+use Rattle.std.specs.Prelude.{◌≡◌, ℕ, max, List, [], ◌∷◌, ◌++◌, length, map, drop, Option, Some, Result, Ok, Err}
 use Rattle.ntp_service.specs.declared.refusal.Refusal.{Refusal}
 use Rattle.ntp_service.specs.Registry.{Registry}
 use Rattle.ntp_service.specs.declared.command.Command.{Command}
@@ -10,16 +10,16 @@ use Rattle.ntp_service.specs.declared.observation.Observation.{Observation}
 use Rattle.ntp_service.specs.declared.observation.Observation.TheVariants as observation
 use Rattle.ntp_service.specs.Sees.{Sees}
 use Rattle.ntp_service.specs.Headline.{StandsFor, Tells}
-use Rattle.ntp_admin.specs.CommandsFile.{complete_lines, line_reading, TakenLine, happened_read, observed_read, lines_taken, CarriesOut}
+use Rattle.ntp_admin.specs.CommandsFile.{complete_lines, line_reading, TakenLine, happened_read, observed_read, happened_at_lines, line_observations}
 
 -- what an observer is told of a line that is read so, before it is carried out
 abbrev pub told_before : Result Command LineFault → List Observation
 told_before (Ok command) = observation.Command command ∷ []
 told_before (Err fault) = []
 
--- what a line that is read so comes to
-abbrev pub ComesTo : (A : Type 0) → Result Command LineFault → LineOutcome → Registry → Registry → Type 0
-ComesTo A read outcome old new = (result : Result (Unit {0}) Refusal)
+-- what a line that is read so leads to
+abbrev pub LeadsTo : (A : Type 0) → Result Command LineFault → LineOutcome → Registry → Registry → Type 0
+LeadsTo A read outcome old new = (result : Result (Unit {0}) Refusal)
     × ((number : ℕ) → observed_read number (Some read) result ≡ told_before read ++ observation.Line number outcome ∷ [])
     × ((history : List (Event A)) → StandsFor old history → Tells history (happened_read (Some read) result) new)
 
@@ -29,10 +29,15 @@ AppliesLine A number line old new seen told = (result : Result (Unit {0}) Refusa
     × Sees seen told (observed_read number (line_reading line) result)
     × ((history : List (Event A)) → StandsFor old history → Tells history (happened_read (line_reading line) result) new)
 
+-- lines were carried out, with `before` lines in front of them
+pub record CarriesOut (A : Type 0) (before : ℕ) (taken : List TakenLine) (old new : Registry) (seen told : Option (List Observation)) : Type 0 where
+  pub observed : Sees seen told (line_observations before taken)
+  pub tells : (history : List (Event A)) → StandsFor old history → Tells history (happened_at_lines taken) new
+
 -- lines were taken, with `before` lines in front of them
 abbrev pub Applies :
     (A : Type 0) → ℕ → List (List ℕ) → Registry → Registry → Option (List Observation) → Option (List Observation) → Type 0
-Applies A before lines old new seen told = (taken : List TakenLine) × (lines_taken taken ≡ lines) × CarriesOut A before taken old new seen told
+Applies A before lines old new seen told = (taken : List TakenLine) × (map (λ t. t.line) taken ≡ lines) × CarriesOut A before taken old new seen told
 
 -- the lines of a text that are due were taken
 abbrev pub AppliesText :

@@ -20,13 +20,9 @@ use Rattle.ntp_service.specs.Sees.{Sees}
 use Rattle.ntp_service.specs.Headline.{StandsFor, Tells, command_outcome}
 use Rattle.ntp_admin.specs.FileText.{IsText}
 
--- all but the last
-abbrev pub all_but_last : {X : Type 0} → List X → List X
-all_but_last xs = take (length xs - 1) xs
-
 -- the lines that a line feed ends: what stands between line feeds, without the last such piece
 abbrev pub complete_lines : List ℕ → List (List ℕ)
-complete_lines text = all_but_last (parts 10 text)
+complete_lines text = let pieces = parts 10 text in take (length pieces - 1) pieces
 
 -- what a line is read as: nothing where it is passed over, else a command, or the first fault
 abbrev pub line_reading : List ℕ → Option (Result Command LineFault)
@@ -69,21 +65,13 @@ abbrev pub line_observations : ℕ → List TakenLine → List Observation
 line_observations before [] = []
 line_observations before (t ∷ taken) = observed_read (before + 1) (line_reading t.line) t.result ++ line_observations (before + 1) taken
 
--- the lines that were taken
-abbrev pub lines_taken : List TakenLine → List (List ℕ)
-lines_taken taken = map (λ t. t.line) taken
-
--- lines were carried out, each once: whatever history the service stood for, it tells what happened at them, and the observer is told
--- what became of each
-pub record CarriesOut (A : Type 0) (before : ℕ) (taken : List TakenLine) (old new : Registry) (seen told : Option (List Observation)) : Type 0 where
-  pub observed : Sees seen told (line_observations before taken)
-  pub tells : (history : List (Event A)) → StandsFor old history → Tells history (happened_at_lines taken) new
-
--- the lines that are due in a file's octets were carried out
+-- the lines that are due in a file's octets were carried out, each once: whatever history the service stood for, it tells what happened
+-- at them, and the observer is told what became of each
 pub record CarriesOutDue (A : Type 0) (applied : ℕ) (octets : List ℕ) (after : ℕ) (old new : Registry) (seen told : Option (List Observation)) : Type 0 where
   pub taken : List TakenLine
-  pub due : AreDue applied octets (lines_taken taken) after
-  pub done : CarriesOut A applied taken old new seen told
+  pub due : AreDue applied octets (map (λ t. t.line) taken) after
+  pub observed : Sees seen told (line_observations applied taken)
+  pub tells : (history : List (Event A)) → StandsFor old history → Tells history (happened_at_lines taken) new
 
 -- the line that tells of a fault of the commands file
 abbrev pub fault_line : ℕ → List ℕ → List ℕ

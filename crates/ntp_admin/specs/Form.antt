@@ -51,10 +51,8 @@ values_in table = do
   budget ← whole_at (codes "budget") table
   Some (record { address = address; number = number; algorithm = algorithm; key = key; budget = budget })
 
--- a customer's table: it has those five keys, and no other, since no key stands there twice
-abbrev pub entry_in : Members → Option Entry
-entry_in table = if key_count table == 5 then values_in table else None
-
--- a customer: a table
+-- a customer: a table that has those five keys, and no other, since no key stands there twice
 abbrev pub entry_of : Data → Option Entry
-entry_of customer = as_table customer >>= entry_in
+entry_of customer = do
+  table ← as_table customer
+  if key_count table == 5 then values_in table else None

@@ -1,12 +1,11 @@
 -- What a register file says, or the first fault in it: each step gives a part of it, or the file's fault.
-use Rattle.std.specs.Prelude.{ℕ, suc, List, [], ◌∷◌, Result, Ok, Err}
+use Rattle.std.specs.Prelude.{ℕ, suc, List, [], ◌∷◌, Result, Ok}
 use Rattle.std.specs.Option.{ok_or}
 use Rattle.toml.specs.Data.{Data, Items, no_items, item}
 use Rattle.toml.specs.Parse.{parse_document}
-use Rattle.ntp_packet.specs.FirstCase.{◌>>=◌}
+use Rattle.ntp_packet.specs.FirstCase.{◌>>=◌, map_err}
 use Rattle.ntp_admin.specs.Words.{reference_in}
 use Rattle.ntp_service.specs.declared.command.Command.{Command}
-use Rattle.ntp_service.specs.declared.line_fault.LineFault.{LineFault}
 use Rattle.ntp_reply.specs.Reference.{ReferenceState}
 use Rattle.ntp_admin.specs.Form.{Top, top_of, entry_of}
 use Rattle.ntp_admin.specs.Enrolment.{enrolment_command}
@@ -19,16 +18,11 @@ top_in text = do
   document ← ok_or (parse_document text) fault.Toml
   ok_or (top_of document) fault.Shape
 
--- the fault of a line, at a customer's place
-abbrev pub at_place : ℕ → Result Command LineFault → Result Command RegisterFault
-at_place place (Ok command) = Ok command
-at_place place (Err why) = Err (fault.Entry place why)
-
 -- the customer at a place, counted from 0: its form comes before its values
 abbrev pub customer_in : ℕ → Data → Result Command RegisterFault
 customer_in place customer = do
   entry ← ok_or (entry_of customer) fault.Shape
-  at_place place (enrolment_command entry)
+  map_err (enrolment_command entry) (fault.Entry place)
 
 -- the customers from a place on, in file order
 abbrev pub customers_in : ℕ → Items → Result (List Command) RegisterFault

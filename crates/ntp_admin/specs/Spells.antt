@@ -1,9 +1,12 @@
 -- What a line of a script says, or the first fault in it: each step gives a part of it, or the line's fault.
-use Rattle.std.specs.Prelude.{◌≡◌, ◌==◌, ℕ, Bool, true, false, if◌then◌else◌, List, [], ◌∷◌, codes, Result, Ok, Err}
+use Rattle.std.specs.Prelude.{◌==◌, ℕ, Bool, true, if◌then◌else◌, List, [], ◌∷◌, codes, Option, Result, Ok, Err}
 use Rattle.std.specs.Option.{ok_or}
 use Rattle.std.specs.Str.{bytes_eq}
+use Rattle.std.specs.declared.num.NonZeroU16.{NonZeroU16}
 use Rattle.ntp_packet.specs.FirstCase.{◌>>=◌}
-use Rattle.ntp_admin.specs.Words.{words, address_in, number_in, algorithm_in, key_in, stamp_in, moment_in, reference_in, octets_in}
+use Rattle.ntp_admin.specs.Words.{address_in, number_in, algorithm_in, key_in, stamp_in, moment_in, reference_in, octets_in}
+use Rattle.ntp_mac.specs.declared.key.Algorithm.{Algorithm}
+use Rattle.ntp_service.specs.declared.address.Address.{Address}
 use Rattle.ntp_service.specs.declared.command.Command.{Command}
 use Rattle.ntp_service.specs.declared.command.Command.TheVariants as command
 use Rattle.ntp_service.specs.declared.event.Event.{Event}
@@ -16,15 +19,20 @@ abbrev pub is_passed_over : List ℕ → Bool
 is_passed_over [] = true
 is_passed_over (x ∷ xs) = x == 35
 
+-- an enrolment, by what is read of it, or the first fault in this order
+abbrev pub enrolment_from : Option Address → Option NonZeroU16 → Option Algorithm → Option (List ℕ) → Option NonZeroU16 → Result Command LineFault
+enrolment_from address number algorithm key budget = do
+  a ← ok_or address fault.Address
+  n ← ok_or number fault.Number
+  h ← ok_or algorithm fault.Algorithm
+  k ← ok_or key fault.KeyText
+  b ← ok_or budget fault.Budget
+  Ok (command.Enrol a n (record { algorithm = h; octets = k }) b)
+
 -- the words behind `enrol`
 abbrev pub enrol_in : List (List ℕ) → Result Command LineFault
-enrol_in (address ∷ number ∷ algorithm ∷ key ∷ budget ∷ []) = do
-  a ← ok_or (address_in address) fault.Address
-  n ← ok_or (number_in number) fault.Number
-  h ← ok_or (algorithm_in algorithm) fault.Algorithm
-  k ← ok_or (key_in key) fault.KeyText
-  b ← ok_or (number_in budget) fault.Budget
-  Ok (command.Enrol a n (record { algorithm = h; octets = k }) b)
+enrol_in (address ∷ number ∷ algorithm ∷ key ∷ budget ∷ []) =
+    enrolment_from (address_in address) (number_in number) (algorithm_in algorithm) (key_in key) (number_in budget)
 enrol_in other = Err fault.Count
 
 -- the word behind `revoke`
@@ -91,11 +99,6 @@ departed_in (address ∷ receive ∷ moment ∷ []) = do
   Ok (event.Departed a s m)
 departed_in other = Err fault.Count
 
--- whether the first word is `datagram`
-abbrev pub is_datagram : List (List ℕ) → Bool
-is_datagram [] = false
-is_datagram (first ∷ others) = bytes_eq first (codes "datagram")
-
 -- an event, by its first word
 unfoldable pub event_in : {A : Type 0} → List (List ℕ) → Result (Event A) LineFault
 event_in [] = Err fault.Word
@@ -105,19 +108,3 @@ event_in (first ∷ others) =
     else do
       c ← command_in (first ∷ others)
       Ok (event.Command c)
-
--- the line's words are the command's
-abbrev pub SpellsCommand : List ℕ → Command → Type 0
-SpellsCommand line c = command_in (words line) ≡ Ok c
-
--- the first fault of a line that should be a command
-abbrev pub HasCommandFault : List ℕ → LineFault → Type 0
-HasCommandFault line f = command_in (words line) ≡ Err f
-
--- the line's words are the event's
-abbrev pub Spells : {A : Type 0} → List ℕ → Event A → Type 0
-Spells line e = event_in (words line) ≡ Ok e
-
--- the first fault of a line that should be an event in memory of this allocator, which makes no difference
-abbrev pub HasLineFault : Type 0 → List ℕ → LineFault → Type 0
-HasLineFault A line f = event_in {A = A} (words line) ≡ Err f

@@ -1,9 +1,7 @@
 -- Exit statuses.
 use Rattle.std.specs.Prelude.{ℕ}
-use Rattle.ntp_service.specs.declared.refusal.Refusal.{Refusal}
 use Rattle.ntp_service.specs.declared.refusal.Refusal.TheVariants as refusal
 use Rattle.ntp_service.specs.declared.line_fault.LineFault.TheVariants as line_fault
-use Rattle.ntp_admin.specs.declared.fault.RegisterFault.{RegisterFault}
 use Rattle.ntp_admin.specs.declared.fault.RegisterFault.TheVariants as register_fault
 use Rattle.ntp_admin.specs.declared.status.Status.{Status}
 use Rattle.ntp_admin.specs.declared.status.Status.TheVariants as status
@@ -18,19 +16,10 @@ status_code status.UsageRefused = 2
 status_code status.IoFailed = 3
 status_code status.MemoryOut = 4
 
--- the status for a fault of a register file: 4 for want of memory, else 1
-abbrev pub register_status : RegisterFault → ℕ
-register_status register_fault.NoMemory = 4
-register_status (register_fault.Entry place line_fault.NoMemory) = 4
-register_status other = 1
-
--- the status for a refused enrolment: the same
-abbrev pub refusal_status : Refusal → ℕ
-refusal_status refusal.NoMemory = 4
-refusal_status other = 1
-
--- the status for what stopped a server that failed to start: 3 where its register file could not be read
+-- the status for what stopped a server that failed to start: 3 where its register file could not be read, 4 for want of memory, else 1
 abbrev pub load_status : LoadFault → ℕ
 load_status load_fault.Read = 3
-load_status (load_fault.Register fault) = register_status fault
-load_status (load_fault.Refused place why) = refusal_status why
+load_status (load_fault.Register register_fault.NoMemory) = 4
+load_status (load_fault.Register (register_fault.Entry place line_fault.NoMemory)) = 4
+load_status (load_fault.Refused place refusal.NoMemory) = 4
+load_status other = 1

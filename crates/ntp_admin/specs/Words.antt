@@ -1,12 +1,14 @@
 -- The words of a line, and what each kind of word says.
-use Rattle.std.specs.Prelude.{ℕ, zero, suc, ◌-◌, ◌^◌, ◌==◌, ◌&&◌, ◌||◌, Bool, not, nat_le, nat_lt, if◌then◌else◌, List, [], ◌∷◌, length, slice_index, codes, Option, Some, None}
-use Rattle.std.specs.List.{list_all, slice_split, slice_range}
-use Rattle.std.specs.Option.{option_map}
+use Rattle.std.specs.Prelude.{ℕ, zero, suc, ◌-◌, ◌^◌, ◌==◌, ◌&&◌, ◌||◌, Bool, not, nat_le, nat_lt, if◌then◌else◌, List, [], ◌∷◌, ◌++◌, length, map, slice_index, codes, Option, Some, None}
+use Rattle.std.specs.List.{list_all, slice_split, slice_range, join_with_byte}
+use Rattle.std.specs.Option.{option_map, option_map_or}
 use Rattle.std.specs.Result.{result_ok}
 use Rattle.std.specs.Char.{is_ascii_digit}
 use Rattle.std.specs.Str.{bytes_eq}
 use Rattle.std.specs.Str.Parse.{digits_value}
 use Rattle.std.specs.Int.{w8, w32, w64, cast_signed, from_be_bytes}
+use Rattle.std.specs.Int.NonZero.{non_zero_u16_get}
+use Rattle.std.specs.Fmt.{decimal}
 use Rattle.std.specs.declared.num.NonZeroU16.{NonZeroU16}
 use Rattle.std.proofs.Math.Nat.{zero-lt-suc}
 use Rattle.hex.specs.Hex.{decode_of, decode_sized}
@@ -55,6 +57,10 @@ address_from other = None
 abbrev pub address_in : List ℕ → Option Address
 address_in word = address_from (parts 46 word)
 
+-- an address as a word
+unfoldable pub address_text : Address → List ℕ
+address_text address = join_with_byte 46 (map decimal address.0)
+
 -- a number that is not 0
 abbrev pub non_zero : ℕ → Option NonZeroU16
 non_zero zero = None
@@ -64,25 +70,21 @@ non_zero (suc n) = Some (record { value = suc n; ok = zero-lt-suc n })
 abbrev pub number_in : List ℕ → Option NonZeroU16
 number_in word = decimal_in 1 65535 word >>= non_zero
 
+-- a number with a space before it, where there is one
+abbrev pub number_behind : Option NonZeroU16 → List ℕ
+number_behind number = option_map_or (λ n. codes " " ++ decimal (non_zero_u16_get n)) number []
+
 -- a digest algorithm
 abbrev pub algorithm_in : List ℕ → Option Algorithm
 algorithm_in word = if bytes_eq word (codes "md5") then Some Md5 else if bytes_eq word (codes "sha1") then Some Sha1 else None
 
--- the octets that a word spells in hexadecimal digits of either case, two for each
-abbrev pub hex_in : List ℕ → Option (List ℕ)
-hex_in word = result_ok (decode_of word)
-
--- the same, of exactly `octets` octets
-abbrev pub sized_hex_in : ℕ → List ℕ → Option (List ℕ)
-sized_hex_in octets word = result_ok (decode_sized word octets)
-
--- the octets of a key: 1 to 32
+-- the octets of a key: 1 to 32, as hexadecimal digits of either case, two for each octet
 abbrev pub key_in : List ℕ → Option (List ℕ)
-key_in word = if nat_le 2 (length word) && nat_le (length word) 64 then hex_in word else None
+key_in word = if nat_le 2 (length word) && nat_le (length word) 64 then result_ok (decode_of word) else None
 
 -- the octets of a datagram: one at least, or `-` for none
 abbrev pub octets_in : List ℕ → Option (List ℕ)
-octets_in word = if bytes_eq word (codes "-") then Some [] else if nat_lt 0 (length word) then hex_in word else None
+octets_in word = if bytes_eq word (codes "-") then Some [] else if nat_lt 0 (length word) then result_ok (decode_of word) else None
 
 -- the numbers of octets, the most significant first (RFC 5905, 7.3)
 abbrev pub short_of : List ℕ → Short
@@ -93,7 +95,7 @@ stamp_of octets = record { 0 = from_be_bytes w64 octets }
 
 -- a stamp: 16 digits
 abbrev pub stamp_in : List ℕ → Option Stamp
-stamp_in word = option_map stamp_of (sized_hex_in 8 word)
+stamp_in word = option_map stamp_of (result_ok (decode_sized word 8))
 
 -- an era and a stamp
 abbrev pub moment_from : List (List ℕ) → Option Moment
@@ -122,5 +124,5 @@ state_of octets = record {
 -- a reference state: 46 digits
 abbrev pub reference_in : List ℕ → Option ReferenceState
 reference_in word = do
-  octets ← sized_hex_in 23 word
+  octets ← result_ok (decode_sized word 23)
   if is_reference (state_of octets) then Some (state_of octets) else None

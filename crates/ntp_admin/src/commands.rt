@@ -4,7 +4,7 @@ ghost use Rattle.ntp_admin.specs.Words.{words};
 ghost use Rattle.ntp_admin.specs.Spells.{command_in};
 ghost use Rattle.ntp_admin.specs.FileText.{IsText};
 ghost use Rattle.ntp_admin.specs.CommandsFile.{complete_lines, carried_out, CarriesOutDue};
-ghost use Rattle.ntp_admin.specs.Applying.{AppliesText, Applies, AppliesLine, ComesTo, told_before};
+ghost use Rattle.ntp_admin.specs.Applying.{AppliesText, Applies, AppliesLine, LeadsTo, told_before};
 ghost use Rattle.ntp_service.specs.Sees.{Sees};
 
 use crate::fault_lines::FaultLines;
@@ -113,7 +113,7 @@ fn carry_out<A: Allocator + Copy, O: Observer>(
     line: &str,
     observer: &mut O,
 ) -> LineOutcome
-    ensures comes_to { ComesTo A (command_in (words line.now)) result service.old service.new }
+    ensures leads_to { LeadsTo A (command_in (words line.now)) result service.old service.new }
     ensures seen { Sees (O.seen observer.old) (O.seen observer.new) (told_before (command_in (words line.now))) }
 {
     match parse_command(line) {

@@ -1,7 +1,7 @@
 //! A register file, loaded.
-ghost use Rattle.std.specs.Prelude.{◌≡◌, ◌↔◌, IfOk, IfErr};
+ghost use Rattle.std.specs.Prelude.{◌≡◌, ◌↔◌, ℕ, IfOk, IfErr};
 ghost use Rattle.ntp_admin.specs.FileText.{IsText};
-ghost use Rattle.ntp_admin.specs.Loading.{Loads, LoadFails, Enrols, IsRefusedAt};
+ghost use Rattle.ntp_admin.specs.Loading.{Loads, LoadFails, Enrols, IsRefused};
 
 use crate::file_text::text_of;
 use crate::{RegisterFault, read_reference, read_register};
@@ -45,7 +45,8 @@ pub fn load_register(alloc: Global, octets: &[u8]) -> Result<Loaded, LoadFault>
 // A service to which commands were given one after another; each was done.
 fn enrolled(alloc: Global, commands: &[Command]) -> Result<Service, LoadFault>
     ensures done { IfOk result (λ service. Enrols commands.now service) }
-    ensures fault { IfErr result (λ fault. IsRefusedAt commands.now fault) }
+    ensures fault { IfErr result (λ fault. (place : ℕ) × (refusal : Refusal) × (fault ≡ LoadFault.Refused place refusal)
+        × IsRefused commands.now place refusal) }
 {
     let mut service = Service::new(alloc);
     for (place, command) in commands.iter().enumerate() {

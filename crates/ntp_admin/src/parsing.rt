@@ -1,7 +1,7 @@
 //! Lines to commands and events.
-ghost use Rattle.std.specs.Prelude.{◌≡◌, ◌≢◌, ◌⊎◌, IfOk, IfErr, ◌∷◌, Err, true};
+ghost use Rattle.std.specs.Prelude.{◌≡◌, ◌≢◌, ◌⊎◌, IfOk, IfErr, ◌∷◌, Err, Some, codes, slice_get};
 ghost use Rattle.ntp_admin.specs.Words.{words};
-ghost use Rattle.ntp_admin.specs.Spells.{is_passed_over, enrol_in, revoke_in, new_budget_in, rollover_in, retire_in, command_in, datagram_in, departed_in, event_in, is_datagram, SpellsCommand, HasCommandFault, Spells, HasLineFault};
+ghost use Rattle.ntp_admin.specs.Spells.{is_passed_over, enrol_in, revoke_in, new_budget_in, rollover_in, retire_in, command_in, datagram_in, departed_in, event_in};
 
 use crate::parts::TextParts;
 use crate::words;
@@ -32,8 +32,8 @@ pub fn is_passed_over(line: &[u8]) -> bool
 /// right.
 #[tactic(auto, unfolding(crate::specs::Spells::command_in))]
 pub fn parse_command(line: &str) -> Result<Command, LineFault>
-    ensures only { IfOk result (λ command. SpellsCommand line.now command) }
-    ensures fault { IfErr result (λ fault. HasCommandFault line.now fault) }
+    ensures only { IfOk result (λ command. command_in (words line.now) ≡ Ok command) }
+    ensures fault { IfErr result (λ fault. command_in (words line.now) ≡ Err fault) }
 {
     let mut words = TextParts::new(line, ' ');
     let first = words.next().ok_or(LineFault::Word)?;
@@ -51,10 +51,10 @@ pub fn parse_command(line: &str) -> Result<Command, LineFault>
 /// `parse_command`, or want of memory, and that of a datagram alone.
 #[tactic(auto, unfolding(crate::specs::Spells::event_in, crate::specs::Spells::command_in))]
 pub fn parse_event<A: Allocator + Copy>(alloc: A, line: &str) -> Result<Event<A>, LineFault>
-    ensures only { IfOk result (λ event. Spells line.now event) }
-    ensures fault { IfErr result (λ fault. (fault ≡ LineFault.NoMemory) ⊎ HasLineFault A line.now fault) }
-    ensures command { (c : Command) → SpellsCommand line.now c → result ≡ Ok (Event.Command c) }
-    ensures memory { result ≡ Err LineFault.NoMemory → is_datagram (words line.now) ≡ true }
+    ensures only { IfOk result (λ event. event_in (words line.now) ≡ Ok event) }
+    ensures fault { IfErr result (λ fault. (fault ≡ LineFault.NoMemory) ⊎ (event_in {A = A} (words line.now) ≡ Err fault)) }
+    ensures command { (c : Command) → command_in (words line.now) ≡ Ok c → result ≡ Ok (Event.Command c) }
+    ensures memory { result ≡ Err LineFault.NoMemory → slice_get (words line.now) 0 ≡ Some (codes "datagram") }
 {
     let mut words = TextParts::new(line, ' ');
     let first = words.next().ok_or(LineFault::Word)?;

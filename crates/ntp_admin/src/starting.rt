@@ -1,6 +1,6 @@
 //! Exit statuses of a server that failed to start.
 ghost use Rattle.std.specs.Prelude.{◌≡◌};
-ghost use Rattle.ntp_admin.specs.Starts.{status_code, load_status, register_status};
+ghost use Rattle.ntp_admin.specs.Starts.{status_code, load_status};
 
 use crate::RegisterFault;
 use crate::loading::LoadFault;
@@ -32,7 +32,7 @@ pub fn load_status<F: Write>(fault: LoadFault, faults: &mut F) -> Status
 
 // Tells what is wrong with the text of a register file, and gives the exit status.
 fn register_status<F: Write>(fault: RegisterFault, faults: &mut F) -> Status
-    ensures { status_code result ≡ register_status fault }
+    ensures { status_code result ≡ load_status (LoadFault.Register fault) }
 {
     match fault {
         RegisterFault::Toml => text_status("toml", faults),

@@ -1,12 +1,13 @@
-use Rattle.std.proofs.Common.{◌+◌, arith, take, ◌∷◌, [], ◌++◌, ◌≡◌, ◌∙◌, sym, ap}
+use Rattle.std.proofs.Common.{◌+◌, arith, take, ◌∷◌, [], ◌++◌, ◌≡◌, ◌∙◌, refl, sym, ap}
 use Rattle.std.proofs.lemmas.List.{take_more, take_all}
 use Rattle.ntp_admin.proofs.Enrolments.{Enrolled-none, Enrolled-more, Enrolled-refused, Enrolled-tells}
 use Rattle.ntp_admin.proofs.loading.enrolled.Goals as goal
 
 pub returns-in-Err-clause-fault : goal.returns-in-Err-clause-fault
 returns-in-Err-clause-fault c =
-    Enrolled-refused _ _ c.index-commands-place.result _ _ _ c.loop-place.invariant (omega arith) c.index-commands-place.is
-    c.in-Err.ensures.tells
+    let refused = Enrolled-refused _ _ c.index-commands-place.result _ _ _ c.loop-place.invariant (omega arith) c.index-commands-place.is
+    c.in-Err.ensures.tells in
+    (_, _, refl, refused)
 
 pub loop-place-init : goal.loop-place-init
 loop-place-init c = Enrolled-none _ c.new-service.ensures

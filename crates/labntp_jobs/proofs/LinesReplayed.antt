@@ -1,18 +1,19 @@
 -- What one line adds to a replay, and what lines add one after another.
 use Rattle.std.proofs.Common.{◌≡◌, ℕ, true, false, List, [], ◌∷◌, ◌++◌, refl, sym, ap, ◌∙◌, subst, append_assoc, append-nil}
-use Rattle.std.specs.Prelude.{Bool, not, All, map, if◌then◌else◌}
+use Rattle.std.specs.Prelude.{Bool, not, All, map, filter, Ok, if◌then◌else◌}
 use Rattle.std.specs.List.{AllZip}
 use Rattle.std.proofs.lemmas.List.{flat_map_more, map-append}
 use Rattle.std.proofs.lemmas.List.Elements.{All-nil, All-cons, All-append, filter-append}
 use Rattle.ntp_service.specs.Registry.{Registry}
 use Rattle.ntp_service.specs.declared.event.Event.{Event}
 use Rattle.ntp_service.specs.declared.outcome.Outcome.{Outcome}
-use Rattle.ntp_admin.specs.Spells.{is_passed_over, Spells}
+use Rattle.ntp_admin.specs.Words.{words}
+use Rattle.ntp_admin.specs.Spells.{is_passed_over, event_in}
 use Rattle.ntp_admin.specs.Answers.{outcome_text}
 use Rattle.labntp_jobs.specs.declared.faults.ReplayFaultKind.{ReplayFaultKind}
 use Rattle.labntp_jobs.specs.declared.faults.ReplayFaultKind.TheVariants.{Line, Read, Write, NoMemory, LineLong, NotUtf8}
 use Rattle.ntp_service.specs.Headline.{StandsFor, TellsOne}
-use Rattle.labntp_jobs.specs.Script.{IsReadable, event_lines}
+use Rattle.labntp_jobs.specs.Script.{IsReadable}
 use Rattle.labntp_jobs.specs.Replay.{Replays, Causes}
 use Rattle.labntp_jobs.specs.Lines.{CutsShort}
 use Rattle.labntp_jobs.specs.Engine.{AnswersLines, Halts}
@@ -25,6 +26,10 @@ AllZip-more R [] [] x y h r = (r, tt)
 AllZip-more R [] (b ∷ ys) x y h r = absurd h
 AllZip-more R (a ∷ xs) [] x y h r = absurd h
 AllZip-more R (a ∷ xs) (b ∷ ys) x y h r = (h.0, AllZip-more R xs ys x y h.1 r)
+
+-- the lines that are events
+abbrev event_lines : List (List ℕ) → List (List ℕ)
+event_lines lines = filter (λ line. not (is_passed_over line)) lines
 
 -- the events among lines and one more
 event_lines-more : (lines : List (List ℕ)) (line : List ℕ) (b : Bool) → is_passed_over line ≡ b
@@ -47,6 +52,10 @@ causes-more A LineLong before so_far line part lines h = h
 causes-more A NotUtf8 before so_far line part lines h = h
 
 module _ {A : Type 0} where
+  -- the words of a line are an event's
+  abbrev Spells : List ℕ → Event A → Type 0
+  Spells line e = event_in (words line) ≡ Ok e
+
   -- a service that stands for a history tells this to an event, and goes on as another
   abbrev Takes : Registry → Event A → Outcome → Registry → Type 0
   Takes old e o new = (history : List (Event A)) → StandsFor old history → TellsOne history e o new

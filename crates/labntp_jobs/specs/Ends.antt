@@ -1,7 +1,6 @@
 -- What a replay by the program ends with.
 use Rattle.std.specs.Prelude.{◌≡◌, ◌⊎◌, ℕ, List}
 use Rattle.ntp_service.specs.Registry.{Registry}
-use Rattle.ntp_service.specs.declared.line_fault.LineFault.{LineFault}
 use Rattle.ntp_service.specs.declared.line_fault.LineFault.TheVariants as line_fault
 use Rattle.labntp_jobs.specs.declared.faults.ReplayFault.{ReplayFault}
 use Rattle.labntp_jobs.specs.declared.faults.ReplayFaultKind.{ReplayFaultKind}
@@ -9,17 +8,12 @@ use Rattle.labntp_jobs.specs.declared.faults.ReplayFaultKind.TheVariants.{Line, 
 use Rattle.labntp_jobs.specs.Script.{lines_of}
 use Rattle.labntp_jobs.specs.Replay.{Replays, StopsAt}
 
--- the status for the fault of a line: 1, and 4 for want of memory
-abbrev pub line_status : LineFault → ℕ
-line_status line_fault.NoMemory = 4
-line_status other = 1
-
--- the status for what stopped a replay: 1 for the text, 3 for a read or a write, 4 for want of memory
+-- the status for what stopped a replay: 3 for a read or a write, 4 for want of memory, 1 for the text
 abbrev pub status_of : ReplayFaultKind → ℕ
-status_of (Line fault) = line_status fault
 status_of Read = 3
 status_of Write = 3
 status_of NoMemory = 4
+status_of (Line line_fault.NoMemory) = 4
 status_of other = 1
 
 -- a replay of a text ends with a status, and wrote this: with 0 only where the whole text was replayed, and else with that

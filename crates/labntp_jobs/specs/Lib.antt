@@ -4,4 +4,5 @@ pub mod Replay
 pub mod Lines
 pub mod Engine
 pub mod Asks
+pub mod Behind
 pub mod Ends

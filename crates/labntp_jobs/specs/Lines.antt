@@ -1,7 +1,8 @@
 -- Not to be believed: for proofs. What becomes of one line.
-use Rattle.std.specs.Prelude.{◌≡◌, ℕ, Bool, true, false, Option, Some, None, List, [], ◌++◌}
+use Rattle.std.specs.Prelude.{◌≡◌, ℕ, Bool, true, false, Option, Some, None, List, [], ◌++◌, Ok}
 use Rattle.ntp_service.specs.declared.event.Event.{Event}
-use Rattle.ntp_admin.specs.Spells.{is_passed_over, Spells}
+use Rattle.ntp_admin.specs.Words.{words}
+use Rattle.ntp_admin.specs.Spells.{is_passed_over, event_in}
 use Rattle.labntp_jobs.specs.declared.faults.ReplayFaultKind.{ReplayFaultKind}
 use Rattle.labntp_jobs.specs.declared.faults.ReplayFaultKind.TheVariants.{Line, Read, Write, NoMemory, LineLong, NotUtf8}
 use Rattle.labntp_jobs.specs.Script.{IsReadable}
@@ -9,7 +10,7 @@ use Rattle.labntp_jobs.specs.Script.{IsReadable}
 -- a line that is readable is passed over, or spells an event
 abbrev pub Judges : {A : Type 0} → List ℕ → Option (Event A) → Type 0
 Judges line None = IsReadable line × (is_passed_over line ≡ true)
-Judges line (Some event) = IsReadable line × (is_passed_over line ≡ false) × Spells line event
+Judges line (Some event) = IsReadable line × (is_passed_over line ≡ false) × (event_in (words line) ≡ Ok event)
 
 -- writing a text was cut short behind this part
 abbrev pub CutsShort : ReplayFaultKind → List ℕ → List ℕ → Type 0

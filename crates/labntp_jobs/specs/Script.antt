@@ -1,6 +1,5 @@
--- The text of a script: its lines, and which of them are events.
-use Rattle.std.specs.Prelude.{ℕ, ◌≤◌, ◌==◌, Bool, true, not, List, [], ◌∷◌, length, filter, if◌then◌else◌, IsUtf8}
-use Rattle.ntp_admin.specs.Spells.{is_passed_over}
+-- The text of a script: its lines.
+use Rattle.std.specs.Prelude.{ℕ, ◌≤◌, ◌==◌, List, [], ◌∷◌, length, if◌then◌else◌, IsUtf8}
 
 -- how many octets a line has at most, without its line feed
 abbrev pub most_line_octets : ℕ
@@ -20,7 +19,3 @@ lines_of (x ∷ xs) = if x == 10 then [] ∷ lines_of xs else begin_line x (line
 pub record IsReadable (line : List ℕ) : Type 0 where
   pub within : length line ≤ most_line_octets
   pub text : IsUtf8 line
-
--- the lines that are events
-abbrev pub event_lines : List (List ℕ) → List (List ℕ)
-event_lines lines = filter (λ line. not (is_passed_over line)) lines

@@ -2,7 +2,7 @@
 ghost use Rattle.std.specs.Prelude.{◌≡◌, ◌⊎◌, ℕ, List, true, false, IfSome};
 ghost use Rattle.ntp_admin.specs.Starts.{status_code};
 ghost use Rattle.labntp_jobs.specs.Replay.{most_reads};
-ghost use Rattle.labntp_jobs.specs.Watched.{inner_of, has_failed, read_count, Wrote};
+ghost use Rattle.labntp_jobs.specs.Watched.{Wrote};
 ghost use Rattle.labntp_jobs.specs.Ends.{Ends, status_of};
 
 use crate::{ReplayFault, ReplayFaultKind, Watched, replay};
@@ -22,17 +22,17 @@ pub fn replay_status<A: Allocator + Copy, R: Read, W: Write, F: Write>(
     writer: &mut Watched<W>,
     faults: &mut F,
 ) -> u8
-    requires reader_well { has_failed reader.old ≡ false }
-    requires unread { read_count reader.old ≡ 0 }
-    requires writer_well { has_failed writer.old ≡ false }
+    requires reader_well { reader.old.failed ≡ false }
+    requires unread { reader.old.reads ≡ 0 }
+    requires writer_well { writer.old.failed ≡ false }
 
     // What the status says of the script, and what was written.
-    ensures ends { IfSome (R.remaining (inner_of reader.old)) (λ text. (written : List ℕ)
+    ensures ends { IfSome (R.remaining reader.old.inner) (λ text. (written : List ℕ)
         × Ends A text written result × Wrote W.contents writer.old writer.new written) }
 
     // Whatever the reader and the writer tell.
-    ensures done { result ≡ 0 → (has_failed reader.new ≡ false) × (has_failed writer.new ≡ false) }
-    ensures failed { result ≡ 3 → (has_failed reader.new ≡ true) ⊎ (read_count reader.new ≡ most_reads) ⊎ (has_failed writer.new ≡ true) }
+    ensures done { result ≡ 0 → (reader.new.failed ≡ false) × (writer.new.failed ≡ false) }
+    ensures failed { result ≡ 3 → (reader.new.failed ≡ true) ⊎ (reader.new.reads ≡ most_reads) ⊎ (writer.new.failed ≡ true) }
 {
     match replay(alloc, reader, writer) {
         Ok(()) => Status::Done.code(),

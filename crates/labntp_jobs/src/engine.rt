@@ -2,7 +2,7 @@
 ghost use Rattle.std.specs.Prelude.{◌≡◌, ◌≢◌, ℕ, ◌+◌, ◌≤◌, ◌<◌, ◌^◌, List, [], ◌∷◌, ◌++◌, length, vec_len, All, OnOk, IfOk, IfErr};
 ghost use Rattle.labntp_jobs.specs.Script.{most_line_octets, lines_of};
 ghost use Rattle.labntp_jobs.specs.Lines.{IsPastReading};
-ghost use Rattle.labntp_jobs.specs.Watched.{has_failed, Wrote};
+ghost use Rattle.labntp_jobs.specs.Watched.{Wrote};
 
 use crate::faults::{ReplayFault, ReplayFaultKind};
 use crate::lines::{judge, write_answer};
@@ -51,15 +51,15 @@ impl<A: Allocator + Copy> Engine<A> {
         }
     }
 
-    // AnswersLines the line that has begun, and leaves it as it is.
+    // Answers the line that has begun, and leaves it as it is.
     fn answer<W: Write>(&mut self, writer: &mut Watched<W>) -> Result<(), ReplayFaultKind>
         ensures ok { OnOk result ((written : List ℕ) × AnswersLines A self.old.service (self.old.line.items ∷ []) written self.new.service
             × Wrote W.contents writer.old writer.new written) }
-        ensures well { OnOk result (has_failed writer.new ≡ has_failed writer.old) }
+        ensures well { OnOk result (writer.new.failed ≡ writer.old.failed) }
         ensures same { self.new.done ≡ self.old.done }
         ensures err { IfErr result (λ kind. (part : List ℕ) × Halts A kind self.old.service (self.old.line.items ∷ []) part
             × Wrote W.contents writer.old writer.new part) }
-        ensures past_reading { IfErr result (IsPastReading (has_failed writer.new)) }
+        ensures past_reading { IfErr result (IsPastReading writer.new.failed) }
     {
         let alloc = self.service.allocator();
         match judge(alloc, &self.line) {
@@ -81,11 +81,11 @@ impl<A: Allocator + Copy> Engine<A> {
         requires { self.old.done + 1 < 2 ^ 64 }
         ensures ok { OnOk result ((written : List ℕ) × Fed self.old self.new (octet ∷ []) written
             × Wrote W.contents writer.old writer.new written) }
-        ensures well { OnOk result (has_failed writer.new ≡ has_failed writer.old) }
+        ensures well { OnOk result (writer.new.failed ≡ writer.old.failed) }
         ensures bound { self.new.done ≤ self.old.done + 1 }
         ensures err { IfErr result (λ kind. (written : List ℕ) × Stops kind self.old self.new (octet ∷ []) written
             × Wrote W.contents writer.old writer.new written) }
-        ensures past_reading { IfErr result (IsPastReading (has_failed writer.new)) }
+        ensures past_reading { IfErr result (IsPastReading writer.new.failed) }
     {
         if octet == b'\n' {
             self.answer(writer)?;
@@ -111,11 +111,11 @@ impl<A: Allocator + Copy> Engine<A> {
         requires { self.old.done + length octets.now < 2 ^ 64 }
         ensures ok { OnOk result ((written : List ℕ) × Fed self.old self.new octets.now written
             × Wrote W.contents writer.old writer.new written) }
-        ensures well { OnOk result (has_failed writer.new ≡ has_failed writer.old) }
+        ensures well { OnOk result (writer.new.failed ≡ writer.old.failed) }
         ensures bound { self.new.done ≤ self.old.done + length octets.now }
         ensures err { IfErr result (λ kind. (written : List ℕ) × Stops kind self.old self.new octets.now written
             × Wrote W.contents writer.old writer.new written) }
-        ensures past_reading { IfErr result (IsPastReading (has_failed writer.new)) }
+        ensures past_reading { IfErr result (IsPastReading writer.new.failed) }
     {
         for octet in octets {
             self.take_octet(*octet, writer)?;
@@ -123,18 +123,18 @@ impl<A: Allocator + Copy> Engine<A> {
         Ok(())
     }
 
-    // AnswersLines the last line, where no line feed ended it.
+    // Answers the last line, where no line feed ended it.
     pub(crate) fn finish<W: Write>(
         &mut self,
         writer: &mut Watched<W>,
     ) -> Result<(), ReplayFaultKind>
         ensures ok { OnOk result ((written : List ℕ) × AnswersLines A self.old.service (lines_of self.old.line.items) written self.new.service
             × Wrote W.contents writer.old writer.new written) }
-        ensures well { OnOk result (has_failed writer.new ≡ has_failed writer.old) }
+        ensures well { OnOk result (writer.new.failed ≡ writer.old.failed) }
         ensures same { self.new.done ≡ self.old.done }
         ensures err { IfErr result (λ kind. (part : List ℕ) × Halts A kind self.old.service (lines_of self.old.line.items) part
             × Wrote W.contents writer.old writer.new part) }
-        ensures past_reading { IfErr result (IsPastReading (has_failed writer.new)) }
+        ensures past_reading { IfErr result (IsPastReading writer.new.failed) }
     {
         if self.line.is_empty() {
             return Ok(());

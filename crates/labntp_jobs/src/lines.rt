@@ -5,7 +5,7 @@ ghost use Rattle.ntp_admin.specs.Answers.{outcome_text};
 ghost use Rattle.labntp_jobs.specs.Script.{most_line_octets};
 ghost use Rattle.labntp_jobs.specs.Replay.{Causes};
 ghost use Rattle.labntp_jobs.specs.Lines.{Judges, CutsShort, IsPastReading};
-ghost use Rattle.labntp_jobs.specs.Watched.{has_failed, Wrote};
+ghost use Rattle.labntp_jobs.specs.Watched.{Wrote};
 
 use crate::faults::ReplayFaultKind;
 use crate::watch::Watched;
@@ -43,10 +43,10 @@ pub(crate) fn write_answer<A: Allocator + Copy, W: Write>(
     writer: &mut Watched<W>,
 ) -> Result<(), ReplayFaultKind>
     ensures ok { OnOk result (Wrote W.contents writer.old writer.new (outcome_text outcome.now)) }
-    ensures well { OnOk result (has_failed writer.new ≡ has_failed writer.old) }
+    ensures well { OnOk result (writer.new.failed ≡ writer.old.failed) }
     ensures err { IfErr result (λ kind. (part : List ℕ) × CutsShort kind (outcome_text outcome.now) part
         × Wrote W.contents writer.old writer.new part) }
-    ensures past_reading { IfErr result (IsPastReading (has_failed writer.new)) }
+    ensures past_reading { IfErr result (IsPastReading writer.new.failed) }
 {
     let Ok(text) = print_answer(alloc, outcome) else {
         return Err(ReplayFaultKind::NoMemory);

@@ -4,7 +4,7 @@ ghost use Rattle.std.specs.Io.KnownBytes.{IsAtEnd};
 ghost use Rattle.ntp_service.specs.Registry.{Registry};
 ghost use Rattle.labntp_jobs.specs.Script.{lines_of};
 ghost use Rattle.labntp_jobs.specs.Replay.{most_reads, Replays, StopsAt};
-ghost use Rattle.labntp_jobs.specs.Watched.{inner_of, has_failed, read_count, Wrote};
+ghost use Rattle.labntp_jobs.specs.Watched.{Wrote};
 
 use crate::engine::Engine;
 use crate::faults::{ReplayFault, ReplayFaultKind};
@@ -33,28 +33,28 @@ pub fn replay<A: Allocator + Copy, R: Read, W: Write>(
     reader: &mut Watched<R>,
     writer: &mut Watched<W>,
 ) -> Result<(), ReplayFault>
-    requires reader_well { has_failed reader.old ≡ false }
-    requires unread { read_count reader.old ≡ 0 }
-    requires writer_well { has_failed writer.old ≡ false }
+    requires reader_well { reader.old.failed ≡ false }
+    requires unread { reader.old.reads ≡ 0 }
+    requires writer_well { writer.old.failed ≡ false }
 
     // The whole text was read and replayed.
-    ensures ok { OnOk result (IfSome (R.remaining (inner_of reader.old)) (λ text. (written : List ℕ) × (service : Registry)
+    ensures ok { OnOk result (IfSome (R.remaining reader.old.inner) (λ text. (written : List ℕ) × (service : Registry)
         × Replays A (lines_of text) written service × Wrote W.contents writer.old writer.new written)) }
-    ensures end { OnOk result (IsAtEnd (R.remaining (inner_of reader.new))) }
+    ensures end { OnOk result (IsAtEnd (R.remaining reader.new.inner)) }
 
     // Neither has noted a failure, whatever the reader and the writer tell.
-    ensures reader_well { OnOk result (has_failed reader.new ≡ false) }
-    ensures writer_well { OnOk result (has_failed writer.new ≡ false) }
+    ensures reader_well { OnOk result (reader.new.failed ≡ false) }
+    ensures writer_well { OnOk result (writer.new.failed ≡ false) }
 
     // The lines before the one that the fault names were replayed.
-    ensures stopped { IfErr result (λ fault. IfSome (R.remaining (inner_of reader.old)) (λ text. (written : List ℕ)
+    ensures stopped { IfErr result (λ fault. IfSome (R.remaining reader.old.inner) (λ text. (written : List ℕ)
         × StopsAt A fault (lines_of text) written × Wrote W.contents writer.old writer.new written)) }
 
     // Whatever the reader and the writer tell.
     ensures read { IfErr result (λ fault. fault.kind ≡ ReplayFaultKind.Read
-        → (has_failed reader.new ≡ true) ⊎ (read_count reader.new ≡ most_reads)) }
-    ensures write { IfErr result (λ fault. fault.kind ≡ ReplayFaultKind.Write → has_failed writer.new ≡ true) }
-    ensures bound { read_count reader.new ≤ most_reads }
+        → (reader.new.failed ≡ true) ⊎ (reader.new.reads ≡ most_reads)) }
+    ensures write { IfErr result (λ fault. fault.kind ≡ ReplayFaultKind.Write → writer.new.failed ≡ true) }
+    ensures bound { reader.new.reads ≤ most_reads }
 {
     let mut engine = Engine::new(alloc);
     let mut chunk = [0; CHUNK];

@@ -20,13 +20,11 @@ pub struct Watched<T> {
 pub(crate) struct Failed;
 
 impl<T> Watched<T> {
-    ghost use Rattle.labntp_jobs.specs.Watched.{inner_of, has_failed, read_count};
-
     /// Watches a reader or a writer from here on.
     pub fn new(inner: T) -> Watched<T>
-        ensures inner { inner_of result ≡ inner }
-        ensures failed { has_failed result ≡ false }
-        ensures reads { read_count result ≡ 0 }
+        ensures inner { result.inner ≡ inner }
+        ensures failed { result.failed ≡ false }
+        ensures reads { result.reads ≡ 0 }
     {
         Watched {
             inner,
@@ -37,14 +35,14 @@ impl<T> Watched<T> {
 
     /// Whether a failure was noted: of a read or a write, or of a write of one or more octets that took none.
     pub fn failed(&self) -> bool
-        ensures { result ≡ has_failed self.now }
+        ensures { result ≡ self.now.failed }
     {
         self.failed
     }
 
     /// What was watched.
     pub fn into_inner(self) -> T
-        ensures { result ≡ inner_of self }
+        ensures { result ≡ self.inner }
     {
         let Watched {
             inner,
@@ -56,7 +54,7 @@ impl<T> Watched<T> {
 
     /// How many reads were counted, at most 2^64 - 1.
     pub fn reads(&self) -> u64
-        ensures { result ≡ read_count self.now }
+        ensures { result ≡ self.now.reads }
     {
         self.reads
     }
@@ -77,19 +75,17 @@ impl<T> Watched<T> {
 }
 
 impl<R: Read> Watched<R> {
-    ghost use Rattle.labntp_jobs.specs.Watched.{inner_of, has_failed, read_count};
-
     // One read, tried once. It gives no octet only at the end of the input. An error is noted as a failure.
     pub(crate) fn read_chunk(&mut self, chunk: &mut [u8]) -> Result<usize, Failed>
         requires { 0 < length chunk.old }
         ensures bound { IfOk result (λ n. n ≤ length chunk.new) }
         ensures octets { IfOk result (λ n.
-            Consumes (R.remaining (inner_of self.old)) (R.remaining (inner_of self.new)) (take n chunk.new)) }
-        ensures end { IfOk result (λ n. n ≡ 0 → IsAtEnd (R.remaining (inner_of self.new))) }
-        ensures well { OnOk result (has_failed self.new ≡ has_failed self.old) }
-        ensures none { OnErr result (Keeps (R.remaining (inner_of self.old)) (R.remaining (inner_of self.new))) }
-        ensures failed { OnErr result (has_failed self.new ≡ true) }
-        ensures counted { read_count self.new ≡ min (read_count self.old + 1) (2 ^ 64 - 1) }
+            Consumes (R.remaining self.old.inner) (R.remaining self.new.inner) (take n chunk.new)) }
+        ensures end { IfOk result (λ n. n ≡ 0 → IsAtEnd (R.remaining self.new.inner)) }
+        ensures well { OnOk result (self.new.failed ≡ self.old.failed) }
+        ensures none { OnErr result (Keeps (R.remaining self.old.inner) (R.remaining self.new.inner)) }
+        ensures failed { OnErr result (self.new.failed ≡ true) }
+        ensures counted { self.new.reads ≡ min (self.old.reads + 1) (2 ^ 64 - 1) }
     {
         self.reads = self.reads.saturating_add(1);
         let given = self.inner.read(chunk);
@@ -98,14 +94,14 @@ impl<R: Read> Watched<R> {
 }
 
 impl<W: Write> Watched<W> {
-    ghost use Rattle.labntp_jobs.specs.Watched.{inner_of, has_failed, Wrote};
+    ghost use Rattle.labntp_jobs.specs.Watched.{Wrote};
 
     // Writes the octets, until all are taken or a write fails. Then a part from their front was written.
     pub(crate) fn write_all(&mut self, octets: &[u8]) -> Result<(), Failed>
         ensures ok { OnOk result (Wrote W.contents self.old self.new octets.now) }
-        ensures well { OnOk result (has_failed self.new ≡ has_failed self.old) }
+        ensures well { OnOk result (self.new.failed ≡ self.old.failed) }
         ensures err { OnErr result ((part rest : List ℕ) × (octets.now ≡ part ++ rest) × Wrote W.contents self.old self.new part) }
-        ensures failed { OnErr result (has_failed self.new ≡ true) }
+        ensures failed { OnErr result (self.new.failed ≡ true) }
     {
         let mut at = 0;
         while at < octets.len() {
@@ -118,9 +114,9 @@ impl<W: Write> Watched<W> {
     fn write_some(&mut self, octets: &[u8]) -> Result<usize, Failed>
         ensures some { IfOk result (λ n. (0 < n) × (n ≤ length octets.now)) }
         ensures octets { IfOk result (λ n. Wrote W.contents self.old self.new (take n octets.now)) }
-        ensures well { OnOk result (has_failed self.new ≡ has_failed self.old) }
+        ensures well { OnOk result (self.new.failed ≡ self.old.failed) }
         ensures none { OnErr result (Wrote W.contents self.old self.new []) }
-        ensures failed { OnErr result (has_failed self.new ≡ true) }
+        ensures failed { OnErr result (self.new.failed ≡ true) }
     {
         let given = match self.inner.write(octets) {
             Ok(0) => Err(io::Error::from(ErrorKind::WriteZero)),

@@ -1,6 +1,7 @@
 //! The words of the command line.
 ghost use Rattle.std.specs.Prelude.{◌≡◌, ◌≢◌, ℕ, List, [], ◌∷◌, map, string_bytes, IfSome, OnSome, IsNone, MatchOption};
-ghost use Rattle.labntp_jobs.specs.Asks.{Asks, AsksToServe, AsksToLoop};
+ghost use Rattle.labntp_jobs.specs.Asks.{Asks};
+ghost use Rattle.labntp_jobs.specs.Behind.{AsksToServe, AsksToLoop};
 ghost use Rattle.labntp_jobs.specs.declared.jobs.Serving.{Serving};
 
 use crate::jobs::{Job, Serving};

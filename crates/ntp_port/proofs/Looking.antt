@@ -1,4 +1,4 @@
--- LooksAtQueue at a queue.
+-- Looks at a queue.
 use Rattle.std.proofs.Common.{◌≡◌, ℕ, ◌+◌, ◌<◌, ◌≤◌, ◌⊎◌, List, [], ◌∷◌, ◌++◌, Option, None, Some, false, refl, sym, subst, ◌∙◌, arith, append_assoc}
 use Rattle.ntp_port.specs.Port.{Told}
 use Rattle.ntp_port.specs.declared.queue_event.QueueEvent.{QueueEvent}

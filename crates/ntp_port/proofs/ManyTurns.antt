@@ -68,18 +68,18 @@ Follows-append bs cs xs ys (Some old) (Some mid) (Some new) p k = FollowsList-ap
 -- the same of a port that may drop or not
 AreBegun-nil : (may : Bool) (c : ℕ) (t : Option Told) → AreBegun may [] c c t t
 AreBegun-nil false c t = (refl, Follows-nil t)
-AreBegun-nil true c t = record { taken = []; all = refl; counted = CountsMore-nil c; port = Follows-nil t }
+AreBegun-nil true c t = record { steps = []; all = refl; counted = CountsMore-nil c; port = Follows-nil t }
 
 PassesOver-append : (xs ys : List Made) (c d e : ℕ) (t u v : Option Told) → PassesOver xs c d t u → PassesOver ys d e u v
     → PassesOver (xs ++ ys) c e t v
 PassesOver-append xs ys c d e t u v p k =
-    let many = ap length (flat_map-append dropped_in p.taken k.taken) ∙ length-append (flat_map dropped_in p.taken) (flat_map dropped_in k.taken) in
+    let many = ap length (flat_map-append dropped_in p.steps k.steps) ∙ length-append (flat_map dropped_in p.steps) (flat_map dropped_in k.steps) in
     record {
-      taken = p.taken ++ k.taken;
-      all = flat_map-append made_of p.taken k.taken ∙ ap (λ l. l ++ flat_map made_of k.taken) p.all ∙ ap (λ l. xs ++ l) k.all;
+      steps = p.steps ++ k.steps;
+      all = flat_map-append made_of p.steps k.steps ∙ ap (λ l. l ++ flat_map made_of k.steps) p.all ∙ ap (λ l. xs ++ l) k.all;
       counted = CountsMore-append c d e _ _ _ many p.counted k.counted;
-      port = subst (λ l. Follows l (xs ++ ys) t v) (sym (flat_map-append begun_in p.taken k.taken))
-          (Follows-append (flat_map begun_in p.taken) (flat_map begun_in k.taken) xs ys t u v p.port k.port);
+      port = subst (λ l. Follows l (xs ++ ys) t v) (sym (flat_map-append begun_in p.steps k.steps))
+          (Follows-append (flat_map begun_in p.steps) (flat_map begun_in k.steps) xs ys t u v p.port k.port);
     }
 
 AreBegun-append : (may : Bool) (xs ys : List Made) (c d e : ℕ) (t u v : Option Told) → AreBegun may xs c d t u → AreBegun may ys d e u v

@@ -22,24 +22,24 @@ SeesMore-append (Some q) (Some r) (Some s) first second a b =
     b ∙ ap (λ xs. second ++ xs) a ∙ sym (append_assoc second first q)
 
 pub IsSeenFrom-same : (reading : ℕ) (q : Option (List QueueEvent)) (history : List QueueEvent) → IsSeenFrom reading reading q q history history
-IsSeenFrom-same reading q history shown = (shown, ([], refl, SeesMore-none q))
+IsSeenFrom-same reading q history shown = (shown, [], refl, SeesMore-none q)
 
 pub IsSeenFrom-more : (a b c : ℕ) (q r s : Option (List QueueEvent)) (h k m : List QueueEvent) → IsSeenFrom a b q r h k → IsSeenFrom b c r s k m
     → IsSeenFrom a c q s h m
 IsSeenFrom-more a b c q r s h k m first second shown =
     let x = first shown in
     let y = second x.0 in
-    (y.0, (y.1.0 ++ x.1.0, y.1.1 ∙ ap (λ xs. y.1.0 ++ xs) x.1.1 ∙ sym (append_assoc y.1.0 x.1.0 h), SeesMore-append q r s x.1.0 y.1.0 x.1.2 y.1.2))
+    (y.0, y.1 ++ x.1, y.2 ∙ ap (λ xs. y.1 ++ xs) x.2 ∙ sym (append_assoc y.1 x.1 h), SeesMore-append q r s x.1 y.1 x.3 y.3)
 
 -- a call that reads no clock saw this
 pub seen-in_call : (reading : ℕ) (q r : Option (List QueueEvent)) (seen : ℕ → List QueueEvent)
     → ((shown : ℕ) (told : List QueueEvent) → last_reading (seen shown ++ told) ≡ last_reading told) → TellsEvents q r seen
     → (h : List QueueEvent) → IsSeenFrom reading reading q r h (seen reading ++ h)
-seen-in_call reading q None seen keeps tells h shown = (tt, (seen reading, refl, tt))
+seen-in_call reading q None seen keeps tells h shown = (tt, seen reading, refl, tt)
 seen-in_call reading None (Some r) seen keeps tells h shown = absurd tells
 seen-in_call reading (Some q) (Some r) seen keeps tells h shown =
     let told : r ≡ seen reading ++ q = tells ∙ ap (λ n. seen n ++ q) shown in
-    (ap last_reading told ∙ keeps reading q ∙ shown, (seen reading, refl, told))
+    (ap last_reading told ∙ keeps reading q ∙ shown, seen reading, refl, told)
 
 -- a wait reads no clock
 keeps-wait : (received : Option (Result Arrival PortFault)) (shown : ℕ) (told : List QueueEvent)
@@ -57,12 +57,12 @@ seen-in_wait reading q r received given is tells =
 -- a reading of a clock that did not go back
 seen-in_reading : (reading now shows : ℕ) (q r : Option (List QueueEvent)) (h : List QueueEvent) → (reading ≤ shows → now ≡ shows)
     → ReadsClock q r shows → IsSeenFrom reading now q r h (Read now ∷ h)
-seen-in_reading reading now shows q None h later tells shown = (tt, (Read now ∷ [], refl, tt))
+seen-in_reading reading now shows q None h later tells shown = (tt, Read now ∷ [], refl, tt)
 seen-in_reading reading now shows None (Some r) h later tells shown = absurd tells
 seen-in_reading reading now shows (Some q) (Some r) h later tells shown =
     let same : now ≡ shows = later (omega (arith, shown, tells.0)) in
     let told : r ≡ Read now ∷ q = tells.1 ∙ ap (λ n. Read n ∷ q) (sym same) in
-    (ap last_reading told, (Read now ∷ [], refl, told))
+    (ap last_reading told, Read now ∷ [], refl, told)
 
 -- a look, a wait and a reading, one after another
 pub seen-in_take : (a before now shows : ℕ) (q r s u : Option (List QueueEvent)) (received given : Option (Result Arrival PortFault))

@@ -12,7 +12,7 @@ use Rattle.ntp_port.specs.declared.port.PortFault.{PortFault}
 use Rattle.ntp_port.specs.Sequence.{firsts}
 use Rattle.ntp_port.specs.Port.{IncomingValue, Readings, TurnValue, no_turn, Told, Arrives, Begins, ReceiveTells, DropTells, TellsOn, DropsTurns, CountsMore, CountsReceive, Receives, GivesUp}
 use Rattle.ntp_port.specs.Made.{Made, Missed, Received, turn_of, arrival_of}
-use Rattle.ntp_port.specs.Serving.{Follows, Taken, InTurn, Dropped, GivenUp, begun_in, made_of, dropped_in, PassesOver, AreBegun, Makes, TurnMakes}
+use Rattle.ntp_port.specs.Serving.{Follows, Step, InTurn, Skipped, GivenUp, begun_in, made_of, dropped_in, PassesOver, AreBegun, Makes, TurnMakes}
 use Rattle.ntp_port.specs.Sending.{turn_with}
 use Rattle.ntp_port.proofs.ManyTurns.{Follows-nil, Follows-append, Makes-one}
 use Rattle.ntp_port.proofs.Dropping.{CountsMore-nil, CountsMore-append}
@@ -55,43 +55,43 @@ drops-one (Some old) (Some new) p = by_turns old.coming refl p.2
 
 -- ---- so many
 record DropsMany (n : ℕ) (t u : Option Told) : Type 0 where
-  taken : List Taken
-  none : flat_map made_of taken ≡ []
-  many : length (flat_map dropped_in taken) ≡ n
-  port : Follows (flat_map begun_in taken) [] t u
+  steps : List Step
+  none : flat_map made_of steps ≡ []
+  many : length (flat_map dropped_in steps) ≡ n
+  port : Follows (flat_map begun_in steps) [] t u
 
 drops-many : (n : ℕ) (t u : Option Told) → DropsTurns n t u → DropsMany n t u
-drops-many zero None u p = record { taken = []; none = refl; many = refl; port = tt }
+drops-many zero None u p = record { steps = []; none = refl; many = refl; port = tt }
 drops-many zero (Some old) u p =
-    subst (λ o. DropsMany 0 (Some old) o) (sym p) (record { taken = []; none = refl; many = refl; port = Follows-nil (Some old) })
+    subst (λ o. DropsMany 0 (Some old) o) (sym p) (record { steps = []; none = refl; many = refl; port = Follows-nil (Some old) })
 drops-many (suc n) t u p =
     let one = drops-one t p.0 p.1 in
     let more = drops-many n p.0 u p.2 in
     record {
-      taken = Dropped one.from one.clock one.sends ∷ more.taken;
+      steps = Skipped one.from one.clock one.sends ∷ more.steps;
       none = more.none;
       many = ap suc more.many;
-      port = Follows-append (turn_with one.from one.clock one.sends ∷ []) (flat_map begun_in more.taken) [] [] t p.0 u one.port more.port;
+      port = Follows-append (turn_with one.from one.clock one.sends ∷ []) (flat_map begun_in more.steps) [] [] t p.0 u one.port more.port;
     }
 
 -- and then one that was made
-passes-over : (m : Made) (last : Taken) (n c d : ℕ) (t u v : Option Told) → made_of last ≡ m ∷ [] → dropped_in last ≡ [] → CountsMore c d n
+passes-over : (m : Made) (last : Step) (n c d : ℕ) (t u v : Option Told) → made_of last ≡ m ∷ [] → dropped_in last ≡ [] → CountsMore c d n
     → DropsTurns n t u → Follows (begun_in last) (m ∷ []) u v → PassesOver (m ∷ []) c d t v
 passes-over m last n c d t u v makes keeps counts drops follows =
     let before = drops-many n t u drops in
     let one : flat_map dropped_in (last ∷ []) ≡ [] = append-nil (dropped_in last) ∙ keeps in
-    let begun : flat_map begun_in (before.taken ++ last ∷ []) ≡ flat_map begun_in before.taken ++ begun_in last =
-    flat_map-append begun_in before.taken (last ∷ []) ∙ ap (λ l. flat_map begun_in before.taken ++ l) (append-nil (begun_in last)) in
+    let begun : flat_map begun_in (before.steps ++ last ∷ []) ≡ flat_map begun_in before.steps ++ begun_in last =
+    flat_map-append begun_in before.steps (last ∷ []) ∙ ap (λ l. flat_map begun_in before.steps ++ l) (append-nil (begun_in last)) in
     record {
-      taken = before.taken ++ last ∷ [];
-      all = flat_map-append made_of before.taken (last ∷ []) ∙ ap (λ l. l ++ flat_map made_of (last ∷ [])) before.none
+      steps = before.steps ++ last ∷ [];
+      all = flat_map-append made_of before.steps (last ∷ []) ∙ ap (λ l. l ++ flat_map made_of (last ∷ [])) before.none
           ∙ append-nil (made_of last) ∙ makes;
       counted = CountsMore-append c d d n 0 _
-          (ap length (flat_map-append dropped_in before.taken (last ∷ []))
-          ∙ length-append (flat_map dropped_in before.taken) (flat_map dropped_in (last ∷ []))
+          (ap length (flat_map-append dropped_in before.steps (last ∷ []))
+          ∙ length-append (flat_map dropped_in before.steps) (flat_map dropped_in (last ∷ []))
           ∙ omega (arith, before.many, ap length one)) counts (CountsMore-nil d);
       port = subst (λ l. Follows l (m ∷ []) t v) (sym begun)
-          (Follows-append (flat_map begun_in before.taken) (begun_in last) [] (m ∷ []) t u v before.port follows);
+          (Follows-append (flat_map begun_in before.steps) (begun_in last) [] (m ∷ []) t u v before.port follows);
     }
 
 -- ---- what is told where nothing was begun

@@ -97,13 +97,10 @@ abbrev pub IsShown : ℕ → Option (List QueueEvent) → Type 0
 IsShown reading None = Unit {0}
 IsShown reading (Some told) = last_reading told ≡ reading
 
--- a port saw just what the history has more, where it tells that
-abbrev pub IsSeen : Option (List QueueEvent) → Option (List QueueEvent) → List QueueEvent → List QueueEvent → Type 0
-IsSeen old new history after = (more : List QueueEvent) × (after ≡ more ++ history) × SeesMore old new more
-
--- `IsSeen`, given that `reading` is the last one that the port told; afterwards `now` is
+-- given that `reading` is the last one that a port told, `now` is it afterwards, and the port saw just what the history has more
 abbrev pub IsSeenFrom : ℕ → ℕ → Option (List QueueEvent) → Option (List QueueEvent) → List QueueEvent → List QueueEvent → Type 0
-IsSeenFrom reading now old new history after = IsShown reading old → IsShown now new × IsSeen old new history after
+IsSeenFrom reading now old new history after = IsShown reading old → IsShown now new
+    × (more : List QueueEvent) × (after ≡ more ++ history) × SeesMore old new more
 
 -- what a port keeps that passes on only what may be answered, and what the port below it tells
 pub record Kept : Type 0 where

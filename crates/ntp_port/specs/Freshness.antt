@@ -7,9 +7,7 @@ use Rattle.ntp_port.specs.declared.queue_event.QueueEvent.TheVariants.{Held, Loo
 abbrev pub takes : List QueueEvent → ℕ
 takes [] = 0
 takes (Taken at ∷ history) = suc (takes history)
-takes (Held count at ∷ history) = takes history
-takes (Looked at ∷ history) = takes history
-takes (Read at ∷ history) = takes history
+takes (other ∷ history) = takes history
 
 -- the datagram that is taken next after the history came after `at`: a call that began then or later saw at most `count` in the
 -- queue, which is first in, first out, and at least as many were taken since
@@ -26,8 +24,7 @@ abbrev pub last_look : List QueueEvent → Option ℕ
 last_look [] = None
 last_look (Held count at ∷ history) = Some at
 last_look (Looked at ∷ history) = Some at
-last_look (Taken at ∷ history) = last_look history
-last_look (Read at ∷ history) = last_look history
+last_look (other ∷ history) = last_look history
 
 -- the last look at the queue was at most `before` before `now`
 abbrev pub WasLookedAt : ℕ → List QueueEvent → ℕ → Type 0

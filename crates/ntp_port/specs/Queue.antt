@@ -9,9 +9,7 @@ use Rattle.ntp_port.specs.declared.queue_event.QueueEvent.TheVariants.{Held, Loo
 abbrev pub last_reading : List QueueEvent → ℕ
 last_reading [] = 0
 last_reading (Read at ∷ history) = at
-last_reading (Held count at ∷ history) = last_reading history
-last_reading (Looked at ∷ history) = last_reading history
-last_reading (Taken at ∷ history) = last_reading history
+last_reading (other ∷ history) = last_reading history
 
 -- these events, newest first, were seen after what was seen before. A port that tells no longer, or never did, tells nothing of them
 abbrev pub SeesMore : Option (List QueueEvent) → Option (List QueueEvent) → List QueueEvent → Type 0

@@ -25,37 +25,36 @@ pub record FollowsList (begun : List TurnValue) (made : List Made) (old new : To
 abbrev pub Follows : List TurnValue → List Made → Option Told → Option Told → Type 0
 Follows begun made t u = IfSome t (λ old. IsSomeAnd u (λ new. FollowsList begun made old new))
 
--- what a server has of a port that may drop: a turn that it makes, one whose datagram was dropped, or one that it makes in which the port
--- gave up, and began none
-pub data Taken : Type 0 where
-  InTurn : Made → Taken
-  Dropped : IncomingValue → Readings → Bool → Taken
-  GivenUp : Readings → Bool → Taken
+-- a step at a port that may drop: a turn that a server makes, one whose datagram was dropped, or one that a server makes in which the
+-- port gave up, and began none
+pub data Step : Type 0 where
+  InTurn : Made → Step
+  Skipped : IncomingValue → Readings → Bool → Step
+  GivenUp : Readings → Bool → Step
 
 -- the turn that the port began
-abbrev pub begun_in : Taken → List TurnValue
+abbrev pub begun_in : Step → List TurnValue
 begun_in (InTurn m) = turn_of m ∷ []
-begun_in (Dropped d clock sends) = record { arrival = Some d; clock = clock; sends = sends } ∷ []
+begun_in (Skipped d clock sends) = record { arrival = Some d; clock = clock; sends = sends } ∷ []
 begun_in (GivenUp clock sends) = []
 
 -- the one that the server made
-abbrev pub made_of : Taken → List Made
+abbrev pub made_of : Step → List Made
 made_of (InTurn m) = m ∷ []
-made_of (Dropped d clock sends) = []
+made_of (Skipped d clock sends) = []
 made_of (GivenUp clock sends) = Missed clock sends ∷ []
 
 -- the datagram that was dropped
-abbrev pub dropped_in : Taken → List IncomingValue
-dropped_in (InTurn m) = []
-dropped_in (Dropped d clock sends) = d ∷ []
-dropped_in (GivenUp clock sends) = []
+abbrev pub dropped_in : Step → List IncomingValue
+dropped_in (Skipped d clock sends) = d ∷ []
+dropped_in other = []
 
 -- these turns were made at a port that may drop, which counts what it drops
 pub record PassesOver (made : List Made) (count after : ℕ) (t u : Option Told) : Type 0 where
-  pub taken : List Taken
-  pub all : flat_map made_of taken ≡ made
-  pub counted : CountsMore count after (length (flat_map dropped_in taken))
-  pub port : Follows (flat_map begun_in taken) made t u
+  pub steps : List Step
+  pub all : flat_map made_of steps ≡ made
+  pub counted : CountsMore count after (length (flat_map dropped_in steps))
+  pub port : Follows (flat_map begun_in steps) made t u
 
 -- or at one that may drop or not: else they are just the turns that the port began
 abbrev pub AreBegun : Bool → List Made → ℕ → ℕ → Option Told → Option Told → Type 0

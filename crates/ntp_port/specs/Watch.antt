@@ -1,7 +1,7 @@
 -- What is kept of a history.
 use Rattle.std.specs.Prelude.{◌≡◌, ℕ, suc, ◌+◌, ◌*◌, ◌/◌, ◌<◌, ◌≤◌, ◌⊎◌, ◌++◌, nat_le, ◌&&◌, if◌then◌else◌, Option, None, Some, List, [], ◌∷◌}
 use Rattle.ntp_port.specs.declared.queue_event.QueueEvent.{QueueEvent}
-use Rattle.ntp_port.specs.declared.queue_event.QueueEvent.TheVariants.{Held, Looked, Taken, Read}
+use Rattle.ntp_port.specs.declared.queue_event.QueueEvent.TheVariants.{Held, Taken}
 use Rattle.ntp_port.specs.declared.queue_watch.QueueWatch.{QueueWatch}
 use Rattle.ntp_port.specs.Freshness.{takes}
 
@@ -26,9 +26,8 @@ IsCounted watch now = IsWaiting watch ⊎ IsKnownWithin (longest_of watch / 10 *
 abbrev pub known_after : ℕ → List QueueEvent → Option ℕ
 known_after more [] = None
 known_after more (Held count at ∷ history) = if nat_le count more then Some at else known_after more history
-known_after more (Looked at ∷ history) = known_after more history
 known_after more (Taken at ∷ history) = known_after (suc more) history
-known_after more (Read at ∷ history) = known_after more history
+known_after more (other ∷ history) = known_after more history
 
 -- the same, by what is kept
 abbrev pub kept_after : QueueWatch → ℕ → Option ℕ

@@ -73,6 +73,8 @@ impl<P: QueuedPort> FreshPort<P> {
         ensures turns { P.told result.port ≡ P.told port }
         ensures history { ReadsClock (P.history port) (P.history result.port) result.reading }
         ensures stale { result.counts.dropped ≡ 0 }
+        ensures idle { result.counts.idle_waits ≡ 0 }
+        ensures sends { result.counts.failed_sends ≡ 0 }
         ensures sweeps { result.sweeps ≡ 0 }
         ensures failures { failed_calls result.counts ≡ failed_calls (P.counts port) }
     {
@@ -221,7 +223,7 @@ impl<P: QueuedPort> FreshPort<P> {
         has_dropped
     }
 
-    // LooksAtQueue at the queue where it is time to, once in a ten-thousandth of a second at most.
+    // Looks at the queue where it is time to, once in a ten-thousandth of a second at most.
     fn look(&mut self)
         ensures counts { self.new.counts ≡ self.old.counts }
         ensures looks { LooksAtQueue (kept_by self.old) (kept_by self.new) (Some (oldest_look (longest_of self.old.watch))) }
@@ -233,7 +235,7 @@ impl<P: QueuedPort> FreshPort<P> {
         }
     }
 
-    // LooksAtQueue at the queue where what is known of it is old.
+    // Looks at the queue where what is known of it is old.
     fn look_where_due(&mut self)
         ensures counts { self.new.counts ≡ self.old.counts }
         ensures looks { LooksAtQueue (kept_by self.old) (kept_by self.new) (Some (longest_of self.old.watch / 10)) }
@@ -244,7 +246,7 @@ impl<P: QueuedPort> FreshPort<P> {
         }
     }
 
-    // LooksAtQueue whether the queue is empty, and how many datagrams are in it where that has to be known.
+    // Looks whether the queue is empty, and how many datagrams are in it where that has to be known.
     fn look_now(&mut self)
         ensures counts { self.new.counts ≡ self.old.counts }
         ensures looks { LooksAtQueue (kept_by self.old) (kept_by self.new) (Some 0) }
@@ -254,7 +256,7 @@ impl<P: QueuedPort> FreshPort<P> {
         self.look_how_many();
     }
 
-    // LooksAtQueue whether the queue is empty.
+    // Looks whether the queue is empty.
     fn look_whether_empty(&mut self)
         ensures counts { self.new.counts ≡ self.old.counts }
         ensures looks { LooksAtQueue (kept_by self.old) (kept_by self.new) (Some 0) }
@@ -264,7 +266,7 @@ impl<P: QueuedPort> FreshPort<P> {
         }
     }
 
-    // LooksAtQueue how many datagrams are in the queue, where no earlier look is waited for and what is known is old: that costs more.
+    // Looks how many datagrams are in the queue, where no earlier look is waited for and what is known is old: that costs more.
     fn look_how_many(&mut self)
         ensures counts { self.new.counts ≡ self.old.counts }
         ensures looks { LooksAtQueue (kept_by self.old) (kept_by self.new) None }

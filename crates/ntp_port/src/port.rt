@@ -16,7 +16,7 @@ pub type DatagramRoom = [u8; MOST_RECEIVED_OCTETS];
 /// Why a call of a port gave nothing.
 #[derive(Clone, Copy, Debug, PartialEq, Eq)]
 pub enum PortFault {
-    /// No datagram could be received. It is `receive`'s alone.
+    /// No datagram could be received. It is the receiving calls' alone.
     Receive,
     /// The reply could not be sent. It is `send`'s alone.
     Send,

@@ -6,7 +6,7 @@
 pub enum QueueEvent {
     /// The queue held at most `count` datagrams at some moment of a call that began at `at` or later.
     Held { count: u64, at: u64 },
-    /// It was looked at the queue by a call that began at this moment or later, which could not tell that it was empty.
+    /// A call that began at this moment or later looked at the queue, and could not tell that it was empty.
     Looked(u64),
     /// A datagram was taken out of the queue by a call that began at this moment or later.
     Taken(u64),

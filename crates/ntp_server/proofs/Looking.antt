@@ -1,5 +1,5 @@
 -- Some looks and then others.
-use Rattle.std.proofs.Common.{◌≡◌, ℕ, ◌+◌, Bool, true, false, Option, None, Some, List, [], ◌∷◌, ◌++◌, length, refl, sym, ap, ◌∙◌, subst, append-nil, length-append, arith}
+use Rattle.std.proofs.Common.{◌≡◌, ℕ, ◌+◌, Bool, true, false, Option, None, Some, List, [], ◌∷◌, ◌++◌, length, map, refl, sym, ap, ◌∙◌, subst, append-nil, length-append, arith}
 use Rattle.std.proofs.lemmas.List.{append_assoc, map-append}
 use Rattle.std.proofs.lemmas.Grind.{flat_map-append}
 use Rattle.ntp_packet.specs.declared.moment.Moment.{Moment}
@@ -10,7 +10,8 @@ use Rattle.ntp_service.specs.Headline.{Tells}
 use Rattle.ntp_port.specs.declared.port.PortCounts.{PortCounts}
 use Rattle.ntp_port.specs.Port.{Told, CountsMore}
 use Rattle.ntp_port.proofs.PublicLaws.{CountsMore-nil, CountsMore-append}
-use Rattle.ntp_admin.specs.CommandsFile.{TakenLine, CarriesOut, CarriesOutDue, lines_taken, happened_at_lines, line_observations}
+use Rattle.ntp_admin.specs.CommandsFile.{TakenLine, CarriesOutDue, happened_at_lines, line_observations}
+use Rattle.ntp_admin.specs.Applying.{CarriesOut}
 use Rattle.ntp_port.specs.Sources.{Coming, Gives, CountsOn}
 use Rattle.ntp_server.specs.Rounds.{Look, ServerTold, AreDueAt, AreDueInTurn}
 use Rattle.ntp_server.specs.Steps.{Looks, LooksOnce, Waits, unasked, given_of, happened_at_looks, looks_observations}
@@ -71,7 +72,7 @@ module _ (A : Type 0) where
   }
 
   Looks-one : (asked : Option Moment) (given : Option (List ℕ)) (taken : List TakenLine) (p q : ServerTold)
-      → AreDueAt p.applied given (lines_taken taken) q.applied → Gives p.commands q.commands (asked ∷ []) (given ∷ [])
+      → AreDueAt p.applied given (map (λ t. t.line) taken) q.applied → Gives p.commands q.commands (asked ∷ []) (given ∷ [])
       → CarriesOut A p.applied taken p.service q.service p.seen q.seen → LooksOnce A asked p q
   Looks-one asked given taken p q due gives done = record {
     look = record { applied = p.applied; given = given; taken = taken };
@@ -89,7 +90,8 @@ module _ (A : Type 0) where
       → Gives p.commands q.commands (asked ∷ []) (Some items ∷ [])
       → CarriesOutDue A p.applied octets q.applied p.service q.service p.seen q.seen → LooksOnce A asked p q
   Looks-due asked octets items p q same gives due = Looks-one asked (Some octets) due.taken p q due.due
-      (subst (λ o. Gives p.commands q.commands (asked ∷ []) (Some o ∷ [])) (sym same) gives) due.done
+      (subst (λ o. Gives p.commands q.commands (asked ∷ []) (Some o ∷ [])) (sym same) gives)
+      (record { observed = due.observed; tells = due.tells })
 
   -- a look that gave nothing, behind which all else is as it was
   pub Looks-nothing : (asked : Option Moment) (given : Option (List ℕ)) (p q : ServerTold) → q.applied ≡ p.applied → q.seen ≡ p.seen
@@ -105,7 +107,7 @@ module _ (A : Type 0) where
   Waits-none prompt p = (
     record {
       looks = [];
-      idle = λ is. refl;
+      one_look = λ is. refl;
       done = Looks-nil p;
       waited = CountsMore-nil p.counts.idle_waits;
       tended = CountsOn-nil p.tended;
@@ -125,7 +127,7 @@ module _ (A : Type 0) where
       let all : length (w.looks ++ l.look ∷ []) ≡ length w.looks + 1 = length-append w.looks (l.look ∷ []) in (
         record {
           looks = w.looks ++ l.look ∷ [];
-          idle = λ is. let bad : false ≡ true = sym waits ∙ is in absurd cc;
+          one_look = λ is. let bad : false ≡ true = sym waits ∙ is in absurd cc;
           done = subst (λ asked. Looks A (w.looks ++ l.look ∷ []) asked p (record r { states = later; tended = tended; shown = shown }))
               (sym (unasked-append w.looks (l.look ∷ [])))
               (Looks-append w.looks (l.look ∷ []) (unasked w.looks) (None ∷ []) p q (record r { states = later; tended = tended; shown = shown })
@@ -144,7 +146,7 @@ module _ (A : Type 0) where
       → CountsMore p.counts.idle_waits counts.idle_waits (length w.looks) → Waits A prompt p (record q { port = port; counts = counts })
   Waits-port prompt p q port counts w waited = record {
     looks = w.looks;
-    idle = w.idle;
+    one_look = w.one_look;
     done = record { due = w.done.due; commands = w.done.commands; observed = w.done.observed; tells = w.done.tells };
     waited = waited;
     tended = w.tended;

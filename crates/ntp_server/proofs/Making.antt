@@ -23,7 +23,7 @@ use Rattle.ntp_port.specs.Serving.{Makes}
 use Rattle.ntp_service.specs.Sending.{was_sent}
 use Rattle.ntp_server.specs.declared.server.Totals.{Totals}
 use Rattle.ntp_port.specs.Sources.{Gives, CountsOn}
-use Rattle.ntp_server.specs.Rounds.{Round, ServerTold, AreDueInTurn, ServesRounds, looks_in, looks_of, idle_looks, made_in, receipt_in, asked_in, happened_in_round, round_observations}
+use Rattle.ntp_server.specs.Rounds.{Round, ServerTold, AreDueInTurn, ServesRounds, looks_in, looks_of, earlier_looks, made_in, receipt_in, asked_in, happened_in_round, round_observations}
 use Rattle.ntp_server.specs.Steps.{LooksOnce, Waits, MakesRound, unasked, given_of, happened_at_looks, looks_observations, receipts_of, states_of, arrivals_in, replies_of_turn, departures_in}
 use Rattle.ntp_server.proofs.Looking.{Gives-nil, Gives-append, CountsOn-nil, CountsOn-append, due-append, Looks-append}
 
@@ -53,8 +53,8 @@ Makes-turn A prompt may asked p q r s blank reference received buffer outcome ap
     (record { due = looked.done.due; commands = looked.done.commands; observed = looked.done.observed; tells = looked.done.tells }) in
     let right : asked ≡ receipt_in turn.made = receipt ∙ came turn.made received turn.arrived in
     record {
-      round = record { idle = waits.looks; last = looked.look; reference = reference; made = turn.made };
-      idle = waits.idle;
+      round = record { earlier = waits.looks; last = looked.look; reference = reference; made = turn.made };
+      one_look = waits.one_look;
       due = subst (λ n. AreDueInTurn p.applied looks n) (sym applied) all.due;
       commands = subst (λ a. Gives p.commands s.commands (unasked waits.looks ++ a ∷ []) (given_of looks)) right
           (subst (λ c. Gives p.commands c (unasked waits.looks ++ asked ∷ []) (given_of looks)) (sym commands) all.commands);
@@ -111,7 +111,7 @@ pub Serves-none : (A : Type 0) (prompt may : Bool) (p : ServerTold)
 Serves-none A prompt may p = record {
   rounds = [];
   each = refl;
-  idle = λ is. refl;
+  one_look = λ is. refl;
   due = refl;
   commands = Gives-nil p.commands;
   states = Gives-nil p.states;
@@ -136,12 +136,12 @@ Serves-round A prompt may n p q r a b outcome s m arrivals sent departed =
     let turns : made_in (rounds ++ round ∷ []) ≡ made_in rounds ++ made ∷ [] = made_in-push rounds round in
     let looks : looks_of (rounds ++ round ∷ []) ≡ looks_of rounds ++ looks_in round = flat_map-push looks_in rounds round in
     let asked : flat_map asked_in (rounds ++ round ∷ []) ≡ flat_map asked_in rounds ++ asked_in round = flat_map-push asked_in rounds round in
-    let idle : idle_looks (rounds ++ round ∷ []) ≡ idle_looks rounds ++ round.idle = flat_map-push (λ x. x.idle) rounds round in
-    let many = ap length idle ∙ length-append (idle_looks rounds) round.idle in
+    let earlier : earlier_looks (rounds ++ round ∷ []) ≡ earlier_looks rounds ++ round.earlier = flat_map-push (λ x. x.earlier) rounds round in
+    let many = ap length earlier ∙ length-append (earlier_looks rounds) round.earlier in
     record {
       rounds = rounds ++ round ∷ [];
       each = length-append rounds (round ∷ []) ∙ ap (λ l. l + 1) s.each;
-      idle = λ is. idle ∙ ap (λ l. l ++ round.idle) (s.idle is) ∙ m.idle is;
+      one_look = λ is. earlier ∙ ap (λ l. l ++ round.earlier) (s.one_look is) ∙ m.one_look is;
       due = subst (λ l. AreDueInTurn p.applied l r.applied) (sym looks)
           (due-append (looks_of rounds) (looks_in round) p.applied q.applied r.applied s.due m.due);
       commands = subst (λ l. Gives p.commands r.commands l (given_of (looks_of (rounds ++ round ∷ [])))) (sym asked)
@@ -156,10 +156,10 @@ Serves-round A prompt may n p q r a b outcome s m arrivals sent departed =
           (sym (map-append (λ l. l.reference) rounds (round ∷ [])))
           (Gives-append p.states q.states r.states (receipts_of rounds) (receipt_in round.made ∷ []) (states_of rounds)
           (round.reference ∷ []) s.states m.states));
-      waits = CountsMore-append p.counts.idle_waits q.counts.idle_waits r.counts.idle_waits (length (idle_looks rounds)) (length round.idle) _ many
+      waits = CountsMore-append p.counts.idle_waits q.counts.idle_waits r.counts.idle_waits (length (earlier_looks rounds)) (length round.earlier) _ many
           s.waits m.waits;
       tended = subst (λ n. CountsOn p.tended r.tended n) (sym many)
-          (CountsOn-append p.tended q.tended r.tended (length (idle_looks rounds)) (length round.idle) s.tended m.tended);
+          (CountsOn-append p.tended q.tended r.tended (length (earlier_looks rounds)) (length round.earlier) s.tended m.tended);
       reported = subst (λ l. Sees p.shown r.shown l) (sym asked)
           (Sees-append p.shown q.shown r.shown (flat_map asked_in rounds) (asked_in round) s.reported m.reported);
       port = subst (λ l. Makes may l p.counts r.counts p.port r.port) (sym turns)

@@ -13,7 +13,7 @@ use Rattle.ntp_port.specs.declared.port.PortCounts.{PortCounts}
 use Rattle.ntp_port.specs.Port.{Told, CountsMore}
 use Rattle.ntp_port.specs.Made.{Made, turn_of, happened_in_turn, sent_in, has_arrived, has_departed, turn_outcome}
 use Rattle.ntp_port.specs.Serving.{Makes}
-use Rattle.ntp_admin.specs.CommandsFile.{TakenLine, AreDue, lines_taken, happened_at_lines, line_observations}
+use Rattle.ntp_admin.specs.CommandsFile.{TakenLine, AreDue, happened_at_lines, line_observations}
 use Rattle.ntp_server.specs.declared.server.Totals.{Totals}
 use Rattle.ntp_port.specs.Sources.{Coming, Gives, CountsOn}
 
@@ -23,10 +23,9 @@ pub record Look : Type 0 where
   pub given : Option (List ℕ)
   pub taken : List TakenLine
 
--- a turn, with the looks while the port waited for nothing, the last look, once a datagram had come or none could be received, and the
--- state of the clock that was in force
+-- a turn, with the looks at the commands before it, the last one by itself, and the state of the clock that was in force
 pub record Round : Type 0 where
-  pub idle : List Look
+  pub earlier : List Look
   pub last : Look
   pub reference : ReferenceState
   pub made : Made
@@ -40,18 +39,18 @@ AreDueAt applied (Some octets) lines after = AreDue applied octets lines after
 abbrev pub AreDueInTurn : ℕ → List Look → ℕ → Type 0
 AreDueInTurn applied [] after = after ≡ applied
 AreDueInTurn applied (l ∷ looks) after = (next : ℕ)
-    × (l.applied ≡ applied) × AreDueAt applied l.given (lines_taken l.taken) next × AreDueInTurn next looks after
+    × (l.applied ≡ applied) × AreDueAt applied l.given (map (λ t. t.line) l.taken) next × AreDueInTurn next looks after
 
 -- the looks of a round, and of rounds, in their order
 abbrev pub looks_in : Round → List Look
-looks_in r = r.idle ++ r.last ∷ []
+looks_in r = r.earlier ++ r.last ∷ []
 
 abbrev pub looks_of : List Round → List Look
 looks_of rounds = flat_map looks_in rounds
 
--- the looks while the port waited for nothing, and the turns
-abbrev pub idle_looks : List Round → List Look
-idle_looks rounds = flat_map (λ r. r.idle) rounds
+-- the looks but the last of each round, and the turns
+abbrev pub earlier_looks : List Round → List Look
+earlier_looks rounds = flat_map (λ r. r.earlier) rounds
 
 abbrev pub made_in : List Round → List Made
 made_in rounds = map (λ r. r.made) rounds
@@ -68,9 +67,9 @@ round_observations r = flat_map (λ l. line_observations l.applied l.taken) (loo
 abbrev pub receipt_in : Made → Option Moment
 receipt_in m = option_map (λ d. d.receipt) (turn_of m).arrival
 
--- what the source of commands is asked with at the looks of a round: while none had come with nothing, and last with when the datagram came
+-- what the source of commands is asked with at the looks of a round: with nothing, and at the last one with when the datagram came
 abbrev pub asked_in : Round → List (Option Moment)
-asked_in r = map (λ l. None) r.idle ++ receipt_in r.made ∷ []
+asked_in r = map (λ l. None) r.earlier ++ receipt_in r.made ∷ []
 
 -- what the parts of a server and its reporter tell, with what its port counted, how many lines were applied, and its service
 pub record ServerTold : Type 0 where
@@ -89,14 +88,15 @@ pub record ServesRounds (A : Type 0) (prompt may_drop : Bool) (turns : ℕ) (bef
   pub rounds : List Round
   pub each : length rounds ≡ turns
   -- where no wait of the port ends with nothing, there is one look a round
-  pub idle : prompt ≡ true → idle_looks rounds ≡ []
+  pub one_look : prompt ≡ true → earlier_looks rounds ≡ []
   pub due : AreDueInTurn before.applied (looks_of rounds) after.applied
   pub commands : Gives before.commands after.commands (flat_map asked_in rounds) (map (λ l. l.given) (looks_of rounds))
   pub states : Gives before.states after.states (map (λ r. receipt_in r.made) rounds) (map (λ r. r.reference) rounds)
-  -- the port waited for nothing just before each look but each round's last, and the source of the states was given time as often
-  pub waits : CountsMore before.counts.idle_waits after.counts.idle_waits (length (idle_looks rounds))
-  pub tended : CountsOn before.tended after.tended (length (idle_looks rounds))
-  -- the reporter was shown the server after each look, with what the source had been asked with
+  -- as many waits of the port ended with nothing as there were looks but the last of each round, and the source of the states was given
+  -- time as often
+  pub waits : CountsMore before.counts.idle_waits after.counts.idle_waits (length (earlier_looks rounds))
+  pub tended : CountsOn before.tended after.tended (length (earlier_looks rounds))
+  -- the reporter was shown the server once for each look, with what the source of commands was asked with at that
   pub reported : Sees before.shown after.shown (flat_map asked_in rounds)
   pub port : Makes may_drop (made_in rounds) before.counts after.counts before.port after.port
   pub observed : Sees before.seen after.seen (flat_map round_observations rounds)

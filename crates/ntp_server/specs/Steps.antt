@@ -51,13 +51,13 @@ pub record LooksOnce (A : Type 0) (asked : Option Moment) (before after : Server
   pub done : Looks A (look ∷ []) (asked ∷ []) before after
 
 -- at a port that is prompt nobody looks while waiting
-abbrev pub IsIdle : Bool → List Look → Type 0
-IsIdle prompt looks = prompt ≡ true → looks ≡ []
+abbrev pub NoneIfPrompt : Bool → List Look → Type 0
+NoneIfPrompt prompt looks = prompt ≡ true → looks ≡ []
 
 -- looks were made while waiting at a port that is prompt or not
 pub record Waits (A : Type 0) (prompt : Bool) (before after : ServerTold) : Type 0 where
   pub looks : List Look
-  pub idle : IsIdle prompt looks
+  pub one_look : NoneIfPrompt prompt looks
   pub done : Looks A looks (unasked looks) before after
   pub waited : CountsMore before.counts.idle_waits after.counts.idle_waits (length looks)
   pub tended : CountsOn before.tended after.tended (length looks)
@@ -66,12 +66,12 @@ pub record Waits (A : Type 0) (prompt : Bool) (before after : ServerTold) : Type
 -- a round was made, and its turn came to this
 pub record MakesRound (A : Type 0) (prompt may_drop : Bool) (before after : ServerTold) (outcome : TurnOutcome) : Type 0 where
   pub round : Round
-  pub idle : IsIdle prompt round.idle
+  pub one_look : NoneIfPrompt prompt round.earlier
   pub due : AreDueInTurn before.applied (looks_in round) after.applied
   pub commands : Gives before.commands after.commands (asked_in round) (given_of (looks_in round))
   pub states : Gives before.states after.states (receipt_in round.made ∷ []) (round.reference ∷ [])
-  pub waits : CountsMore before.counts.idle_waits after.counts.idle_waits (length round.idle)
-  pub tended : CountsOn before.tended after.tended (length round.idle)
+  pub waits : CountsMore before.counts.idle_waits after.counts.idle_waits (length round.earlier)
+  pub tended : CountsOn before.tended after.tended (length round.earlier)
   pub reported : Sees before.shown after.shown (asked_in round)
   pub port : Makes may_drop (round.made ∷ []) before.counts after.counts before.port after.port
   pub observed : Sees before.seen after.seen (round_observations round)

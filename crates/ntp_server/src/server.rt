@@ -14,7 +14,7 @@ use ntp_port::{
 use ntp_service::{Arrival, Observer, Sending, Service, TurnOutcome};
 use std::alloc::Allocator;
 
-// So many waits in one turn no number of 64 bits counts.
+// More waits in a turn than a number of 64 bits counts.
 const UNCOUNTED_WAITS: u128 = 1 << 64;
 
 /// A service, and what it works with.

@@ -76,11 +76,12 @@ const STOPPED: [u32; 11] = [
 #[test]
 fn what_waited_while_the_process_was_stopped_is_dropped(rt: HostRuntime) -> Result<(), Fail> {
     // Two takes at 5,100 ms, after a stop of five seconds, and one later. Before the second the nine that are left are counted,
-    // and behind it eight are swept out.
+    // and behind it eight are swept out. Behind the first, a sweep finds nothing that was counted.
     let mut port = port(rt.alloc(), &STOPPED, &[0, 100, 5_100, 5_100, 5_200])?;
-    for (expected, stale) in [(None, 0), (Some(10), 10), (None, 10)] {
+    for (expected, stale, sweeps) in [(None, 0, 0), (Some(10), 10, 2), (None, 10, 2)] {
         assert!(rt; next(&mut port) == Ok(expected));
         assert!(rt; port.stale() == stale);
+        assert!(rt; port.sweeps() == sweeps);
     }
     Ok(())
 }
@@ -113,11 +114,13 @@ fn overload_is_answered_by_what_came_behind_the_stale_ones(rt: HostRuntime) -> R
     // The queue is never seen empty. Three datagrams that a look finds are taken out 30 ms later.
     let mut port = overloaded(rt.alloc(), 3)?;
     assert!(rt; passed_on(&mut port, 200) == Ok((200, 0)));
+    assert!(rt; port.sweeps() == 0);
     // Thirty would be taken out 300 ms later. Nothing had come at 0 ms, and thirty were counted at 80 ms. The 25th datagram is in
     // hand at 250 ms: it is dropped, and so are the 13 of the thirty behind it. What comes next came after 80 ms. The 17 that
     // wait then are counted; at 330 ms one is dropped, and the nine that are left of them. Six wait then, and are in time.
     let mut port = overloaded(rt.alloc(), 30)?;
     assert!(rt; passed_on(&mut port, 200) == Ok((176, 24)));
+    assert!(rt; port.sweeps() == 2);
     Ok(())
 }
 

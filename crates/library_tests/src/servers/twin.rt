@@ -163,12 +163,12 @@ impl<A: Allocator + Copy> Twin<A> {
         }
     }
 
-    // Whether it is told as it is to be what an address has.
+    // Whether what an address has is told rightly.
     fn is_known(&self, address: Address) -> bool {
         self.number_at(address) == self.plain.older(address)
     }
 
-    /// Whether it is told as it is to be who holds a number.
+    /// Whether who holds a number is told rightly.
     pub(crate) fn is_held(&self, number: u16) -> bool {
         self.register.holder(number) == self.plain.holder(number)
     }

@@ -108,6 +108,7 @@ impl<C: Drop, A: Allocator + Copy> AdmittedCommands<C, A> {
         ensures waiting { option_map (λ o. o.items) self.new.waiting
             ≡ waiting_after (option_map (λ o. o.items) octets) self.new.fault (option_map (λ o. o.items) self.old.waiting) }
         ensures length { IfSome octets (λ o. self.new.length ≡ length o.items) }
+        ensures nothing { IfNone octets ((self.new.fault ≡ self.old.fault) × (self.new.length ≡ self.old.length)) }
         ensures admitted { IfSome result (λ given. Continues self.old.lines given.items × (self.new.lines ≡ complete_lines given.items)) }
         ensures kept { IfNone result (self.new.lines ≡ self.old.lines) }
     {
@@ -184,7 +185,8 @@ impl<C: CommandsSource<A> + Drop, A: Allocator + Copy> CommandsSource<A>
             × (let looked = option_or given (option_map (λ o. o.items) self.old.waiting) in
             HandsOn self.old.lines looked (option_map (λ o. o.items) self.old.begun) self.new.fault (option_map (λ o. o.items) result)
             × (option_map (λ o. o.items) self.new.waiting ≡ waiting_after looked self.new.fault None)
-            × IfSome looked (λ octets. self.new.length ≡ length octets)) }
+            × IfSome looked (λ octets. self.new.length ≡ length octets)
+            × IfNone looked ((self.new.fault ≡ self.old.fault) × (self.new.length ≡ self.old.length))) }
         ensures once { self.new.begun ≡ None }
     {
         // What waited is looked at once more at most: later octets take its place.

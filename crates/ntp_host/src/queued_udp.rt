@@ -2,7 +2,7 @@
 
 ghost use Rattle.std.specs.Prelude.{◌≡◌, ◌-◌, ◌≤◌, ◌<◌, ◌^◌, None, IfOk, IfErr, IfSome, IfNone, false, is_err};
 ghost use Rattle.ntp_port.specs.Port.{most_received_octets, failed_calls, CountsReceive, CountsWait, Receives, DropsAny};
-ghost use Rattle.ntp_host.specs.Reading.{IsBetween, ReadsOnce};
+ghost use Rattle.ntp_host.specs.Reading.{middle, ReadsOnce};
 
 use crate::UdpPort;
 use crate::kernel_queue::{most_datagrams, queue_state};
@@ -142,10 +142,10 @@ impl<'a, P: TimedPort, C: Clock + Copy + Drop, R: Files> QueuedUdp<'a, P, C, R> 
 
 // The middle of two moments of one era, where the second is not the earlier one; else the second.
 fn middle(first: Option<Moment>, second: Moment) -> Moment
-    ensures { IsBetween first second result }
+    ensures { result ≡ middle first second }
 {
     match first {
-        Some(first) if first <= second && first.era == second.era => Moment {
+        Some(first) if first.era == second.era && first.stamp.0 <= second.stamp.0 => Moment {
             era: second.era,
             stamp: Stamp(second.stamp.0 - (second.stamp.0.saturating_sub(first.stamp.0)) / 2),
         },
@@ -255,7 +255,7 @@ impl<'a, P: TimedPort, C: Clock + Copy + Drop, R: Files> QueuedPort for QueuedUd
     fn most_held(&mut self) -> u64 {
         match queue_state(self.files, self.bound.local, &mut self.room) {
             Some(state) => most_datagrams(state.used),
-            // The kernel takes in one more where the buffer is not yet over full.
+            // The kernel takes one more in while what is used does not exceed the buffer.
             None => most_datagrams(self.bound.buffer).saturating_add(1),
         }
     }

@@ -7,7 +7,7 @@ use ntp_admin::{
     FaultLines, LoadFault, Loaded, MOST_FILE_OCTETS, RegisterFault, Status, load_register,
     load_status, socket_status, write_status,
 };
-use ntp_host::{CommandsFile, UdpPort, read_file};
+use ntp_host::{CommandsFile, UdpPort, read_regular_file};
 use ntp_port::FixedReference;
 use ntp_server::{Server, Totals};
 use std::alloc::Global;
@@ -55,7 +55,7 @@ pub fn serve_status<R: Net + Files + Clock, W: Write, F: Write>(
 
 // The reference state and the customers of the register file at a path.
 fn load<R: Files>(files: &R, alloc: Global, path: &str) -> Result<Loaded, LoadFault> {
-    match read_file(files, alloc, path, MOST_FILE_OCTETS as u32) {
+    match read_regular_file(files, alloc, path, MOST_FILE_OCTETS as u32) {
         Ok(octets) => load_register(alloc, &octets),
         Err(error) => Err(unread(&error)),
     }

@@ -29,4 +29,4 @@ pub use queued_udp::{BoundAt, BoundSocket, HostClocks, LONGEST_WAIT, QueuedUdp};
 pub use socket::{bound, inherited, receive_buffer, set_receive_buffer, set_send_buffer};
 pub use udp_port::UdpPort;
 pub use whole_file::{emptied_file, new_file, replace_file};
-pub use whole_read::{not_regular, read_file, read_regular_file};
+pub use whole_read::{not_regular, read_regular_file};

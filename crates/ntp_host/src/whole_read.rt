@@ -4,14 +4,16 @@ use std::alloc::Allocator;
 use std::fs::{self, Files, Metadata};
 use std::io::{self, ErrorKind, Read};
 
-/// The octets of the file at a path, cut to one more than `most`, so that a longer file is still told from one of
-/// `most` octets. It takes memory for them from `alloc`. The error is the system's, or `OutOfMemory`.
-pub fn read_file<R: Files, A: Allocator + Copy>(
+/// The octets of the regular file at a path, cut to one more than `most`, so that a longer file is still told from one of `most` octets. It
+/// takes memory for them from `alloc`. The error is the system's, or `OutOfMemory`, or says that a regular file is wanted: to open a pipe
+/// might take for ever.
+pub fn read_regular_file<R: Files, A: Allocator + Copy>(
     files: &R,
     alloc: A,
     path: &str,
     most: u32,
 ) -> io::Result<Vec<u8, A>> {
+    regular_metadata(files, path)?;
     let mut file = fs::open(files, path)?;
     read_open(&mut file, alloc, most)
 }
@@ -25,18 +27,6 @@ pub(crate) fn read_open<F: Read, A: Allocator + Copy>(
     let mut octets = Vec::new(alloc);
     file.take(u64::from(most) + 1).read_to_end(&mut octets)?;
     Ok(octets)
-}
-
-/// What `read_file` gives, of a regular file alone: to open a pipe might take for ever. The error may also say that such a file is
-/// wanted.
-pub fn read_regular_file<R: Files, A: Allocator + Copy>(
-    files: &R,
-    alloc: A,
-    path: &str,
-    most: u32,
-) -> io::Result<Vec<u8, A>> {
-    regular_metadata(files, path)?;
-    read_file(files, alloc, path, most)
 }
 
 /// The metadata of the regular file that stands at a path, or why there is none.

@@ -4,10 +4,10 @@ use Rattle.std.specs.Prelude.{◌≤ℤ◌, IfSome, IsSomeAnd, IsNone, Contains}
 use Rattle.std.proofs.lemmas.Bool.{cases_lt}
 use Rattle.std.proofs.lemmas.List.{get_or_default}
 use Rattle.std.proofs.lemmas.Int.{ints}
+use Rattle.ntp_client.specs.Sample.{delay}
 use Rattle.ntp_query.specs.declared.answer.Answer.{Answer}
 use Rattle.ntp_query.specs.declared.outcome.Outcome.{Outcome}
 use Rattle.ntp_query.specs.declared.outcome.Outcome.TheVariants.{Answered, Rate, Deny, Nak, Refused, Silence}
-use Rattle.ntp_query.specs.Answer.{delay_units_of}
 use Rattle.ntp_query.specs.Outcome.{answer_in}
 
 -- an answer is among the first outcomes
@@ -16,7 +16,7 @@ AmongFirst outcomes n a = (k : ℕ) × (k < n) × (get_or outcomes k (Answered a
 
 -- one takes no longer than another
 abbrev pub NoLonger : Answer → Answer → Type 0
-NoLonger a b = delay_units_of a.sample ≤ℤ delay_units_of b.sample
+NoLonger a b = delay a.sample ≤ℤ delay b.sample
 
 NoLonger-trans : (a b d : Answer) → NoLonger a b → NoLonger b d → NoLonger a d
 NoLonger-trans a b d first second = omega (arith, ints, first, second)

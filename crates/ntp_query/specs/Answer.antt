@@ -1,8 +1,8 @@
 -- What a reply that gave a sample tells.
-use Rattle.std.specs.Prelude.{ℤ, pos, ◌+◌, ◌*◌, ◌^◌, ◌+ℤ◌, ◌-ℤ◌}
-use Rattle.ntp_packet.specs.Difference.{difference}
+use Rattle.std.specs.Prelude.{ℤ, pos, ◌+◌, ◌*◌, ◌^◌}
 use Rattle.ntp_packet.specs.Header.{HeaderFields}
 use Rattle.ntp_client.specs.declared.sample.Sample.{Sample}
+use Rattle.ntp_client.specs.Sample.{offset_twice, delay}
 use Rattle.ntp_query.specs.declared.answer.Answer.{Answer}
 use Rattle.ntp_query.specs.Nanos.{nanos_of}
 
@@ -10,21 +10,13 @@ use Rattle.ntp_query.specs.Nanos.{nanos_of}
 abbrev pub answer_of : Sample → HeaderFields → Answer
 answer_of sample h = record { sample = sample; clock = h.clock }
 
--- twice the offset of the server's clock, in units of 2^-32 seconds (RFC 5905, 8)
-abbrev pub offset_twice_of : Sample → ℤ
-offset_twice_of s = difference s.t2 s.t1 +ℤ difference s.t3 s.t4
-
--- the round trip delay, in units of 2^-32 seconds (RFC 5905, 8)
-abbrev pub delay_units_of : Sample → ℤ
-delay_units_of s = difference s.t4 s.t1 -ℤ difference s.t3 s.t2
-
 -- the offset of the server's clock, in nanoseconds (RFC 5905, 8)
 abbrev pub offset_of : Answer → ℤ
-offset_of a = nanos_of (offset_twice_of a.sample) (2 ^ 33)
+offset_of a = nanos_of (offset_twice a.sample) (2 ^ 33)
 
 -- the round trip delay, in nanoseconds (RFC 5905, 8)
 abbrev pub delay_of : Answer → ℤ
-delay_of a = nanos_of (delay_units_of a.sample) (2 ^ 32)
+delay_of a = nanos_of (delay a.sample) (2 ^ 32)
 
 -- the root distance, in nanoseconds: half the root delay, and the root dispersion (RFC 5905, 11.2)
 abbrev pub root_distance_of : Answer → ℤ

@@ -4,7 +4,6 @@ use Rattle.std.specs.List.{find}
 use Rattle.std.specs.Option.{option_map_or}
 use Rattle.ntp_packet.specs.declared.moment.Moment.{Moment}
 use Rattle.ntp_packet.specs.Header.{HeaderFields}
-use Rattle.ntp_client.specs.declared.sample.Sample.{Sample}
 use Rattle.ntp_client.specs.declared.taken.Taken.{Taken}
 use Rattle.ntp_client.specs.declared.taken.Taken.TheVariants as taken
 use Rattle.ntp_client.specs.State.{ClientState}
@@ -14,13 +13,9 @@ use Rattle.ntp_query.specs.declared.outcome.Outcome.TheVariants.{Answered, Rate,
 use Rattle.ntp_query.specs.declared.answer.Answer.{Answer}
 use Rattle.ntp_query.specs.Answer.{answer_of}
 
--- a sample, with what its header tells; a sample has one
-abbrev pub answered : Sample → Option HeaderFields → Outcome
-answered sample header = option_map_or (λ h. Answered (answer_of sample h)) header Silence
-
--- what a client takes octets for, with the header that it judged
+-- what a client takes octets for, and of a sample what the header that it judged tells, which it has
 abbrev pub heard_as : Taken → Option HeaderFields → Outcome
-heard_as (taken.Sample sample) header = answered sample header
+heard_as (taken.Sample sample) header = option_map_or (λ h. Answered (answer_of sample h)) header Silence
 heard_as taken.Rate header = Rate
 heard_as taken.Deny header = Deny
 heard_as taken.Nak header = Nak

@@ -1,6 +1,6 @@
 //! The sample of least delay.
 ghost use Rattle.std.specs.Prelude.{◌≡◌, ◌≤ℤ◌, ◌⊎◌, Some, Contains, IfSome, IsNone};
-ghost use Rattle.ntp_query.specs.Answer.{delay_units_of};
+ghost use Rattle.ntp_client.specs.Sample.{delay};
 
 use crate::{Answer, Outcome};
 
@@ -9,7 +9,7 @@ use crate::{Answer, Outcome};
 pub fn least_delay(outcomes: &[Outcome]) -> Option<Answer>
     ensures given { IfSome result (λ answer. Contains outcomes.now (Outcome.Answered answer)) }
     ensures least { IfSome result (λ answer. (other : Answer) → Contains outcomes.now (Outcome.Answered other)
-        → delay_units_of answer.sample ≤ℤ delay_units_of other.sample) }
+        → delay answer.sample ≤ℤ delay other.sample) }
     ensures none { IsNone result → (answer : Answer) → ¬ Contains outcomes.now (Outcome.Answered answer) }
 {
     let mut least: Option<Answer> = None;
@@ -25,8 +25,8 @@ pub fn least_delay(outcomes: &[Outcome]) -> Option<Answer>
 // One of no more delay than the other.
 fn quicker(least: Option<Answer>, next: Answer) -> Answer
     ensures given { (result ≡ next) ⊎ (least ≡ Some result) }
-    ensures next { delay_units_of result.sample ≤ℤ delay_units_of next.sample }
-    ensures least { IfSome least (λ other. delay_units_of result.sample ≤ℤ delay_units_of other.sample) }
+    ensures next { delay result.sample ≤ℤ delay next.sample }
+    ensures least { IfSome least (λ other. delay result.sample ≤ℤ delay other.sample) }
 {
     match least {
         Some(least) if least.sample.delay() <= next.sample.delay() => least,

@@ -1,5 +1,6 @@
 //! What came of a query.
 ghost use Rattle.std.specs.Prelude.{◌≡◌, false};
+ghost use Rattle.ntp_client.specs.Taking.{taken_for, after_taken};
 ghost use Rattle.ntp_query.specs.Outcome.{heard, answer_in, ends};
 
 use crate::Answer;
@@ -27,14 +28,11 @@ pub enum Outcome {
 pub fn hear(client: &mut Client, octets: &[u8], at: Moment) -> Outcome
     ensures outcome { result ≡ heard client.old octets.now at }
     ensures waits { ends result ≡ false → client.new ≡ client.old }
+    ensures after { client.new ≡ after_taken client.old octets.now at (taken_for client.old octets.now at) }
 {
     let TakenPacket { taken, header } = client.take_packet(octets, at);
     match taken {
-        Taken::Sample(sample) => match header {
-            Some(header) => Outcome::Answered(Answer::of(sample, &header)),
-            // A sample has a header.
-            None => Outcome::Silence,
-        },
+        Taken::Sample(sample) => Outcome::Answered(Answer::of(sample, &header.unwrap())),
         Taken::Rate => Outcome::Rate,
         Taken::Deny => Outcome::Deny,
         Taken::Nak => Outcome::Nak,

@@ -1,5 +1,5 @@
 -- Counts, after some kinds more were counted.
-use Rattle.std.proofs.Common.{◌≡◌, ◌+◌, cond, List, [], ◌∷◌, ◌++◌, sym, ap, ◌∙◌, append-nil, arith}
+use Rattle.std.proofs.Common.{◌≡◌, ◌+◌, ◌-◌, ◌^◌, cond, List, [], ◌∷◌, ◌++◌, sym, ap, ◌∙◌, append-nil, arith}
 use Rattle.std.specs.Prelude.{min, count_by, flat_map}
 use Rattle.std.proofs.lemmas.Grind.{flat_map-append}
 use Rattle.std.proofs.lemmas.List.Sums.{sum_by-append}
@@ -13,7 +13,7 @@ use Rattle.ntp_service.specs.declared.observation.TurnOutcome.TheVariants.{Answe
 use Rattle.ntp_reports.specs.declared.kind.Kind.{Kind}
 use Rattle.ntp_reports.specs.declared.counts.Counts.{Counts}
 use Rattle.ntp_reports.specs.Kinds.{is_kind, kinds_of, answer_kind, sending_kinds}
-use Rattle.ntp_reports.specs.Counted.{most_in_count, CountsOneMore, Adds}
+use Rattle.ntp_reports.specs.Counted.{CountsOneMore, Adds}
 
 -- two lists of kinds were counted, one behind the other
 pub Adds-append : (a b c : Counts) (xs ys : List Kind) → Adds a b xs → Adds b c ys → Adds a c (xs ++ ys)
@@ -32,8 +32,8 @@ counted-Adds old new more adds = record {
         let kinds : flat_map kinds_of (seen ++ more ∷ []) ≡ flat_map kinds_of seen ++ kinds_of more =
         flat_map-append kinds_of seen (more ∷ []) ∙ ap (λ ks. flat_map kinds_of seen ++ ks) (append-nil (kinds_of more)) in
         let all = sum_by-append (λ k. cond (is_kind kind k) 1 0) (flat_map kinds_of seen) (kinds_of more) in
-        adds.each kind (count_by (is_kind kind) (flat_map kinds_of seen)) (are.each kind) ∙ ap (λ n. min n most_in_count) (sym all)
-        ∙ ap (λ ks. min (count_by (is_kind kind) ks) most_in_count) (sym kinds);
+        adds.each kind (count_by (is_kind kind) (flat_map kinds_of seen)) (are.each kind) ∙ ap (λ n. min n (2 ^ 64 - 1)) (sym all)
+        ∙ ap (λ ks. min (count_by (is_kind kind) ks) (2 ^ 64 - 1)) (sym kinds);
   };
 }
 

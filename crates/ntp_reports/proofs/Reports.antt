@@ -23,8 +23,12 @@ use Rattle.ntp_reports.specs.declared.customer_report.CustomerReport.{CustomerRe
 use Rattle.ntp_reports.specs.declared.customer_counts.CustomerCounts.{CustomerCounts}
 use Rattle.ntp_reports.specs.Counted.{AreCounts}
 use Rattle.ntp_reports.specs.Signing.{signing_in}
-use Rattle.ntp_reports.specs.Customers.{used_by, key_in}
-use Rattle.ntp_reports.specs.Reported.{comes_from, told_of, signed_at, last_signed, report_at, IsTakenInto, TakesTurn, CountsOf, SignsAs}
+use Rattle.ntp_reports.specs.Customers.{used_by, key_numbered}
+use Rattle.ntp_reports.specs.Reported.{comes_from, told_of, signed_at, report_at, IsTakenInto, TakesTurn, CountsOf, SignsAs}
+
+-- the last signing under a number: the first one from the newest observation back
+abbrev last_signed : ℕ → List Observation → Option Moment
+last_signed number seen = slice_get (filter_map (signed_at number) (reverse seen)) 0
 
 -- ---- keys
 
@@ -107,21 +111,21 @@ module _ (number : ℕ) where
 
   -- a key of a report, after a turn
   signs-own : (outcome : TurnOutcome) (before after : Option CustomerReport) (own : List Observation) → IsTakenInto outcome before after
-      → IfSome (option_and_then (λ report. key_in report number) before) (λ key. key.last_signed ≡ last_signed number own)
-      → IfSome (option_and_then (λ report. key_in report number) after) (λ key. key.last_signed ≡ last_signed number (own ++ Turn outcome ∷ []))
+      → IfSome (option_and_then (λ report. key_numbered report number) before) (λ key. key.last_signed ≡ last_signed number own)
+      → IfSome (option_and_then (λ report. key_numbered report number) after) (λ key. key.last_signed ≡ last_signed number (own ++ Turn outcome ∷ []))
   signs-own outcome None after own none signs =
-      subst (λ o. IfSome (option_and_then (λ report. key_in report number) o) (λ key. key.last_signed ≡ last_signed number (own ++ Turn outcome ∷ [])))
+      subst (λ o. IfSome (option_and_then (λ report. key_numbered report number) o) (λ key. key.last_signed ≡ last_signed number (own ++ Turn outcome ∷ [])))
       (sym none) tt
   signs-own outcome (Some before) after own (report, is, takes) signs =
-      let key : key_in report number ≡ option_map (used_by (signing_in outcome)) (key_in before number) =
+      let key : key_numbered report number ≡ option_map (used_by (signing_in outcome)) (key_numbered before number) =
       ap (λ f. find named (option_to_list f ++ option_to_list report.second)) takes.first
       ∙ ap (λ s. find named (option_to_list (option_map (used_by (signing_in outcome)) before.first) ++ option_to_list s)) takes.second
       ∙ key-used (signing_in outcome) before.first before.second in
-      subst (λ o. IfSome (option_and_then (λ report. key_in report number) o) (λ key. key.last_signed ≡ last_signed number (own ++ Turn outcome ∷ [])))
+      subst (λ o. IfSome (option_and_then (λ report. key_numbered report number) o) (λ key. key.last_signed ≡ last_signed number (own ++ Turn outcome ∷ [])))
       (sym is)
-      (subst (λ last. IfSome (key_in report number) (λ key. key.last_signed ≡ last)) (sym (last-more (Turn outcome) own))
+      (subst (λ last. IfSome (key_numbered report number) (λ key. key.last_signed ≡ last)) (sym (last-more (Turn outcome) own))
       (subst (λ o. IfSome o (λ key. key.last_signed ≡ option_or (signed_at number (Turn outcome)) (last_signed number own))) (sym key)
-      (signs-option (signing_in outcome) (key_in before number) (last_signed number own)
+      (signs-option (signing_in outcome) (key_numbered before number) (last_signed number own)
       (found (option_to_list before.first ++ option_to_list before.second)) signs)))
 
 -- ---- counts
@@ -165,10 +169,10 @@ module _ {A : Type 0} (old new : CustomerCounts A) where
       → report_at new address ≡ report_at old address → SignsAs old address number seen → SignsAs new address number (seen ++ x ∷ [])
   signs-other address number x seen is same signs = record {
     is = subst
-        (λ own. IfSome (option_and_then (λ report. key_in report number) (report_at new address)) (λ key. key.last_signed ≡ last_signed number own))
+        (λ own. IfSome (option_and_then (λ report. key_numbered report number) (report_at new address)) (λ key. key.last_signed ≡ last_signed number own))
         (sym (told-other address x seen is))
         (subst
-        (λ o. IfSome (option_and_then (λ report. key_in report number) o) (λ key. key.last_signed ≡ last_signed number (told_of address seen)))
+        (λ o. IfSome (option_and_then (λ report. key_numbered report number) o) (λ key. key.last_signed ≡ last_signed number (told_of address seen)))
         (sym same) signs.is);
   }
 
@@ -195,7 +199,7 @@ module _ {A : Type 0} (old new : CustomerCounts A) where
         → SignsAs old address number seen → SignsAs new address number (seen ++ Turn outcome ∷ [])
     signs-by address number seen true is signs = record {
       is = subst
-          (λ own. IfSome (option_and_then (λ report. key_in report number) (report_at new address)) (λ key. key.last_signed ≡ last_signed number own))
+          (λ own. IfSome (option_and_then (λ report. key_numbered report number) (report_at new address)) (λ key. key.last_signed ≡ last_signed number own))
           (sym (told-own address (Turn outcome) seen is))
           (signs-own number outcome (report_at old address) (report_at new address) (told_of address seen) (own address is) signs.is);
     }

@@ -6,10 +6,6 @@ use Rattle.ntp_reports.specs.declared.kind.Kind.{Kind}
 use Rattle.ntp_reports.specs.declared.counts.Counts.{Counts}
 use Rattle.ntp_reports.specs.Kinds.{is_kind, kinds_of, place_of}
 
--- the most that is counted: no server makes as many turns
-abbrev pub most_in_count : ℕ
-most_in_count = 2 ^ 64 - 1
-
 -- the counts of nothing
 abbrev pub nothing_counted : Counts
 nothing_counted = record { by_kind = replicate 30 0 }
@@ -18,13 +14,10 @@ nothing_counted = record { by_kind = replicate 30 0 }
 abbrev pub count_at : Counts → Kind → ℕ
 count_at counts kind = slice_index counts.by_kind (place_of kind)
 
--- how many there are of a kind among what these observations are counted as, or `most_in_count` where there are more
-abbrev pub count_seen : Kind → List Observation → ℕ
-count_seen kind seen = min (count_by (is_kind kind) (flat_map kinds_of seen)) most_in_count
-
--- the counts are those of these observations
+-- the counts are those of these observations: each is how many there are of its kind among what they are counted as, or 2^64 - 1 where
+-- there are more; no server makes as many turns
 pub record AreCounts (counts : Counts) (seen : List Observation) : Type 0 where
-  pub each : (kind : Kind) → count_at counts kind ≡ count_seen kind seen
+  pub each : (kind : Kind) → count_at counts kind ≡ min (count_by (is_kind kind) (flat_map kinds_of seen)) (2 ^ 64 - 1)
 
 -- one observation more was counted: whatever the counts were of, they are of that and this one
 pub record CountsOneMore (old new : Counts) (more : Observation) : Type 0 where
@@ -32,5 +25,5 @@ pub record CountsOneMore (old new : Counts) (more : Observation) : Type 0 where
 
 -- these kinds were counted, whatever was before; no public clause cites this
 pub record Adds (old new : Counts) (kinds : List Kind) : Type 0 where
-  pub each : (kind : Kind) (before : ℕ) → count_at old kind ≡ min before most_in_count
-      → count_at new kind ≡ min (before + count_by (is_kind kind) kinds) most_in_count
+  pub each : (kind : Kind) (before : ℕ) → count_at old kind ≡ min before (2 ^ 64 - 1)
+      → count_at new kind ≡ min (before + count_by (is_kind kind) kinds) (2 ^ 64 - 1)

@@ -1,5 +1,5 @@
 -- What is reported of each customer.
-use Rattle.std.specs.Prelude.{◌≡◌, ℕ, ◌==◌, if◌then◌else◌, Option, None, Some, is_some, option_map, ◌++◌, find}
+use Rattle.std.specs.Prelude.{◌≡◌, ℕ, ◌==◌, if◌then◌else◌, Option, None, Some, is_some, option_map, List, ◌++◌, find, filter, not, slice_get}
 use Rattle.std.specs.Option.{option_map_or, option_to_list}
 use Rattle.std.specs.Int.NonZero.{non_zero_u16_get}
 use Rattle.ntp_service.specs.declared.command.Command.{Command}
@@ -16,19 +16,13 @@ use Rattle.ntp_reports.specs.Signing.{signing_in}
 abbrev pub new_key : ℕ → KeyUse
 new_key number = record { number = number; last_signed = None }
 
--- a key, unless it has this number
-abbrev pub unless_named : Option KeyUse → ℕ → Option KeyUse
-unless_named None number = None
-unless_named (Some key) number = if key.number == number then None else Some key
+-- the keys of a report, the older one first
+abbrev pub keys_of_report : CustomerReport → List KeyUse
+keys_of_report report = option_to_list report.first ++ option_to_list report.second
 
--- a report with these keys; a single key stands first
-abbrev pub with_keys : CustomerReport → Option KeyUse → Option KeyUse → CustomerReport
-with_keys report None second = record report { first = second; second = None }
-with_keys report (Some first) second = record report { first = Some first; second = second }
-
--- the key of a report with a number, if it has one
-abbrev pub key_in : CustomerReport → ℕ → Option KeyUse
-key_in report number = find (λ key. key.number == number) (option_to_list report.first ++ option_to_list report.second)
+-- its key with a number, if it has one
+abbrev pub key_numbered : CustomerReport → ℕ → Option KeyUse
+key_numbered report number = find (λ key. key.number == number) (keys_of_report report)
 
 -- what is reported of a customer that a line enrols with a key of this number: what it was answered before stays
 abbrev pub enrolled_again : Option CustomerReport → ℕ → ℕ → CustomerReport
@@ -39,21 +33,20 @@ enrolled_again before number line = record {
   second = None;
 }
 
--- after it is revoked, has one key more, and has one less
-abbrev pub revoked : CustomerReport → CustomerReport
-revoked report = record report { first = None; second = None }
-
+-- with one key more, and with one less
 abbrev pub rolled_over : CustomerReport → ℕ → CustomerReport
 rolled_over report number =
     if is_some report.first then record report { second = Some (new_key number) } else record report { first = Some (new_key number) }
 
 abbrev pub retired : CustomerReport → ℕ → CustomerReport
-retired report number = with_keys report (unless_named report.first number) (unless_named report.second number)
+retired report number =
+    let left = filter (λ key. not (key.number == number)) (keys_of_report report) in
+    record report { first = slice_get left 0; second = slice_get left 1 }
 
 -- what is reported of a customer, if anything is, after its command was carried out by a line
 abbrev pub report_after : Option CustomerReport → Command → ℕ → Option CustomerReport
 report_after before (Enrol address number key budget) line = Some (enrolled_again before (non_zero_u16_get number) line)
-report_after before (Revoke address) line = option_map revoked before
+report_after before (Revoke address) line = option_map {T = CustomerReport} (λ report. record report { first = None; second = None }) before
 report_after before (Rollover address number key) line = option_map (λ report. rolled_over report (non_zero_u16_get number)) before
 report_after before (Retire address number) line = option_map (λ report. retired report (non_zero_u16_get number)) before
 report_after before other line = before

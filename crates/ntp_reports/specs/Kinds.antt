@@ -15,7 +15,6 @@ use Rattle.ntp_service.specs.declared.observation.Observation.{Observation}
 use Rattle.ntp_service.specs.declared.observation.Observation.TheVariants.{Command, Line, Turn}
 use Rattle.ntp_service.specs.declared.observation.Sending.{Sending}
 use Rattle.ntp_service.specs.declared.observation.Sending.TheVariants as sending
-use Rattle.ntp_service.specs.declared.observation.TurnOutcome.{TurnOutcome}
 use Rattle.ntp_service.specs.declared.observation.TurnOutcome.TheVariants.{NothingReceived, Answered}
 use Rattle.ntp_reports.specs.contracts.kind.Kind.{the_type}
 use Rattle.ntp_reports.specs.declared.kind.Kind.{Kind}
@@ -63,11 +62,6 @@ sending_kinds sending.NotSent = kind.NotSent ∷ []
 sending_kinds sending.Noted = kind.Noted ∷ []
 sending_kinds other = []
 
--- a turn: its answer, and what became of the reply
-abbrev pub turn_kinds : TurnOutcome → List Kind
-turn_kinds NothingReceived = kind.NothingReceived ∷ []
-turn_kinds (Answered arrival a sending) = answer_kind a ∷ sending_kinds sending
-
 -- why a command was refused
 abbrev pub refusal_kind : Refusal → Kind
 refusal_kind refusal.AlreadyEnrolled = kind.AlreadyEnrolled
@@ -85,8 +79,9 @@ line_kind line.Done = kind.Done
 line_kind (line.Refused why) = refusal_kind why
 line_kind (line.Faulty fault) = kind.Faulty
 
--- what an observation is counted as: a command by what became of its line
+-- what an observation is counted as: a command by what became of its line, and a turn by its answer and what became of the reply
 abbrev pub kinds_of : Observation → List Kind
 kinds_of (Command command) = []
 kinds_of (Line number outcome) = line_kind outcome ∷ []
-kinds_of (Turn outcome) = turn_kinds outcome
+kinds_of (Turn NothingReceived) = kind.NothingReceived ∷ []
+kinds_of (Turn (Answered arrival a sending)) = answer_kind a ∷ sending_kinds sending

@@ -1,31 +1,19 @@
 -- What the log tells of lines of commands.
-use Rattle.std.specs.Prelude.{ℕ, ◌+◌, ◌-◌, ◌^◌, min, List, [], ◌++◌, Option, None, Some, codes, slice_index}
+use Rattle.std.specs.Prelude.{ℕ, ◌+◌, ◌-◌, ◌^◌, min, List, [], ◌++◌, Option, Some, codes}
 use Rattle.std.specs.Option.{option_map_or}
 use Rattle.std.specs.Fmt.{decimal}
-use Rattle.std.specs.Int.NonZero.{non_zero_u16_get}
-use Rattle.std.specs.declared.num.NonZeroU16.{NonZeroU16}
-use Rattle.ntp_service.specs.declared.address.Address.{Address}
 use Rattle.ntp_service.specs.declared.command.Command.{Command}
 use Rattle.ntp_service.specs.declared.command.Command.TheVariants.{Enrol, Revoke}
 use Rattle.ntp_service.specs.Commands.{address_named, number_named}
 use Rattle.ntp_service.specs.Vocabulary.{command_word}
 use Rattle.ntp_service.specs.declared.observation.LineOutcome.{LineOutcome}
 use Rattle.ntp_service.specs.declared.observation.LineOutcome.TheVariants.{Done}
+use Rattle.ntp_admin.specs.Words.{address_text, number_behind}
 use Rattle.ntp_reports.specs.AnswerText.{line_outcome_text}
-
--- an address, in its four numbers
-abbrev pub address_text : Address → List ℕ
-address_text a =
-    decimal (slice_index a.0 0) ++ codes "." ++ decimal (slice_index a.0 1) ++ codes "." ++ decimal (slice_index a.0 2) ++ codes "."
-    ++ decimal (slice_index a.0 3)
-
--- a key number, with a space before it, where there is one
-abbrev pub number_text : Option NonZeroU16 → List ℕ
-number_text number = option_map_or (λ n. codes " " ++ decimal (non_zero_u16_get n)) number []
 
 -- what is told of a command: all but its key and its budget
 abbrev pub logged_command : Command → List ℕ
-logged_command c = command_word c ++ codes " " ++ address_text (address_named c) ++ number_text (number_named c) ++ codes ": "
+logged_command c = command_word c ++ codes " " ++ address_text (address_named c) ++ number_behind (number_named c) ++ codes ": "
 
 -- the line of the log, without its line feed, that tells of the line with a number: its command, if it is one, and what became of it
 abbrev pub logged_line : ℕ → Option Command → LineOutcome → List ℕ

@@ -17,7 +17,7 @@ use Rattle.ntp_reports.specs.declared.customer_report.CustomerReport.{CustomerRe
 use Rattle.ntp_reports.specs.declared.customer_counts.CustomerCounts.{CustomerCounts}
 use Rattle.ntp_reports.specs.Counted.{AreCounts}
 use Rattle.ntp_reports.specs.Signing.{signing_in}
-use Rattle.ntp_reports.specs.Customers.{key_in, report_after, Takes}
+use Rattle.ntp_reports.specs.Customers.{key_numbered, report_after, Takes}
 
 -- the command that a line carried out, if it did: the one that was heard of before
 abbrev pub done_in : Option Command → LineOutcome → Option Command
@@ -39,10 +39,6 @@ signed_at number (Turn outcome) =
     option_and_then (λ (signing : Signing). if number == signing.number then Some signing.receipt else None) (signing_in outcome)
 signed_at number other = None
 
--- the last of them: the first one from the newest observation back
-abbrev pub last_signed : ℕ → List Observation → Option Moment
-last_signed number seen = slice_get (filter_map (signed_at number) (reverse seen)) 0
-
 -- what is reported of an address before a turn of its, and after it; no public clause cites this
 abbrev pub IsTakenInto : TurnOutcome → Option CustomerReport → Option CustomerReport → Type 0
 IsTakenInto outcome None after = after ≡ None
@@ -57,10 +53,10 @@ module _ {A : Type 0} where
   pub record CountsOf (counts : CustomerCounts A) (address : Address) (seen : List Observation) : Type 0 where
     pub are : IfSome (report_at counts address) (λ report. AreCounts report.counts (told_of address seen))
 
-  -- a key of an address signed last as its turns among these observations tell
+  -- a key of an address signed last as its turns among these observations tell, from the newest one back
   pub record SignsAs (counts : CustomerCounts A) (address : Address) (number : ℕ) (seen : List Observation) : Type 0 where
-    pub is : IfSome (option_and_then (λ report. key_in report number) (report_at counts address))
-        (λ key. key.last_signed ≡ last_signed number (told_of address seen))
+    pub is : IfSome (option_and_then (λ report. key_numbered report number) (report_at counts address))
+        (λ key. key.last_signed ≡ slice_get (filter_map (signed_at number) (reverse (told_of address seen))) 0)
 
   -- all reports are as they were
   abbrev pub AreSame : CustomerCounts A → CustomerCounts A → Type 0

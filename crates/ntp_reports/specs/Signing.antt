@@ -9,14 +9,14 @@ use Rattle.ntp_service.specs.declared.observation.TurnOutcome.TheVariants.{Nothi
 use Rattle.ntp_reports.specs.declared.signing.Signing.{Signing}
 
 -- the number of the key by which a reply is sealed: the four octets behind its header, where it has them (RFC 5905, 7.3)
-abbrev pub number_in : List ℕ → Option ℕ
-number_in reply =
+abbrev pub sealed_under : List ℕ → Option ℕ
+sealed_under reply =
     if nat_le (header_length + 4) (length reply) then Some (from_be_bytes w32 (take 4 (drop header_length reply))) else None
 
 -- of the answers, the time and RATE are sealed by the key under which the query was signed
 abbrev pub answered_under : Answer → Option ℕ
-answered_under (answer.Time reply saved) = number_in reply
-answered_under (answer.Rate reply) = number_in reply
+answered_under (answer.Time reply saved) = sealed_under reply
+answered_under (answer.Rate reply) = sealed_under reply
 answered_under other = None
 
 -- under which key number the query of a turn was signed that got the time or RATE, and when it came

@@ -1,7 +1,7 @@
 //! How many turns and lines of commands of each kind there were.
 ghost use Rattle.std.specs.Prelude.{◌≡◌, ℕ, List, [], ◌∷◌};
 ghost use Rattle.ntp_service.specs.declared.observation.Observation.{Observation};
-ghost use Rattle.ntp_reports.specs.Kinds.{sending_kinds, turn_kinds};
+ghost use Rattle.ntp_reports.specs.Kinds.{sending_kinds};
 ghost use Rattle.ntp_reports.specs.Counted.{count_at, nothing_counted, AreCounts, CountsOneMore, Adds};
 
 use crate::kind::{KINDS, Kind};

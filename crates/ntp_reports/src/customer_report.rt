@@ -1,6 +1,6 @@
 //! What is reported of one customer.
-ghost use Rattle.std.specs.Prelude.{◌≡◌, [], ◌∷◌, option_map, option_and_then};
-ghost use Rattle.ntp_reports.specs.Customers.{new_key, enrolled_again, rolled_over, retired, revoked, report_after, key_in, unless_named, used_by, Takes};
+ghost use Rattle.std.specs.Prelude.{◌≡◌, [], ◌∷◌, ◌==◌, None, not, filter, option_to_list, option_map, option_and_then};
+ghost use Rattle.ntp_reports.specs.Customers.{new_key, enrolled_again, rolled_over, retired, report_after, key_numbered, used_by, Takes};
 
 use crate::counts::Counts;
 use crate::signing::{Signing, signing_in};
@@ -43,7 +43,7 @@ impl CustomerReport {
 
     /// When a query that was signed under a key number, and got the time or RATE, came last.
     pub fn last_signed(&self, number: u16) -> Option<Moment>
-        ensures { result ≡ option_and_then (λ key. key.last_signed) (key_in self.now number) }
+        ensures { result ≡ option_and_then (λ key. key.last_signed) (key_numbered self.now number) }
     {
         self.key(number)?.last_signed
     }
@@ -60,7 +60,7 @@ impl CustomerReport {
 
     // The key of a number.
     fn key(&self, number: u16) -> Option<KeyUse>
-        ensures { result ≡ key_in self.now number }
+        ensures { result ≡ key_numbered self.now number }
     {
         match self.first {
             Some(first) if first.number == number => Some(first),
@@ -124,7 +124,7 @@ pub(crate) fn report_after(
 
 // A customer that was revoked has no key.
 fn revoked(report: CustomerReport) -> CustomerReport
-    ensures { result ≡ revoked report }
+    ensures { result ≡ record report { first = None; second = None } }
 {
     CustomerReport {
         first: None,
@@ -172,7 +172,7 @@ fn retired(report: CustomerReport, number: u16) -> CustomerReport
 
 // A key, unless it has this number.
 fn unless_named(key: Option<KeyUse>, number: u16) -> Option<KeyUse>
-    ensures { result ≡ unless_named key number }
+    ensures { option_to_list result ≡ filter (λ key. not (key.number == number)) (option_to_list key) }
 {
     match key {
         Some(key) if key.number != number => Some(key),

@@ -1,6 +1,6 @@
 //! How many lines of a kind may be written.
-ghost use Rattle.std.specs.Prelude.{◌≡◌, ℕ, List, [], ◌∷◌};
-ghost use Rattle.ntp_reports.specs.Allowing.{ask_answer, first_answer, is_said, IsLeftBy};
+ghost use Rattle.std.specs.Prelude.{◌≡◌, ◌↔◌, ℕ, false, List, [], ◌∷◌};
+ghost use Rattle.ntp_reports.specs.Allowing.{ask_answer, first_answer, IsLeftBy};
 
 /// How many lines of a kind are written in a minute.
 pub const MOST_LINES: u64 = 10;
@@ -38,7 +38,7 @@ impl LineAllowance {
 
     /// Whether a line that is asked for in a minute may be written: so it is seen without asking, and nothing counts as held.
     pub fn has_room(&self, minute: u64) -> bool
-        ensures { (asks : List ℕ) → IsLeftBy asks self.now → result ≡ is_said (ask_answer asks minute) }
+        ensures { (asks : List ℕ) → IsLeftBy asks self.now → (result ≡ false) ↔ (ask_answer asks minute ≡ Ask.Hold) }
     {
         minute != self.minute || self.asked < MOST_LINES
     }

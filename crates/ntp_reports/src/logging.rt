@@ -1,8 +1,9 @@
 //! What the log tells of lines of commands.
 ghost use Rattle.std.specs.Prelude.{◌≡◌, ◌++◌, OnOk, codes, option_copied};
 ghost use Rattle.std.specs.Io.KnownBytes.{Appends};
+ghost use Rattle.ntp_admin.specs.Words.{address_text, number_behind};
 ghost use Rattle.ntp_reports.specs.AnswerText.{line_outcome_text};
-ghost use Rattle.ntp_reports.specs.Logging.{address_text, number_text, logged_command, logged_line, customers_after};
+ghost use Rattle.ntp_reports.specs.Logging.{logged_command, logged_line, customers_after};
 
 use ntp_service::{Address, Command, LineOutcome};
 use std::io::{self, Write};
@@ -47,7 +48,7 @@ fn write_named<W: Write>(
     number: Option<NonZero<u16>>,
 ) -> io::Result<()>
     ensures { OnOk result (Appends (W.contents out.old) (W.contents out.new)
-        (word.now ++ codes " " ++ address_text address ++ number_text number ++ codes ": ")) }
+        (word.now ++ codes " " ++ address_text address ++ number_behind number ++ codes ": ")) }
 {
     let Address([a, b, c, d]) = address;
     match number {

@@ -1,7 +1,7 @@
 //! By which key a query was signed, as its reply tells.
 ghost use Rattle.std.specs.Prelude.{◌≡◌, ◌≤◌, ◌+◌, length};
 ghost use Rattle.ntp_packet.specs.Header.{header_length};
-ghost use Rattle.ntp_reports.specs.Signing.{signing_in, answered_under, number_in};
+ghost use Rattle.ntp_reports.specs.Signing.{signing_in, answered_under, sealed_under};
 
 use ntp_mac::Reply;
 use ntp_packet::{HEADER_OCTETS, Moment};
@@ -43,15 +43,15 @@ fn answered_under(answer: &Answer) -> Option<u32>
     ensures { result ≡ answered_under answer.now }
 {
     match answer {
-        Answer::Time { reply, .. } => number_in(reply),
-        Answer::Rate(reply) => number_in(reply),
+        Answer::Time { reply, .. } => sealed_under(reply),
+        Answer::Rate(reply) => sealed_under(reply),
         Answer::Deny(_) | Answer::Nak(_) | Answer::Silent(_) => None,
     }
 }
 
 // The key number behind the header of a reply, where it has one.
-fn number_in(reply: &Reply) -> Option<u32>
-    ensures { result ≡ number_in reply.now }
+fn sealed_under(reply: &Reply) -> Option<u32>
+    ensures { result ≡ sealed_under reply.now }
 {
     let octets = reply.octets();
     if octets.len() < HEADER_OCTETS + NUMBER_OCTETS {

@@ -3,7 +3,8 @@ ghost use Rattle.std.specs.Prelude.{◌≡◌, ◌+◌, ◌≤◌, length, take,
 ghost use Rattle.std.specs.Int.{is_negative};
 ghost use Rattle.ntp_packet.specs.Difference.{difference};
 ghost use Rattle.ntp_packet.specs.Header.{header_length};
-ghost use Rattle.ntp_reports.specs.Interleaving.{stamp_at, receive_in, transmit_in, tells_departure};
+ghost use Rattle.ntp_admin.specs.Words.{stamp_of};
+ghost use Rattle.ntp_reports.specs.Interleaving.{tells_departure};
 
 use ntp_mac::Reply;
 use ntp_packet::{HEADER_OCTETS, Stamp, difference};
@@ -25,19 +26,17 @@ fn is_before(a: Stamp, b: Stamp) -> bool
 }
 
 // The receive stamp of a packet (RFC 5905, 7.3).
-#[tactic(auto, unfolding(crate::specs::Interleaving::receive_in))]
 fn receive_in(octets: &[u8]) -> Stamp
     requires { header_length ≤ length octets.now }
-    ensures { result ≡ receive_in octets.now }
+    ensures { result ≡ stamp_of (take 8 (drop 32 octets.now)) }
 {
     stamp_at(octets, 32)
 }
 
 // Its transmit stamp (RFC 5905, 7.3).
-#[tactic(auto, unfolding(crate::specs::Interleaving::transmit_in))]
 fn transmit_in(octets: &[u8]) -> Stamp
     requires { header_length ≤ length octets.now }
-    ensures { result ≡ transmit_in octets.now }
+    ensures { result ≡ stamp_of (take 8 (drop 40 octets.now)) }
 {
     stamp_at(octets, 40)
 }
@@ -45,7 +44,7 @@ fn transmit_in(octets: &[u8]) -> Stamp
 // The stamp at a place.
 fn stamp_at(octets: &[u8], at: usize) -> Stamp
     requires { at + 8 ≤ length octets.now }
-    ensures { result ≡ stamp_at octets.now at }
+    ensures { result ≡ stamp_of (take 8 (drop at octets.now)) }
 {
     Stamp(u64::from_be_bytes(eight_at(octets, at)))
 }

@@ -61,7 +61,7 @@ pub struct ClockGauges {
 pub struct FileGauges {
     /// The commands file can be read, and its lines are carried out.
     pub commands: bool,
-    /// The answers file can be written, or there is none; so the following ones.
+    /// The answers file can be written, or none is named; the next two are to be read so too.
     pub answers: bool,
     /// The statistics file could be written when it last was.
     pub statistics: bool,

@@ -387,7 +387,7 @@ const UNKNOWN_LINES: [&str; 6] = [
     "\nlabntp_commands_octets NaN\n",
 ];
 
-// Whether it can be written what is not known.
+// Whether what is not known can be written.
 fn writes_unknown<W: Write>(out: &mut W) -> bool {
     write_statistics(out, &Counts::new(), &unknown()).is_ok()
 }

@@ -3,9 +3,9 @@
 use crate::report::{Found, Report};
 use labntpd_assembly::{KEY_LINE_WANTED, NamedFiles, readers_of, small_text, tell_places};
 use labntpd_files::{
-    CLOCK_KEYS, ConfigurationFault, DocumentLines, KEYS, NoToml, Setting, algorithm_of, is_among,
-    is_fixed, key_in_file, key_lines, key_wrong, path_at, read_configuration, setting_fault,
-    shown_value, value_at,
+    CLOCK_KEYS, ConfigurationFault, DocumentLines, KEYS, NoToml, Setting, Text, algorithm_of,
+    is_fixed, is_known, key_in_file, key_lines, key_wrong, path_at, read_configuration,
+    setting_fault, shown_value, value_at,
 };
 use ntp_admin::{Status, memory_status};
 use ntp_mac::Algorithm;
@@ -217,8 +217,10 @@ fn found_in(alloc: Global, text: &str, document: &Table) -> Result<Vec<Found>, A
         }
     }
     for key in document.keys() {
-        if !is_among(&KEYS, key.as_str()) {
-            let fault = ConfigurationFault::Unknown { key: key.clone()? };
+        if !is_known(&KEYS, key.as_str()) {
+            let fault = ConfigurationFault::Unknown {
+                key: Text::of(alloc, key.as_str())?,
+            };
             let text = format!(in alloc; "{fault}")?;
             push(&mut found, lines.top.line_of(key.as_str()), text)?;
         }
@@ -251,8 +253,10 @@ fn add_of_clock(
         }
     }
     for key in clock.keys() {
-        if !is_among(&CLOCK_KEYS, key.as_str()) {
-            let fault = ConfigurationFault::UnknownOfClock { key: key.clone()? };
+        if !is_known(&CLOCK_KEYS, key.as_str()) {
+            let fault = ConfigurationFault::UnknownOfClock {
+                key: Text::of(alloc, key.as_str())?,
+            };
             let text = format!(in alloc; "{fault}")?;
             push(found, line_of(key.as_str()), text)?;
         }

@@ -71,7 +71,8 @@ impl<'a> Opened<'a> {
         let watch = watch_from_now(rt, clocks, configuration);
         let socket = open_socket(rt, alloc, configuration.listen)?;
         let bound = set_up(rt, &socket, configuration)?;
-        let reference = clock_source(rt, clocks, configuration, beginning)?;
+        let fixed = beginning.loaded.reference;
+        let reference = clock_source(rt, clocks, fixed, beginning.followed.take())?;
         let observer = open_observer(rt, alloc, clocks, configuration, beginning)?;
         let Ok(room) = Vec::with_capacity(alloc, SOCKETS_ROOM) else {
             return Err(memory_status(&mut start_lines(rt)));

@@ -35,8 +35,8 @@ pub use opened::{answers_file, clock_source, watch_from_now};
 pub use parts::{Begun, Daemon, DaemonPort, Host, Parts};
 pub use places::{NamedFiles, Readers, readers_of, tell_places};
 pub use prepared::{
-    Beginning, KEY_LINE_WANTED, Prepared, ReadRegister, configuration_at, prepare, register_at,
-    small_text,
+    Beginning, FollowedDaemon, KEY_LINE_WANTED, Prepared, ReadRegister, configuration_at, prepare,
+    register_at, small_text,
 };
 pub use register_faults::tell_octets;
 pub use serving::{Assembly, ServeFault};

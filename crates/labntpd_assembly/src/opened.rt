@@ -1,11 +1,12 @@
 //! What the daemon works with beside its socket: who answers lines of commands, and where the clock's state comes from.
 
 use crate::lines::judged;
-use crate::prepared::Beginning;
-use labntpd_files::{ClockSource as ConfiguredClock, Configuration, Listen};
+use crate::prepared::FollowedDaemon;
+use labntpd_files::{Configuration, Listen};
 use ntp_admin::Status;
 use ntp_host::{ClockSource, FollowedClock, HostClocks, emptied_file};
 use ntp_port::QueueWatch;
+use ntp_reply::Reference;
 use ntp_reports::AnswerLines;
 use std::alloc::Global;
 use std::fs::File;
@@ -28,21 +29,17 @@ pub fn answers_file(
     }
 }
 
-/// Where the state of the clock comes from.
+/// Where the state of the clock comes from: from the host's clock daemon where one is followed, else it is the fixed one.
 pub fn clock_source<'a>(
     rt: &'a HostRuntime,
     clocks: &'a HostClocks,
-    configuration: &Configuration,
-    beginning: &mut Beginning,
+    fixed: Reference,
+    followed: Option<FollowedDaemon>,
 ) -> Result<ClockSource<'a, &'a HostRuntime>, Status> {
-    let ConfiguredClock::Daemon(daemon) = &configuration.clock else {
-        return Ok(ClockSource::Fixed(beginning.loaded.reference));
+    let Some(FollowedDaemon { source, follower }) = followed else {
+        return Ok(ClockSource::Fixed(fixed));
     };
-    let address = daemon.source.socket_address();
-    let Some(follower) = beginning.follower.take() else {
-        return Ok(ClockSource::Fixed(beginning.loaded.reference));
-    };
-    let socket = judged(rt, "clock.source", connected(rt, address))?;
+    let socket = judged(rt, "clock.source", connected(rt, source.socket_address()))?;
     let followed = FollowedClock::new(socket, rt, clocks, follower);
     Ok(ClockSource::Followed(followed))
 }

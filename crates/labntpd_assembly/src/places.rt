@@ -1,7 +1,7 @@
 //! Where the files of a configuration stand: no two of them at one place, and those that are written in directories that are there.
 
-use labntpd_files::{ClockSource, Configuration};
-use ntp_admin::{Status, memory_status};
+use labntpd_files::{Configuration, Text};
+use ntp_admin::{Escaped, Status, memory_status};
 use ntp_host::{StartLines, not_regular};
 use std::alloc::Global;
 use std::fmt;
@@ -60,8 +60,8 @@ impl<'a> NamedFiles<'a> {
             register: Some(configuration.register.as_str()),
             commands: Some(configuration.commands.as_str()),
             key_file: match &configuration.clock {
-                ClockSource::Fixed => None,
-                ClockSource::Daemon(daemon) => Some(daemon.key_file.as_str()),
+                None => None,
+                Some(daemon) => Some(daemon.key_file.as_str()),
             },
             answers: path_of(&configuration.answers),
             statistics: path_of(&configuration.statistics),
@@ -113,6 +113,7 @@ fn tell_named<R: Files, F: Write>(
     most: usize,
     faults: &mut F,
 ) -> usize {
+    let path = Escaped(path);
     let mut told = 0;
     for (place, file) in named.iter().enumerate() {
         let Some(file) = file else {
@@ -120,7 +121,12 @@ fn tell_named<R: Files, F: Write>(
         };
         if told < most {
             if let Err(error) = writable(files, file) {
-                let _ = writeln!(faults, "{path}: {}: {}: {error}", file.key, file.path);
+                let _ = writeln!(
+                    faults,
+                    "{path}: {}: {}: {error}",
+                    file.key,
+                    Escaped(file.path)
+                );
                 told += 1;
             }
         }
@@ -141,7 +147,7 @@ fn tell_named<R: Files, F: Write>(
 /// Warns in a line that others may read a file which has keys, where that is so.
 pub fn tell_readers<R: Files, F: Write + Drop>(files: &R, path: &str, faults: &mut StartLines<F>) {
     if let Some(readers) = readers_of(files, path) {
-        let _ = writeln!(faults.warning(), "{path}: {readers}");
+        let _ = writeln!(faults.warning(), "{}: {readers}", Escaped(path));
     }
 }
 
@@ -205,7 +211,7 @@ fn all_named<'a>(
 }
 
 // The path of a file that may be left out.
-fn path_of(path: &Option<String>) -> Option<&str> {
+fn path_of(path: &Option<Text>) -> Option<&str> {
     match path {
         None => None,
         Some(path) => Some(path.as_str()),

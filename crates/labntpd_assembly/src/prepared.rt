@@ -3,10 +3,11 @@
 use crate::places::{judge_places, tell_readers};
 use crate::register_faults::register_status;
 use labntpd_files::{
-    ClockDaemon, ClockSource, Configuration, ConfigurationFault, key_in_file, read_configuration,
+    ClockDaemon, Configuration, ConfigurationFault, Endpoint, key_in_file, read_configuration,
 };
 use ntp_admin::{
-    Loaded, MOST_FILE_OCTETS, Status, failed_status, load_register, memory_status, read_register,
+    Escaped, Loaded, MOST_FILE_OCTETS, Status, failed_status, load_register, memory_status,
+    read_register,
 };
 use ntp_client::{ClockLimits, Follower};
 use ntp_host::{StartLines, read_regular_file};
@@ -39,10 +40,17 @@ pub struct Beginning {
     pub customers: u64,
     /// What is reported of each of them, where the configuration asks for it.
     pub reports: Option<CustomerCounts>,
-    /// Who follows the host's clock daemon, where it is asked.
-    pub follower: Option<Follower>,
+    /// The host's clock daemon, where it is asked; else the state of the clock is the register's.
+    pub followed: Option<FollowedDaemon>,
     /// The SHA-256 digests of the configuration file and of the register file.
     pub digests: [[u8; 32]; 2],
+}
+
+/// The host's clock daemon: where it answers, and who follows it.
+#[derive(Drop)]
+pub struct FollowedDaemon {
+    pub source: Endpoint,
+    pub follower: Follower,
 }
 
 /// A register file that was read.
@@ -67,9 +75,9 @@ pub fn prepare<R: Files, F: Write + Drop>(
     let text = small_text(files, alloc, path, faults)?;
     let configuration = configuration_in(alloc, path, text.as_str(), faults)?;
     judge_places(files, alloc, path, &configuration, faults)?;
-    let follower = match &configuration.clock {
-        ClockSource::Fixed => None,
-        ClockSource::Daemon(daemon) => Some(follower(files, alloc, daemon, faults)?),
+    let followed = match &configuration.clock {
+        None => None,
+        Some(daemon) => Some(followed(files, alloc, daemon, faults)?),
     };
     let register_path = configuration.register.as_str();
     let register = register_at(files, alloc, register_path, faults)?;
@@ -85,7 +93,7 @@ pub fn prepare<R: Files, F: Write + Drop>(
             customers: register.commands.len() as u64,
             reports,
             loaded: register.loaded,
-            follower,
+            followed,
             digests: [Sha256::digest(text.as_bytes()), register.digest],
         },
     })
@@ -139,7 +147,7 @@ fn configuration_in<F: Write>(
         Ok(configuration) => Ok(configuration),
         Err(ConfigurationFault::NoMemory) => Err(memory_status(faults)),
         Err(fault) => {
-            let _ = writeln!(faults, "{path}: {fault}");
+            let _ = writeln!(faults, "{}: {fault}", Escaped(path));
             Err(Status::TextFaulty)
         }
     }
@@ -167,17 +175,17 @@ fn reports_of(
     Some(reports)
 }
 
-// Who follows the clock daemon of a configuration, with the key of its key file.
-fn follower<R: Files, F: Write + Drop>(
+// The clock daemon of a configuration, followed with the key of its key file.
+fn followed<R: Files, F: Write + Drop>(
     files: &R,
     alloc: Global,
     daemon: &ClockDaemon,
     faults: &mut StartLines<F>,
-) -> Result<Follower, Status> {
+) -> Result<FollowedDaemon, Status> {
     let path = daemon.key_file.as_str();
     let text = small_text(files, alloc, path, faults)?;
     let Some(key) = key_in_file(&text, daemon.algorithm) else {
-        let _ = writeln!(faults, "{path}: {KEY_LINE_WANTED}");
+        let _ = writeln!(faults, "{}: {KEY_LINE_WANTED}", Escaped(path));
         return Err(Status::TextFaulty);
     };
     let limits = ClockLimits {
@@ -187,7 +195,10 @@ fn follower<R: Files, F: Write + Drop>(
         most_step: daemon.most_step,
     };
     tell_readers(files, path, faults);
-    Ok(Follower::new(key, daemon.number.get(), limits))
+    Ok(FollowedDaemon {
+        source: daemon.source,
+        follower: Follower::new(key, daemon.number.get(), limits),
+    })
 }
 
 /// The text of a file that has at most 65,536 octets. A fault is told in one line to `faults`, and gives the exit status.
@@ -204,14 +215,15 @@ pub fn small_text<R: Files, F: Write>(
     if octets.len() > MOST_SMALL_FILE_OCTETS as usize {
         let _ = writeln!(
             faults,
-            "{path}: at most {MOST_SMALL_FILE_OCTETS} octets are wanted"
+            "{}: at most {MOST_SMALL_FILE_OCTETS} octets are wanted",
+            Escaped(path)
         );
         return Err(Status::TextFaulty);
     }
     match String::from_utf8(octets) {
         Ok(text) => Ok(text),
         Err(_) => {
-            let _ = writeln!(faults, "{path}: this is no UTF-8");
+            let _ = writeln!(faults, "{}: this is no UTF-8", Escaped(path));
             Err(Status::TextFaulty)
         }
     }

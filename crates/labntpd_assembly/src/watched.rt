@@ -1,7 +1,7 @@
 //! The files that can fail while a daemon serves, and what was seen of them.
 
 use crate::files::{FileFault, are_told_alike};
-use labntpd_files::Configuration;
+use labntpd_files::{Configuration, Text};
 use ntp_admin::AdmitFault;
 use ntp_reports::FileGauges;
 
@@ -91,7 +91,7 @@ impl WatchedFiles {
 }
 
 // The path of a file that is written, if it is; else nothing.
-fn written_path<'a>(path: &'a Option<String>) -> &'a str {
+fn written_path<'a>(path: &'a Option<Text>) -> &'a str {
     match path {
         Some(path) => path.as_str(),
         None => "",

@@ -1,22 +1,17 @@
 -- A table's keys, as its members have them.
-use Rattle.std.proofs.Common.{◌≡◌, ℕ, suc, List, [], ◌∷◌, length, Option, Some, None, String, Global, string_bytes, refl, ap}
+use Rattle.std.proofs.Common.{◌≡◌, ℕ, List, [], ◌∷◌, Option, Some, None, String, Global, string_bytes, refl, ap}
 use Rattle.std.specs.Prelude.{if◌then◌else◌}
 use Rattle.std.specs.Map.{keys_of}
 use Rattle.toml.specs.View.{members_view}
 use Rattle.toml.proofs.Views.{Entry}
 use Rattle.labntpd_files.specs.declared.setting.Setting.{Setting}
-use Rattle.labntpd_files.specs.Keys.{is_among, unknown_in}
-use Rattle.labntpd_files.specs.Settings.{member_count}
-
-pub key_count-view : (es : List Entry) → member_count (members_view es) ≡ length es
-key_count-view [] = refl
-key_count-view (e ∷ es) = ap suc (key_count-view es)
+use Rattle.labntpd_files.specs.Keys.{is_known, unknown_in}
 
 -- the first of some keys that is none of these
 abbrev pub unknown_among : List Setting → List (String Global) → Option (List ℕ)
 unknown_among known [] = None
-unknown_among known (key ∷ others) = if is_among known (string_bytes key) then unknown_among known others else Some (string_bytes key)
+unknown_among known (key ∷ others) = if is_known known (string_bytes key) then unknown_among known others else Some (string_bytes key)
 
 pub unknown_in-view : (known : List Setting) (es : List Entry) → unknown_in known (members_view es) ≡ unknown_among known (keys_of es)
 unknown_in-view known [] = refl
-unknown_in-view known (e ∷ es) = ap (λ o. if is_among known (string_bytes e.0) then o else Some (string_bytes e.0)) (unknown_in-view known es)
+unknown_in-view known (e ∷ es) = ap (λ o. if is_known known (string_bytes e.0) then o else Some (string_bytes e.0)) (unknown_in-view known es)

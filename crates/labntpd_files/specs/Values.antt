@@ -1,14 +1,14 @@
 -- What the values of a configuration file say.
-use Rattle.std.specs.Prelude.{ℕ, ℤ, pos, negsuc, ◌*◌, ◌==◌, ◌&&◌, nat_le, nat_lt, if◌then◌else◌, List, length, codes, Option, Some, None}
+use Rattle.std.specs.Prelude.{ℕ, Bool, false, pos, ◌*◌, ◌==◌, ◌&&◌, nat_le, nat_lt, if◌then◌else◌, List, length, codes, Option, Some, None}
 use Rattle.std.specs.List.{before_first, after_first}
+use Rattle.std.specs.Option.{option_map, option_map_or}
 use Rattle.std.specs.Int.{w64}
 use Rattle.std.specs.Float.Ieee as Ieee
 use Rattle.std.specs.Float.{Float, binary64, float_round, float_to_unsigned}
 use Rattle.std.specs.Str.{bytes_eq}
 use Rattle.std.specs.declared.num.NonZeroU16.{NonZeroU16}
-use Rattle.toml.specs.Data.{Data, integer, float, as_str, as_integer}
-use Rattle.ntp_mac.specs.declared.key.Algorithm.{Algorithm}
-use Rattle.ntp_admin.specs.Words.{◌>>=◌, address_in, number_in, algorithm_in, non_zero}
+use Rattle.toml.specs.Data.{Data, Members, integer, float, get_member, as_str}
+use Rattle.ntp_admin.specs.Words.{◌>>=◌, address_in, number_in, non_zero}
 use Rattle.labntpd_files.specs.declared.configuration.Endpoint.{Endpoint}
 use Rattle.labntpd_files.specs.declared.configuration.Listen.{Listen}
 use Rattle.labntpd_files.specs.declared.configuration.Listen.TheVariants.{Bound, Inherited}
@@ -20,38 +20,30 @@ endpoint_in text = do
   port ← number_in (after_first (λ octet. octet == 58) text)
   Some (record { address = address; port = port })
 
-abbrev pub endpoint_of : Data → Option Endpoint
-endpoint_of value = as_str value >>= endpoint_in
-
 -- where datagrams are received: an endpoint, or `inherited`
 abbrev pub listen_in : List ℕ → Option Listen
-listen_in text = if bytes_eq text (codes "inherited") then Some Inherited else endpoint_in text >>= (λ endpoint. Some (Bound endpoint))
-
-abbrev pub listen_of : Data → Option Listen
-listen_of value = as_str value >>= listen_in
+listen_in text = if bytes_eq text (codes "inherited") then Some Inherited else option_map Bound (endpoint_in text)
 
 -- a path: a text that is not empty
-abbrev pub path_of : Data → Option (List ℕ)
-path_of value = as_str value >>= (λ path. if nat_lt 0 (length path) then Some path else None)
+abbrev pub path_in : List ℕ → Option (List ℕ)
+path_in text = if nat_lt 0 (length text) then Some text else None
+
+-- what the text of a value says, if it is a text
+abbrev pub text_as : {X : Type 0} → (List ℕ → Option X) → Data → Option X
+text_as read value = as_str value >>= read
 
 -- a number that is in a range
 abbrev pub in_range : ℕ → ℕ → ℕ → Option ℕ
 in_range least most n = if nat_le least n && nat_le n most then Some n else None
 
 -- a whole number from `least` to `most`
-abbrev pub natural_in : ℕ → ℕ → ℤ → Option ℕ
-natural_in least most (pos n) = in_range least most n
-natural_in least most (negsuc n) = None
-
 abbrev pub whole_of : ℕ → ℕ → Data → Option ℕ
-whole_of least most value = as_integer value >>= natural_in least most
+whole_of least most (integer (pos n)) = in_range least most n
+whole_of least most other = None
 
 -- a key number, which is not 0 (RFC 5905, 7.3)
 abbrev pub number_of : Data → Option NonZeroU16
 number_of value = whole_of 1 65535 value >>= non_zero
-
-abbrev pub algorithm_of : Data → Option Algorithm
-algorithm_of value = as_str value >>= algorithm_in
 
 -- the product of a float and a number of units, as IEEE 754 has it, rounded to a whole number; no number gives 0, and the ends
 -- of 64 bits stand for what lies behind them
@@ -67,3 +59,7 @@ units_of units other = None
 -- the same, where it is from `least` to `most` units
 abbrev pub seconds_of : ℕ → ℕ → ℕ → Data → Option ℕ
 seconds_of units least most value = units_of units value >>= in_range least most
+
+-- whether the source of a clock is fixed
+abbrev pub is_fixed : Members → Bool
+is_fixed clock = option_map_or (bytes_eq (codes "fixed")) (get_member (codes "source") clock >>= as_str) false

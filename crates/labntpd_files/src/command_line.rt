@@ -2,7 +2,7 @@
 
 use clap::error::ErrorKind;
 use clap::{Arg, ArgAction, Command, Error};
-use ntp_admin::{Status, memory_status};
+use ntp_admin::{Status, memory_status, write_status};
 use std::alloc::{AllocError, Global};
 use std::io::Write;
 
@@ -42,16 +42,19 @@ pub fn parse<'a>(alloc: Global, words: &'a [String]) -> Result<Asked<'a>, Error>
 }
 
 /// Tells why words of a command line ask for nothing that is to be done, and gives the exit status. The help and the version go to
-/// standard output, a mistake to standard error, want of memory to `faults`. A failed write is passed over.
+/// standard output, a mistake to standard error, want of memory and a failed write to standard output to `faults`. Other failed writes are
+/// passed over.
 pub fn refused_status<F: Write>(rt: &HostRuntime, error: &Error, faults: &mut F) -> Status {
     if error.kind() == ErrorKind::OutOfMemory {
         return memory_status(faults);
     }
-    let _ = error.print(rt);
+    let printed = error.print(rt);
     if error.use_stderr() {
-        Status::UsageRefused
-    } else {
-        Status::Done
+        return Status::UsageRefused;
+    }
+    match printed {
+        Ok(()) => Status::Done,
+        Err(_) => write_status(faults),
     }
 }
 

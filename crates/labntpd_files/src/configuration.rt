@@ -1,5 +1,6 @@
 //! What a configuration file says.
 
+use crate::Text;
 use ntp_mac::Algorithm;
 use ntp_service::Address;
 use std::net::{Ipv4Addr, SocketAddrV4};
@@ -11,23 +12,23 @@ pub struct Configuration {
     /// Where datagrams are received.
     pub listen: Listen,
     /// The path of the register file.
-    pub register: String,
+    pub register: Text,
     /// The path of the commands file.
-    pub commands: String,
+    pub commands: Text,
     /// The path of the file to which the answers to commands are written, if they are.
-    pub answers: Option<String>,
+    pub answers: Option<Text>,
     /// The path of the file to which statistics are written, if they are.
-    pub statistics: Option<String>,
+    pub statistics: Option<Text>,
     /// The path of the file to which it is written what each customer has and was answered, if it is.
-    pub customers: Option<String>,
+    pub customers: Option<Text>,
     /// The size that the socket's receive buffer is to have, in octets: 65,536 to 1,073,741,823.
     pub receive_buffer: u32,
     /// The size that its send buffer is to have, in octets, in the same range.
     pub send_buffer: u32,
     /// How long a datagram may have waited for an answer, in nanoseconds: 0.15 to 60 s.
     pub longest_wait: u64,
-    /// What is asked how good the host's clock is.
-    pub clock: ClockSource,
+    /// The daemon that is asked how good the host's clock is; with none, replies tell the reference state of the register file.
+    pub clock: Option<ClockDaemon>,
 }
 
 /// Where datagrams are received.
@@ -56,15 +57,6 @@ impl Endpoint {
     }
 }
 
-/// What is asked how good the host's clock is.
-#[derive(Drop)]
-pub enum ClockSource {
-    /// Nothing: replies tell the reference state of the register file.
-    Fixed,
-    /// The daemon that keeps the host's clock.
-    Daemon(ClockDaemon),
-}
-
 /// The daemon that keeps the host's clock, how it is asked, and when it is believed.
 #[derive(Drop)]
 pub struct ClockDaemon {
@@ -75,7 +67,7 @@ pub struct ClockDaemon {
     /// The algorithm of that key.
     pub algorithm: Algorithm,
     /// The path of the file that has that key.
-    pub key_file: String,
+    pub key_file: Text,
     /// For how long one of its answers is believed, in nanoseconds: 2 to 3,600 s.
     pub valid_for: u64,
     /// The root distance up to which it is believed, in units of 2^-16 s: 1 unit to 16 s.

@@ -1,6 +1,7 @@
 //! What is wrong with a configuration file.
 
-use crate::Setting;
+use crate::{Setting, Text};
+use ntp_admin::Escaped;
 use std::alloc::AllocError;
 use std::fmt;
 
@@ -11,9 +12,9 @@ pub enum ConfigurationFault {
     /// The text is no TOML document, which shows in this line, counted from 1.
     Toml { line: u64 },
     /// There is no such key at the top level.
-    Unknown { key: String },
+    Unknown { key: Text },
     /// There is no such key in the table `[clock]`.
-    UnknownOfClock { key: String },
+    UnknownOfClock { key: Text },
     /// The setting is missing.
     Missing { setting: Setting },
     /// The setting has a value that is not wanted.
@@ -39,13 +40,10 @@ impl fmt::Display for ConfigurationFault {
         match self {
             ConfigurationFault::Toml { line } => write!(f, "line {line}: this is no TOML"),
             ConfigurationFault::Unknown { key } => {
-                write_key(f, key.as_str())?;
-                f.write_str(": there is no such key")
+                write!(f, "{}: there is no such key", Escaped(key.as_str()))
             }
             ConfigurationFault::UnknownOfClock { key } => {
-                f.write_str("clock.")?;
-                write_key(f, key.as_str())?;
-                f.write_str(": there is no such key")
+                write!(f, "clock.{}: there is no such key", Escaped(key.as_str()))
             }
             ConfigurationFault::Missing { setting } => {
                 write!(f, "{setting}: this key is missing: {}", setting.wanted())
@@ -54,19 +52,4 @@ impl fmt::Display for ConfigurationFault {
             ConfigurationFault::NoMemory => f.write_str("memory ran out"),
         }
     }
-}
-
-// A key from the file. It may have any character, so those that could end the line or steer a terminal are escaped.
-fn write_key<W: fmt::Write>(f: &mut fmt::Formatter<W>, key: &str) -> fmt::Result {
-    if key.is_empty() {
-        return f.write_str("\"\"");
-    }
-    for character in key.chars() {
-        if character.is_ascii_graphic() {
-            f.write_char(character)?;
-        } else {
-            write!(f, "\\u{{{:x}}}", u32::from(character))?;
-        }
-    }
-    Ok(())
 }

@@ -18,12 +18,13 @@ mod register_form;
 mod setting;
 mod settings;
 mod shown;
+mod text;
 mod text_place;
 mod values;
 
 pub use command_words::{PlacedWord, faulty_place, word_at};
-pub use configuration::{ClockDaemon, ClockSource, Configuration, Endpoint, Listen};
-pub use configuration_reader::{CLOCK_KEYS, KEYS, is_among, read_configuration};
+pub use configuration::{ClockDaemon, Configuration, Endpoint, Listen};
+pub use configuration_reader::read_configuration;
 pub use fault::ConfigurationFault;
 pub use hardly_meant::{HardlyMeant, NoHost, budget_warning, hostless, key_warning};
 pub use key_file::key_in_file;
@@ -35,8 +36,9 @@ pub use register_form::{
     CustomerAt, REFERENCE_FAULT, TableFault, customer_key_fault, customer_table, customers,
     customers_fault, form_fault, reference_fault, top_key_fault, wrong_at_top, wrong_in_customer,
 };
-pub use setting::Setting;
+pub use setting::{CLOCK_KEYS, KEYS, Setting, is_known};
 pub use settings::{is_fixed, path_at, setting_fault, value_at};
 pub use shown::{Shown, is_plain, shown_value, shown_word};
+pub use text::Text;
 pub use text_place::{NoToml, TextPlace, place_in};
 pub use values::{algorithm_of, number_of};

@@ -2,7 +2,7 @@
 ghost use Rattle.std.specs.Prelude.{◌≡◌, option_map};
 ghost use Rattle.toml.specs.Data.{get_member};
 ghost use Rattle.toml.specs.View.{view, table_view};
-ghost use Rattle.labntpd_files.specs.Members.{key_of, is_member, is_address, is_key, is_right, wrong_at};
+ghost use Rattle.labntpd_files.specs.Members.{member_key, is_member, is_address, is_key, is_right, wrong_at};
 
 use crate::register_form::TableFault;
 use crate::{algorithm_of, number_of};
@@ -33,7 +33,7 @@ pub const MEMBERS: [Member; 5] = [
 impl Member {
     /// The key, as it stands in its table.
     pub fn key(self) -> &'static str
-        ensures { result.now ≡ key_of self }
+        ensures { result.now ≡ member_key self }
     {
         match self {
             Member::Address => "address",
@@ -102,7 +102,7 @@ pub fn wrong_at(customer: &Table, member: Member) -> Option<Wrong>
 
 /// The value at a key of a customer's table.
 pub fn member_value(customer: &Table, member: Member) -> Option<&Value>
-    ensures { option_map (λ value. view value.now) result ≡ get_member (key_of member) (table_view customer.now) }
+    ensures { option_map (λ value. view value.now) result ≡ get_member (member_key member) (table_view customer.now) }
 {
     customer.get(member.key())
 }

@@ -1,8 +1,10 @@
 //! The keys of a configuration file.
-ghost use Rattle.std.specs.Prelude.{◌≡◌};
-ghost use Rattle.labntpd_files.specs.Keys.{key_of};
+ghost use Rattle.std.specs.Prelude.{◌≡◌, option_map};
+ghost use Rattle.toml.specs.View.{table_view};
+ghost use Rattle.labntpd_files.specs.Keys.{setting_key, is_known, unknown_in};
 
 use std::fmt;
+use toml::Table;
 
 /// A key of a configuration file, in the order in which they are documented and looked at. Those from
 /// `Source` on stand in the table `[clock]`.
@@ -28,10 +30,54 @@ pub enum Setting {
     MostStep,
 }
 
+/// The keys of the top level, and those of the table `[clock]`.
+pub const KEYS: [Setting; 10] = [
+    Setting::Listen,
+    Setting::Register,
+    Setting::Commands,
+    Setting::Answers,
+    Setting::Statistics,
+    Setting::Customers,
+    Setting::ReceiveBuffer,
+    Setting::SendBuffer,
+    Setting::LongestWait,
+    Setting::Clock,
+];
+
+pub const CLOCK_KEYS: [Setting; 8] = [
+    Setting::Source,
+    Setting::Number,
+    Setting::Algorithm,
+    Setting::KeyFile,
+    Setting::ValidFor,
+    Setting::MostRootDistance,
+    Setting::MostReferenceAge,
+    Setting::MostStep,
+];
+
+/// Whether a key is that of one of the known settings.
+pub fn is_known(known: &[Setting], key: &str) -> bool
+    ensures { result ≡ is_known known.now key.now }
+{
+    known.iter().any(|setting| key == setting.key())
+}
+
+/// The first key of a table, in the order of their octets, that is none of these.
+pub(crate) fn unknown_in<'a>(known: &[Setting], table: &'a Table) -> Option<&'a str>
+    ensures { option_map (λ key. key.now) result ≡ unknown_in known.now (table_view table.now) }
+{
+    for key in table.keys() {
+        if !is_known(known, key.as_str()) {
+            return Some(key.as_str());
+        }
+    }
+    None
+}
+
 impl Setting {
     /// The key, as it stands in its table.
     pub fn key(self) -> &'static str
-        ensures { result.now ≡ key_of self }
+        ensures { result.now ≡ setting_key self }
     {
         match self {
             Setting::Listen => "listen",

@@ -1,12 +1,14 @@
 //! The settings of a configuration file: its keys, and what stands there.
-ghost use Rattle.std.specs.Prelude.{◌≡◌, ◌≤◌, IfOk, Some, None, Ok, Err, codes, option_map, IfSome, MatchResult};
+ghost use Rattle.std.specs.Prelude.{◌≡◌, ◌≤◌, IfOk, Some, None, Ok, Err, option_map, IfSome, MatchResult};
 ghost use Rattle.toml.specs.Data.{get_member, as_table};
 ghost use Rattle.toml.specs.View.{view, table_view};
-ghost use Rattle.labntpd_files.specs.Keys.{key_of};
-ghost use Rattle.labntpd_files.specs.Settings.{required, optional, with_default, is_fixed, member_count, clock_in, daemon_in, settings_in, HasDaemonRanges, HasRanges};
-ghost use Rattle.labntpd_files.specs.Values.{listen_of, endpoint_of, number_of, algorithm_of, path_of, whole_of, seconds_of};
+ghost use Rattle.ntp_admin.specs.Words.{algorithm_in};
+ghost use Rattle.labntpd_files.specs.Keys.{setting_key};
+ghost use Rattle.labntpd_files.specs.Settings.{required, optional, with_default, clock_in, daemon_in, settings_in, HasDaemonRanges, HasRanges};
+ghost use Rattle.labntpd_files.specs.Values.{listen_in, endpoint_in, path_in, text_as, number_of, whole_of, seconds_of, is_fixed};
 ghost use Rattle.labntpd_files.specs.Faults.{source_fault, setting_fault, path_at};
 
+use crate::setting::unknown_in;
 use crate::values::{
     algorithm_of, endpoint_of, listen_of, number_of, path_of, seconds_of, whole_of,
 };
@@ -40,9 +42,9 @@ pub(crate) struct Settings<'a> {
 
 impl<'a> Model for Settings<'a> {
     ghost use Rattle.std.specs.Prelude.{option_map};
-    ghost use Rattle.labntpd_files.specs.Settings as form;
+    ghost use Rattle.labntpd_files.specs.declared.configuration.Configuration.{Configuration};
 
-    ghost Value = { form.Settings };
+    ghost Value = { Configuration };
 
     ghost view = { λ settings. record {
       listen = settings.listen;
@@ -72,9 +74,9 @@ pub(crate) struct ClockSettings<'a> {
 }
 
 impl<'a> Model for ClockSettings<'a> {
-    ghost use Rattle.labntpd_files.specs.Settings as form;
+    ghost use Rattle.labntpd_files.specs.declared.configuration.ClockDaemon.{ClockDaemon};
 
-    ghost Value = { form.Daemon };
+    ghost Value = { ClockDaemon };
 
     ghost view = { λ daemon. record {
       source = daemon.source;
@@ -199,12 +201,11 @@ fn source_fault(clock: &Table) -> Option<ConfigurationFault>
     if !is_fixed(clock) {
         return source(clock).err();
     }
-    if key_count(clock) == 1 {
-        None
-    } else {
-        Some(ConfigurationFault::Wanted {
+    match unknown_in(&[Setting::Source], clock) {
+        None => None,
+        Some(_) => Some(ConfigurationFault::Wanted {
             setting: Setting::Source,
-        })
+        }),
     }
 }
 
@@ -221,12 +222,11 @@ fn clock_in(clock: &Table) -> Result<Option<ClockSettings<'_>>, ConfigurationFau
     ensures ranges { IfOk result (λ daemon. IfSome daemon HasDaemonRanges) }
 {
     if is_fixed(clock) {
-        return if key_count(clock) == 1 {
-            Ok(None)
-        } else {
-            Err(ConfigurationFault::Wanted {
+        return match unknown_in(&[Setting::Source], clock) {
+            None => Ok(None),
+            Some(_) => Err(ConfigurationFault::Wanted {
                 setting: Setting::Source,
-            })
+            }),
         };
     }
     Ok(Some(daemon_in(clock)?))
@@ -234,7 +234,7 @@ fn clock_in(clock: &Table) -> Result<Option<ClockSettings<'_>>, ConfigurationFau
 
 /// Whether the source of a clock is fixed.
 pub fn is_fixed(clock: &Table) -> bool
-    ensures { result ≡ is_fixed (get_member (codes "source") (table_view clock.now)) }
+    ensures { result ≡ is_fixed (table_view clock.now) }
 {
     match value_at(clock, Setting::Source) {
         Some(value) => match value.as_str() {
@@ -264,7 +264,7 @@ fn daemon_in(clock: &Table) -> Result<ClockSettings<'_>, ConfigurationFault>
 
 // Where datagrams are received.
 fn listen(document: &Table) -> Result<Listen, ConfigurationFault>
-    ensures { result ≡ required Setting.Listen listen_of (table_view document.now) }
+    ensures { result ≡ required Setting.Listen (text_as listen_in) (table_view document.now) }
 {
     let setting = Setting::Listen;
     listen_of(required(document, setting)?).ok_or(ConfigurationFault::Wanted { setting })
@@ -283,7 +283,7 @@ fn clock_table(document: &Table) -> Result<&Table, ConfigurationFault>
 
 // Where the clock's daemon answers.
 fn source(clock: &Table) -> Result<Endpoint, ConfigurationFault>
-    ensures { result ≡ required Setting.Source endpoint_of (table_view clock.now) }
+    ensures { result ≡ required Setting.Source (text_as endpoint_in) (table_view clock.now) }
 {
     let setting = Setting::Source;
     endpoint_of(required(clock, setting)?).ok_or(ConfigurationFault::Wanted { setting })
@@ -299,7 +299,7 @@ fn number(clock: &Table) -> Result<NonZero<u16>, ConfigurationFault>
 
 // The algorithm of that key.
 fn algorithm(clock: &Table) -> Result<Algorithm, ConfigurationFault>
-    ensures { result ≡ required Setting.Algorithm algorithm_of (table_view clock.now) }
+    ensures { result ≡ required Setting.Algorithm (text_as algorithm_in) (table_view clock.now) }
 {
     let setting = Setting::Algorithm;
     algorithm_of(required(clock, setting)?).ok_or(ConfigurationFault::Wanted { setting })
@@ -335,16 +335,16 @@ fn seconds(table: &Table, setting: Setting, span: &Span) -> Result<u64, Configur
 
 // A path that has to stand there.
 fn path(table: &Table, setting: Setting) -> Result<&str, ConfigurationFault>
-    ensures { MatchResult result (λ path. required setting path_of (table_view table.now) ≡ Ok path.now)
-        (λ fault. required setting path_of (table_view table.now) ≡ Err fault) }
+    ensures { MatchResult result (λ path. required setting (text_as path_in) (table_view table.now) ≡ Ok path.now)
+        (λ fault. required setting (text_as path_in) (table_view table.now) ≡ Err fault) }
 {
     path_of(required(table, setting)?).ok_or(ConfigurationFault::Wanted { setting })
 }
 
 // A path that may be left out.
 fn optional_path(table: &Table, setting: Setting) -> Result<Option<&str>, ConfigurationFault>
-    ensures { MatchResult result (λ path. optional setting path_of (table_view table.now) ≡ Ok (option_map (λ text. text.now) path))
-        (λ fault. optional setting path_of (table_view table.now) ≡ Err fault) }
+    ensures { MatchResult result (λ path. optional setting (text_as path_in) (table_view table.now) ≡ Ok (option_map (λ text. text.now) path))
+        (λ fault. optional setting (text_as path_in) (table_view table.now) ≡ Err fault) }
 {
     match value_at(table, setting) {
         None => Ok(None),
@@ -357,22 +357,15 @@ fn optional_path(table: &Table, setting: Setting) -> Result<Option<&str>, Config
 
 // The value of a setting that has to stand there.
 fn required(table: &Table, setting: Setting) -> Result<&Value, ConfigurationFault>
-    ensures { MatchResult result (λ value. get_member (key_of setting) (table_view table.now) ≡ Some (view value.now))
-        (λ fault. (get_member (key_of setting) (table_view table.now) ≡ None) × (fault ≡ ConfigurationFault.Missing setting)) }
+    ensures { MatchResult result (λ value. get_member (setting_key setting) (table_view table.now) ≡ Some (view value.now))
+        (λ fault. (get_member (setting_key setting) (table_view table.now) ≡ None) × (fault ≡ ConfigurationFault.Missing setting)) }
 {
     value_at(table, setting).ok_or(ConfigurationFault::Missing { setting })
 }
 
 /// The value of a setting.
 pub fn value_at(table: &Table, setting: Setting) -> Option<&Value>
-    ensures { option_map (λ value. view value.now) result ≡ get_member (key_of setting) (table_view table.now) }
+    ensures { option_map (λ value. view value.now) result ≡ get_member (setting_key setting) (table_view table.now) }
 {
     table.get(setting.key())
-}
-
-// How many keys a table has.
-fn key_count(table: &Table) -> usize
-    ensures { result ≡ member_count (table_view table.now) }
-{
-    table.len()
 }

@@ -1,7 +1,8 @@
 //! What the values of a configuration file say.
 ghost use Rattle.std.specs.Prelude.{◌≡◌, ◌≤◌, ◌<◌, ◌^◌, option_map, IfSome};
 ghost use Rattle.toml.specs.View.{view};
-ghost use Rattle.labntpd_files.specs.Values.{endpoint_in, endpoint_of, listen_of, path_of, whole_of, number_of, algorithm_of, rounded, units_of, seconds_of};
+ghost use Rattle.ntp_admin.specs.Words.{algorithm_in};
+ghost use Rattle.labntpd_files.specs.Values.{endpoint_in, listen_in, path_in, text_as, whole_of, number_of, rounded, units_of, seconds_of};
 
 use crate::{Endpoint, Listen};
 use ntp_admin::words;
@@ -11,7 +12,7 @@ use toml::Value;
 
 /// An address with a port: `ADDRESS:PORT`.
 pub(crate) fn endpoint_of(value: &Value) -> Option<Endpoint>
-    ensures { result ≡ endpoint_of (view value.now) }
+    ensures { result ≡ text_as endpoint_in (view value.now) }
 {
     endpoint_in(value.as_str()?)
 }
@@ -29,7 +30,7 @@ fn endpoint_in(text: &str) -> Option<Endpoint>
 
 /// Where datagrams are received: `inherited`, or an address with a port.
 pub(crate) fn listen_of(value: &Value) -> Option<Listen>
-    ensures { result ≡ listen_of (view value.now) }
+    ensures { result ≡ text_as listen_in (view value.now) }
 {
     let text = value.as_str()?;
     if text == "inherited" {
@@ -40,7 +41,7 @@ pub(crate) fn listen_of(value: &Value) -> Option<Listen>
 
 /// The path of a file: a text that is not empty.
 pub(crate) fn path_of(value: &Value) -> Option<&str>
-    ensures { option_map (λ path. path.now) result ≡ path_of (view value.now) }
+    ensures { option_map (λ path. path.now) result ≡ text_as path_in (view value.now) }
 {
     let path = value.as_str()?;
     if path.is_empty() { None } else { Some(path) }
@@ -51,7 +52,10 @@ pub(crate) fn whole_of(value: &Value, least: u32, most: u32) -> Option<u32>
     ensures value { result ≡ whole_of least most (view value.now) }
     ensures range { IfSome result (λ whole. (least ≤ whole) × (whole ≤ most)) }
 {
-    let whole = u32::try_from(value.as_integer()?).ok()?;
+    let Value::Integer(whole) = value else {
+        return None;
+    };
+    let whole = u32::try_from(*whole).ok()?;
     if least <= whole && whole <= most {
         Some(whole)
     } else {
@@ -69,7 +73,7 @@ pub fn number_of(value: &Value) -> Option<NonZero<u16>>
 
 /// A digest algorithm: `md5` or `sha1`.
 pub fn algorithm_of(value: &Value) -> Option<Algorithm>
-    ensures { result ≡ algorithm_of (view value.now) }
+    ensures { result ≡ text_as algorithm_in (view value.now) }
 {
     words::algorithm(value.as_str()?)
 }

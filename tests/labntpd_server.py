@@ -80,7 +80,8 @@ def told_octets():
     """What the daemon wrote, by the names of where it did."""
     told = {}
     for name in filter(lambda name: os.path.isfile(room(name)), TOLD):
-        with open(room(name), "rb") as it:
+        # One beside another may have been put in its place since.
+        with contextlib.suppress(FileNotFoundError), open(room(name), "rb") as it:
             told[name] = it.read()
     return told
 

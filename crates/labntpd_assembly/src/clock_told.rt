@@ -18,7 +18,7 @@ pub trait DaemonClock: ReferenceSource {
     /// The state of the clock by a reading of the host's clocks.
     fn state(&self, now: Reading) -> Reference;
 
-    /// Whether the state of the clock is known by now, were it that the clock is not synchronised: not, where somebody was asked for it
+    /// Whether the state of the clock is known by now, even if only that it is not synchronised: it is not, where somebody was asked for it
     /// who has not answered yet.
     fn has_answered(&self) -> bool;
 

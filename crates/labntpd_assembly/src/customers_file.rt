@@ -11,7 +11,7 @@ use std::io::{self, Write};
 /// How many seconds lie between two writings where nothing changed.
 const PERIOD: u64 = 60;
 
-/// How many seconds later a writing is tried again that failed.
+/// How many seconds after its begin a writing is tried again that failed.
 const PATIENCE: u64 = 10;
 
 // A file that is being written, and how many customers were written of.
@@ -32,8 +32,10 @@ pub struct CustomersFile<'a, R: Files> {
     alloc: Global,
     text: Vec<u8>,
     writing: Option<Writing<R::File>>,
-    // After how many seconds it is written again, whatever happens, and how many commands were carried out when it was begun last.
+    // After how many seconds it is written again, whatever happens.
     due: u64,
+    // After how many seconds it was begun last, and how many commands were carried out then.
+    begun: u64,
     done: u64,
     fault: Option<FileFault>,
 }
@@ -53,6 +55,7 @@ impl<'a, R: Files> CustomersFile<'a, R> {
             text: Vec::new(alloc),
             writing: None,
             due: 0,
+            begun: 0,
             done: 0,
             fault: None,
         })
@@ -64,16 +67,14 @@ impl<'a, R: Files> CustomersFile<'a, R> {
         if self.writing.is_some() || (seconds < self.due && done == self.done) {
             return self.fault;
         }
+        self.begun = seconds;
         self.done = done;
         match new_file(self.files, self.beside.as_str()) {
             Ok(file) => {
                 self.due = seconds.saturating_add(PERIOD);
                 self.writing = Some(Writing { file, customers: 0 });
             }
-            Err(error) => {
-                self.due = seconds.saturating_add(PATIENCE);
-                self.fault = Some(FileFault::Unwritten(error));
-            }
+            Err(error) => self.fail(error),
         }
         self.fault
     }
@@ -89,11 +90,17 @@ impl<'a, R: Files> CustomersFile<'a, R> {
             return;
         }
         drop(writing);
-        self.fault = match self.replace(written) {
-            Err(error) => Some(FileFault::Unwritten(error)),
-            Ok(()) if counts.has_missed() => Some(FileFault::Incomplete),
-            Ok(()) => None,
-        };
+        match self.replace(written) {
+            Err(error) => self.fail(error),
+            Ok(()) if counts.has_missed() => self.fault = Some(FileFault::Incomplete),
+            Ok(()) => self.fault = None,
+        }
+    }
+
+    // The writing that was begun last has failed.
+    fn fail(&mut self, error: io::Error) {
+        self.due = self.begun.saturating_add(PATIENCE);
+        self.fault = Some(FileFault::Unwritten(error));
     }
 
     // Gives what was written the name of the customers file, where that went well.

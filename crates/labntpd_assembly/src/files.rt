@@ -54,7 +54,7 @@ pub enum FileFault {
     Incomplete,
 }
 
-/// Whether of a file the same is told by what was wrong with it at two times.
+/// Whether two faults of a file are told in the same words.
 pub(crate) fn are_told_alike(one: &Option<FileFault>, other: &Option<FileFault>) -> bool {
     match (one, other) {
         (Some(one), Some(other)) => one.is_told_as(other),

@@ -22,15 +22,17 @@ use std::fs::Files;
 use std::io::{self, Write};
 use std::time::{Clock, SystemTime, UNIX_EPOCH};
 
-/// A second, in nanoseconds; and how many seconds lie between two writings of the statistics and between two totals.
+/// A second, in nanoseconds.
 const SECOND_NANOS: u64 = 1_000_000_000;
 
+/// How many seconds lie between two writings of the statistics.
 const STATISTICS_PERIOD: u64 = 10;
 
+/// How many seconds lie between two lines of totals.
 const TOTALS_PERIOD: u64 = 3_600;
 
-/// How many customers are written at once beside datagrams, each hundredth of a second at most, so that a large file holds up none for
-/// long; and how many after a wait in which none came.
+/// How many customers are written at once beside datagrams, and how long after such a piece the next one is, in nanoseconds, so that a
+/// large file holds up none for long; and how many are written after a wait in which none came.
 const PIECE: usize = 64;
 
 const PIECE_PERIOD: u64 = 10_000_000;

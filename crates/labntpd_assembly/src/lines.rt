@@ -18,7 +18,7 @@ pub fn log_form(rt: &HostRuntime) -> LogForm {
     }
 }
 
-/// What a call of this name gave, or the exit status where it failed, which is told.
+/// What a call gave; else its fault is told under this name, and gives the exit status.
 pub(crate) fn judged<T>(rt: &HostRuntime, name: &str, answer: io::Result<T>) -> Result<T, Status> {
     match answer {
         Ok(made) => Ok(made),

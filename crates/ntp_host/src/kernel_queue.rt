@@ -29,8 +29,8 @@ pub(crate) fn most_datagrams(octets: u32) -> u64 {
     u64::from(octets / LEAST_QUEUED_OCTETS)
 }
 
-/// The queue of a UDP socket of this host, as /proc/net/udp tells (proc(5)); nothing where it does not tell, or where more than
-/// 8,191 other sockets stand before. `room` is for a part of that file.
+/// The queue of a UDP socket of this host, as /proc/net/udp tells (proc(5)); nothing where it does not tell, or where
+/// 8,191 other sockets or more stand before. `room` is for a part of that file.
 pub fn queue_state<R: Files>(
     files: &R,
     local: SocketAddrV4,

@@ -79,7 +79,7 @@ fn set_option(socket: &UdpSocket, name: i32, number: u32) -> io::Result<()>
     if status == 0 {
         Ok(())
     } else {
-        Err(io::Error::from(ErrorKind::Other))
+        Err(io::Error::from_raw_os_error(errno()))
     }
 }
 
@@ -100,7 +100,7 @@ pub fn receive_buffer(socket: &UdpSocket) -> io::Result<u32> {
     if status == 0 {
         Ok(u32::from_ne_bytes([value[0], value[1], value[2], value[3]]))
     } else {
-        Err(io::Error::from(ErrorKind::Other))
+        Err(io::Error::from_raw_os_error(errno()))
     }
 }
 

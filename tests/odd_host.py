@@ -136,10 +136,19 @@ class OddHost:
         self.monotonic += round(seconds * SECOND)
 
 
-def make(folder, library):
+def in_front(folder, text):
+    """The environment of a program that calls the functions of this text in C in place of the C library's. Where there is no compiler, it is a
+    FileNotFoundError."""
+    library = f"{folder}/in_front.so"
+    make(folder, library, text)
+    return {**os.environ, "LD_PRELOAD": library}
+
+
+def make(folder, library, text=LIBRARY):
     compiler = shutil.which("gcc") or shutil.which("clang")
     if not compiler:
         raise FileNotFoundError("there is no gcc")
-    with open(f"{folder}/odd_host.c", "w") as it:
-        it.write(LIBRARY)
-    subprocess.run([compiler, "-shared", "-fPIC", "-O1", "-o", library, f"{folder}/odd_host.c"], check=True, capture_output=True, timeout=60)
+    source = library.replace(".so", ".c")
+    with open(source, "w") as it:
+        it.write(text)
+    subprocess.run([compiler, "-shared", "-fPIC", "-O1", "-o", library, source], check=True, capture_output=True, timeout=60)

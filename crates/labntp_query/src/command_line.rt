@@ -41,9 +41,9 @@ pub struct Asked<'a> {
     pub number: NonZero<u16>,
     /// How many queries there are.
     pub count: u32,
-    /// How long the next one is waited with.
+    /// How long it waits before the next query, in nanoseconds.
     pub interval: u64,
-    /// How long its replies are waited for.
+    /// How long it waits for the replies to one, in nanoseconds.
     pub timeout: u64,
     /// Whether objects of JSON are printed.
     pub json: bool,
@@ -152,7 +152,7 @@ fn command<'a>(alloc: Global) -> Result<Command<'a>, AllocError> {
         .arg(seconds(
             alloc,
             "interval",
-            "How long the next query is waited with [default: 2]",
+            "How long it waits before the next query [default: 2]",
         ))?
         .arg(seconds(
             alloc,

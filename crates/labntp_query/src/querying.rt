@@ -7,7 +7,7 @@ use crate::key::read_key;
 use crate::udp_link::UdpLink;
 use ntp_client::Client;
 use ntp_query::{Check, Least, Outcome, ask, check_status, least_delay, verdict_of};
-use std::io::Write;
+use std::io::{self, Write};
 
 /// A query gave a sample.
 const SAMPLED: u8 = 0;
@@ -33,10 +33,7 @@ fn outcomes(rt: &HostRuntime, asked: &Asked<'_>, faults: Faults) -> Result<Vec<O
     };
     let mut outcomes = Vec::new(rt.alloc());
     for place in 0..asked.count {
-        if place > 0 {
-            link.pause(asked.interval);
-        }
-        let outcome = match ask(&mut client, &mut link) {
+        let outcome = match next_outcome(&mut client, &mut link, asked, place) {
             Ok(outcome) => outcome,
             Err(error) => return Err(faults.of_system(rt, asked.server_word, &error)),
         };
@@ -46,6 +43,23 @@ fn outcomes(rt: &HostRuntime, asked: &Asked<'_>, faults: Faults) -> Result<Vec<O
         }
     }
     Ok(outcomes)
+}
+
+// What comes of the query at a place, counted from 0, before which the interval is waited for; else why the socket failed.
+fn next_outcome(
+    client: &mut Client,
+    link: &mut UdpLink<'_, HostRuntime>,
+    asked: &Asked<'_>,
+    place: u32,
+) -> io::Result<Outcome> {
+    if place > 0 {
+        link.pause(asked.interval)?;
+    }
+    let outcome = ask(client, link)?;
+    match link.take_fault() {
+        Some(error) => Err(error),
+        None => Ok(outcome),
+    }
 }
 
 // Tells what came of a query, unless a check tells it at the end.

@@ -9,6 +9,10 @@ use std::io::{self, ErrorKind};
 use std::net::{Ipv4Addr, Net, SocketAddrV4, UdpSocket};
 use std::time::{Clock, Duration, Instant};
 
+/// The errors that Linux makes of ICMP's messages (icmp(7)), by their numbers: ENETUNREACH, EHOSTUNREACH, EHOSTDOWN, ENONET, ENOPROTOOPT,
+/// ECONNREFUSED, EMSGSIZE and EPROTO.
+const ICMP_ERRORS: [i32; 8] = [101, 113, 112, 64, 92, 111, 90, 71];
+
 /// A socket that is joined to a server, so that the system passes on what comes from its address and port alone.
 #[derive(Drop)]
 pub struct UdpLink<'a, R: Clock> {
@@ -19,6 +23,8 @@ pub struct UdpLink<'a, R: Clock> {
     end: Option<Instant>,
     // How many datagrams it still gives at most.
     left: u64,
+    // Why the last receive failed, if it did.
+    fault: Option<io::Error>,
 }
 
 impl<'a, R: Net + Clock> UdpLink<'a, R> {
@@ -33,20 +39,31 @@ impl<'a, R: Net + Clock> UdpLink<'a, R> {
             timeout: Duration::from_nanos(timeout),
             end: None,
             left: 0,
+            fault: None,
         })
     }
 }
 
 impl<'a, R: Clock> UdpLink<'a, R> {
     /// Waits for a time, in nanoseconds. What comes meanwhile is dropped.
-    pub fn pause(&mut self, nanos: u64) {
+    ///
+    /// # Errors
+    ///
+    /// A receive failed.
+    pub fn pause(&mut self, nanos: u64) -> io::Result<()> {
         self.begin(Duration::from_nanos(nanos));
         let mut room = empty_room();
         for _ in 0..u64::MAX {
-            if self.received(&mut room).is_none() {
+            if self.received(&mut room)?.is_none() {
                 break;
             }
         }
+        Ok(())
+    }
+
+    /// Takes why the last receive failed, if it did, which ended the query.
+    pub fn take_fault(&mut self) -> Option<io::Error> {
+        self.fault.take()
     }
 
     // Receives for `time` from now on.
@@ -74,22 +91,24 @@ impl<'a, R: Clock> UdpLink<'a, R> {
         self.socket.recv(room)
     }
 
-    // The next datagram. That nobody listens at the server is not authentic, and is passed over.
-    fn received(&self, room: &mut Room) -> Option<Received>
-        ensures { IfSome result (λ received. received.length ≤ 1025) }
+    // The next datagram; nothing where none came in time. What the network says of the server is not authentic, and is passed over.
+    fn received(&self, room: &mut Room) -> io::Result<Option<Received>>
+        ensures { IfOk result (λ received. IfSome received (λ it. it.length ≤ 1025)) }
     {
         for _ in 0..u64::MAX {
-            let left = self.time_left()?;
+            let Some(left) = self.time_left() else {
+                break;
+            };
             match self.receive_within(room, left) {
                 Ok(length) => {
                     let at = moment_now(&self.clock);
-                    return Some(Received { length, at });
+                    return Ok(Some(Received { length, at }));
                 }
                 Err(error) if is_passed_over(&error) => {}
-                Err(_) => return None,
+                Err(error) => return Err(error),
             }
         }
-        None
+        Ok(None)
     }
 }
 
@@ -103,7 +122,7 @@ impl<'a, R: Clock> Link for UdpLink<'a, R> {
     /// Sends it. What the network said of an earlier one, as that nobody listens, is told of this one and no fault of it.
     fn send(&mut self, request: &[u8]) -> io::Result<()> {
         let sent = match self.socket.send(request) {
-            Err(error) if error.kind() == ErrorKind::ConnectionRefused => self.socket.send(request),
+            Err(error) if is_of_network(&error) => self.socket.send(request),
             sent => sent,
         };
         self.begin(self.timeout);
@@ -116,17 +135,27 @@ impl<'a, R: Clock> Link for UdpLink<'a, R> {
             return None;
         }
         self.left -= 1;
-        self.received(room)
+        match self.received(room) {
+            Ok(received) => received,
+            Err(error) => {
+                self.fault = Some(error);
+                None
+            }
+        }
     }
 }
 
-// Whether a receive may be tried again: nothing came, a signal did, or somebody says that nobody listens.
+// Whether a receive may be tried again: nothing came, a signal did, or the network says something of the server.
 fn is_passed_over(error: &io::Error) -> bool {
     matches!(
         error.kind(),
-        ErrorKind::WouldBlock
-            | ErrorKind::TimedOut
-            | ErrorKind::Interrupted
-            | ErrorKind::ConnectionRefused
-    )
+        ErrorKind::WouldBlock | ErrorKind::TimedOut | ErrorKind::Interrupted
+    ) || is_of_network(error)
+}
+
+// Whether an error is what the network says of an earlier datagram, which anybody can forge (icmp(7)).
+fn is_of_network(error: &io::Error) -> bool {
+    error
+        .raw_os_error()
+        .is_some_and(|number| ICMP_ERRORS.contains(&number))
 }

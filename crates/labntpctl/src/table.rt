@@ -10,6 +10,26 @@ use std::io::{self, Write};
 /// The answers that have a column.
 const ANSWERS: [&str; 5] = ["basic", "interleaved", "rate", "nak", "over-budget"];
 
+/// How wide each column is: a space more than what it has at most, but for counts of twelve digits and more.
+const ADDRESS_WIDTH: usize = 16;
+
+const STATE_WIDTH: usize = 9;
+
+const BUDGET_WIDTH: usize = 7;
+
+const LINE_WIDTH: usize = 8;
+
+const NUMBER_WIDTH: usize = 7;
+
+const KEY_WIDTH: usize = 9;
+
+const SIGNED_WIDTH: usize = 30;
+
+const ANSWER_WIDTH: usize = 12;
+
+/// How wide the columns in front of a key are together.
+const CUSTOMER_WIDTH: usize = ADDRESS_WIDTH + STATE_WIDTH + BUDGET_WIDTH + LINE_WIDTH;
+
 /// Why a line is no row.
 #[derive(Drop)]
 pub enum NoRow {
@@ -67,15 +87,15 @@ pub fn object_in(alloc: Global, line: &str) -> Result<Value, NoRow> {
 
 // The heads of the columns.
 fn add_head(table: &mut Vec<u8>) -> Result<(), NoRow> {
-    add(table, "ADDRESS", 16)?;
-    add(table, "STATE", 9)?;
-    add(table, "BUDGET", 7)?;
-    add(table, "LINE", 6)?;
-    add(table, "NUMBER", 7)?;
-    add(table, "KEY", 9)?;
-    add(table, "LAST SIGNED", 30)?;
+    add(table, "ADDRESS", ADDRESS_WIDTH)?;
+    add(table, "STATE", STATE_WIDTH)?;
+    add(table, "BUDGET", BUDGET_WIDTH)?;
+    add(table, "LINE", LINE_WIDTH)?;
+    add(table, "NUMBER", NUMBER_WIDTH)?;
+    add(table, "KEY", KEY_WIDTH)?;
+    add(table, "LAST SIGNED", SIGNED_WIDTH)?;
     for answer in ANSWERS.iter() {
-        add(table, answer, 12)?;
+        add(table, answer, ANSWER_WIDTH)?;
     }
     end_row(table)
 }
@@ -95,7 +115,7 @@ fn add_rows(alloc: Global, table: &mut Vec<u8>, line: &str) -> Result<(), NoRow>
     add_answers(alloc, table, &customer)?;
     end_row(table)?;
     for key in keys.iter().skip(1) {
-        add(table, "", 38)?;
+        add(table, "", CUSTOMER_WIDTH)?;
         add_key(alloc, table, key)?;
         end_row(table)?;
     }
@@ -104,39 +124,39 @@ fn add_rows(alloc: Global, table: &mut Vec<u8>, line: &str) -> Result<(), NoRow>
 
 // What a customer has beside its keys.
 fn add_customer(alloc: Global, table: &mut Vec<u8>, customer: &Value) -> Result<(), NoRow> {
-    add(table, text_at(customer, "address")?, 16)?;
-    add(table, text_at(customer, "state")?, 9)?;
+    add(table, text_at(customer, "address")?, ADDRESS_WIDTH)?;
+    add(table, text_at(customer, "state")?, STATE_WIDTH)?;
     match customer.get("budget").and_then(Value::as_u64) {
-        Some(budget) => add_number(alloc, table, budget, 7)?,
-        None => add(table, "-", 7)?,
+        Some(budget) => add_number(alloc, table, budget, BUDGET_WIDTH)?,
+        None => add(table, "-", BUDGET_WIDTH)?,
     }
-    add_number(alloc, table, number_at(customer, "line")?, 6)
+    add_number(alloc, table, number_at(customer, "line")?, LINE_WIDTH)
 }
 
 // A key: all but its octets.
 fn add_key(alloc: Global, table: &mut Vec<u8>, key: &Value) -> Result<(), NoRow> {
-    add_number(alloc, table, number_at(key, "number")?, 7)?;
+    add_number(alloc, table, number_at(key, "number")?, NUMBER_WIDTH)?;
     let (algorithm, octets) = (text_at(key, "algorithm")?, number_at(key, "octets")?);
     let kind = format!(in alloc; "{algorithm} {octets}")?;
-    add(table, kind.as_str(), 9)?;
+    add(table, kind.as_str(), KEY_WIDTH)?;
     match key.get("last_signed").and_then(Value::as_str) {
-        Some(seconds) => add(table, date(alloc, seconds)?.as_str(), 30),
-        None => add(table, "-", 30),
+        Some(seconds) => add(table, date(alloc, seconds)?.as_str(), SIGNED_WIDTH),
+        None => add(table, "-", SIGNED_WIDTH),
     }
 }
 
 // That there is no key.
 fn add_no_key(table: &mut Vec<u8>) -> Result<(), NoRow> {
-    add(table, "-", 7)?;
-    add(table, "-", 9)?;
-    add(table, "-", 30)
+    add(table, "-", NUMBER_WIDTH)?;
+    add(table, "-", KEY_WIDTH)?;
+    add(table, "-", SIGNED_WIDTH)
 }
 
 // How often it got each answer.
 fn add_answers(alloc: Global, table: &mut Vec<u8>, customer: &Value) -> Result<(), NoRow> {
     let answers = customer.get("answers").ok_or(NoRow::Form)?;
     for answer in ANSWERS.iter() {
-        add_number(alloc, table, number_at(answers, answer)?, 12)?;
+        add_number(alloc, table, number_at(answers, answer)?, ANSWER_WIDTH)?;
     }
     Ok(())
 }
@@ -165,10 +185,11 @@ fn add_number(alloc: Global, table: &mut Vec<u8>, number: u64, width: usize) -> 
     add(table, text.as_str(), width)
 }
 
-// Adds a text to a row, and spaces up to a width.
+// Adds a text to a row, and spaces up to a width: one at least, so that two columns never touch.
 fn add(table: &mut Vec<u8>, text: &str, width: usize) -> Result<(), NoRow> {
     table.extend_from_slice(text.as_bytes())?;
-    for _ in text.len()..width {
+    let spaces = width.saturating_sub(text.len()).max(1);
+    for _ in 0..spaces {
         if table.push(b' ').is_err() {
             return Err(NoRow::Memory);
         }

@@ -1,19 +1,22 @@
 //! What a clerk is asked before a key is retired.
 
 use crate::customer_file::address_text;
+use crate::faults::{judged, made};
 use crate::ordering::tell;
 use crate::reported::reported_text;
 use crate::table::{NoRow, date, no_row_status, number_at, object_in, text_at};
-use labntpd_assembly::start_lines;
 use labntpd_files::Configuration;
-use ntp_admin::{Status, failed_status};
+use ntp_admin::Status;
 use ntp_service::Address;
 use serde_json::Value;
 use std::alloc::{AllocError, Global};
-use std::io::Read;
+use std::io::{self, Read};
 use std::num::NonZero;
 
-/// How many octets of an answer are read.
+/// What is told where nothing is known of a last use.
+const UNTOLD: &str = "its last use is not known";
+
+/// How many octets an answer has at most that is a yes, with its line feed.
 const MOST_ANSWER_OCTETS: usize = 16;
 
 /// Tells when a key of an address was last used, asks whether it is to be retired, and gives the answer. A fault is told in one line, and
@@ -29,16 +32,27 @@ pub fn is_wanted(
     is_yes(rt)
 }
 
-// Whether the next line of standard input is a yes; its end is none.
+// Whether the next line of standard input is a yes; its end is none, nor is a longer line.
 fn is_yes(rt: &HostRuntime) -> Result<bool, Status> {
-    let mut octets = [0; MOST_ANSWER_OCTETS];
-    match rt.stdin().read(&mut octets) {
-        Ok(count) => {
-            let said = octets.get(..count).unwrap_or(&[]);
-            Ok(matches!(said.trim_ascii(), b"y" | b"Y" | b"yes" | b"Yes"))
+    let mut said = Vec::new(rt.alloc());
+    for _ in 0..MOST_ANSWER_OCTETS {
+        match judged(rt, "standard input", next_octet(rt))? {
+            None | Some(b'\n') => {
+                let said = said.as_slice().trim_ascii();
+                return Ok(matches!(said, b"y" | b"Y" | b"yes" | b"Yes"));
+            }
+            Some(octet) => made(rt, said.extend_from_slice(&[octet]))?,
         }
-        Err(error) => Err(failed_status("standard input", &error, &mut start_lines(rt))),
     }
+    Ok(false)
+}
+
+// The next octet of standard input, if there is one.
+fn next_octet(rt: &HostRuntime) -> io::Result<Option<u8>> {
+    let mut octets = [0];
+    let count = rt.stdin().read(&mut octets)?;
+    let read = octets.get(..count).unwrap_or(&[]);
+    Ok(read.first().copied())
 }
 
 // When a key of an address was last used, in words.
@@ -52,14 +66,19 @@ fn last_use(
         None => None,
         Some(path) => reported_text(rt, path.as_str())?,
     };
-    let told = match text {
-        None => told_use(rt.alloc(), Use::Untold),
-        Some(text) => use_in(rt.alloc(), text.as_str(), address, number.get()),
+    let address = made(rt, address_text(rt.alloc(), address))?;
+    let lines = match &text {
+        Some(text) => text.as_str(),
+        None => "",
     };
-    match told {
-        Ok(told) => Ok(told),
-        Err(fault) => Err(no_row_status(rt, 0, fault)),
+    for (place, line) in lines.lines().enumerate() {
+        match use_in(rt.alloc(), line, address.as_str(), number.get()) {
+            Ok(None) => {}
+            Ok(Some(told)) => return Ok(told),
+            Err(fault) => return Err(no_row_status(rt, place, fault)),
+        }
     }
+    made(rt, String::from_str(rt.alloc(), UNTOLD))
 }
 
 // What is known of the last use of a key.
@@ -70,16 +89,14 @@ enum Use<'a> {
     Untold,
 }
 
-// The same by the objects of labntpd's customers file.
-fn use_in(alloc: Global, text: &str, address: Address, number: u16) -> Result<String, NoRow> {
-    let address = address_text(alloc, address)?;
-    for line in text.lines() {
-        let customer = object_in(alloc, line)?;
-        if text_at(&customer, "address")? == address.as_str() {
-            return told_use(alloc, use_of(&customer, number)?);
-        }
+// The same by a line of labntpd's customers file, if that is the customer's.
+fn use_in(alloc: Global, line: &str, address: &str, number: u16) -> Result<Option<String>, NoRow> {
+    let customer = object_in(alloc, line)?;
+    if text_at(&customer, "address")? != address {
+        return Ok(None);
     }
-    told_use(alloc, Use::Untold)
+    let told = told_use(alloc, use_of(&customer, number)?)?;
+    Ok(Some(told))
 }
 
 // The last use of the key of a customer with a number.
@@ -107,6 +124,6 @@ fn told_use(alloc: Global, used: Use<'_>) -> Result<String, NoRow> {
             Ok(format!(in alloc; "last used {date}")?)
         }
         Use::Never => Ok(String::from_str(alloc, "not used since labntpd has it")?),
-        Use::Untold => Ok(String::from_str(alloc, "its last use is not known")?),
+        Use::Untold => Ok(String::from_str(alloc, UNTOLD)?),
     }
 }

@@ -1,5 +1,5 @@
 -- The line of a command says it.
-use Rattle.std.proofs.Common.{◌≡◌, ℕ, ◌<◌, ◌==◌, true, false, List, [], ◌∷◌, ◌++◌, length, Option, Some, None, IfSome, Ok, refl, sym, ap, ◌∙◌, arith, lit<, append_assoc, append-nil}
+use Rattle.std.proofs.Common.{◌≡◌, ℕ, ◌<◌, ◌==◌, true, false, List, [], ◌∷◌, ◌++◌, length, Option, Some, None, IfSome, Ok, refl, sym, ap, ◌∙◌, arith, append_assoc, append-nil}
 use Rattle.std.specs.Prelude.{codes, not}
 use Rattle.std.specs.List.{join_with_byte, list_all}
 use Rattle.std.specs.Option.{option_map_or}
@@ -9,13 +9,14 @@ use Rattle.hex.specs.Hex.{encode_lower, is_hex_digit}
 use Rattle.ntp_mac.specs.Key.{SymmetricKey}
 use Rattle.ntp_mac.specs.declared.key.Algorithm.{Algorithm}
 use Rattle.ntp_mac.specs.declared.key.Algorithm.TheVariants.{Md5, Sha1}
-use Rattle.ntp_admin.specs.Words.{parts, algorithm_in}
+use Rattle.ntp_admin.specs.Words.{parts, algorithm_in, address_text, number_behind}
 use Rattle.ntp_admin.specs.Spells.{command_in}
 use Rattle.ntp_service.specs.Commands.{address_named, number_named}
 use Rattle.ntp_service.specs.Vocabulary.{command_word}
 use Rattle.ntp_service.specs.declared.command.Command.{Command}
 use Rattle.ntp_service.specs.declared.command.Command.TheVariants as command
-use Rattle.ntp_clerk.specs.CommandText.{address_text, algorithm_text, number_text, budget_named, key_named, number_behind, key_behind, command_text, AreKeyOctets, HasOctets, IsNumber, IsCommand, WritesCommand}
+use Rattle.ntp_clerk.specs.CommandText.{algorithm_text, budget_named, key_named, key_behind, command_text, AreKeyOctets, HasOctets, IsNumber, IsCommand, WritesCommand}
+use Rattle.ntp_clerk.specs.Grants.{number_text}
 use Rattle.ntp_clerk.proofs.Joined.{lacks, AllLack, parts-all, lacks-all, parts-line, lacks-by}
 use Rattle.ntp_clerk.proofs.Spelled.{reads-address, reads-number, reads-key, lacks-address, lacks-decimal, lacks-digits}
 

@@ -18,8 +18,8 @@ use Rattle.ntp_query.specs.KeyFile.{words, begins_with, is_key_line, key_of_word
 use Rattle.ntp_query.specs.declared.key_file.KeyFileFault.{KeyFileFault}
 use Rattle.ntp_query.specs.declared.key_file.KeyFileFault.TheVariants.{Missing, Line}
 use Rattle.ntp_clerk.specs.declared.new_key.NewKey.{NewKey}
-use Rattle.ntp_clerk.specs.CommandText.{key_of, number_text, IsNumber, IsNewKey}
-use Rattle.ntp_clerk.specs.Grants.{chrony_algorithm, chrony_key}
+use Rattle.ntp_clerk.specs.CommandText.{key_made, IsNumber, IsNewKey}
+use Rattle.ntp_clerk.specs.Grants.{number_text, chrony_algorithm, chrony_key}
 use Rattle.ntp_clerk.proofs.Joined.{lacks, AllLack, lacks-both, parts-all, lacks-all, parts-first-line}
 use Rattle.ntp_clerk.proofs.Spelled.{reads-number, reads-key, new-key, lacks-decimal, lacks-digits}
 
@@ -74,7 +74,7 @@ is-line number key fits is =
     ∙ grind (arith, nat_tests)
 
 -- it has the key
-has-key : (number : NonZeroU16) (key : NewKey) → IsNumber number → IsNewKey key → key_in_words (chrony_key number key) ≡ Ok (key_of key)
+has-key : (number : NonZeroU16) (key : NewKey) → IsNumber number → IsNewKey key → key_in_words (chrony_key number key) ≡ Ok (key_made key)
 has-key number key fits is = ap key_of_words (line-words number key fits is) ∙ by-algorithm key.algorithm
   where
     by-algorithm : (a : Algorithm) → key_of_words (number_text number ∷ chrony_algorithm a ∷ (codes "HEX:" ++ encode_lower key.octets) ∷ [])
@@ -88,7 +88,7 @@ picked number line others b =
     ok_or (if b then Some (1, line) else find (λ it. is_key_line number it.1) (enumerate_from 2 others)) Missing >>= (λ it. key_in_line it.0 it.1)
 
 pub text-has-key : (number : NonZeroU16) (key : NewKey) (notes text : List ℕ) → IsNumber number → IsNewKey key
-    → text ≡ chrony_key number key ++ (10 ∷ notes) → key_in_text number.value text ≡ Ok (key_of key)
+    → text ≡ chrony_key number key ++ (10 ∷ notes) → key_in_text number.value text ≡ Ok (key_made key)
 unfolding chrony_key picked
 text-has-key number key notes text fits is whole =
     let line = chrony_key number key in

@@ -11,13 +11,14 @@ use Rattle.std.proofs.lemmas.Bool.Decides.{nat_tests}
 use Rattle.std.proofs.lemmas.Fmt.{digits_decimal, digits_value-decimal, decimal_nonempty, first_decimal, decimal_digit}
 use Rattle.std.proofs.lemmas.Str.Parse.{IsNumeralModel, numerals_by_value}
 use Rattle.std.proofs.lemmas.List.Sums.{list_all-from_AllPass}
-use Rattle.hex.specs.Hex.{encode_lower, lower_digits, IsBytes, is_hex_digit}
+use Rattle.hex.specs.Hex.{decode_of, encode_lower, lower_digits, IsBytes, is_hex_digit}
 use Rattle.hex.proofs.HexLemmas.{decode_of-encode_lower, decode_of-ok, length-encode_with}
 use Rattle.ntp_service.specs.declared.address.Address.{Address}
-use Rattle.ntp_admin.specs.Words.{is_decimal, decimal_in, number_in, key_in, hex_in, address_in, address_from, non_zero, ◌>>=◌}
+use Rattle.ntp_admin.specs.Words.{is_decimal, decimal_in, number_in, key_in, address_in, address_from, address_text, non_zero, ◌>>=◌}
 use Rattle.ntp_admin.proofs.PublicLaws.{new-non_zero}
 use Rattle.ntp_clerk.specs.declared.new_key.NewKey.{NewKey}
-use Rattle.ntp_clerk.specs.CommandText.{address_text, number_text, AreKeyOctets, IsAddress, IsNewKey, IsNumber}
+use Rattle.ntp_clerk.specs.CommandText.{AreKeyOctets, IsAddress, IsNewKey, IsNumber}
+use Rattle.ntp_clerk.specs.Grants.{number_text}
 use Rattle.ntp_clerk.proofs.Joined.{lacks, lacks-by, lacks-joined, parts-joined}
 
 own : IsNumeralModel (λ ds. list_all is_ascii_digit ds ≡ true) (digits_value 10)
@@ -121,7 +122,7 @@ reads-key octets is =
     let whole = decode_of-encode_lower octets is.2 in
     let twice : length (encode_lower octets) ≡ 2 * length octets = omega (arith, length-encode_with lower_digits octets) in
     let fits : (nat_le 2 (length (encode_lower octets)) && nat_le (length (encode_lower octets)) 64) ≡ true = grind (arith, nat_tests, is.0, is.1) in
-    ap (λ b. if b then hex_in (encode_lower octets) else None) fits ∙ ap result_ok whole
+    ap (λ b. if b then result_ok (decode_of (encode_lower octets)) else None) fits ∙ ap result_ok whole
 
 -- a new key is a key
 pub new-key : (key : NewKey) → IsNewKey key → AreKeyOctets key.octets

@@ -11,14 +11,10 @@ use Rattle.ntp_service.specs.declared.outcome.Outcome.{Outcome}
 use Rattle.ntp_service.specs.Headline.{Tells}
 use Rattle.ntp_service.specs.Split.{HadMemory}
 
--- what an address has: nothing where it was never enrolled, else its enrolment, and none where it is revoked
-abbrev pub standing_at : Registry → Address → Option (Option Enrolment)
-standing_at r address = option_map enrolment_at (customer_at r address)
-
--- two services have the same customers, with the same keys and budgets; the same addresses are revoked, and each number has the same
--- holder. What was counted is left aside
+-- two services have the same customers, with the same keys and budgets; the same addresses are revoked, which have no enrolment, and
+-- each number has the same holder. What was counted is left aside
 pub record HaveTheSame (one other : Registry) : Type 0 where
-  pub standings : (address : Address) → standing_at one address ≡ standing_at other address
+  pub standings : (address : Address) → option_map enrolment_at (customer_at one address) ≡ option_map enrolment_at (customer_at other address)
   pub holders : (number : ℕ) → holder_of one number ≡ holder_of other number
 
 -- a service with no customers was given commands, had memory for each, and came to this
@@ -29,6 +25,11 @@ ComesOf commands service =
 -- two lists of commands leave the same customers
 abbrev pub LeaveTheSame : List Command → List Command → Type 0
 LeaveTheSame one other = (a : Registry) × (b : Registry) × ComesOf one a × ComesOf other b × HaveTheSame a b
+
+-- not to be believed: for proofs. What an address has: nothing where it was never enrolled, else its enrolment, and none where it is
+-- revoked
+abbrev pub standing_at : Registry → Address → Option (Option Enrolment)
+standing_at r address = option_map enrolment_at (customer_at r address)
 
 -- not to be believed: for proofs. Two enrolments have one key with a number
 abbrev pub HoldOne : Enrolment → Enrolment → ℕ → Type 0

@@ -2,18 +2,6 @@
 use Rattle.std.specs.Prelude.{ℕ, ◌+◌, ◌-◌, ◌*◌, ◌/◌, ◌≤◌, min, Bool, not, if◌then◌else◌, nat_lt, List, [], ◌∷◌}
 use Rattle.ntp_clerk.specs.declared.limit.Limit.{Limit}
 
--- a minute
-abbrev pub minute_nanos : ℕ
-minute_nanos = 60000000000
-
--- what a packet takes out of the bucket, in tokens: one comes with each nanosecond (nft_limit_pkts_init)
-abbrev pub packet_cost : Limit → ℕ
-packet_cost limit = minute_nanos / limit.rate
-
--- how many tokens the bucket has where it is full, as at its first packet (nft_limit_init)
-abbrev pub most_tokens : Limit → ℕ
-most_tokens limit = packet_cost limit * limit.burst
-
 -- which packets pass that come at these moments, by the tokens at an earlier one (nft_limit_eval): a packet that finds too few takes none
 unfoldable pub passing : ℕ → ℕ → ℕ → ℕ → List ℕ → List Bool
 passing cost most tokens last [] = []
@@ -22,9 +10,13 @@ passing cost most tokens last (now ∷ later) =
     let left = if nat_lt filled cost then filled else filled - cost in
     not (nat_lt filled cost) ∷ passing cost most left now later
 
--- which packets of a source pass a limit, whose bucket is full at a moment before them
+-- which packets of a source pass a limit. A token comes with each nanosecond; a packet takes out what comes in a minute by the limit's
+-- rate, and the bucket is full, as at its first packet, at a moment before them (nft_limit_pkts_init, nft_limit_init)
 abbrev pub passing_limit : Limit → ℕ → List ℕ → List Bool
-passing_limit limit begun moments = passing (packet_cost limit) (most_tokens limit) (most_tokens limit) begun moments
+passing_limit limit begun moments =
+    let cost = 60000000000 / limit.rate in
+    let most = cost * limit.burst in
+    passing cost most most begun moments
 
 -- no moment lies before an earlier one
 unfoldable pub InOrder : ℕ → List ℕ → Type 0

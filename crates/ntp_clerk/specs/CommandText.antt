@@ -1,8 +1,6 @@
 -- How a command is written.
-use Rattle.std.specs.Prelude.{◌≡◌, ◌<◌, ◌≤◌, ◌^◌, ℕ, List, [], ◌∷◌, ◌++◌, codes, map, length, Option, None, Some, IfSome}
+use Rattle.std.specs.Prelude.{◌≡◌, ◌<◌, ◌≤◌, ◌^◌, ℕ, List, [], ◌∷◌, ◌++◌, codes, length, Option, None, Some, IfSome, Ok}
 use Rattle.std.specs.Option.{option_map_or}
-use Rattle.std.specs.List.{join_with_byte}
-use Rattle.std.specs.Fmt.{decimal}
 use Rattle.std.specs.Int.NonZero.{non_zero_u16_get}
 use Rattle.std.specs.declared.num.NonZeroU16.{NonZeroU16}
 use Rattle.hex.specs.Hex.{IsBytes}
@@ -10,30 +8,22 @@ use Rattle.ntp_mac.specs.Key.{SymmetricKey, most_key_octets}
 use Rattle.ntp_mac.specs.declared.key.Algorithm.{Algorithm}
 use Rattle.ntp_mac.specs.declared.key.Algorithm.TheVariants.{Md5, Sha1}
 use Rattle.ntp_service.specs.declared.address.Address.{Address}
-use Rattle.ntp_admin.specs.Words.{parts}
-use Rattle.ntp_admin.specs.Spells.{SpellsCommand}
+use Rattle.ntp_admin.specs.Words.{parts, words, address_text, number_behind}
+use Rattle.ntp_admin.specs.Spells.{command_in}
 use Rattle.ntp_service.specs.Commands.{address_named, number_named}
 use Rattle.ntp_service.specs.Vocabulary.{command_word}
 use Rattle.ntp_service.specs.declared.command.Command.{Command}
 use Rattle.ntp_service.specs.declared.command.Command.TheVariants as command
 use Rattle.ntp_clerk.specs.declared.new_key.NewKey.{NewKey}
 
--- a new key
-abbrev pub key_of : NewKey → SymmetricKey
-key_of key = record { algorithm = key.algorithm; octets = key.octets }
-
--- an address: its numbers, with dots between them
-unfoldable pub address_text : Address → List ℕ
-address_text address = join_with_byte 46 (map decimal address.0)
+-- a new key, as a key
+abbrev pub key_made : NewKey → SymmetricKey
+key_made key = record { algorithm = key.algorithm; octets = key.octets }
 
 -- the word for an algorithm
 abbrev pub algorithm_text : Algorithm → List ℕ
 algorithm_text Md5 = codes "md5"
 algorithm_text Sha1 = codes "sha1"
-
--- the numbers of keys and budgets
-abbrev pub number_text : NonZeroU16 → List ℕ
-number_text number = decimal (non_zero_u16_get number)
 
 -- the budget that a command names, and its key, if it names one
 abbrev pub budget_named : Command → Option NonZeroU16
@@ -45,10 +35,6 @@ abbrev pub key_named : Command → Option SymmetricKey
 key_named (command.Enrol address number key budget) = Some key
 key_named (command.Rollover address number key) = Some key
 key_named other = None
-
--- a number with a space before it, where there is one
-abbrev pub number_behind : Option NonZeroU16 → List ℕ
-number_behind number = option_map_or (λ n. codes " " ++ number_text n) number []
 
 -- a key's algorithm and this word for the key, with a space before each, where there is one
 abbrev pub key_behind : List ℕ → Option SymmetricKey → List ℕ
@@ -81,10 +67,6 @@ IsCommand c = IsAddress (address_named c) × IfSome (number_named c) IsNumber ×
 abbrev pub HasOctets : Command → List ℕ → Type 0
 HasOctets c octets = IfSome (key_named c) (λ key. (key.octets ≡ octets) × AreKeyOctets octets)
 
--- a word that stands for each key, so that none is shown
-abbrev pub hidden_key : List ℕ
-hidden_key = codes "KEY"
-
 -- a text is one line with its line feed, and the line says a command
 abbrev pub WritesCommand : List ℕ → Command → Type 0
-WritesCommand text c = (line : List ℕ) × (parts 10 text ≡ line ∷ [] ∷ []) × SpellsCommand line c
+WritesCommand text c = (line : List ℕ) × (parts 10 text ≡ line ∷ [] ∷ []) × (command_in (words line) ≡ Ok c)

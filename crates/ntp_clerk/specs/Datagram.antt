@@ -9,6 +9,7 @@ pub record IsIpHead (ip : List ℕ) : Type 0 where
   pub words : ℕ
   pub version : slice_index ip 0 ≡ 64 + words
   pub least : 5 ≤ words
+  pub most : words ≤ 15
   pub ip_length : length ip ≡ words * 4
   pub no_fragment : (slice_index ip 6 % 64 ≡ 0) × (slice_index ip 7 ≡ 0)
   pub protocol : slice_index ip 9 ≡ 17

@@ -2,12 +2,17 @@
 use Rattle.std.specs.Prelude.{◌==◌, ℕ, List, [], ◌∷◌, ◌++◌, codes, if◌then◌else◌}
 use Rattle.std.specs.List.{join_with_byte}
 use Rattle.std.specs.Fmt.{decimal}
+use Rattle.std.specs.Int.NonZero.{non_zero_u16_get}
 use Rattle.std.specs.declared.num.NonZeroU16.{NonZeroU16}
 use Rattle.hex.specs.Hex.{encode_lower}
 use Rattle.ntp_mac.specs.declared.key.Algorithm.{Algorithm}
 use Rattle.ntp_mac.specs.declared.key.Algorithm.TheVariants.{Md5, Sha1}
 use Rattle.ntp_clerk.specs.declared.new_key.NewKey.{NewKey}
-use Rattle.ntp_clerk.specs.CommandText.{algorithm_text, number_text}
+use Rattle.ntp_clerk.specs.CommandText.{algorithm_text}
+
+-- the numbers of keys
+abbrev pub number_text : NonZeroU16 → List ℕ
+number_text number = decimal (non_zero_u16_get number)
 
 -- the word for an algorithm in chrony's key files (chrony.conf(5))
 abbrev pub chrony_algorithm : Algorithm → List ℕ

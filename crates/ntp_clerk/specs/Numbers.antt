@@ -5,7 +5,3 @@ use Rattle.std.specs.Prelude.{ℕ, ◌≤◌, ◌<◌, List, Contains}
 abbrev pub IsLowestFree : List ℕ → ℕ → Type 0
 IsLowestFree held number =
     (1 ≤ number) × (Contains held number → ⊥) × ((smaller : ℕ) → 1 ≤ smaller → smaller < number → Contains held smaller)
-
--- each key number is one of these
-abbrev pub AreAllHeld : List ℕ → Type 0
-AreAllHeld held = (number : ℕ) → 1 ≤ number → number ≤ 65535 → Contains held number

@@ -31,13 +31,9 @@ are_for_one one other = false
 abbrev pub are_alike : SeenKey → SeenKey → Bool
 are_alike one other = (one.number == other.number) && ((one.octets == other.octets) && are_for_one one.algorithm other.algorithm)
 
--- whether a key is one of these
-abbrev pub is_among : List SeenKey → SeenKey → Bool
-is_among keys key = list_any (are_alike key) keys
-
 -- whether a key of the daemon's is lost: its enrolment is later than what the files have, or they do not have the key
 abbrev pub is_lost : Seen → Bool → SeenKey → Bool
-is_lost files is_later key = is_later || not (is_among (keys_of files) key)
+is_lost files is_later key = is_later || not (list_any (are_alike key) (keys_of files))
 
 -- what is seen of an enrolment: its keys, the older one first, and its budget
 pub record SeenEnrolment : Type 0 where
@@ -74,7 +70,7 @@ abbrev pub had_back : Seen → Seen → Bool → Option SeenEnrolment
 had_back files seen.Nothing is_later = look files
 had_back files seen.Revoked is_later = None
 had_back files (seen.Enrolled terms) is_later =
-    if is_later then None else enrolled_with (filter (is_among (keys_in terms)) (keys_of files)) terms.budget
+    if is_later then None else enrolled_with (filter (λ key. list_any (are_alike key) (keys_in terms)) (keys_of files)) terms.budget
 
 -- each amending command has something to change, so that it is not refused
 abbrev pub IsNeeded : Amendment → Seen → Type 0

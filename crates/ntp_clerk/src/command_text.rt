@@ -1,9 +1,10 @@
 //! How commands are written.
-ghost use Rattle.std.specs.Prelude.{◌≡◌, ◌++◌, true, IfOk, IfSome, IsSome, string_bytes};
+ghost use Rattle.std.specs.Prelude.{◌≡◌, ◌++◌, true, IfOk, IfSome, IsSome, codes, string_bytes};
 ghost use Rattle.std.specs.Bool.{OnTrue};
 ghost use Rattle.hex.specs.Hex.{encode_lower};
+ghost use Rattle.ntp_admin.specs.Words.{address_text, number_behind};
 ghost use Rattle.ntp_admin.specs.Answers.{line_feed};
-ghost use Rattle.ntp_clerk.specs.CommandText.{address_text, algorithm_text, budget_named, command_text, hidden_key, key_behind, key_named, number_behind, AreKeyOctets, HasOctets, IsAddress, IsCommand, IsNumber, WritesCommand};
+ghost use Rattle.ntp_clerk.specs.CommandText.{algorithm_text, budget_named, command_text, key_behind, key_named, AreKeyOctets, HasOctets, IsAddress, IsCommand, IsNumber, WritesCommand};
 
 use ntp_mac::{Algorithm, Key};
 use ntp_service::{Address, Command};
@@ -71,7 +72,7 @@ fn line_text(alloc: Global, command: &Command, octets: &[u8]) -> Result<String, 
 
 /// The line of a command as anybody may see it: `KEY` stands in the place of the key. The memory for it is taken from `alloc`.
 pub fn command_shown(alloc: Global, command: &Command) -> Result<String, AllocError>
-    ensures { IfOk result (λ text. string_bytes text ≡ command_text hidden_key command.now ++ line_feed) }
+    ensures { IfOk result (λ text. string_bytes text ≡ command_text (codes "KEY") command.now ++ line_feed) }
 {
     let text = text_of(alloc, command, "KEY")?;
     format!(in alloc; "{text}\n")
@@ -112,7 +113,7 @@ fn key_named(command: &Command) -> Option<Key>
 }
 
 // The word of an address.
-#[tactic(auto, unfolding(crate::specs::CommandText::address_text))]
+#[tactic(auto, unfolding(ntp_admin::specs::Words::address_text))]
 fn address_word(alloc: Global, address: Address) -> Result<String, AllocError>
     ensures word { IfOk result (λ text. string_bytes text ≡ address_text address) }
     ensures octets { IsAddress address }

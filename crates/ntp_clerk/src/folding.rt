@@ -50,7 +50,7 @@ pub struct Folded {
 /// Why commands are not folded.
 #[derive(Clone, Copy, Debug, PartialEq, Eq)]
 pub enum FoldFault {
-    /// What is left would be others than these customers.
+    /// The folded commands would leave other customers than these.
     Other,
     /// Memory ran out.
     NoMemory,

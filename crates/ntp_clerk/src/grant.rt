@@ -2,7 +2,7 @@
 ghost use Rattle.std.specs.Prelude.{◌≡◌, ◌∷◌, ◌++◌, IfOk, Ok, string_bytes};
 ghost use Rattle.hex.specs.Hex.{encode_lower};
 ghost use Rattle.ntp_query.specs.KeyFile.{key_in_text};
-ghost use Rattle.ntp_clerk.specs.CommandText.{key_of, IsNewKey, IsNumber};
+ghost use Rattle.ntp_clerk.specs.CommandText.{key_made, IsNewKey, IsNumber};
 ghost use Rattle.ntp_clerk.specs.Grants.{chrony_algorithm, chrony_key, chrony_server, ntpsec_key};
 
 use crate::NewKey;
@@ -29,7 +29,7 @@ pub struct Grant<'a> {
 /// The text that a customer gets: a key file of chrony, from which the key is read under its number; and behind it, in comments, the
 /// lines of `chrony.conf`, and those of NTPsec's `ntp.keys` and `ntp.conf`. The memory for it is taken from `alloc`.
 pub fn customer_text(alloc: Global, grant: &Grant<'_>) -> Result<String, AllocError>
-    ensures { IfOk result (λ text. key_in_text grant.now.number.value (string_bytes text) ≡ Ok (key_of grant.now.key)) }
+    ensures { IfOk result (λ text. key_in_text grant.now.number.value (string_bytes text) ≡ Ok (key_made grant.now.key)) }
 {
     let key = chrony_key(alloc, grant.number, grant.key)?;
     let notes = notes(alloc, grant)?;

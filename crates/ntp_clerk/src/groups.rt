@@ -1,6 +1,6 @@
 //! Budgets that share a limit.
 ghost use Rattle.std.specs.Prelude.{◌≤◌};
-ghost use Rattle.ntp_clerk.specs.Door.{greatest_group, IsGroup, IsLeastPower};
+ghost use Rattle.ntp_clerk.specs.Door.{greatest_group, IsGroup};
 
 /// Which customers share a limit.
 #[derive(Clone, Copy)]
@@ -25,7 +25,7 @@ pub fn group_for(budget: u16, grouping: Grouping) -> u32
 
 // The least power of two that is no less than a budget.
 fn power_for(budget: u16) -> u32
-    ensures { IsLeastPower budget result }
+    ensures { IsGroup Grouping.Powers budget result }
 {
     let mut power = 1;
     for _exponent in 0u32..16 {

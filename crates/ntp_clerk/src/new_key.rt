@@ -1,6 +1,6 @@
 //! A key that is made for a customer.
 ghost use Rattle.std.specs.Prelude.{◌≡◌};
-ghost use Rattle.ntp_clerk.specs.CommandText.{key_of};
+ghost use Rattle.ntp_clerk.specs.CommandText.{key_made};
 
 use ntp_mac::{Algorithm, Key};
 
@@ -19,7 +19,7 @@ pub struct NewKey {
 impl NewKey {
     /// The key of a command that gives it.
     pub fn key(&self) -> Key
-        ensures { result ≡ key_of self.now }
+        ensures { result ≡ key_made self.now }
     {
         Key::new(self.algorithm, &self.octets).unwrap()
     }

@@ -1,13 +1,13 @@
 //! Key numbers that are free.
-ghost use Rattle.std.specs.Prelude.{IfSome, IfNone};
-ghost use Rattle.ntp_clerk.specs.Numbers.{IsLowestFree, AreAllHeld};
+ghost use Rattle.std.specs.Prelude.{ℕ, ◌≤◌, Contains, IfSome, IfNone};
+ghost use Rattle.ntp_clerk.specs.Numbers.{IsLowestFree};
 
 use std::num::NonZero;
 
 /// The lowest key number, 1 to 65,535, that is none of those that are held; nothing where all are.
 pub fn lowest_free(held: &[u16]) -> Option<NonZero<u16>>
     ensures free { IfSome result (λ number. IsLowestFree held.now number.value) }
-    ensures none { IfNone result (AreAllHeld held.now) }
+    ensures none { IfNone result ((number : ℕ) → 1 ≤ number → number ≤ 65535 → Contains held.now number) }
 {
     let mut number = 1;
     while number < u16::MAX && held.contains(&number) {

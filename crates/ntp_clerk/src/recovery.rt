@@ -1,7 +1,8 @@
 //! What is had back of a customer whose last commands are lost, by what the daemon is seen to have.
 ghost use Rattle.std.specs.Prelude.{◌≡◌, ◌≢◌, ◌↔◌, false, not, IsTrue, IfSome, filter, filter_map, option_to_list, unwrap_or};
+ghost use Rattle.std.specs.List.{list_any};
 ghost use Rattle.ntp_customer.specs.Customer.{CustomerState, IsCustomer};
-ghost use Rattle.ntp_clerk.specs.Recovery.{amended, are_alike, are_for_one, had_back, is_among, is_lost, keys_in, keys_of, look, look_after, look_at, AreApart, IsNeeded};
+ghost use Rattle.ntp_clerk.specs.Recovery.{amended, are_alike, are_for_one, had_back, is_lost, keys_in, keys_of, look, look_after, look_at, AreApart, IsNeeded};
 ghost use Rattle.ntp_clerk.specs.declared.recovery.Seen.TheVariants as seen;
 
 use ntp_mac::Algorithm;
@@ -150,7 +151,7 @@ fn other_budget(kept: u16, budget: u16) -> Option<u16>
 
 // Whether an address has a key.
 fn has_key(at: &Seen, key: &SeenKey) -> bool
-    ensures { result ≡ is_among (keys_of at.now) key.now }
+    ensures { result ≡ list_any (are_alike key.now) (keys_of at.now) }
 {
     match at {
         Seen::Nothing | Seen::Revoked => false,
@@ -160,7 +161,7 @@ fn has_key(at: &Seen, key: &SeenKey) -> bool
 
 // Whether an enrolment has a key.
 fn have_key(terms: &SeenTerms, key: &SeenKey) -> bool
-    ensures { result ≡ is_among (keys_in terms.now) key.now }
+    ensures { result ≡ list_any (are_alike key.now) (keys_in terms.now) }
 {
     if are_alike(key, &terms.older) {
         return true;

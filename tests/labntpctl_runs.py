@@ -1,8 +1,12 @@
 """Runs of labntpctl over files of a daemon, and a labntpd that serves by them."""
 import contextlib
+import ctypes
+import errno
 import os
+import platform
 import re
 import shutil
+import struct
 import subprocess
 
 import judging
@@ -12,6 +16,8 @@ from judging import Odd, PassedOver, file_of, register_of, same, until
 KEY = "c40b7a1d93e65f2288bb01d4e7f3a69c5d20e8f1"
 CUSTOMERS = [("192.0.2.1", 1, "sha1", KEY, 4), ("192.0.2.2", 3, "md5", "6b6579", 9), ("127.0.0.1", 4, "sha1", KEY[::-1], 65535)]
 FILE_LIMIT = 1_048_576
+# Of prctl(2).
+PR_SET_SECCOMP, PR_SET_NO_NEW_PRIVS, SECCOMP_MODE_FILTER = 22, 38, 2
 # The daemon that serves where one does.
 LABNTPD = ""
 
@@ -72,6 +78,28 @@ def fresh():
             shutil.rmtree(room(name))
         else:
             os.remove(room(name))
+
+
+# The number of the call fsync(2), by machine.
+FSYNC = {"x86_64": 74, "aarch64": 82}
+
+
+def without_stores():
+    """What a process begins with of which each call to have a file stored fails, as on a broken disk (seccomp(2))."""
+    call = FSYNC.get(platform.machine())
+    if call is None:
+        raise PassedOver(f"which call is fsync on {platform.machine()}?")
+    # Load the call's number; where it is that of fsync, fail with EIO; else allow it.
+    steps = [(0x20, 0, 0, 0), (0x15, 0, 1, call), (0x06, 0, 0, 0x50000 | errno.EIO), (0x06, 0, 0, 0x7FFF0000)]
+
+    def begin():
+        prctl = ctypes.CDLL(None, use_errno=True).prctl
+        filters = ctypes.create_string_buffer(b"".join(struct.pack("=HBBI", *it) for it in steps))
+        program = struct.pack("@HP", len(steps), ctypes.addressof(filters))
+        if prctl(PR_SET_NO_NEW_PRIVS, 1, 0, 0, 0) or prctl(PR_SET_SECCOMP, SECCOMP_MODE_FILTER, program):
+            raise OSError(ctypes.get_errno(), "prctl")
+
+    return begin
 
 
 @contextlib.contextmanager

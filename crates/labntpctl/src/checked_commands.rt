@@ -7,7 +7,7 @@ use crate::standing::{is_ended, write_unended};
 use labntpd_files::{
     PlacedWord, fault_meaning, faulty_place, key_wrong, refusal_meaning, shown_word, word_at,
 };
-use ntp_admin::{Command, LineFault, Status, apply_commands, memory_status};
+use ntp_admin::{Command, Escaped, LineFault, Status, apply_commands, memory_status};
 use ntp_host::{is_nearly_full, write_nearly_full};
 use ntp_reports::Both;
 use ntp_service::{LineOutcome, Observer, Refusal, TurnOutcome};
@@ -38,7 +38,7 @@ fn check_text(
     report: &mut Report,
 ) -> Result<Checked, Status> {
     if is_nearly_full(text.len()) {
-        let _ = write!(report.out, "warning: {path}: ");
+        let _ = write!(report.out, "warning: {}: ", Escaped(path));
         write_nearly_full(&mut report.out, text.len());
         let _ = writeln!(report.out, "");
     }

@@ -37,20 +37,46 @@ impl HeldFile {
         Err(io::Error::from(ErrorKind::WouldBlock))
     }
 
-    /// Appends a line to the file, which had this number of octets when it was read. Where that fails, the file is cut to what it was:
-    /// what stands there is no line yet, so the daemon has not carried it out.
+    /// Appends a line to the file, which had this number of octets when it was read. Where that fails, the file is cut to what it was,
+    /// unless somebody else wrote to it meanwhile: what stands there is no line yet, so the daemon has not carried it out.
     pub fn append(&mut self, octets: usize, line: &str) -> io::Result<()> {
-        if let Err(error) = self.file.write_all(line.as_bytes()) {
-            self.file.set_len(octets as u64)?;
-            return Err(error);
+        let mut written: usize = 0;
+        let done = write_counted(&mut self.file, line.as_bytes(), &mut written);
+        if done.is_err() && self.has_octets(octets.saturating_add(written)) {
+            let _ = self.file.set_len(octets as u64);
         }
-        Ok(())
+        done
+    }
+
+    /// Whether the file has this number of octets.
+    pub fn has_octets(&self, octets: usize) -> bool {
+        match self.file.metadata() {
+            Ok(metadata) => metadata.len() == octets as u64,
+            Err(_) => false,
+        }
     }
 
     /// Has the system store what was appended.
     pub fn store(&self) -> io::Result<()> {
         self.file.sync_all()
     }
+}
+
+// Writes octets, and counts those that were written.
+fn write_counted(file: &mut File, octets: &[u8], written: &mut usize) -> io::Result<()> {
+    for _ in 0..u64::MAX {
+        let left = octets.get(*written..).unwrap_or(&[]);
+        if left.is_empty() {
+            break;
+        }
+        match file.write(left) {
+            Ok(0) => return Err(io::Error::from(ErrorKind::WriteZero)),
+            Ok(count) => *written = written.saturating_add(count),
+            Err(error) if error.kind() == ErrorKind::Interrupted => {}
+            Err(error) => return Err(error),
+        }
+    }
+    Ok(())
 }
 
 // Whether nobody else held the file, and this opening of it does now.

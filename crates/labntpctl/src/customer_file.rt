@@ -5,10 +5,11 @@ use ntp_clerk::{Grant, NewKey, customer_text};
 use ntp_query::Server;
 use ntp_service::Address;
 use std::alloc::{AllocError, Global};
-use std::fs::{File, OpenOptions};
+use std::fs::{self, File, OpenOptions};
 use std::io::{self, Write};
 use std::num::NonZero;
 use std::os::unix::fs::OpenOptionsExt;
+use std::path::Path;
 
 /// The mode of the file: its owner alone may read it.
 const OWNERS: u32 = 0o600;
@@ -81,9 +82,32 @@ pub fn new_for_owner(rt: &HostRuntime, path: &str) -> io::Result<File> {
         .open(rt, path)
 }
 
-/// Writes a new file that its owner alone may read, and has the system store it.
+/// Writes a new file that its owner alone may read, and has the system store it with its name. Where that fails, none is left.
 pub fn write_new(rt: &HostRuntime, path: &str, text: &str) -> io::Result<()> {
     let mut file = new_for_owner(rt, path)?;
+    let done = write_stored(rt, &mut file, path, text);
+    if done.is_err() {
+        let _ = fs::remove_file(rt, path);
+    }
+    done
+}
+
+// Writes into the new file at a path, and has the system store it with its name.
+fn write_stored(rt: &HostRuntime, file: &mut File, path: &str, text: &str) -> io::Result<()> {
     file.write_all(text.as_bytes())?;
-    file.sync_all()
+    file.sync_all()?;
+    store_name(rt, path)
+}
+
+/// Has the system store which file stands at a path.
+pub fn store_name(rt: &HostRuntime, path: &str) -> io::Result<()> {
+    fs::open(rt, directory_of(path))?.sync_all()
+}
+
+// The directory of a path.
+fn directory_of(path: &str) -> &str {
+    match Path::new(path).parent() {
+        Some(parent) if !parent.as_str().is_empty() => parent.as_str(),
+        _ => ".",
+    }
 }

@@ -1,6 +1,7 @@
 //! Who is enrolled.
 
 use crate::differing::differences;
+use crate::faults::made;
 use crate::places::FilesNamed;
 use crate::reported::{Reported, reported_in, reported_text};
 use crate::standing::{Standing, standing_at};
@@ -49,8 +50,7 @@ fn listed_for(rt: &HostRuntime, configuration: &Configuration, json: bool) -> Re
     match reported_by(rt, configuration)? {
         Some(text) => {
             write_lines(rt, text.as_str(), json)?;
-            compare(rt, text.as_str(), register, commands);
-            Ok(())
+            compare(rt, text.as_str(), register, commands)
         }
         None => listed_by(rt, register, Some(commands), json),
     }
@@ -77,31 +77,22 @@ fn write_lines(rt: &HostRuntime, text: &str, json: bool) -> Result<(), Status> {
     }
 }
 
-// Tells in which the daemon's file and the others differ. Where these have a fault, that is told.
-fn compare(rt: &HostRuntime, text: &str, register: &str, commands: &str) {
+// Tells in which the daemon's file and the others differ. A fault of one of them is told, and gives the exit status.
+fn compare(rt: &HostRuntime, text: &str, register: &str, commands: &str) -> Result<(), Status> {
     let mut faults = start_lines(rt);
-    let Ok(daemon) = reported_in(rt, text) else {
-        return;
-    };
-    let Ok(files) = standing_at(rt, rt.alloc(), register, Some(commands), &mut faults) else {
-        return;
-    };
-    tell_differences(rt, &daemon, &files);
+    let daemon = reported_in(rt, text)?;
+    let files = standing_at(rt, rt.alloc(), register, Some(commands), &mut faults)?;
+    tell_differences(rt, &daemon, &files)
 }
 
 // Tells each difference between the daemon's customers and those of the files.
-fn tell_differences(rt: &HostRuntime, daemon: &[Reported], files: &Standing) {
+fn tell_differences(rt: &HostRuntime, daemon: &[Reported], files: &Standing) -> Result<(), Status> {
     let mut faults = start_lines(rt);
-    match differences(rt.alloc(), daemon, files) {
-        Ok(lines) => {
-            for line in lines.as_str().lines() {
-                let _ = writeln!(faults, "{line}");
-            }
-        }
-        Err(_) => {
-            memory_status(&mut faults);
-        }
+    let lines = made(rt, differences(rt.alloc(), daemon, files))?;
+    for line in lines.as_str().lines() {
+        let _ = writeln!(faults, "{line}");
     }
+    Ok(())
 }
 
 // The lines of the customers by their files alone.

@@ -1,6 +1,6 @@
 //! What is to be appended for a change, by what the files have come to.
 
-use crate::faults::{judged, made};
+use crate::faults::{judged, made, too_long};
 use crate::ordered::{Change, Ordered};
 use crate::standing::{Standing, standing_at};
 use labntpd_assembly::start_lines;
@@ -88,11 +88,7 @@ fn line_of(rt: &HostRuntime, command: &Command, key: &Option<NewKey>) -> Result<
 // Judges that a line, which ends with its line feed, may stand in the commands file at a path, and that the daemon will not refuse it.
 fn judge(rt: &HostRuntime, path: &str, standing: &mut Standing, line: &str) -> Result<(), Status> {
     if standing.octets.saturating_add(line.len()) > MOST_FILE_OCTETS {
-        let _ = writeln!(
-            start_lines(rt),
-            "{path}: at most {MOST_FILE_OCTETS} octets are wanted"
-        );
-        return Err(Status::TextFaulty);
+        return Err(too_long(rt, path));
     }
     match parse_command(line.trim_end_matches('\n')) {
         Ok(command) => match standing.service.command(&command) {

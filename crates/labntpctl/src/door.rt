@@ -5,7 +5,7 @@ use crate::door_rules::{Source, rules_text};
 use crate::standing::{Standing, standing_at};
 use labntpd_assembly::{configuration_at, start_lines};
 use labntpd_files::{Configuration, Listen};
-use ntp_admin::{MOST_FILE_OCTETS, Status, failed_status, memory_status, write_status};
+use ntp_admin::{Escaped, MOST_FILE_OCTETS, Status, failed_status, memory_status, write_status};
 use ntp_host::{CommandsFile, pause, read_regular_file, replace_file};
 use ntp_port::CommandsSource;
 use ntp_query::Server;
@@ -96,7 +96,8 @@ fn server_for(
             let config = asked.config;
             let _ = writeln!(
                 start_lines(rt),
-                "{config}: `listen` is no address of this host: --address ADDRESS is wanted"
+                "{}: `listen` is no address of this host: --address ADDRESS is wanted",
+                Escaped(config)
             );
             Err(Status::TextFaulty)
         }

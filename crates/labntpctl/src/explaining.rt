@@ -3,7 +3,9 @@
 use crate::standing::{Standing, standing_at};
 use labntpd_assembly::{configuration_at, start_lines};
 use labntpd_files::{Configuration, Listen};
-use ntp_admin::{Outcome, Status, failed_status, memory_status, print_answer, write_status};
+use ntp_admin::{
+    Escaped, Outcome, Status, failed_status, memory_status, print_answer, write_status,
+};
 use ntp_clerk::{Capture, Datagram, Record, capture_in, datagram_in, next_record, packet_in};
 use ntp_host::{moment_now, read_regular_file};
 use ntp_mac::Algorithm;
@@ -58,8 +60,14 @@ fn explain_by(
         Explained::Datagram { octets, from } => datagram_status(rt, explainer, octets, from)?,
         Explained::Capture(path) => capture_status(rt, explainer, path, port)?,
     };
+    flushed(rt, explainer)?;
+    Ok(status)
+}
+
+// Has what was told written; else tells that a write failed, and gives the exit status.
+fn flushed(rt: &HostRuntime, explainer: &mut Explainer) -> Result<(), Status> {
     match explainer.out.flush() {
-        Ok(()) => Ok(status),
+        Ok(()) => Ok(()),
         Err(_) => Err(write_status(&mut start_lines(rt))),
     }
 }
@@ -131,7 +139,7 @@ fn capture_status(
     };
     let records = told(rt, explainer.capture(rt.alloc(), capture, port))?;
     if records.is_cut {
-        let _ = explainer.out.flush();
+        flushed(rt, explainer)?;
         let record = records.whole.saturating_add(1);
         return Err(faulty(rt, path, format_args!("record {record} is cut short")));
     }
@@ -153,7 +161,7 @@ fn capture_octets(rt: &HostRuntime, path: &str) -> Result<Vec<u8>, Status> {
 
 // Tells a fault of a file, and gives the exit status.
 fn faulty<D: Display + Drop>(rt: &HostRuntime, path: &str, fault: D) -> Status {
-    let _ = writeln!(start_lines(rt), "{path}: {fault}");
+    let _ = writeln!(start_lines(rt), "{}: {fault}", Escaped(path));
     Status::TextFaulty
 }
 

@@ -9,11 +9,11 @@ use crate::retiring::is_wanted;
 use crate::waiting::{GOOD, answer_in_time, is_answered};
 use labntpd_assembly::{configuration_at, start_lines};
 use labntpd_files::Configuration;
-use ntp_admin::{Command, Status, write_status};
+use ntp_admin::{Command, Escaped, Status, failed_status, write_status};
 use std::alloc::{AllocError, Global};
 use std::fmt::Display;
 use std::fs;
-use std::io::{self, Write};
+use std::io::{self, ErrorKind, Write};
 
 /// Makes a change, tells what came of it, and gives the exit status. A fault is told in one line.
 pub fn order_status(rt: &HostRuntime, asked: &Ordered<'_>) -> Status {
@@ -51,17 +51,44 @@ fn carried_out(
     configuration: &Configuration,
 ) -> Result<Status, Status> {
     let files = made(rt, answers_files(rt.alloc(), asked, configuration))?;
+    let path = configuration.commands.as_str();
     let appended = append(rt, asked, configuration, &files)?;
-    tell_appended(rt, &appended)?;
+    let followed = followed(rt, path, &files, asked.wait, &appended);
+    match &appended.stored {
+        Ok(()) => followed,
+        Err(error) => Err(failed_status(path, error, &mut start_lines(rt))),
+    }
+}
+
+// Tells of a line that was appended, and waits for the answer to it.
+fn followed(
+    rt: &HostRuntime,
+    path: &str,
+    files: &[&str],
+    wait: u64,
+    appended: &Appended,
+) -> Result<Status, Status> {
+    tell_appended(rt, appended)?;
+    if appended.is_alone {
+        waited_for(rt, files, wait, appended)
+    } else {
+        Ok(not_alone(rt, path, &appended.decided))
+    }
+}
+
+// Waits for the answer to a line whose number is known, and tells it.
+fn waited_for(
+    rt: &HostRuntime,
+    files: &[&str],
+    wait: u64,
+    appended: &Appended,
+) -> Result<Status, Status> {
     let number = appended.decided.number;
     if appended.is_answered {
         return Ok(not_answered(rt, number));
     }
-    match made(
-        rt,
-        answer_in_time(rt, rt.alloc(), &files, number, asked.wait),
-    )? {
-        Some(answer) => told_answer(rt, &appended, answer.as_str()),
+    match answer_in_time(rt, files, number, wait)? {
+        Some(answer) => told_answer(rt, appended, answer.as_str()),
         None => Ok(not_answered(rt, number)),
     }
 }
@@ -74,6 +101,10 @@ struct Appended {
     given: Option<String>,
     // Whether an answer to a line of its number stood there before, which is none to it.
     is_answered: bool,
+    // Whether nobody else wrote to the file since it was read, so that the line has the number that was decided on.
+    is_alone: bool,
+    // Whether the system stored it.
+    stored: io::Result<()>,
 }
 
 // Appends the line of a change, while no other clerk appends.
@@ -86,30 +117,31 @@ fn append(
     let path = configuration.commands.as_str();
     let mut held = judged(rt, path, HeldFile::hold(rt, path))?;
     let decided = decide(rt, asked, configuration)?;
-    let is_answered = made(rt, is_answered(rt, rt.alloc(), files, decided.number))?;
+    let is_answered = is_answered(rt, files, decided.number)?;
     let given = give(rt, asked, configuration, &decided)?;
     judged(rt, path, append_line(rt, &mut held, &decided, &given))?;
+    let octets = decided.octets.saturating_add(decided.line.len());
     Ok(Appended {
         decided,
         given,
         is_answered,
+        is_alone: held.has_octets(octets),
+        stored: held.store(),
     })
 }
 
-// Appends a line to the commands file, and has the system store it. Where it is not appended, what was written for the customer goes.
+// Appends a line to the commands file. Where that fails, what was written for the customer goes.
 fn append_line(
     rt: &HostRuntime,
     held: &mut HeldFile,
     decided: &Decided,
     given: &Option<String>,
 ) -> io::Result<()> {
-    match held.append(decided.octets, decided.line.as_str()) {
-        Ok(()) => held.store(),
-        Err(error) => {
-            take_back(rt, given);
-            Err(error)
-        }
+    let done = held.append(decided.octets, decided.line.as_str());
+    if done.is_err() {
+        let _ = take_back(rt, given);
     }
+    done
 }
 
 // A change, once it is confirmed: a clerk is asked before a key is retired, while others may append.
@@ -192,16 +224,24 @@ fn give(
     Ok(Some(path))
 }
 
-// Takes back what the customer does not get.
-fn take_back(rt: &HostRuntime, given: &Option<String>) {
-    if let Some(path) = given {
-        let _ = fs::remove_file(rt, path.as_str());
+// Takes back what the customer does not get. Where it stays, that is told and gives the exit status.
+fn take_back(rt: &HostRuntime, given: &Option<String>) -> Result<(), Status> {
+    let Some(path) = given else {
+        return Ok(());
+    };
+    match fs::remove_file(rt, path.as_str()) {
+        Err(error) if error.kind() != ErrorKind::NotFound => {
+            Err(failed_status(path.as_str(), &error, &mut start_lines(rt)))
+        }
+        _ => Ok(()),
     }
 }
 
-// Tells which line was appended, and where that stands which the customer gets.
+// Tells which line was appended, where its number is known, and where that stands which the customer gets.
 fn tell_appended(rt: &HostRuntime, appended: &Appended) -> Result<(), Status> {
-    show(rt, &appended.decided)?;
+    if appended.is_alone {
+        show(rt, &appended.decided)?;
+    }
     match &appended.given {
         None => Ok(()),
         Some(path) => tell(rt, format_args!("for the customer: {path}\n")),
@@ -215,7 +255,7 @@ fn told_answer(rt: &HostRuntime, appended: &Appended, answer: &str) -> Result<St
     if answer == GOOD {
         return Ok(Status::Done);
     }
-    take_back(rt, &appended.given);
+    take_back(rt, &appended.given)?;
     Ok(Status::TextFaulty)
 }
 
@@ -224,6 +264,16 @@ fn not_answered(rt: &HostRuntime, number: u64) -> Status {
     let _ = writeln!(
         start_lines(rt),
         "line {number}: no answer; where labntpd does not run, it carries the line out at its next start"
+    );
+    Status::IoFailed
+}
+
+// Tells that somebody else wrote to the commands file at a path while a line was appended, and gives the exit status.
+fn not_alone(rt: &HostRuntime, path: &str, decided: &Decided) -> Status {
+    let (path, shown) = (Escaped(path), decided.shown.trim_end_matches('\n'));
+    let _ = writeln!(
+        start_lines(rt),
+        "{path}: somebody else wrote to the file at the same time: {shown}: the line stands there, and its number is not known; look at the answers"
     );
     Status::IoFailed
 }

@@ -1,7 +1,7 @@
 //! New files beside the old ones, or in their place.
 
 use crate::commands_file::HeldFile;
-use crate::customer_file::new_for_owner;
+use crate::customer_file::{new_for_owner, store_name};
 use crate::faults::{judged, made};
 use crate::folded_pair::FoldedPair;
 use crate::folding::{PairPaths, others};
@@ -20,6 +20,10 @@ use std::time::SystemTime;
 
 /// The bits of a mode that say who may do what.
 const MODE_BITS: u32 = 0o7777;
+
+/// What is told where only some of the new files are in place.
+const UNDONE: &str =
+    "Not all new files are in place; those that stand there make the same customers. Fold again.\n";
 
 /// Names beside a file.
 #[derive(Drop)]
@@ -90,29 +94,51 @@ pub fn put_in_place(
     old: &Standing,
 ) -> Result<(), Status> {
     let names = made(rt, names_at(rt.alloc(), paths, time_now(rt)?))?;
-    if let Err(status) = placed(rt, paths, pair, old, &names) {
-        for left in [&names.register.new, &names.commands.new, &names.between] {
-            let _ = fs::remove_file(rt, left.as_str());
+    let held = match begun(rt, paths, pair, old, &names) {
+        Ok(held) => held,
+        Err(status) => {
+            remove_new(rt, &names);
+            return Err(status);
         }
-        return Err(status);
+    };
+    let done = ended(rt, paths, &names);
+    drop(held);
+    if done.is_err() {
+        remove_new(rt, &names);
     }
+    tell_kept(rt, &names, done.is_ok())?;
+    done
+}
+
+// Removes the new files that were not put in place.
+fn remove_new(rt: &HostRuntime, names: &Names) {
+    for left in [&names.register.new, &names.commands.new, &names.between] {
+        let _ = fs::remove_file(rt, left.as_str());
+    }
+}
+
+// Tells where the old files are kept, and what stands in their place: all of the new ones, or not.
+fn tell_kept(rt: &HostRuntime, names: &Names, is_done: bool) -> Result<(), Status> {
     let (register, commands) = (names.register.kept.as_str(), names.commands.kept.as_str());
+    tell(rt, format_args!("kept: {register}\nkept: {commands}\n"))?;
+    if !is_done {
+        tell(rt, UNDONE)?;
+    }
     tell(
         rt,
-        format_args!(
-            "kept: {register}\nkept: {commands}\nlabntpd reads the new files at its next start, and carries out no further line before.\n"
-        ),
+        "labntpd reads the new files at its next start, and carries out no further line before.\n",
     )
 }
 
-// Writes the new files, judges each pair that will stand there at a moment, and puts them in place.
-fn placed(
+// Writes the new files, judges each pair that will stand there at a moment, keeps the old files, and puts the first new one in place.
+// Gives the commands files that are held.
+fn begun(
     rt: &HostRuntime,
     paths: PairPaths<'_>,
     pair: &FoldedPair,
     old: &Standing,
     names: &Names,
-) -> Result<(), Status> {
+) -> Result<(HeldFile, HeldFile), Status> {
     let (register, commands) = (names.register.new.as_str(), names.commands.new.as_str());
     let between = names.between.as_str();
     write_again(rt, register, pair.register.as_str(), paths.register)?;
@@ -123,16 +149,15 @@ fn placed(
     judge(rt, register, commands, old)?;
     // No clerk appends to a file that another one takes the place of.
     let held = (hold(rt, between)?, hold(rt, commands)?);
-    let done = moved(rt, paths, names);
-    drop(held);
-    done
-}
-
-// Keeps the old files, and puts the new ones in their place.
-fn moved(rt: &HostRuntime, paths: PairPaths<'_>, names: &Names) -> Result<(), Status> {
     keep(rt, paths.register, names.register.kept.as_str())?;
     keep(rt, paths.commands, names.commands.kept.as_str())?;
-    rename(rt, names.between.as_str(), paths.commands)?;
+    judged(rt, paths.commands, fs::rename(rt, between, paths.commands))?;
+    Ok(held)
+}
+
+// Has the system store the first new file's place, and puts the others in theirs.
+fn ended(rt: &HostRuntime, paths: PairPaths<'_>, names: &Names) -> Result<(), Status> {
+    judged(rt, paths.commands, store_name(rt, paths.commands))?;
     rename(rt, names.register.new.as_str(), paths.register)?;
     rename(rt, names.commands.new.as_str(), paths.commands)
 }
@@ -172,15 +197,7 @@ fn rename(rt: &HostRuntime, from: &str, to: &str) -> Result<(), Status> {
 // The same, with the error of the system.
 fn renamed(rt: &HostRuntime, from: &str, to: &str) -> io::Result<()> {
     fs::rename(rt, from, to)?;
-    fs::open(rt, directory_of(to))?.sync_all()
-}
-
-// The directory of a path.
-fn directory_of(path: &str) -> &str {
-    match Path::new(path).parent() {
-        Some(parent) if !parent.as_str().is_empty() => parent.as_str(),
-        _ => ".",
-    }
+    store_name(rt, to)
 }
 
 // Writes a new file with the owner and the mode of another one. What is left of an earlier run goes.
@@ -241,6 +258,9 @@ fn time_now(rt: &HostRuntime) -> Result<Timestamp, Status> {
         .map_or(0, |since| since.as_secs());
     match Timestamp::from_second(i64::try_from(seconds).unwrap_or(0)) {
         Ok(time) => Ok(time),
-        Err(_) => Err(Status::IoFailed),
+        Err(_) => {
+            let _ = writeln!(start_lines(rt), "clock: a time from 1970 to 9999 is wanted");
+            Err(Status::IoFailed)
+        }
     }
 }

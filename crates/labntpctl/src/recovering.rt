@@ -2,14 +2,14 @@
 
 use crate::customer_file::write_new;
 use crate::differing::{add_difference, add_unknown, left_at};
-use crate::faults::{judged, made};
+use crate::faults::{judged, made, too_long};
 use crate::ordering::tell;
 use crate::recovered_lines::{HadBack, answered_lines, had_back, is_amended, whole_text};
 use crate::reported::{Reported, reported_in, reported_text};
 use crate::standing::{Standing, standing_by};
 use labntpd_assembly::{configuration_at, start_lines};
 use labntpd_files::Configuration;
-use ntp_admin::{MOST_FILE_OCTETS, Status, failed_status};
+use ntp_admin::{Escaped, MOST_FILE_OCTETS, Status, failed_status};
 use ntp_clerk::are_same;
 use ntp_host::read_regular_file;
 use std::alloc::{AllocError, Global};
@@ -157,7 +157,8 @@ fn daemon_customers(
     let Some(path) = &configuration.customers else {
         let _ = writeln!(
             start_lines(rt),
-            "{config}: customers: the path of labntpd's customers file is wanted"
+            "{}: customers: the path of labntpd's customers file is wanted",
+            Escaped(config)
         );
         return Err(Status::TextFaulty);
     };
@@ -166,7 +167,8 @@ fn daemon_customers(
         None => {
             let _ = writeln!(
                 start_lines(rt),
-                "{path}: labntpd's customers file is wanted, and is not there"
+                "{}: labntpd's customers file is wanted, and is not there",
+                Escaped(path.as_str())
             );
             Err(Status::IoFailed)
         }
@@ -180,22 +182,27 @@ fn backup_for(
     commands: &str,
 ) -> Result<String, Status> {
     let path = asked.backup.unwrap_or(commands);
-    let octets = match read_regular_file(rt, rt.alloc(), path, MOST_FILE_OCTETS as u32) {
-        Ok(octets) => octets,
-        Err(error) if asked.backup.is_none() && error.kind() == ErrorKind::NotFound => {
-            Vec::new(rt.alloc())
-        }
-        Err(error) => return Err(failed_status(path, &error, &mut start_lines(rt))),
-    };
+    let octets = backup_octets(rt, path, asked.backup.is_none())?;
     let text = made(rt, whole_lines(rt.alloc(), &octets))?;
     let (kept, behind) = (text.len(), octets.len().saturating_sub(text.len()));
     if behind > 0 {
+        let path = Escaped(path);
         tell(
             rt,
             format_args!("{path}: {kept} octets are whole lines; {behind} behind them are not\n"),
         )?;
     }
     Ok(text)
+}
+
+// The octets of the backup at a path: none where it may be missing and is.
+fn backup_octets(rt: &HostRuntime, path: &str, may_miss: bool) -> Result<Vec<u8>, Status> {
+    match read_regular_file(rt, rt.alloc(), path, MOST_FILE_OCTETS as u32) {
+        Ok(octets) if octets.len() <= MOST_FILE_OCTETS => Ok(octets),
+        Ok(_) => Err(too_long(rt, path)),
+        Err(error) if may_miss && error.kind() == ErrorKind::NotFound => Ok(Vec::new(rt.alloc())),
+        Err(error) => Err(failed_status(path, &error, &mut start_lines(rt))),
+    }
 }
 
 // The whole lines at the beginning of these octets, as far as they are text.
@@ -244,11 +251,7 @@ fn text_of(
     if text.len() <= MOST_FILE_OCTETS {
         return Ok(text);
     }
-    let _ = writeln!(
-        start_lines(rt),
-        "{path}: at most {MOST_FILE_OCTETS} octets are wanted"
-    );
-    Err(Status::TextFaulty)
+    Err(too_long(rt, path))
 }
 
 // What the new file makes, beside what the daemon has.

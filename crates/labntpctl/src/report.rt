@@ -1,6 +1,6 @@
 //! What `check` tells: a line for each fault and for each warning.
 
-use ntp_admin::Status;
+use ntp_admin::{Escaped, Status};
 use std::alloc::{AllocError, Global};
 use std::fmt::Display;
 use std::io::{BufWriter, Stdout, Write};
@@ -34,13 +34,13 @@ impl Report {
 
     /// Tells a fault of a file.
     pub fn fault<D: Display + Drop>(&mut self, path: &str, what: D) {
-        let _ = writeln!(self.out, "{path}: {what}");
+        let _ = writeln!(self.out, "{}: {what}", Escaped(path));
         self.take(Status::TextFaulty);
     }
 
     /// Tells what is hardly meant in a file.
     pub fn warning<D: Display + Drop>(&mut self, path: &str, what: D) {
-        let _ = writeln!(self.out, "warning: {path}: {what}");
+        let _ = writeln!(self.out, "warning: {}: {what}", Escaped(path));
     }
 
     /// Tells what was found in a file, in the order of its lines.

@@ -2,7 +2,7 @@
 
 use crate::table::{NoRow, no_row_status, number_at, object_in, text_at};
 use labntpd_assembly::start_lines;
-use ntp_admin::{Status, failed_status, words};
+use ntp_admin::{Escaped, Status, failed_status, words};
 use ntp_clerk::{Seen, SeenKey, SeenTerms};
 use ntp_host::read_regular_file;
 use ntp_service::Address;
@@ -10,7 +10,7 @@ use serde_json::Value;
 use std::alloc::Global;
 use std::io::{ErrorKind, Write};
 
-/// How many octets a customers file has at most that is read.
+/// How many octets a file of the daemon has at most that is read.
 const MOST_OCTETS: u32 = 268_435_456;
 
 /// A customer of the daemon.
@@ -24,7 +24,8 @@ pub struct Reported {
     pub line: u64,
 }
 
-/// The text of the daemon's customers file at a path, if it is there. A fault is told in one line, and gives the exit status.
+/// The text of the daemon's customers file at a path, or of its answers file, if it is there. A fault is told in one line, and gives the
+/// exit status.
 pub fn reported_text(rt: &HostRuntime, path: &str) -> Result<Option<String>, Status> {
     let mut faults = start_lines(rt);
     let octets = match read_regular_file(rt, rt.alloc(), path, MOST_OCTETS) {
@@ -35,7 +36,7 @@ pub fn reported_text(rt: &HostRuntime, path: &str) -> Result<Option<String>, Sta
     match String::from_utf8(octets) {
         Ok(text) => Ok(Some(text)),
         Err(_) => {
-            let _ = writeln!(faults, "{path}: this is no UTF-8");
+            let _ = writeln!(faults, "{}: this is no UTF-8", Escaped(path));
             Err(Status::TextFaulty)
         }
     }

@@ -3,7 +3,8 @@
 use crate::history::History;
 use labntpd_assembly::{ReadRegister, register_at};
 use ntp_admin::{
-    Command, Loaded, MOST_FILE_OCTETS, Status, apply_commands, failed_status, memory_status,
+    Command, Escaped, Loaded, MOST_FILE_OCTETS, Status, apply_commands, failed_status,
+    memory_status,
 };
 use ntp_host::{begin_commands, read_regular_file};
 use ntp_reply::Reference;
@@ -175,7 +176,8 @@ pub fn write_unended<F: Write>(faults: &mut F, path: &str, lines: u64) {
     let line = lines.saturating_add(1);
     let _ = writeln!(
         faults,
-        "{path}: line {line}: a line feed at its end is wanted"
+        "{}: line {line}: a line feed at its end is wanted",
+        Escaped(path)
     );
 }
 

@@ -5,8 +5,8 @@
     .ci/run --whole      tries every wrong body
 
 1. Whether `tools/belief` counts rightly, over a small repository; what the pages say of the sources that is counted, drawn or named:
-   `tools/belief --check`, `tools/crates --check` and `tests/pages --check`, a case each; and `tools/layout`, since `rt ci` says only at the
-   end of an hour that a file is not laid out.
+   `tools/belief --check`, `tools/crates --check` and `tests/pages --check`, a case each; `tools/wrong_bodies --check`, whether the edits fit
+   the sources; and `tools/layout`, since `rt ci` says only at the end of an hour that a file is not laid out.
 2. `rt ci`, the toolchain's gate, where all is laid out: every proof and test from nothing, the wrong bodies of must-fail/, and each program
    by two compilers.
 3. `tests/run`: the programs, as they were built, from outside. It waits for most of its time.
@@ -38,8 +38,8 @@ sys.path.insert(0, f"{TOP}/tools")
 from processes import Table, end_all, take_orphans
 from rooms import Ticker, crates_of
 
-# What compares pages with the sources.
-COMPARED = ("tools/belief", "tools/crates", "tests/pages")
+# What compares pages and edits with the sources.
+COMPARED = ("tools/belief", "tools/crates", "tools/wrong_bodies", "tests/pages")
 # After how many seconds without a line one tells how far it is.
 SILENCE = 10
 COUNTS = re.compile(r"(\d+) passed, (\d+) failed(?:, (\d+) skipped)?")
@@ -114,9 +114,9 @@ class Gate:
 
     def part(self, name, words, is_beside=False):
         """Runs a part, passes on what it prints but its counts, and counts it. Without a line of counts it is a case. What one prints that
-        runs beside another is passed on when it has ended."""
+        runs beside another is passed on when it has ended, but for failures."""
         lines = []
-        say = lines.append if is_beside else self.say
+        say = (lambda line: (self.say if line.startswith("FAILED ") else lines.append)(line)) if is_beside else self.say
         say(f"== {name}")
         clock, counted = time.monotonic(), None
         how = {"stdin": subprocess.DEVNULL, "stdout": subprocess.PIPE, "stderr": subprocess.STDOUT, "errors": "replace"}

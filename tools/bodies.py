@@ -144,6 +144,25 @@ def read_edit(label, path, folder):
         return Edit(label, {}, getattr(error, "strerror", None) or str(error))
 
 
+# A call of a function by its bare name, and what is written like one. The language itself has `drop`.
+CALL, NO_FUNCTIONS = re.compile(r"(?<![\w.:!'])([a-z_]\w*)\("), {"drop", "fn", "for", "if", "in", "match", "return", "while"}
+
+
+def unknown_calls(edit, folder):
+    """The functions that an edit of a crate in a folder calls by their bare names, and that its files do not name: `rt` would say so too,
+    once the crate is checked."""
+    texts = {}
+    for file in {file for file, _ in edit.lines if file.endswith(".rt")}:
+        with open(f"{folder}/{file}", encoding="utf-8") as it:
+            lines = it.read().split("\n")
+        texts[file] = "\n".join(edit.lines.get((file, number), line) for number, line in enumerate(lines))
+    for (file, _), line in sorted(edit.lines.items()):
+        code = re.sub(r'"(\\.|[^"\\])*"', '""', line).partition("//")[0]
+        for name in set(CALL.findall(code)) - NO_FUNCTIONS if file in texts else ():
+            if not re.search(rf"\b(fn|let|mut) {name}\b|\b{name}: |^\s*(pub(\([^)]*\))? )?use [^;]*\b{name}\b", texts[file], re.M):
+                yield name
+
+
 def closures_of(name, function):
     """What the printed names of the closures of a function begin with, whose own is this one."""
     crate, *path = name.split("::")

@@ -139,6 +139,12 @@ def begins(lines, words):
 def cases(top):
     """The name of each case, and what is wrong with what was seen, or nothing."""
     digests = f"{top}/digests"
+    write(edit_file(top, "small/no_such_function"), "file: src/lib.rt\nold:     x.min(7)\nnew:     least(x, 7)\n")
+    lines, status = ran(top, "--check")
+    told = ("small/wrong-bodies/no_such_function.edit: its file names no function least", "numbers/wrong-bodies/no_such_line.edit: ")
+    is_told = all(begins(lines, f"FAILED {it}") == 1 for it in told) and lines[-1].endswith(" passed, 2 failed") and status == 1
+    yield "checked", "" if is_told else "\n".join(lines)
+    os.remove(edit_file(top, "small/no_such_function"))
     lines, status = ran(top)
     for name, (_, said) in NOT_REFUSED.items():
         crate, _, edit = name.partition("/")

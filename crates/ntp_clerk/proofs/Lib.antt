@@ -10,3 +10,4 @@ mod Standings
 mod Amended
 mod Windows
 mod Passing
+mod Frames

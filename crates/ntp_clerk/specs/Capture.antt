@@ -1,5 +1,5 @@
 -- A capture file in pcap form (pcap-savefile(5)).
-use Rattle.std.specs.Prelude.{◌≡◌, ℕ, ◌==◌, if◌then◌else◌, List, ◌++◌, length, drop, Option, None, Some}
+use Rattle.std.specs.Prelude.{◌≡◌, ◌≤◌, ℕ, ◌==◌, if◌then◌else◌, List, ◌++◌, length, drop, Option, None, Some}
 use Rattle.ntp_clerk.specs.Wide.{four_octets, four_turned}
 use Rattle.ntp_clerk.specs.Link.{link_of}
 use Rattle.ntp_clerk.specs.declared.capture.Order.{Order}
@@ -23,6 +23,7 @@ number_at LittleEndian octets at = four_turned octets at
 
 -- a file's header of 24 octets: its order, its type of link, and the records behind it (pcap-savefile(5))
 pub record HasHead (octets : List ℕ) (order : Order) (link : Link) (records : List ℕ) : Type 0 where
+  pub whole : 24 ≤ length octets
   pub magic : order_of (four_octets octets 0) ≡ Some order
   pub type : link_of (number_at order octets 20) ≡ Some link
   pub behind : records ≡ drop 24 octets

@@ -1,5 +1,7 @@
 //! A capture file in pcap form: its header, and its records in order.
-ghost use Rattle.std.specs.Prelude.{◌≡◌, ◌≤◌, ◌<◌, ◌+◌, List, ℕ, length, IfOk, IfSome, IfNone};
+ghost use Rattle.std.specs.Prelude.{◌≡◌, ◌↔◌, ◌≤◌, ◌<◌, ◌+◌, List, ℕ, length, Some, None, Err, IfOk, IfErr, IfSome, IfNone};
+ghost use Rattle.ntp_clerk.specs.Wide.{four_octets};
+ghost use Rattle.ntp_clerk.specs.Link.{link_of};
 ghost use Rattle.ntp_clerk.specs.Capture.{order_of, number_at, HasHead, IsRecord};
 
 use crate::link::{Link, link_of};
@@ -79,7 +81,10 @@ impl fmt::Display for CaptureFault {
 
 /// The capture file that has these octets.
 pub fn capture_in(octets: &[u8]) -> Result<Capture<'_>, CaptureFault>
-    ensures { IfOk result (λ capture. HasHead octets.now capture.order capture.link capture.records.now) }
+    ensures whole { IfOk result (λ capture. HasHead octets.now capture.order capture.link capture.records.now) }
+    ensures none { IfErr result (λ fault. (order : Order) (link : Link) (records : List ℕ) → HasHead octets.now order link records → ⊥) }
+    ensures next_generation { (result ≡ Err CaptureFault.NextGeneration) ↔ ((24 ≤ length octets.now) × (four_octets octets.now 0 ≡ 168627466)) }
+    ensures link { (number : ℕ) → (result ≡ Err (CaptureFault.Link number)) ↔ ((order : Order) × (24 ≤ length octets.now) × (order_of (four_octets octets.now 0) ≡ Some order) × (number_at order octets.now 20 ≡ number) × (link_of number ≡ None)) }
 {
     if octets.len() < HEAD_OCTETS {
         return Err(CaptureFault::Head);

@@ -1,5 +1,5 @@
 //! The UDP datagram of an IPv4 packet.
-ghost use Rattle.std.specs.Prelude.{◌≡◌, ◌≤◌, ◌++◌, length, IfSome};
+ghost use Rattle.std.specs.Prelude.{◌≡◌, ◌≤◌, ◌++◌, List, ℕ, length, IfSome, IfNone};
 ghost use Rattle.std.specs.List.{slice_range};
 ghost use Rattle.ntp_clerk.specs.Datagram.{IsIpHead, IsUdpHead, IsDatagram};
 
@@ -21,7 +21,8 @@ pub struct Datagram<'a> {
 
 /// The UDP datagram to a port that an IPv4 packet is, if it is one as a whole, and no fragment.
 pub fn datagram_in(packet: &[u8], port: u16) -> Option<Datagram<'_>>
-    ensures { IfSome result (λ datagram. IsDatagram packet.now datagram.source port datagram.payload.now) }
+    ensures whole { IfSome result (λ datagram. IsDatagram packet.now datagram.source port datagram.payload.now) }
+    ensures none { IfNone result ((source : List ℕ) (payload : List ℕ) → IsDatagram packet.now source port payload → ⊥) }
 {
     let (ip, behind) = ip_head(packet)?;
     let (udp, behind) = split(behind, UDP_HEAD_OCTETS)?;
@@ -35,7 +36,8 @@ pub fn datagram_in(packet: &[u8], port: u16) -> Option<Datagram<'_>>
 
 // The header of an IPv4 packet that is a whole UDP datagram, and what stands behind it.
 fn ip_head(packet: &[u8]) -> Option<(&[u8], &[u8])>
-    ensures { IfSome result (λ split. (packet.now ≡ split.0.now ++ split.1.now) × IsIpHead split.0.now) }
+    ensures whole { IfSome result (λ split. (packet.now ≡ split.0.now ++ split.1.now) × IsIpHead split.0.now) }
+    ensures none { IfNone result ((ip : List ℕ) (behind : List ℕ) → packet.now ≡ ip ++ behind → IsIpHead ip → ⊥) }
 {
     let first = *packet.first()?;
     if first < 69 || first > 79 {
@@ -52,7 +54,8 @@ fn ip_head(packet: &[u8]) -> Option<(&[u8], &[u8])>
 // How many octets a payload has, by the header of UDP before it, if that names the port.
 fn payload_octets(udp: &[u8], port: u16) -> Option<usize>
     requires { length udp.now ≡ 8 }
-    ensures { IfSome result (λ octets. IsUdpHead udp.now port octets) }
+    ensures whole { IfSome result (λ octets. IsUdpHead udp.now port octets) }
+    ensures none { IfNone result ((octets : ℕ) → IsUdpHead udp.now port octets → ⊥) }
 {
     let octets = two_octets(udp, 4) as usize;
     if two_octets(udp, 2) == u64::from(port) && octets >= UDP_HEAD_OCTETS {

@@ -1,5 +1,5 @@
 //! What stands before the IPv4 packet of a frame.
-ghost use Rattle.std.specs.Prelude.{◌≡◌, ◌+◌, ◌≤◌, ◌++◌, List, ℕ, length, IfSome};
+ghost use Rattle.std.specs.Prelude.{◌≡◌, ◌+◌, ◌≤◌, ◌++◌, List, ℕ, length, IfSome, IfNone};
 ghost use Rattle.ntp_clerk.specs.Wide.{two_octets};
 ghost use Rattle.ntp_clerk.specs.Link.{link_of, IsPacketOf};
 
@@ -36,7 +36,8 @@ pub(crate) fn link_of(number: u64) -> Option<Link>
 
 /// The IPv4 packet of a frame, if it has one.
 pub fn packet_in(link: Link, frame: &[u8]) -> Option<&[u8]>
-    ensures { IfSome result (λ packet. IsPacketOf link frame.now packet.now) }
+    ensures whole { IfSome result (λ packet. IsPacketOf link frame.now packet.now) }
+    ensures none { IfNone result ((packet : List ℕ) → IsPacketOf link frame.now packet → ⊥) }
 {
     match link {
         Link::Ethernet => behind_head(frame, 14, 12),
@@ -49,7 +50,8 @@ pub fn packet_in(link: Link, frame: &[u8]) -> Option<&[u8]>
 // What stands behind a header of `octets` octets that has the type of protocol at `at`, where that is IPv4.
 fn behind_head(frame: &[u8], octets: usize, at: usize) -> Option<&[u8]>
     requires { at + 2 ≤ octets }
-    ensures { IfSome result (λ packet. (head : List ℕ) × (frame.now ≡ head ++ packet.now) × (length head ≡ octets) × (two_octets head at ≡ 2048)) }
+    ensures whole { IfSome result (λ packet. (head : List ℕ) × (frame.now ≡ head ++ packet.now) × (length head ≡ octets) × (two_octets head at ≡ 2048)) }
+    ensures none { IfNone result ((head : List ℕ) (packet : List ℕ) → frame.now ≡ head ++ packet → length head ≡ octets → two_octets head at ≡ 2048 → ⊥) }
 {
     let (head, packet) = frame.split_at_checked(octets)?;
     if two_octets(head, at) == IPV4 {

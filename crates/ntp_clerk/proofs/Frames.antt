@@ -1,0 +1,48 @@
+-- Packets have one reading.
+use Rattle.std.proofs.Common.{◌≡◌, ℕ, ◌+◌, ◌<◌, List, [], ◌∷◌, ◌++◌, length, take, drop, get_or, ap, sym, subst, ◌∙◌, arith}
+use Rattle.std.proofs.Math.Seq.{take-append_seam, drop-append_seam}
+use Rattle.std.proofs.lemmas.List.{length-append}
+use Rattle.ntp_clerk.specs.Datagram.{IsIpHead, IsUdpHead, IsDatagram}
+
+-- ---- lists that are taken apart at one place
+
+-- their fronts are one
+same-front : (xs ys zs ws : List ℕ) → xs ++ ys ≡ zs ++ ws → length xs ≡ length zs → xs ≡ zs
+same-front xs ys zs ws same long =
+    sym (take-append_seam xs ys) ∙ ap (take (length xs)) same ∙ ap (λ n. take n (zs ++ ws)) long ∙ take-append_seam zs ws
+
+-- so is what stands behind them
+same-rest : (xs ys zs ws : List ℕ) → xs ++ ys ≡ zs ++ ws → length xs ≡ length zs → ys ≡ ws
+same-rest xs ys zs ws same long =
+    sym (drop-append_seam xs ys) ∙ ap (drop (length xs)) same ∙ ap (λ n. drop n (zs ++ ws)) long ∙ drop-append_seam zs ws
+
+-- ---- datagrams
+
+-- the header of a packet is as long as its first octet says
+same-length : (ip rest other behind : List ℕ) → ip ++ rest ≡ other ++ behind → IsIpHead ip → IsIpHead other → length ip ≡ length other
+same-length [] rest other behind same is are = absurd (omega (arith, is.least, is.ip_length))
+same-length (x ∷ xs) rest [] behind same is are = absurd (omega (arith, are.least, are.ip_length))
+same-length (x ∷ xs) rest (y ∷ ys) behind same is are =
+    let first : x ≡ y = ap (λ octets. get_or octets 0 0) same in
+    omega (arith, first, is.version, is.ip_length, are.version, are.ip_length)
+
+-- what stands behind the header of a datagram is its header of UDP, and then its payload
+pub read-on : (packet source payload : List ℕ) (port : ℕ) (ip rest udp behind : List ℕ) → packet ≡ ip ++ rest → IsIpHead ip → rest ≡ udp ++ behind
+    → length udp ≡ 8 → (d : IsDatagram packet source port payload) → IsUdpHead udp port (length payload) × (behind ≡ payload ++ d.padding)
+read-on packet source payload port ip rest udp behind first is second eight d =
+    let whole : ip ++ rest ≡ d.ip ++ (d.udp ++ (payload ++ d.padding)) = sym first ∙ d.parts in
+    let left : rest ≡ d.udp ++ (payload ++ d.padding) =
+    same-rest ip rest d.ip (d.udp ++ (payload ++ d.padding)) whole (same-length ip rest d.ip (d.udp ++ (payload ++ d.padding)) whole is d.ip_head) in
+    let split : udp ++ behind ≡ d.udp ++ (payload ++ d.padding) = sym second ∙ left in
+    let long : length udp ≡ length d.udp = eight ∙ sym d.udp_head.udp_length in (
+      subst (λ head. IsUdpHead head port (length payload)) (sym (same-front udp behind d.udp (payload ++ d.padding) split long)) d.udp_head,
+      same-rest udp behind d.udp (payload ++ d.padding) split long,
+    )
+
+-- there are no fewer octets than the header says
+pub long-enough : (packet source payload : List ℕ) (port octets : ℕ) (ip rest udp behind : List ℕ) → packet ≡ ip ++ rest → IsIpHead ip
+    → rest ≡ udp ++ behind → length udp ≡ 8 → IsUdpHead udp port octets → length behind < octets → IsDatagram packet source port payload → ⊥
+long-enough packet source payload port octets ip rest udp behind first is second eight says fewer d =
+    let read = read-on packet source payload port ip rest udp behind first is second eight d in
+    let long : length behind ≡ length payload + length d.padding = ap length read.1 ∙ length-append payload d.padding in
+    omega (arith, fewer, long, says.with_payload, read.0.with_payload)

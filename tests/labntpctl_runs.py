@@ -5,7 +5,9 @@ import errno
 import os
 import platform
 import re
+import resource
 import shutil
+import signal
 import struct
 import subprocess
 
@@ -80,16 +82,16 @@ def fresh():
             os.remove(room(name))
 
 
-# The number of the call fsync(2), by machine.
-FSYNC = {"x86_64": 74, "aarch64": 82}
+# The numbers of calls, by machine.
+CALLS = {"x86_64": {"fsync": 74, "rename": 82}, "aarch64": {"fsync": 82, "rename": 38}}
 
 
-def without_stores():
-    """What a process begins with of which each call to have a file stored fails, as on a broken disk (seccomp(2))."""
-    call = FSYNC.get(platform.machine())
+def without(name):
+    """What a process begins with of which each call of this name fails, as on a broken disk (seccomp(2))."""
+    call = CALLS.get(platform.machine(), {}).get(name)
     if call is None:
-        raise PassedOver(f"which call is fsync on {platform.machine()}?")
-    # Load the call's number; where it is that of fsync, fail with EIO; else allow it.
+        raise PassedOver(f"which call is {name} on {platform.machine()}?")
+    # Load the call's number; where it is that one, fail with EIO; else allow it.
     steps = [(0x20, 0, 0, 0), (0x15, 0, 1, call), (0x06, 0, 0, 0x50000 | errno.EIO), (0x06, 0, 0, 0x7FFF0000)]
 
     def begin():
@@ -100,6 +102,12 @@ def without_stores():
             raise OSError(ctypes.get_errno(), "prctl")
 
     return begin
+
+
+def limited_to(octets):
+    """In a process that begins: no file gets more octets."""
+    signal.signal(signal.SIGXFSZ, signal.SIG_IGN)
+    resource.setrlimit(resource.RLIMIT_FSIZE, (octets, octets))
 
 
 @contextlib.contextmanager

@@ -86,6 +86,11 @@ pub fn new_for_owner(rt: &HostRuntime, path: &str) -> io::Result<File> {
 pub fn write_new(rt: &HostRuntime, path: &str, text: &str) -> io::Result<()> {
     let mut file = new_for_owner(rt, path)?;
     let done = write_stored(rt, &mut file, path, text);
+    or_removed(rt, path, done)
+}
+
+/// What came of the work on a new file. Where that failed, the file is removed.
+pub fn or_removed<E>(rt: &HostRuntime, path: &str, done: Result<(), E>) -> Result<(), E> {
     if done.is_err() {
         let _ = fs::remove_file(rt, path);
     }

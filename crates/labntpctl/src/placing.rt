@@ -1,7 +1,7 @@
 //! New files beside the old ones, or in their place.
 
 use crate::commands_file::HeldFile;
-use crate::customer_file::{new_for_owner, store_name};
+use crate::customer_file::{new_for_owner, or_removed, store_name};
 use crate::faults::{judged, made};
 use crate::folded_pair::FoldedPair;
 use crate::folding::{PairPaths, others};
@@ -12,7 +12,7 @@ use labntpd_assembly::start_lines;
 use ntp_admin::{Status, failed_status};
 use ntp_clerk::leave_the_same;
 use std::alloc::{AllocError, Global};
-use std::fs::{self, Permissions};
+use std::fs::{self, File, Metadata, Permissions};
 use std::io::{self, ErrorKind, Write};
 use std::os::unix::fs::{MetadataExt, PermissionsExt, chown};
 use std::path::Path;
@@ -42,7 +42,7 @@ struct Names {
     between: String,
 }
 
-/// Writes new files into a directory, and tells how they are put in place.
+/// Writes new files into a directory, and tells how they are put in place. Where one cannot be written as a whole, none is left.
 pub fn write_beside(
     rt: &HostRuntime,
     directory: &str,
@@ -60,7 +60,7 @@ pub fn write_beside(
     tell_moves(rt, new, paths)
 }
 
-// Writes new files to these paths, and judges them.
+// Writes new files to these paths, judges them, and has the system store them with their names. Where that fails, none is left.
 fn write_pair(
     rt: &HostRuntime,
     new: PairPaths<'_>,
@@ -69,8 +69,17 @@ fn write_pair(
     old: &Standing,
 ) -> Result<(), Status> {
     write_new(rt, new.register, pair.register.as_str(), paths.register)?;
-    write_new(rt, new.commands, pair.commands.as_str(), paths.commands)?;
-    judge(rt, new.register, new.commands, old)
+    let done = match write_new(rt, new.commands, pair.commands.as_str(), paths.commands) {
+        Ok(()) => or_removed(rt, new.commands, judge_stored(rt, new, old)),
+        Err(status) => Err(status),
+    };
+    or_removed(rt, new.register, done)
+}
+
+// Judges new files, and has the system store their names, which stand in one directory.
+fn judge_stored(rt: &HostRuntime, new: PairPaths<'_>, old: &Standing) -> Result<(), Status> {
+    judge(rt, new.register, new.commands, old)?;
+    judged(rt, new.commands, store_name(rt, new.commands))
 }
 
 // Tells how new files are put in place.
@@ -86,7 +95,7 @@ fn tell_moves(rt: &HostRuntime, new: PairPaths<'_>, paths: PairPaths<'_>) -> Res
 }
 
 /// Puts new files in the place of the old ones, which are kept under other names. At each moment the register and the commands file that
-/// stand there make the same customers.
+/// stand there make the same customers. Where the first new file is not put in place, nothing is left that was not there.
 pub fn put_in_place(
     rt: &HostRuntime,
     paths: PairPaths<'_>,
@@ -149,10 +158,34 @@ fn begun(
     judge(rt, register, commands, old)?;
     // No clerk appends to a file that another one takes the place of.
     let held = (hold(rt, between)?, hold(rt, commands)?);
-    keep(rt, paths.register, names.register.kept.as_str())?;
-    keep(rt, paths.commands, names.commands.kept.as_str())?;
-    judged(rt, paths.commands, fs::rename(rt, between, paths.commands))?;
+    place_first(rt, paths, names)?;
     Ok(held)
+}
+
+// Keeps the old files, and puts the first new one in place. Where that fails, no file is kept that still stands in its place.
+fn place_first(rt: &HostRuntime, paths: PairPaths<'_>, names: &Names) -> Result<(), Status> {
+    let kept = names.register.kept.as_str();
+    keep(rt, paths.register, kept)?;
+    let done = place_between(rt, paths.commands, names);
+    if done.is_err() {
+        keep_no_more(rt, paths.register, kept);
+    }
+    done
+}
+
+// The same behind the first old one.
+fn place_between(rt: &HostRuntime, commands: &str, names: &Names) -> Result<(), Status> {
+    let kept = names.commands.kept.as_str();
+    keep(rt, commands, kept)?;
+    let done = judged(
+        rt,
+        commands,
+        fs::rename(rt, names.between.as_str(), commands),
+    );
+    if done.is_err() {
+        keep_no_more(rt, commands, kept);
+    }
+    done
 }
 
 // Has the system store the first new file's place, and puts the others in theirs.
@@ -189,6 +222,22 @@ fn keep(rt: &HostRuntime, path: &str, kept: &str) -> Result<(), Status> {
     judged(rt, path, fs::hard_link(rt, path, kept))
 }
 
+// Removes the other name of a file, unless the file has lost its own: the system may tell an error of what it did.
+fn keep_no_more(rt: &HostRuntime, path: &str, kept: &str) {
+    if matches!(are_one(rt, path, kept), Ok(true)) {
+        let _ = fs::remove_file(rt, kept);
+    }
+}
+
+// Whether two names are of one file.
+fn are_one(rt: &HostRuntime, path: &str, other: &str) -> io::Result<bool> {
+    let (one, other) = (
+        fs::symlink_metadata(rt, path)?,
+        fs::symlink_metadata(rt, other)?,
+    );
+    Ok(one.dev() == other.dev() && one.ino() == other.ino())
+}
+
 // Puts a file in the place of another, and has the system store that.
 fn rename(rt: &HostRuntime, from: &str, to: &str) -> Result<(), Status> {
     judged(rt, to, renamed(rt, from, to))
@@ -215,13 +264,25 @@ fn write_new(rt: &HostRuntime, path: &str, text: &str, like: &str) -> Result<(),
     judged(rt, path, written(rt, path, text, like))
 }
 
-// The same, with the error of the system.
+// The same, with the error of the system. Where that fails, none is left.
 fn written(rt: &HostRuntime, path: &str, text: &str, like: &str) -> io::Result<()> {
     let old = fs::metadata(rt, like)?;
     let mut file = new_for_owner(rt, path)?;
+    let done = write_like(rt, &mut file, path, text, &old);
+    or_removed(rt, path, done)
+}
+
+// Writes into the new file at a path, gives it the owner and the mode of another one, and has the system store it.
+fn write_like(
+    rt: &HostRuntime,
+    file: &mut File,
+    path: &str,
+    text: &str,
+    like: &Metadata,
+) -> io::Result<()> {
     file.write_all(text.as_bytes())?;
-    chown(rt, path, Some(old.uid()), Some(old.gid()))?;
-    file.set_permissions(Permissions::from_mode(old.mode() & MODE_BITS))?;
+    chown(rt, path, Some(like.uid()), Some(like.gid()))?;
+    file.set_permissions(Permissions::from_mode(like.mode() & MODE_BITS))?;
     file.sync_all()
 }
 

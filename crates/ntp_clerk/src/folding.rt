@@ -1,6 +1,7 @@
 //! What the commands of a register file and of a commands file are folded into.
-ghost use Rattle.std.specs.Prelude.{◌≡◌, ◌++◌, IfOk};
+ghost use Rattle.std.specs.Prelude.{◌≡◌, ◌≤◌, ◌+◌, ◌*◌, ◌++◌, length, map, filter, is_some, IfOk, OnOk};
 ghost use Rattle.std.specs.Bool.{OnTrue};
+ghost use Rattle.ntp_service.specs.Commands.{address_named};
 ghost use Rattle.ntp_clerk.specs.Alike.{LeaveTheSame};
 
 use crate::alike::leave_the_same;
@@ -72,7 +73,9 @@ pub fn fold(
     customers: &[Kept],
     spare: &GivenKey,
 ) -> Result<Folded, FoldFault>
-    ensures { IfOk result (λ folded. LeaveTheSame history.now (folded.enrolments.items ++ folded.commands.items)) }
+    ensures same { IfOk result (λ folded. LeaveTheSame history.now (folded.enrolments.items ++ folded.commands.items)) }
+    ensures enrolments { IfOk result (λ folded. map address_named folded.enrolments.items ≡ map (λ kept. kept.address) (filter (λ kept. is_some kept.terms) customers.now)) }
+    ensures commands { IfOk result (λ folded. length folded.commands.items ≤ 2 * length customers.now) }
 {
     let enrolments = enrolments(alloc, customers)?;
     let commands = changes(alloc, customers, spare)?;
@@ -110,7 +113,9 @@ fn joined(alloc: Global, first: &[Command], others: &[Command]) -> Result<Vec<Co
 }
 
 // The enrolment of each customer that is enrolled.
-fn enrolments(alloc: Global, customers: &[Kept]) -> Result<Vec<Command>, AllocError> {
+fn enrolments(alloc: Global, customers: &[Kept]) -> Result<Vec<Command>, AllocError>
+    ensures { IfOk result (λ commands. map address_named commands.items ≡ map (λ kept. kept.address) (filter (λ kept. is_some kept.terms) customers.now)) }
+{
     let mut commands = Vec::new(alloc);
     for customer in customers {
         if let Some(terms) = &customer.terms {
@@ -121,11 +126,9 @@ fn enrolments(alloc: Global, customers: &[Kept]) -> Result<Vec<Command>, AllocEr
 }
 
 // What makes the customers of those enrolments: rollovers, and the enrolments and revocations of those that are revoked.
-fn changes(
-    alloc: Global,
-    customers: &[Kept],
-    spare: &GivenKey,
-) -> Result<Vec<Command>, AllocError> {
+fn changes(alloc: Global, customers: &[Kept], spare: &GivenKey) -> Result<Vec<Command>, AllocError>
+    ensures { IfOk result (λ commands. length commands.items ≤ 2 * length customers.now) }
+{
     let mut commands = Vec::new(alloc);
     for customer in customers {
         match &customer.terms {
@@ -141,7 +144,9 @@ fn push_revoked(
     commands: &mut Vec<Command>,
     address: Address,
     spare: &GivenKey,
-) -> Result<(), AllocError> {
+) -> Result<(), AllocError>
+    ensures { OnOk result (length commands.new.items ≡ length commands.old.items + 2) }
+{
     commands.push(enrolment(address, *spare, NonZero::<u16>::MIN))?;
     commands.push(Command::Revoke { address })?;
     Ok(())
@@ -152,7 +157,9 @@ fn push_rollover(
     commands: &mut Vec<Command>,
     address: Address,
     terms: &Terms,
-) -> Result<(), AllocError> {
+) -> Result<(), AllocError>
+    ensures { OnOk result (length commands.new.items ≤ length commands.old.items + 1) }
+{
     if let Some(newer) = &terms.newer {
         commands.push(Command::Rollover {
             address,
@@ -164,7 +171,9 @@ fn push_rollover(
 }
 
 // The enrolment of an address with a key and a budget.
-fn enrolment(address: Address, key: GivenKey, budget: NonZero<u16>) -> Command {
+fn enrolment(address: Address, key: GivenKey, budget: NonZero<u16>) -> Command
+    ensures { address_named result ≡ address }
+{
     Command::Enrol {
         address,
         number: key.number,

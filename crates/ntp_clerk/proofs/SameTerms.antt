@@ -1,5 +1,5 @@
 -- Enrolments that are found to be the same.
-use Rattle.std.proofs.Common.{◌≡◌, ◌≢◌, ℕ, ◌<◌, ◌≤◌, ◌==◌, Bool, true, false, Option, Some, None, inl, inr, eqb-true, List, [], ◌∷◌, length, refl, sym, ap, ◌∙◌, subst, arith}
+use Rattle.std.proofs.Common.{◌≡◌, ◌≢◌, ◌⊎◌, ℕ, ◌<◌, ◌≤◌, ◌==◌, Bool, true, false, Option, Some, None, inl, inr, eqb-true, List, [], ◌∷◌, length, refl, sym, ap, ◌∙◌, subst, arith}
 use Rattle.std.specs.Prelude.{option_map, if◌then◌else◌, slice_get, IfSome, IsSome, nat_lt}
 use Rattle.std.specs.List.{find}
 use Rattle.std.specs.Option.{option_map_or}
@@ -8,7 +8,19 @@ use Rattle.std.proofs.lemmas.List.{length-map}
 use Rattle.ntp_mac.specs.Key.{SymmetricKey}
 use Rattle.ntp_customer.specs.declared.numbered_key.NumberedKey.{NumberedKey}
 use Rattle.ntp_customer.specs.Customer.{Enrolment, CustomerState, Account, IsAccount, IsCustomer, enrolment_at, older_in, held_in, numbers_in, numbers_of, most_keys}
-use Rattle.ntp_clerk.specs.Alike.{HaveOneNewer, HoldOne}
+
+-- two enrolments have one key with a number
+abbrev HoldOne : Enrolment → Enrolment → ℕ → Type 0
+HoldOne e f number = IsSome (held_in e number) × (held_in e number ≡ held_in f number)
+
+-- two enrolments have one newer key, or have none
+abbrev HaveOneNewer : Enrolment → Enrolment → Type 0
+HaveOneNewer e f = ((length e.keys < 2) × (length f.keys < 2))
+    ⊎ ((number : ℕ) × (length e.keys ≡ 2) × (length f.keys ≡ 2) × (option_map (λ k. k.number) (older_in e) ≢ Some number) × HoldOne e f number)
+
+-- two enrolments have all keys alike where they have one older key
+abbrev HaveOneMore : Enrolment → Enrolment → Type 0
+HaveOneMore e f = older_in e ≡ older_in f → e.keys ≡ f.keys
 
 abbrev pick : {X : Type 0} → X → Option X → X
 pick other None = other
@@ -91,17 +103,6 @@ both-full (Some e) (Some f) b c n m ob pc short_one short_other few and_few olde
     let other : length f.keys ≡ 2 = grind (arith, nat_tests, pc, short_other, and_few) in
     inr (n, one, other, (λ same. apart (same-some m n (sym older ∙ same))), hold)
 
-pub short : (c d : CustomerState) (b r : Bool) → b ≡ nat_lt (length (numbers_of c)) most_keys → r ≡ nat_lt (length (numbers_of d)) most_keys → b ≡ true → r ≡ true
-    → IfSome (enrolment_at c) (λ e. IfSome (enrolment_at d) (λ f. HaveOneNewer e f))
-short c d b r bc rd so too = both-short (enrolment_at c) (enrolment_at d) b r (room-of c b bc) (room-of d r rd) so too
-
-pub full : (c d : CustomerState) (b r : Bool) (n m : ℕ) → b ≡ nat_lt (length (numbers_of c)) most_keys → r ≡ nat_lt (length (numbers_of d)) most_keys → b ≡ false → r ≡ false
-    → IsCustomer c → IsCustomer d → IfSome (enrolment_at c) (λ e. option_map (λ k. k.number) (older_in e) ≡ Some m) → (m ≡ n → ⊥)
-    → IfSome (enrolment_at c) (λ e. IfSome (enrolment_at d) (λ f. HoldOne e f n))
-    → IfSome (enrolment_at c) (λ e. IfSome (enrolment_at d) (λ f. HaveOneNewer e f))
-full c d b r n m bc rd short_one short_other is_c is_d older apart hold =
-    both-full (enrolment_at c) (enrolment_at d) b r n m (room-of c b bc) (room-of d r rd) short_one short_other (few-keys c.account is_c.account) (few-keys d.account is_d.account) older apart hold
-
 -- ---- all of it
 
 second : (x x2 : NumberedKey) (n : ℕ) → Some x.number ≢ Some n → find (λ k. k.number == n) (x ∷ x2 ∷ []) ≡ (if x2.number == n then Some x2 else None)
@@ -136,13 +137,29 @@ same-keys (x ∷ x2 ∷ []) (y ∷ y2 ∷ []) one other older (inr newer) =
     let next = same-second x2 y2 (x2.number == n) (y2.number == n) (subst IsSome at_x newer.4.0) (sym at_x ∙ newer.4.1 ∙ at_y) in
     ap (λ k. k ∷ x2 ∷ []) first ∙ ap (λ k. y ∷ k ∷ []) next
 
-same-terms : (e f : Enrolment) → e.budget ≡ f.budget → older_in e ≡ older_in f → HaveOneNewer e f → e ≡ f
-same-terms e f budgets older newer =
-    let keys = same-keys e.keys f.keys e.budget f.budget older newer in
+alike : (o p : Option Enrolment) → IfSome o (λ e. IfSome p (λ f. HaveOneNewer e f)) → IfSome o (λ e. IfSome p (λ f. HaveOneMore e f))
+alike None p newer = tt
+alike (Some e) None newer = tt
+alike (Some e) (Some f) newer = λ older. same-keys e.keys f.keys e.budget f.budget older newer
+
+pub short : (c d : CustomerState) (b r : Bool) → b ≡ nat_lt (length (numbers_of c)) most_keys → r ≡ nat_lt (length (numbers_of d)) most_keys → b ≡ true → r ≡ true
+    → IfSome (enrolment_at c) (λ e. IfSome (enrolment_at d) (λ f. HaveOneMore e f))
+short c d b r bc rd so too = alike (enrolment_at c) (enrolment_at d) (both-short (enrolment_at c) (enrolment_at d) b r (room-of c b bc) (room-of d r rd) so too)
+
+pub full : (c d : CustomerState) (b r : Bool) (n m : ℕ) → b ≡ nat_lt (length (numbers_of c)) most_keys → r ≡ nat_lt (length (numbers_of d)) most_keys → b ≡ false → r ≡ false
+    → IsCustomer c → IsCustomer d → IfSome (enrolment_at c) (λ e. option_map (λ k. k.number) (older_in e) ≡ Some m) → (m ≡ n → ⊥)
+    → IfSome (enrolment_at c) (λ e. IfSome (enrolment_at d) (λ f. HoldOne e f n))
+    → IfSome (enrolment_at c) (λ e. IfSome (enrolment_at d) (λ f. HaveOneMore e f))
+full c d b r n m bc rd short_one short_other is_c is_d older apart hold =
+    alike (enrolment_at c) (enrolment_at d) (both-full (enrolment_at c) (enrolment_at d) b r n m (room-of c b bc) (room-of d r rd) short_one short_other
+    (few-keys c.account is_c.account) (few-keys d.account is_d.account) older apart hold)
+
+same-terms : (e f : Enrolment) → e.budget ≡ f.budget → e.keys ≡ f.keys → e ≡ f
+same-terms e f budgets keys =
     ap (λ keys. record { keys = keys; budget = e.budget }) keys ∙ ap (λ budget. record { keys = f.keys; budget = budget }) budgets
 
 pub same-enrolments : (o p : Option Enrolment) (n m : ℕ) → IsSome o → IsSome p → IfSome o (λ e. n ≡ e.budget) → IfSome p (λ e. m ≡ e.budget) → n ≡ m
-    → IfSome o (λ e. IfSome p (λ f. older_in e ≡ older_in f)) → IfSome o (λ e. IfSome p (λ f. HaveOneNewer e f)) → o ≡ p
-same-enrolments (Some e) (Some f) n m one other on pm same older newer = ap Some (same-terms e f (sym on ∙ same ∙ pm) older newer)
-same-enrolments None p n m one other on pm same older newer = absurd cc
-same-enrolments (Some e) None n m one other on pm same older newer = absurd cc
+    → IfSome o (λ e. IfSome p (λ f. older_in e ≡ older_in f)) → IfSome o (λ e. IfSome p (λ f. HaveOneMore e f)) → o ≡ p
+same-enrolments (Some e) (Some f) n m one other on pm same older more = ap Some (same-terms e f (sym on ∙ same ∙ pm) (more older))
+same-enrolments None p n m one other on pm same older more = absurd cc
+same-enrolments (Some e) None n m one other on pm same older more = absurd cc

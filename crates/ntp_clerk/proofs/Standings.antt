@@ -21,7 +21,11 @@ use Rattle.ntp_service.specs.Events.{names, own}
 use Rattle.ntp_service.specs.Model.{life_of}
 use Rattle.ntp_service.specs.Headline.{StandsFor, TellsOne, is_struck, not_struck}
 use Rattle.ntp_service.specs.Commands.{address_named}
-use Rattle.ntp_clerk.specs.Alike.{standing_at, ComesOf, LeaveTheSame}
+use Rattle.ntp_clerk.specs.Alike.{ComesOf, LeaveTheSame}
+
+-- what an address has: nothing where it was never enrolled, else its enrolment, and none where it is revoked
+abbrev pub standing_at : Registry → Address → Option (Option Enrolment)
+standing_at r address = option_map enrolment_at (customer_at r address)
 
 -- ---- what commands come to
 

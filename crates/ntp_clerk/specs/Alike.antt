@@ -1,7 +1,7 @@
 -- Lists of commands that leave the same customers.
-use Rattle.std.specs.Prelude.{◌≡◌, ◌≢◌, ◌⊎◌, ℕ, ◌<◌, IsSome, Option, Some, option_map, List, [], map, length}
+use Rattle.std.specs.Prelude.{◌≡◌, ℕ, option_map, List, [], map}
 use Rattle.std.specs.declared.alloc.Global.{Global}
-use Rattle.ntp_customer.specs.Customer.{Enrolment, enrolment_at, older_in, held_in}
+use Rattle.ntp_customer.specs.Customer.{enrolment_at}
 use Rattle.ntp_service.specs.declared.address.Address.{Address}
 use Rattle.ntp_service.specs.Registry.{Registry, customer_at, holder_of}
 use Rattle.ntp_service.specs.declared.command.Command.{Command}
@@ -25,17 +25,3 @@ ComesOf commands service =
 -- two lists of commands leave the same customers
 abbrev pub LeaveTheSame : List Command → List Command → Type 0
 LeaveTheSame one other = (a : Registry) × (b : Registry) × ComesOf one a × ComesOf other b × HaveTheSame a b
-
--- not to be believed: for proofs. What an address has: nothing where it was never enrolled, else its enrolment, and none where it is
--- revoked
-abbrev pub standing_at : Registry → Address → Option (Option Enrolment)
-standing_at r address = option_map enrolment_at (customer_at r address)
-
--- not to be believed: for proofs. Two enrolments have one key with a number
-abbrev pub HoldOne : Enrolment → Enrolment → ℕ → Type 0
-HoldOne e f number = IsSome (held_in e number) × (held_in e number ≡ held_in f number)
-
--- not to be believed: for proofs. Two enrolments have one newer key, or have none
-abbrev pub HaveOneNewer : Enrolment → Enrolment → Type 0
-HaveOneNewer e f = ((length e.keys < 2) × (length f.keys < 2))
-    ⊎ ((number : ℕ) × (length e.keys ≡ 2) × (length f.keys ≡ 2) × (option_map (λ k. k.number) (older_in e) ≢ Some number) × HoldOne e f number)

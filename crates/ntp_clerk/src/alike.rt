@@ -1,12 +1,13 @@
 //! Whether two lists of commands leave the same customers.
-ghost use Rattle.std.specs.Prelude.{◌≡◌, ◌≢◌, IfOk, IfSome, IsSome};
+ghost use Rattle.std.specs.Prelude.{◌≡◌, ◌≢◌, option_map, IfOk, IfSome, IsSome};
 ghost use Rattle.std.specs.Bool.{OnTrue};
 ghost use Rattle.std.specs.List.{All};
-ghost use Rattle.ntp_customer.specs.Customer.{enrolment_at, older_in, IsCustomer};
+ghost use Rattle.ntp_customer.specs.Customer.{enrolment_at, older_in, held_in, IsCustomer};
 ghost use Rattle.ntp_service.specs.declared.outcome.Outcome.TheVariants as outcome;
+ghost use Rattle.ntp_service.specs.Registry.{customer_at};
 ghost use Rattle.ntp_service.specs.Headline.{command_outcome};
 ghost use Rattle.ntp_service.specs.Commands.{address_named};
-ghost use Rattle.ntp_clerk.specs.Alike.{standing_at, ComesOf, LeaveTheSame, HaveOneNewer, HoldOne};
+ghost use Rattle.ntp_clerk.specs.Alike.{ComesOf, LeaveTheSame};
 
 use indexmap::IndexMap;
 use ntp_service::{Address, Command, Customer, Refusal, Service};
@@ -85,7 +86,7 @@ fn note(
 
 // Whether two services have the same at each address that commands name.
 fn agree_at(one: &Given, other: &Given, commands: &[Command]) -> bool
-    ensures { OnTrue result (All (λ command. standing_at one.now.service (address_named command) ≡ standing_at other.now.service (address_named command)) commands.now) }
+    ensures { OnTrue result (All (λ command. option_map enrolment_at (customer_at one.now.service (address_named command)) ≡ option_map enrolment_at (customer_at other.now.service (address_named command))) commands.now) }
 {
     for order in commands {
         if !agree(one, other, order.address()) {
@@ -97,7 +98,7 @@ fn agree_at(one: &Given, other: &Given, commands: &[Command]) -> bool
 
 // Whether two services have the same at an address.
 fn agree(one: &Given, other: &Given, address: Address) -> bool
-    ensures { OnTrue result (standing_at one.now.service address ≡ standing_at other.now.service address) }
+    ensures { OnTrue result (option_map enrolment_at (customer_at one.now.service address) ≡ option_map enrolment_at (customer_at other.now.service address)) }
 {
     let newer = one.newer.get(&address).copied();
     match (
@@ -138,12 +139,12 @@ fn have_one_older(one: &Customer, other: &Customer) -> bool
     one.number() == other.number() && *one.key() == *other.key()
 }
 
-// Whether two customers that are enrolled have one newer key, under this number, or have none.
+// Whether two customers that are enrolled have all keys alike where they have one older key. A second key is looked for under this number.
 fn have_one_newer(one: &Customer, other: &Customer, newer: Option<u16>) -> bool
     requires one { IsSome (enrolment_at one.now) }
     requires other { IsSome (enrolment_at other.now) }
     requires are { IsCustomer one.now × IsCustomer other.now }
-    ensures { OnTrue result (IfSome (enrolment_at one.now) (λ e. IfSome (enrolment_at other.now) (λ f. HaveOneNewer e f))) }
+    ensures { OnTrue result (IfSome (enrolment_at one.now) (λ e. IfSome (enrolment_at other.now) (λ f. older_in e ≡ older_in f → e.keys ≡ f.keys))) }
 {
     if one.has_room() {
         return other.has_room();
@@ -164,7 +165,7 @@ fn have_one_newer(one: &Customer, other: &Customer, newer: Option<u16>) -> bool
 fn hold_one(one: &Customer, other: &Customer, number: u16) -> bool
     requires one { IsSome (enrolment_at one.now) }
     requires other { IsSome (enrolment_at other.now) }
-    ensures { OnTrue result (IfSome (enrolment_at one.now) (λ e. IfSome (enrolment_at other.now) (λ f. HoldOne e f number))) }
+    ensures { OnTrue result (IfSome (enrolment_at one.now) (λ e. IfSome (enrolment_at other.now) (λ f. IsSome (held_in e number) × (held_in e number ≡ held_in f number)))) }
 {
     let Some(first) = one.key_for(number) else {
         return false;

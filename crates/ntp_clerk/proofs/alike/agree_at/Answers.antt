@@ -5,7 +5,7 @@ use Rattle.std.proofs.lemmas.List.{take_all}
 use Rattle.std.proofs.lemmas.List.Elements.{All-more}
 use Rattle.ntp_service.specs.declared.command.Command.{Command}
 use Rattle.ntp_service.specs.Commands.{address_named}
-use Rattle.ntp_clerk.specs.Alike.{standing_at}
+use Rattle.ntp_clerk.proofs.Standings.{standing_at}
 use Rattle.ntp_clerk.proofs.alike.agree_at.Goals as goal
 
 pub loop-order-preserved : goal.loop-order-preserved

@@ -1,7 +1,7 @@
 use Rattle.std.proofs.Common.{take, ◌≡◌}
 use Rattle.std.specs.List.{All}
 use Rattle.ntp_service.specs.Commands.{address_named}
-use Rattle.ntp_clerk.specs.Alike.{standing_at}
+use Rattle.ntp_clerk.proofs.Standings.{standing_at}
 use Rattle.ntp_clerk.proofs.alike.agree_at.Given as goal
 
 abbrev pub invariant-loop-order : goal.invariant-loop-order

@@ -4,10 +4,10 @@ use Rattle.std.specs.Prelude.{All}
 use Rattle.ntp_port.specs.declared.queue_event.QueueEvent.{QueueEvent}
 use Rattle.ntp_port.specs.declared.queue_event.QueueEvent.TheVariants.{Held, Looked, Taken, Read}
 use Rattle.ntp_port.specs.declared.queue_watch.QueueWatch.{QueueWatch}
-use Rattle.ntp_port.specs.Freshness.{takes, moment_of, IsInOrder, WasCounted, oldest_look}
+use Rattle.ntp_port.specs.Freshness.{takes, moment_of, IsInOrder, AreCounted}
 use Rattle.ntp_port.specs.Watch.{Watches, Counts, IsWaiting, longest_of}
-use Rattle.ntp_port.specs.Fresh.{KeepsHistory, LooksAgain, Dropped, AreStale, history_dropped, counted_on}
-use Rattle.ntp_port.proofs.Watching.{looked-more}
+use Rattle.ntp_port.specs.Fresh.{KeepsHistory, LooksAgain, Dropped, InHand, Swept, AreStale, history_dropped, in_hand, counted_on}
+use Rattle.ntp_port.proofs.Watching.{watched-more}
 
 All-cons : {X : Type 0} (P : X → Type 0) (x : X) (xs : List X) → P x → All P xs → All P (x ∷ xs)
 All-cons P x xs here rest zero d below = here
@@ -17,7 +17,7 @@ All-cons P x xs here rest (suc k) d below = rest k d (omega arith)
 LooksAgain-more : (longest next : ℕ) (event : QueueEvent) (history : List QueueEvent) → IsInOrder (event ∷ history)
     → LooksAgain longest history next → LooksAgain longest (event ∷ history) next
 LooksAgain-more longest next event history ordered (inl at_once) = inl at_once
-LooksAgain-more longest next event history ordered (inr looked) = inr (looked-more next (oldest_look longest) event history ordered looked)
+LooksAgain-more longest next event history ordered (inr watched) = inr (watched-more longest next event history ordered watched)
 
 -- an event that is no take leaves what was counted
 Counts-quiet : (watch : QueueWatch) (event : QueueEvent) (history : List QueueEvent)
@@ -38,7 +38,7 @@ Counts-took watch after history at seen less counts =
     )
 
 -- the next datagram is one of those
-pub counts-one : (watch : QueueWatch) (history : List QueueEvent) → IsWaiting watch → Counts watch history → WasCounted history
+pub counts-one : (watch : QueueWatch) (history : List QueueEvent) → IsWaiting watch → Counts watch history → AreCounted 1 history
 counts-one watch history waits counts =
     let x = counts waits in (x.0, x.1, x.2, watch.seen, x.3, omega (arith, waits, x.4))
 
@@ -103,6 +103,12 @@ AreStale-append longest h k m [] second a b = subst (λ xs. AreStale longest xs 
 AreStale-append longest h k m (one ∷ first) second a b =
     (a.0, AreStale-append longest (history_dropped one h) k m first second a.1 b)
 
--- are counted
+-- are so many in hand
+pub in_hand-append : (first second : List Dropped) → in_hand (first ++ second) ≡ in_hand first + in_hand second
+in_hand-append [] second = omega arith
+in_hand-append (InHand take ∷ first) second = omega (arith, in_hand-append first second)
+in_hand-append (Swept seen quiet at ∷ first) second = in_hand-append first second
+
+-- and are counted
 pub counted-append : (s t v m n : ℕ) → t ≡ counted_on s m → v ≡ counted_on t n → v ≡ counted_on s (m + n)
 counted-append s t v m n first second = omega (arith, first, second)

@@ -1,29 +1,30 @@
 -- Looks at a queue.
-use Rattle.std.proofs.Common.{◌≡◌, ℕ, ◌+◌, ◌<◌, ◌≤◌, ◌⊎◌, List, [], ◌∷◌, ◌++◌, Option, None, Some, false, refl, sym, subst, ◌∙◌, arith, append_assoc}
+use Rattle.std.proofs.Common.{◌≡◌, ℕ, ◌+◌, ◌/◌, ◌<◌, ◌≤◌, ◌⊎◌, inl, inr, List, [], ◌∷◌, ◌++◌, Option, Some, false, refl, sym, subst, ◌∙◌, arith, append_assoc}
 use Rattle.ntp_port.specs.Port.{Told}
 use Rattle.ntp_port.specs.declared.queue_event.QueueEvent.{QueueEvent}
 use Rattle.ntp_port.specs.declared.queue_event.QueueEvent.TheVariants.{Held, Looked}
 use Rattle.ntp_port.specs.declared.queue_watch.QueueWatch.{QueueWatch}
-use Rattle.ntp_port.specs.Freshness.{takes, WasLookedAt}
+use Rattle.ntp_port.specs.Freshness.{takes, WasLookedAt, WasWatched}
 use Rattle.ntp_port.specs.Queue.{TellsEvents, seen_in_count, seen_in_look}
-use Rattle.ntp_port.specs.Watch.{Watches, Counts, IsWaiting, longest_of}
-use Rattle.ntp_port.specs.Fresh.{KeepsHistory, Stands, IsSeenFrom, Kept}
-use Rattle.ntp_port.specs.Next.{WasSeen, LooksAtQueue}
+use Rattle.ntp_port.specs.Watch.{Watches, Counts, IsWaiting, IsCounted, longest_of}
+use Rattle.ntp_port.specs.Fresh.{KeepsHistory, LooksAgain, Stands, IsSeenFrom, Kept}
+use Rattle.ntp_port.specs.Next.{Unsaid, LooksAtQueue}
 use Rattle.ntp_port.proofs.Seeing.{IsSeenFrom-same, IsSeenFrom-more, seen-in_call}
-use Rattle.ntp_port.proofs.Watching.{looked-later, looked-by, kept-looked}
-use Rattle.ntp_port.proofs.Keeping.{StandsFor-Held, StandsFor-Looked}
+use Rattle.ntp_port.proofs.Watching.{looked-later, looked-by, kept-looked, kept-watched, watched-by}
+use Rattle.ntp_port.proofs.Keeping.{StandsFor-Held, StandsFor-Looked, StandsFor-next}
 use Rattle.ntp_port.proofs.Waiting.{quiet-append}
 
 -- a look that saw these events, or none
-Looks-saw : (a : Kept) (after : QueueWatch) (u : Option Told) (r : Option (List QueueEvent)) (events : List QueueEvent) (before : Option ℕ)
-    → u ≡ a.told → longest_of after ≡ longest_of a.watch → takes events ≡ 0
+Looks-saw : (a : Kept) (after : QueueWatch) (u : Option Told) (r : Option (List QueueEvent)) (events : List QueueEvent)
+    (Said : List QueueEvent → ℕ → Type 0) → u ≡ a.told → longest_of after ≡ longest_of a.watch → takes events ≡ 0
     → ((history : List QueueEvent) → IsSeenFrom a.reading a.reading a.history r history (events ++ history))
     → ((history : List QueueEvent) → Stands a history
-    → KeepsHistory after a.reading a.next_look (events ++ history) × WasSeen before (events ++ history) a.reading)
-    → LooksAtQueue a (record a { watch = after; told = u; history = r }) before
-Looks-saw a after u r events before told longest quiet seen stands = record {
+    → KeepsHistory after a.reading a.next_look (events ++ history) × Said (events ++ history) a.reading)
+    → LooksAtQueue a (record a { watch = after; told = u; history = r }) Said
+Looks-saw a after u r events Said told longest quiet seen stands = record {
   reading = refl;
   stale = refl;
+  sweeps = refl;
   told = told;
   longest = longest;
   each = λ history stood.
@@ -32,24 +33,25 @@ Looks-saw a after u r events before told longest quiet seen stands = record {
 }
 
 -- none
-Looks-same : (k : Kept) (before : Option ℕ) → ((history : List QueueEvent) → Stands k history → WasSeen before history k.reading)
-    → LooksAtQueue k k before
-Looks-same k before looked = Looks-saw k k.watch k.told k.history [] before refl refl refl (IsSeenFrom-same k.reading k.history)
+Looks-same : (k : Kept) (Said : List QueueEvent → ℕ → Type 0) → ((history : List QueueEvent) → Stands k history → Said history k.reading)
+    → LooksAtQueue k k Said
+Looks-same k Said looked = Looks-saw k k.watch k.told k.history [] Said refl refl refl (IsSeenFrom-same k.reading k.history)
     (λ history stands. (stands, looked history stands))
 
-pub Looks-none : (k : Kept) → LooksAtQueue k k None
-Looks-none k = Looks-same k None (λ history stands. tt)
+pub Looks-none : (k : Kept) → LooksAtQueue k k Unsaid
+Looks-none k = Looks-same k Unsaid (λ history stands. tt)
 
 -- none, where what is known is new enough
-pub Looks-known : (k : Kept) (before : ℕ) → (at : ℕ) × (k.watch.known ≡ Some at) × (k.reading < at + before) → LooksAtQueue k k (Some before)
+pub Looks-known : (k : Kept) (before : ℕ) → (at : ℕ) × (k.watch.known ≡ Some at) × (k.reading < at + before) → LooksAtQueue k k (WasLookedAt before)
 Looks-known k before known =
-    Looks-same k (Some before) (λ history stands. kept-looked k.watch history k.reading before stands.watches stands.ordered known)
+    Looks-same k (WasLookedAt before) (λ history stands. kept-looked k.watch history k.reading before stands.watches stands.ordered known)
 
 -- one, and perhaps another one
-pub Looks-more : (a b c : Kept) (before : ℕ) → LooksAtQueue a b (Some before) → LooksAtQueue b c None → LooksAtQueue a c (Some before)
+pub Looks-more : (a b c : Kept) (before : ℕ) → LooksAtQueue a b (WasLookedAt before) → LooksAtQueue b c Unsaid → LooksAtQueue a c (WasLookedAt before)
 Looks-more a b c before first second = record {
   reading = second.reading ∙ first.reading;
   stale = second.stale ∙ first.stale;
+  sweeps = second.sweeps ∙ first.sweeps;
   told = second.told ∙ first.told;
   longest = second.longest ∙ first.longest;
   each = λ history stands.
@@ -68,12 +70,13 @@ Looks-more a b c before first second = record {
       };
 }
 
--- what is known of the last look, told in another way
-Looks-as : (a b : Kept) (less before : Option ℕ) → ((history : List QueueEvent) → WasSeen less history a.reading → WasSeen before history a.reading)
-    → LooksAtQueue a b less → LooksAtQueue a b before
-Looks-as a b less before tells looks = record {
+-- what is said then, told in another way
+Looks-as : (a b : Kept) (More Said : List QueueEvent → ℕ → Type 0) → ((history : List QueueEvent) → More history a.reading → Said history a.reading)
+    → LooksAtQueue a b More → LooksAtQueue a b Said
+Looks-as a b More Said tells looks = record {
   reading = looks.reading;
   stale = looks.stale;
+  sweeps = looks.sweeps;
   told = looks.told;
   longest = looks.longest;
   each = λ history stands.
@@ -82,12 +85,12 @@ Looks-as a b less before tells looks = record {
 }
 
 -- a look need not be told of
-pub Looks-some : (a b : Kept) (before : ℕ) → LooksAtQueue a b (Some before) → LooksAtQueue a b None
-Looks-some a b before looks = Looks-as a b (Some before) None (λ history looked. tt) looks
+pub Looks-some : (a b : Kept) (before : ℕ) → LooksAtQueue a b (WasLookedAt before) → LooksAtQueue a b Unsaid
+Looks-some a b before looks = Looks-as a b (WasLookedAt before) Unsaid (λ history looked. tt) looks
 
 -- it may be older
-pub Looks-older : (a b : Kept) (less before : ℕ) → less ≤ before → LooksAtQueue a b (Some less) → LooksAtQueue a b (Some before)
-Looks-older a b less before older looks = Looks-as a b (Some less) (Some before)
+pub Looks-older : (a b : Kept) (less before : ℕ) → less ≤ before → LooksAtQueue a b (WasLookedAt less) → LooksAtQueue a b (WasLookedAt before)
+Looks-older a b less before older looks = Looks-as a b (WasLookedAt less) (WasLookedAt before)
     (λ history looked. looked-by a.reading a.reading less before history (omega (arith, older)) looked) looks
 
 -- one that told how many datagrams the queue held at most
@@ -96,15 +99,47 @@ pub Looks-count : (a : Kept) (after : QueueWatch) (u : Option Told) (r : Option 
     → ((history : List QueueEvent) → (count ≡ 0) ⊎ (IsWaiting a.watch → ⊥) → Watches a.watch history
     → Watches after (Held count a.reading ∷ history))
     → ((history : List QueueEvent) → Counts after (Held count a.reading ∷ history)) → TellsEvents a.history r (seen_in_count count)
-    → LooksAtQueue a (record a { watch = after; told = u; history = r }) (Some 0)
+    → LooksAtQueue a (record a { watch = after; told = u; history = r }) (WasLookedAt 0)
 Looks-count a after u r count told longest alone watches counts tells =
-    Looks-saw a after u r (Held count a.reading ∷ []) (Some 0) told longest refl
+    Looks-saw a after u r (Held count a.reading ∷ []) (WasLookedAt 0) told longest refl
     (seen-in_call a.reading a.history r (seen_in_count count) (λ shown known. refl) tells)
     (λ history stands. (StandsFor-Held a.watch after a.reading a.next_look count longest alone watches counts history stands, omega arith))
 
 -- one that told nothing of it
 pub Looks-unseen : (a : Kept) (u : Option Told) (r : Option (List QueueEvent)) → u ≡ a.told → TellsEvents a.history r (seen_in_look false)
-    → LooksAtQueue a (record a { told = u; history = r }) (Some 0)
-Looks-unseen a u r told tells = Looks-saw a a.watch u r (Looked a.reading ∷ []) (Some 0) told refl refl
+    → LooksAtQueue a (record a { told = u; history = r }) (WasLookedAt 0)
+Looks-unseen a u r told tells = Looks-saw a a.watch u r (Looked a.reading ∷ []) (WasLookedAt 0) told refl refl
     (seen-in_call a.reading a.history r (seen_in_look false) (λ shown known. refl) tells)
     (λ history stands. (StandsFor-Looked a.watch a.reading a.next_look history stands, omega arith))
+
+-- none, where it is not time to
+pub Looks-early : (k : Kept) → k.reading < k.next_look → LooksAtQueue k k (WasWatched (longest_of k.watch))
+Looks-early k early = Looks-same k (WasWatched (longest_of k.watch)) (λ history stands. by history stands.looks_again)
+  where
+    by : (history : List QueueEvent) → LooksAgain (longest_of k.watch) history k.next_look → WasWatched (longest_of k.watch) history k.reading
+    by history (inl at_once) = absurd (omega (arith, at_once, early))
+    by history (inr watched) = watched-by (longest_of k.watch) k.next_look k.reading history (omega (arith, early)) watched
+
+-- one where it was time to, and when it may be looked again
+pub Looks-in_time : (a b : Kept) (next : ℕ) → LooksAtQueue a b (WasLookedAt (longest_of a.watch / 10)) → IsCounted b.watch a.reading
+    → next ≤ a.reading + 100000 → LooksAtQueue a (record b { next_look = next }) (WasWatched (longest_of a.watch))
+Looks-in_time a b next looks counted soon = record {
+  reading = looks.reading;
+  stale = looks.stale;
+  sweeps = looks.sweeps;
+  told = looks.told;
+  longest = looks.longest;
+  each = λ history stands.
+      let x = looks.each history stands in
+      let known = x.events ++ history in
+      let looked = subst (λ n. WasLookedAt (n / 10) known a.reading) (sym looks.longest) x.looked in
+      let watched : (later : ℕ) → later ≤ a.reading + 100000 → WasWatched (longest_of b.watch) known later =
+      λ later. kept-watched b.watch known a.reading later x.stands.watches x.stands.counts x.stands.ordered looked counted in
+      record {
+        events = x.events;
+        quiet = x.quiet;
+        stands = StandsFor-next b.watch b.reading b.next_look next known (inr (watched next soon)) x.stands;
+        seen = x.seen;
+        looked = subst (λ n. WasWatched n known a.reading) looks.longest (watched a.reading (omega arith));
+      };
+}

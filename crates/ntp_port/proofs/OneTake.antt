@@ -1,12 +1,12 @@
 -- One take, by the calls that were made in it.
-use Rattle.std.proofs.Common.{◌≡◌, ℕ, max, List, ◌∷◌, ◌++◌, Option, Some, Result, sym, subst, ◌∙◌, arith}
+use Rattle.std.proofs.Common.{◌≡◌, ℕ, max, List, ◌∷◌, ◌++◌, Option, Result, sym, subst, ◌∙◌, arith}
 use Rattle.ntp_service.specs.declared.observation.Arrival.{Arrival}
 use Rattle.ntp_port.specs.declared.port.PortFault.{PortFault}
 use Rattle.ntp_port.specs.Port.{Told}
 use Rattle.ntp_port.specs.declared.queue_event.QueueEvent.{QueueEvent}
 use Rattle.ntp_port.specs.declared.queue_event.QueueEvent.TheVariants.{Read}
 use Rattle.ntp_port.specs.declared.fresh_port.Next.{Next}
-use Rattle.ntp_port.specs.Freshness.{oldest_look}
+use Rattle.ntp_port.specs.Freshness.{WasWatched}
 use Rattle.ntp_port.specs.Queue.{ReadsClock, TellsEvents, seen_in_wait}
 use Rattle.ntp_port.specs.Watch.{longest_of}
 use Rattle.ntp_port.specs.Fresh.{KeepsHistory, Stands, counted_on, Kept}
@@ -16,16 +16,17 @@ use Rattle.ntp_port.proofs.Keeping.{StandsFor-Read}
 
 -- a look, a wait and a reading of the clock, one after another, are a take
 pub takes-next : (a b d : Kept) (s : Option (List QueueEvent)) (v : Option Told) (shows : ℕ) (received given : Option (Result Arrival PortFault))
-    (next : Next) (datagram : List ℕ) → LooksAtQueue a b (Some (oldest_look (longest_of a.watch))) → received ≡ given
+    (next : Next) (datagram : List ℕ) → LooksAtQueue a b (WasWatched (longest_of a.watch)) → received ≡ given
     → TellsEvents b.history s (seen_in_wait received) → d.reading ≡ max shows b.reading → ReadsClock s d.history shows → d.told ≡ v
-    → d.stale ≡ counted_on b.stale (drops_in next) → NextTells b.told v next datagram → longest_of d.watch ≡ longest_of b.watch
+    → d.stale ≡ counted_on b.stale (drops_in next) → d.sweeps ≡ b.sweeps → NextTells b.told v next datagram → longest_of d.watch ≡ longest_of b.watch
     → ((history : List QueueEvent) → Stands b history
     → KeepsHistory d.watch b.reading d.next_look (seen_in_wait given b.reading ++ history))
-    → ((history : List QueueEvent) (look : LooksOn a b (Some (oldest_look (longest_of a.watch))) history)
+    → ((history : List QueueEvent) (look : LooksOn a b (WasWatched (longest_of a.watch)) history)
     → ComesTo (longest_of a.watch) history next (Read d.reading ∷ (seen_in_wait given b.reading ++ (look.events ++ history))))
     → TakesNext a d next datagram
-takes-next a b d s v shows received given next datagram looks is waited latest read ticks counted tells longest stands comes = record {
+takes-next a b d s v shows received given next datagram looks is waited latest read ticks counted swept tells longest stands comes = record {
   counted = subst (λ n. d.stale ≡ counted_on n (drops_in next)) looks.stale counted;
+  sweeps = swept ∙ looks.sweeps;
   turns = subst (λ t. NextTells t d.told next datagram) looks.told (subst (λ u. NextTells b.told u next datagram) (sym ticks) tells);
   longest = longest ∙ looks.longest;
   each = λ history stood.

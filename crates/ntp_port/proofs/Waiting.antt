@@ -4,11 +4,11 @@ use Rattle.ntp_service.specs.declared.observation.Arrival.{Arrival}
 use Rattle.ntp_port.specs.declared.port.PortFault.{PortFault}
 use Rattle.ntp_port.specs.declared.queue_event.QueueEvent.{QueueEvent}
 use Rattle.ntp_port.specs.declared.queue_event.QueueEvent.TheVariants.{Held, Looked, Taken, Read}
-use Rattle.ntp_port.specs.Freshness.{takes, MayBeAnswered, WasLookedAt, WasCounted, oldest_look}
+use Rattle.ntp_port.specs.Freshness.{takes, MayBeAnswered, AreCounted, WasWatched}
 use Rattle.ntp_port.specs.Watch.{longest_of}
-use Rattle.ntp_port.specs.Fresh.{Take, history_before, history_after, Dropped, InHand, Swept, history_dropped, IsStale, AreStale, WasAsked, PassesOn, Kept, ReceivesFresh, PassesOnFresh}
+use Rattle.ntp_port.specs.Fresh.{Take, history_before, history_after, Dropped, InHand, Swept, history_dropped, IsStale, AreStale, in_hand, WasAsked, PassesOn, Kept, ReceivesFresh, PassesOnFresh}
 use Rattle.ntp_port.proofs.Seeing.{IsSeenFrom-more}
-use Rattle.ntp_port.proofs.Keeping.{AreStale-append, counted-append}
+use Rattle.ntp_port.proofs.Keeping.{AreStale-append, in_hand-append, counted-append}
 use Rattle.ntp_port.proofs.Dropping.{DropsTurns-on, DropsTurns-append}
 
 takes-append : (xs ys : List QueueEvent) → takes (xs ++ ys) ≡ takes xs + takes ys
@@ -53,13 +53,19 @@ unfolding earlier_dropped earlier
 IsStale-earlier longest (InHand take) seen history quiet stale =
     let before = history_before-earlier take seen history quiet in (
       λ may. stale.0 (subst (λ xs. MayBeAnswered longest xs take.now) before may),
-      subst (λ xs. WasLookedAt (oldest_look longest) xs take.at) (sym before) stale.1,
+      subst (λ xs. WasWatched longest xs take.at) (sym before) stale.1,
     )
 IsStale-earlier longest (Swept events calm at) seen history quiet stale =
     let before : (events ++ seen) ++ history ≡ events ++ (seen ++ history) = append_assoc events seen history in (
       λ may. stale.0 (subst (λ xs. MayBeAnswered longest xs at) before may),
-      subst WasCounted (sym before) stale.1,
+      subst (AreCounted 1) (sym before) stale.1,
     )
+
+in_hand-earlier : (one : Dropped) (dropped : List Dropped) (seen : List QueueEvent) (quiet : takes seen ≡ 0)
+    → in_hand (earlier_dropped one seen quiet ∷ dropped) ≡ in_hand (one ∷ dropped)
+unfolding earlier_dropped
+in_hand-earlier (InHand take) dropped seen quiet = refl
+in_hand-earlier (Swept events calm at) dropped seen quiet = refl
 
 -- what is passed on, where more was seen before
 PassesOn-earlier : (longest : ℕ) (seen history after : List QueueEvent) (result : Option (Result Arrival PortFault)) → takes seen ≡ 0
@@ -79,23 +85,24 @@ PassesOn-earlier longest seen history after (Some (Ok arrival)) quiet passed = (
 WasAsked-earlier : (seen history after : List QueueEvent) (result : Option (Result Arrival PortFault))
     → WasAsked 0 (seen ++ history) result after → WasAsked 0 history result after
 WasAsked-earlier seen history after (Some received) asked = tt
-WasAsked-earlier seen history after None asked = λ none.
-    let x = asked none in
+WasAsked-earlier seen history after None asked = λ few.
+    let x = asked few in
     (x.0, x.1 ++ seen, x.2, x.3 ∙ ap (λ xs. x.0 ++ Held 0 x.2 ∷ xs) (sym (append_assoc x.1 seen history)))
 
 -- what is dropped, and then passed on, where more was seen before
-record Goes (longest : ℕ) (history after : List QueueEvent) (count : ℕ) (result : Option (Result Arrival PortFault)) : Type 0 where
+record Goes (longest : ℕ) (history after : List QueueEvent) (count from_hand : ℕ) (result : Option (Result Arrival PortFault)) : Type 0 where
   dropped : List Dropped
   between : List QueueEvent
   stale : AreStale longest history dropped between
   passed_on : PassesOn longest between result after
-  asked : WasAsked count between result after
+  asked : WasAsked from_hand between result after
   as_many : length dropped ≡ count
+  hands : in_hand dropped ≡ from_hand
 
 Goes-earlier : (longest : ℕ) (seen history between after : List QueueEvent) (dropped : List Dropped)
     (result : Option (Result Arrival PortFault)) → takes seen ≡ 0 → AreStale longest (seen ++ history) dropped between
-    → PassesOn longest between result after → WasAsked (length dropped) between result after
-    → Goes longest history after (length dropped) result
+    → PassesOn longest between result after → WasAsked (in_hand dropped) between result after
+    → Goes longest history after (length dropped) (in_hand dropped) result
 unfolding earlier
 Goes-earlier longest seen history between after [] result quiet stale passed asked = record {
   dropped = [];
@@ -104,6 +111,7 @@ Goes-earlier longest seen history between after [] result quiet stale passed ask
   passed_on = PassesOn-earlier longest seen history after result quiet (subst (λ xs. PassesOn longest xs result after) stale passed);
   asked = WasAsked-earlier seen history after result (subst (λ xs. WasAsked 0 xs result after) stale asked);
   as_many = refl;
+  hands = refl;
 }
 Goes-earlier longest seen history between after (one ∷ dropped) result quiet stale passed asked = record {
   dropped = earlier_dropped one seen quiet ∷ dropped;
@@ -115,32 +123,34 @@ Goes-earlier longest seen history between after (one ∷ dropped) result quiet s
   passed_on = passed;
   asked = asked;
   as_many = refl;
+  hands = in_hand-earlier one dropped seen quiet;
 }
 
 WasAsked-more : (m n : ℕ) (history after : List QueueEvent) (result : Option (Result Arrival PortFault)) → WasAsked n history result after
     → WasAsked (m + n) history result after
 WasAsked-more m n history after (Some received) asked = tt
-WasAsked-more m n history after None asked = λ none. asked (omega (arith, none))
+WasAsked-more m n history after None asked = λ few. asked (omega (arith, few))
 
 -- nothing was passed on, and then this
-ReceivesFresh-more : (a b c : Kept) (m n : ℕ) (h k l : List QueueEvent) (result : Option (Result Arrival PortFault))
-    → longest_of b.watch ≡ longest_of a.watch → ReceivesFresh a b m h k None → ReceivesFresh b c n k l result
-    → ReceivesFresh a c (m + n) h l result
-ReceivesFresh-more a b c m n h k l result longest first second =
+ReceivesFresh-more : (a b c : Kept) (m n i j : ℕ) (h k l : List QueueEvent) (result : Option (Result Arrival PortFault))
+    → longest_of b.watch ≡ longest_of a.watch → ReceivesFresh a b m i h k None → ReceivesFresh b c n j k l result
+    → ReceivesFresh a c (m + n) (i + j) h l result
+ReceivesFresh-more a b c m n i j h k l result longest first second =
     let nothing = first.passed_on in
     let stale : AreStale (longest_of a.watch) (nothing.0 ++ first.between) second.dropped second.between =
     subst (λ xs. AreStale (longest_of a.watch) xs second.dropped second.between) nothing.2
     (subst (λ w. AreStale w k second.dropped second.between) longest second.stale) in
     let goes = Goes-earlier (longest_of a.watch) nothing.0 first.between second.between l second.dropped result nothing.1 stale
     (subst (λ w. PassesOn w second.between result l) longest second.passed_on)
-    (subst (λ n. WasAsked n second.between result l) (sym second.as_many) second.asked) in
+    (subst (λ n. WasAsked n second.between result l) (sym second.hands) second.asked) in
     record {
       dropped = first.dropped ++ goes.dropped;
       between = goes.between;
       stale = AreStale-append (longest_of a.watch) h first.between goes.between first.dropped goes.dropped first.stale goes.stale;
       passed_on = goes.passed_on;
-      asked = WasAsked-more m n goes.between l result (subst (λ x. WasAsked x goes.between result l) second.as_many goes.asked);
+      asked = WasAsked-more i j goes.between l result (subst (λ x. WasAsked x goes.between result l) second.hands goes.asked);
       as_many = omega (arith, length-append first.dropped goes.dropped, first.as_many, goes.as_many, second.as_many);
+      hands = omega (arith, in_hand-append first.dropped goes.dropped, first.hands, goes.hands, second.hands);
       seen = IsSeenFrom-more a.reading b.reading c.reading a.history b.history c.history h k l first.seen second.seen;
     }
 
@@ -149,6 +159,8 @@ Passes-more : (a b c : Kept) (result : Option (Result Arrival PortFault)) (datag
 Passes-more a b c result datagram later first second = record {
   dropped = first.dropped + second.dropped;
   counted = counted-append a.stale b.stale c.stale first.dropped second.dropped first.counted second.counted;
+  from_hand = first.from_hand + second.from_hand;
+  swept = counted-append a.sweeps b.sweeps c.sweeps first.from_hand second.from_hand first.swept second.swept;
   turns = (
     second.turns.0,
     DropsTurns-append first.dropped second.dropped a.told first.turns.0 second.turns.0 first.turns.1
@@ -159,7 +171,8 @@ Passes-more a b c result datagram later first second = record {
   fresh = λ history stands.
       let x = first.fresh history stands in
       let y = second.fresh x.0 x.1 in
-      (y.0, y.1, ReceivesFresh-more a b c first.dropped second.dropped history x.0 y.0 result first.longest x.2 y.2);
+      let more = ReceivesFresh-more a b c first.dropped second.dropped first.from_hand second.from_hand history x.0 y.0 result first.longest x.2 y.2 in
+      (y.0, y.1, more);
 }
 
 -- after so many calls nothing was passed on: nothing yet, after none

@@ -1,13 +1,13 @@
 -- What is kept of a history tells after which moment what comes next came.
-use Rattle.std.proofs.Common.{◌≡◌, ℕ, zero, suc, ◌+◌, ◌<◌, ◌≤◌, Bool, true, false, List, [], ◌∷◌, ◌++◌, Some, refl, sym, ap, subst, ◌∙◌, arith}
+use Rattle.std.proofs.Common.{◌≡◌, ℕ, zero, suc, ◌+◌, ◌/◌, ◌<◌, ◌≤◌, inl, inr, Bool, true, false, List, [], ◌∷◌, ◌++◌, Some, refl, sym, ap, subst, ◌∙◌, arith}
 use Rattle.std.specs.Prelude.{nat_le, ◌&&◌, if◌then◌else◌, All, Contains}
 use Rattle.std.proofs.lemmas.Bool.{le-leb, lt-leb, leb-true}
 use Rattle.std.proofs.lemmas.List.Elements.{All-contains, Contains-append_right}
 use Rattle.ntp_port.specs.declared.queue_event.QueueEvent.{QueueEvent}
 use Rattle.ntp_port.specs.declared.queue_event.QueueEvent.TheVariants.{Held, Looked, Taken, Read}
 use Rattle.ntp_port.specs.declared.queue_watch.QueueWatch.{QueueWatch}
-use Rattle.ntp_port.specs.Freshness.{takes, moment_of, IsInOrder, MayBeAnswered, WasLookedAt}
-use Rattle.ntp_port.specs.Watch.{Watches, longest_of, known_after, kept_after}
+use Rattle.ntp_port.specs.Freshness.{takes, moment_of, IsInOrder, MayBeAnswered, WasLookedAt, WasCounted, oldest_look, oldest_count, WasWatched}
+use Rattle.ntp_port.specs.Watch.{Watches, Counts, IsCounted, longest_of, known_after, kept_after}
 
 -- what is taken next after so many more takes came after this moment
 CameAfterMore : ℕ → List QueueEvent → ℕ → Type 0
@@ -165,3 +165,48 @@ pub kept-looked : (watch : QueueWatch) (history : List QueueEvent) (now before :
     → (at : ℕ) × (watch.known ≡ Some at) × (now < at + before) → WasLookedAt before history now
 kept-looked watch history now before watches ordered known =
     known-looked 0 now before history known.0 (watches 0 ∙ kept-none watch ∙ known.1) ordered (omega (arith, known.2))
+
+-- ---- when it was counted
+-- the last look is no later than the newest event
+looked-newest : (c before : ℕ) (e : QueueEvent) (history : List QueueEvent) → IsInOrder (e ∷ history) → WasLookedAt before (e ∷ history) c
+    → c ≤ moment_of e + before
+looked-newest c before (Held count at) history ordered looked = looked
+looked-newest c before (Looked at) history ordered looked = looked
+looked-newest c before (Taken at) history ordered looked = looked-within at c before history ordered.0 looked
+looked-newest c before (Read at) history ordered looked = looked-within at c before history ordered.0 looked
+
+-- what is kept tells that it was, where that had to be known
+kept-counted : (watch : QueueWatch) (history : List QueueEvent) (now next : ℕ) → Watches watch history → Counts watch history → IsInOrder history
+    → WasLookedAt (longest_of watch / 10) history now → IsCounted watch now → next ≤ now + 100000
+    → WasCounted (oldest_count (longest_of watch)) history next
+unfolding CameAfterMore
+kept-counted watch [] now next watches counts ordered looked counted soon = absurd looked
+kept-counted watch (e ∷ history) now next watches counts ordered looked (inl waits) soon =
+    let x = counts waits in
+    let newest = looked-newest now (longest_of watch / 10) e history ordered looked in
+    ([], e, history, refl, omega (arith, newest, soon), (x.0, x.1, x.2, watch.seen, x.3, omega (arith, x.4)))
+kept-counted watch (e ∷ history) now next watches counts ordered looked (inr known) soon =
+    let came : CameAfterMore 0 (e ∷ history) known.0 = known-came 0 (e ∷ history) known.0 (watches 0 ∙ kept-none watch ∙ known.1) in
+    (came.0, Held came.2 known.0, came.1, came.3, omega (arith, known.2, soon), ([], came.1, came.2, known.0, refl, omega arith))
+
+pub kept-watched : (watch : QueueWatch) (history : List QueueEvent) (now next : ℕ) → Watches watch history → Counts watch history → IsInOrder history
+    → WasLookedAt (longest_of watch / 10) history now → IsCounted watch now → next ≤ now + 100000 → WasWatched (longest_of watch) history next
+kept-watched watch history now next watches counts ordered looked counted soon = (
+  looked-by now next (longest_of watch / 10) (oldest_look (longest_of watch)) history (omega (arith, soon)) looked,
+  kept-counted watch history now next watches counts ordered looked counted soon,
+)
+
+-- one event more leaves it so
+pub watched-more : (longest c : ℕ) (e : QueueEvent) (history : List QueueEvent) → IsInOrder (e ∷ history) → WasWatched longest history c
+    → WasWatched longest (e ∷ history) c
+watched-more longest c e history ordered watched =
+    let x = watched.1 in
+    (looked-more c (oldest_look longest) e history ordered watched.0, (e ∷ x.0, x.1, x.2, ap (λ xs. e ∷ xs) x.3, x.4, x.5))
+
+-- and so it was at an earlier moment
+pub watched-by : (longest c d : ℕ) (history : List QueueEvent) → d ≤ c → WasWatched longest history c → WasWatched longest history d
+watched-by longest c d history by watched =
+    let x = watched.1 in (
+      looked-by c d (oldest_look longest) (oldest_look longest) history (omega (arith, by)) watched.0,
+      (x.0, x.1, x.2, x.3, omega (arith, by, x.4), x.5),
+    )

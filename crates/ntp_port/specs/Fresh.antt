@@ -1,5 +1,5 @@
 -- What a port does that passes on only what may be answered.
-use Rattle.std.specs.Prelude.{◌≡◌, ℕ, ◌+◌, ◌-◌, ◌^◌, ◌≤◌, ◌⊎◌, min, Option, None, Some, Result, Ok, Err, List, [], ◌∷◌, ◌++◌, length, All}
+use Rattle.std.specs.Prelude.{◌≡◌, ℕ, suc, ◌+◌, ◌-◌, ◌^◌, ◌<◌, ◌≤◌, ◌⊎◌, min, Option, None, Some, Result, Ok, Err, List, [], ◌∷◌, ◌++◌, length, All}
 use Rattle.ntp_service.specs.declared.observation.Arrival.{Arrival}
 use Rattle.ntp_port.specs.declared.port.PortFault.{PortFault}
 use Rattle.ntp_port.specs.Port.{Told}
@@ -10,14 +10,14 @@ use Rattle.ntp_port.specs.declared.fresh_port.FreshPort.{FreshPort}
 use Rattle.ntp_port.specs.declared.queued_port.QueuedPort as queued
 use Rattle.ntp_port.specs.declared.port.TimedPort as timed
 use Rattle.ntp_port.specs.declared.port.Port as port
-use Rattle.ntp_port.specs.Freshness.{takes, moment_of, IsInOrder, MayBeAnswered, WasLookedAt, WasCounted, oldest_look}
+use Rattle.ntp_port.specs.Freshness.{takes, moment_of, IsInOrder, MayBeAnswered, AreCounted, WasWatched}
 use Rattle.ntp_port.specs.Queue.{last_reading, SeesMore}
 use Rattle.ntp_port.specs.Watch.{Watches, Counts, longest_of}
 use Rattle.ntp_port.specs.Passing.{PassesTurns}
 
--- when the queue may be looked at again: at once (0), or at most `oldest_look longest` after the last look
+-- when the queue may be looked at again: at once (0), or while the last look and the last count are in time
 abbrev pub LooksAgain : ℕ → List QueueEvent → ℕ → Type 0
-LooksAgain longest history next = (next ≡ 0) ⊎ WasLookedAt (oldest_look longest) history next
+LooksAgain longest history next = (next ≡ 0) ⊎ WasWatched longest history next
 
 -- what is kept, with the last reading of the clock and with when the queue may be looked at again, is that of a history whose events are
 -- in order and no later than that reading
@@ -54,18 +54,28 @@ abbrev pub history_dropped : Dropped → List QueueEvent → List QueueEvent
 history_dropped (InHand take) history = history_after take history
 history_dropped (Swept seen quiet at) history = Taken at ∷ (seen ++ history)
 
--- it may not be answered, once it is in hand, and the queue was looked at in time before it was taken; or already when the call begins
--- that sweeps it out, and it may be one of those that a look counted
+-- it may not be answered, once it is in hand, and the queue was looked at and counted in time before it was taken; or already when the
+-- call begins that sweeps it out, and it may be one of those that a look counted
 abbrev pub IsStale : ℕ → List QueueEvent → Dropped → Type 0
 IsStale longest history (InHand take) =
-    (MayBeAnswered longest (history_before take history) take.now → ⊥) × WasLookedAt (oldest_look longest) (history_before take history) take.at
-IsStale longest history (Swept seen quiet at) = (MayBeAnswered longest (seen ++ history) at → ⊥) × WasCounted (seen ++ history)
+    (MayBeAnswered longest (history_before take history) take.now → ⊥) × WasWatched longest (history_before take history) take.at
+IsStale longest history (Swept seen quiet at) = (MayBeAnswered longest (seen ++ history) at → ⊥) × AreCounted 1 (seen ++ history)
 
 -- these were dropped, one after another, and none of them may be answered
 abbrev pub AreStale : ℕ → List QueueEvent → List Dropped → List QueueEvent → Type 0
 AreStale longest history [] after = after ≡ history
 AreStale longest history (dropped ∷ more) after =
     IsStale longest history dropped × AreStale longest (history_dropped dropped history) more after
+
+-- how many of them were dropped from hand
+abbrev pub in_hand : List Dropped → ℕ
+in_hand [] = 0
+in_hand (InHand take ∷ dropped) = suc (in_hand dropped)
+in_hand (Swept seen quiet at ∷ dropped) = in_hand dropped
+
+-- how many one call drops from hand at most
+abbrev pub most_sweeps : ℕ
+most_sweeps = 4
 
 -- nothing was taken
 abbrev pub NothingTaken : List QueueEvent → List QueueEvent → Type 0
@@ -76,10 +86,10 @@ abbrev pub FoundEmpty : List QueueEvent → List QueueEvent → Type 0
 FoundEmpty history after =
     (since : List QueueEvent) × (seen : List QueueEvent) × (at : ℕ) × (after ≡ since ++ Held 0 at ∷ (seen ++ history))
 
--- where nothing is passed on and none was dropped, the queue was found empty
+-- where nothing is passed on and fewer than four were dropped from hand, the queue was found empty
 abbrev pub WasAsked : ℕ → List QueueEvent → Option (Result Arrival PortFault) → List QueueEvent → Type 0
-WasAsked count history None after = count ≡ 0 → FoundEmpty history after
-WasAsked count history (Some received) after = Unit {0}
+WasAsked from_hand history None after = from_hand < most_sweeps → FoundEmpty history after
+WasAsked from_hand history (Some received) after = Unit {0}
 
 -- what is passed on: a datagram that may be answered, or nothing that was taken
 abbrev pub PassesOn : ℕ → List QueueEvent → Option (Result Arrival PortFault) → List QueueEvent → Type 0
@@ -108,35 +118,51 @@ pub record Kept : Type 0 where
   pub reading : ℕ
   pub next_look : ℕ
   pub stale : ℕ
+  pub sweeps : ℕ
   pub told : Option Told
   pub history : Option (List QueueEvent)
 
 -- what it keeps, by what the port below tells of its turns and of its queue
 abbrev pub kept_by : {P : Type 0} {queue : queued.Ghosts P} {timed : timed.Ghosts P} {port : port.Ghosts P} → FreshPort P queue timed port → Kept
-kept_by {queue = q} {port = p} f =
-    record { watch = f.watch; reading = f.reading; next_look = f.next_look; stale = f.counts.dropped; told = p.told f.port; history = q.history f.port }
+kept_by {queue = q} {port = p} f = record {
+  watch = f.watch;
+  reading = f.reading;
+  next_look = f.next_look;
+  stale = f.counts.dropped;
+  sweeps = f.sweeps;
+  told = p.told f.port;
+  history = q.history f.port;
+}
 
 -- it is that of a history
 abbrev pub Stands : Kept → List QueueEvent → Type 0
 Stands k history = KeepsHistory k.watch k.reading k.next_look history
 
--- `count` datagrams that may not be answered were taken from the queue of the port below and dropped, and then `result` was passed on:
--- nothing only where some were dropped, or the queue was found empty
-pub record ReceivesFresh (old new : Kept) (count : ℕ) (history after : List QueueEvent) (result : Option (Result Arrival PortFault)) : Type 0 where
+-- `count` datagrams that may not be answered were taken from the queue of the port below and dropped, `from_hand` of them from hand, and
+-- then `result` was passed on: nothing only where four were dropped from hand, or the queue was found empty
+pub record ReceivesFresh (old new : Kept) (count from_hand : ℕ) (history after : List QueueEvent) (result : Option (Result Arrival PortFault))
+    : Type 0 where
   pub dropped : List Dropped
   pub between : List QueueEvent
   pub stale : AreStale (longest_of old.watch) history dropped between
   pub passed_on : PassesOn (longest_of old.watch) between result after
-  pub asked : WasAsked count between result after
+  pub asked : WasAsked from_hand between result after
   pub as_many : length dropped ≡ count
+  pub hands : in_hand dropped ≡ from_hand
   pub seen : IsSeenFrom old.reading new.reading old.history new.history history after
 
--- some datagrams were dropped and counted, and what is passed on is the next one, as the port below told it. For each history that `old`
--- stands for, `new` stands for one that goes on from it, with as many dropped
+-- some datagrams were dropped and counted, and those again that were dropped from hand; and what is passed on is the next one, as the
+-- port below told it. For each history that `old` stands for, `new` stands for one that goes on from it, with as many dropped
 pub record PassesOnFresh (old new : Kept) (result : Option (Result Arrival PortFault)) (datagram : List ℕ) : Type 0 where
   pub dropped : ℕ
   pub counted : new.stale ≡ counted_on old.stale dropped
+  pub from_hand : ℕ
+  pub swept : new.sweeps ≡ counted_on old.sweeps from_hand
   pub turns : PassesTurns dropped old.told new.told result datagram
   pub longest : longest_of new.watch ≡ longest_of old.watch
   pub fresh : (history : List QueueEvent) → Stands old history
-      → (after : List QueueEvent) × Stands new after × ReceivesFresh old new dropped history after result
+      → (after : List QueueEvent) × Stands new after × ReceivesFresh old new dropped from_hand history after result
+
+-- one call comes to that, and drops no more than four from hand
+abbrev pub PassesOnInTime : Kept → Kept → Option (Result Arrival PortFault) → List ℕ → Type 0
+PassesOnInTime old new result datagram = (passes : PassesOnFresh old new result datagram) × (passes.from_hand ≤ most_sweeps)

@@ -1,5 +1,5 @@
 -- The datagrams that may be answered, by what was seen of their queue. A history is a list of events, newest first.
-use Rattle.std.specs.Prelude.{◌≡◌, ℕ, suc, ◌+◌, ◌/◌, ◌<◌, ◌≤◌, Option, None, Some, IsSomeAnd, List, [], ◌∷◌, ◌++◌, All}
+use Rattle.std.specs.Prelude.{◌≡◌, ℕ, suc, ◌+◌, ◌*◌, ◌/◌, ◌<◌, ◌≤◌, Option, None, Some, IsSomeAnd, List, [], ◌∷◌, ◌++◌, All}
 use Rattle.ntp_port.specs.declared.queue_event.QueueEvent.{QueueEvent}
 use Rattle.ntp_port.specs.declared.queue_event.QueueEvent.TheVariants.{Held, Looked, Taken, Read}
 
@@ -30,22 +30,35 @@ last_look (other ∷ history) = last_look history
 abbrev pub WasLookedAt : ℕ → List QueueEvent → ℕ → Type 0
 WasLookedAt before history now = IsSomeAnd (last_look history) (λ at. now ≤ at + before)
 
--- how old the last look may be where a datagram is taken that is dropped, in nanoseconds: a tenth of the longest wait, and a
--- ten-thousandth of a second
-abbrev pub oldest_look : ℕ → ℕ
-oldest_look longest = longest / 10 + 100000
-
--- the datagram that is taken next after the history may be one of those that a look counted: fewer were taken since
-abbrev pub WasCounted : List QueueEvent → Type 0
-WasCounted history =
-    (since : List QueueEvent) × (before : List QueueEvent) × (count : ℕ) × (at : ℕ) × (history ≡ since ++ Held count at ∷ before) × (takes since < count)
-
 -- the moment of an event
 abbrev pub moment_of : QueueEvent → ℕ
 moment_of (Held count at) = at
 moment_of (Looked at) = at
 moment_of (Taken at) = at
 moment_of (Read at) = at
+
+-- the `more` datagrams that are taken next after the history may be of those that a look counted: it counted so many more than were
+-- taken since
+abbrev pub AreCounted : ℕ → List QueueEvent → Type 0
+AreCounted more history =
+    (since : List QueueEvent) × (before : List QueueEvent) × (count : ℕ) × (at : ℕ) × (history ≡ since ++ Held count at ∷ before) × (takes since + more ≤ count)
+
+-- the queue was counted: at an event that was at most `before` before `now`, no more had been taken since a look than it counted
+abbrev pub WasCounted : ℕ → List QueueEvent → ℕ → Type 0
+WasCounted before history now = (newer : List QueueEvent) × (event : QueueEvent) × (older : List QueueEvent)
+    × (history ≡ newer ++ event ∷ older) × (now ≤ moment_of event + before) × AreCounted 0 (event ∷ older)
+
+-- how old the last look may be where a datagram is taken that is dropped from hand, in nanoseconds: a tenth of the longest wait, and a
+-- ten-thousandth of a second; and the last count: three tenths
+abbrev pub oldest_look : ℕ → ℕ
+oldest_look longest = longest / 10 + 100000
+
+abbrev pub oldest_count : ℕ → ℕ
+oldest_count longest = longest / 10 * 3 + 100000
+
+-- the queue was looked at and counted in time before `now`
+abbrev pub WasWatched : ℕ → List QueueEvent → ℕ → Type 0
+WasWatched longest history now = WasLookedAt (oldest_look longest) history now × WasCounted (oldest_count longest) history now
 
 -- no event of the history is later than a newer one
 abbrev pub IsInOrder : List QueueEvent → Type 0

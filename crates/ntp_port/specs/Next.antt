@@ -1,13 +1,13 @@
 -- Not to be believed: for proofs. What one take comes to.
-use Rattle.std.specs.Prelude.{◌≡◌, ℕ, ◌+◌, true, Option, None, Some, Ok, Err, List, length, ◌++◌}
+use Rattle.std.specs.Prelude.{◌≡◌, ℕ, ◌+◌, true, Option, Ok, Err, List, length, ◌++◌}
 use Rattle.ntp_port.specs.declared.port.PortCounts.{PortCounts}
 use Rattle.ntp_port.specs.Port.{Told, ReceiveTells, TellsOn, DropTells, DropsTurns}
 use Rattle.ntp_port.specs.declared.queue_event.QueueEvent.{QueueEvent}
 use Rattle.ntp_port.specs.declared.fresh_port.Next.{Next}
 use Rattle.ntp_port.specs.declared.fresh_port.Next.TheVariants.{Nothing, Fault, Fresh, Stale}
-use Rattle.ntp_port.specs.Freshness.{takes, MayBeAnswered, WasLookedAt}
+use Rattle.ntp_port.specs.Freshness.{takes, MayBeAnswered}
 use Rattle.ntp_port.specs.Watch.{longest_of}
-use Rattle.ntp_port.specs.Fresh.{Stands, Take, Dropped, InHand, IsStale, history_before, history_after, AreStale, NothingTaken, FoundEmpty, counted_on, IsSeenFrom, Kept}
+use Rattle.ntp_port.specs.Fresh.{Stands, Take, Dropped, InHand, IsStale, history_before, history_after, AreStale, in_hand, NothingTaken, FoundEmpty, counted_on, IsSeenFrom, Kept}
 
 -- what was taken
 abbrev pub ComesTo : ℕ → List QueueEvent → Next → List QueueEvent → Type 0
@@ -49,44 +49,47 @@ pub record TakesOn (old new : Kept) (history : List QueueEvent) (next : Next) : 
 -- one take came to this
 pub record TakesNext (old new : Kept) (next : Next) (datagram : List ℕ) : Type 0 where
   pub counted : new.stale ≡ counted_on old.stale (drops_in next)
+  pub sweeps : new.sweeps ≡ old.sweeps
   pub turns : NextTells old.told new.told next datagram
   pub longest : longest_of new.watch ≡ longest_of old.watch
   pub each : (history : List QueueEvent) → Stands old history → TakesOn old new history next
 
--- the last look at the queue was at most `before` before `now`, if a time is given
-abbrev pub WasSeen : Option ℕ → List QueueEvent → ℕ → Type 0
-WasSeen None history now = Unit {0}
-WasSeen (Some before) history now = WasLookedAt before history now
+-- what is said of a history and of a moment where nothing is
+abbrev pub Unsaid : List QueueEvent → ℕ → Type 0
+Unsaid history now = Unit {0}
 
--- a history goes on with what a look sees
-pub record LooksOn (old new : Kept) (before : Option ℕ) (history : List QueueEvent) : Type 0 where
+-- a history goes on with what a look sees, and this is said of it then
+pub record LooksOn (old new : Kept) (Said : List QueueEvent → ℕ → Type 0) (history : List QueueEvent) : Type 0 where
   pub events : List QueueEvent
   pub quiet : takes events ≡ 0
   pub stands : Stands new (events ++ history)
   pub seen : IsSeenFrom old.reading new.reading old.history new.history history (events ++ history)
-  pub looked : WasSeen before (events ++ history) old.reading
+  pub looked : Said (events ++ history) old.reading
 
--- a look was made, or none, which takes no datagram and reads no clock; the last look is at most `before` old, if a time is given
-pub record LooksAtQueue (old new : Kept) (before : Option ℕ) : Type 0 where
+-- a look was made, or none, which takes no datagram and reads no clock; and this is said of each history then
+pub record LooksAtQueue (old new : Kept) (Said : List QueueEvent → ℕ → Type 0) : Type 0 where
   pub reading : new.reading ≡ old.reading
   pub stale : new.stale ≡ old.stale
+  pub sweeps : new.sweeps ≡ old.sweeps
   pub told : new.told ≡ old.told
   pub longest : longest_of new.watch ≡ longest_of old.watch
-  pub each : (history : List QueueEvent) → Stands old history → LooksOn old new before history
+  pub each : (history : List QueueEvent) → Stands old history → LooksOn old new Said history
 
--- a history went on with `count` datagrams that were dropped
-pub record DropsOn (old new : Kept) (count : ℕ) (history : List QueueEvent) : Type 0 where
+-- a history went on with `count` datagrams that were dropped, `from_hand` of them from hand
+pub record DropsOn (old new : Kept) (count from_hand : ℕ) (history : List QueueEvent) : Type 0 where
   pub after : List QueueEvent
   pub stands : Stands new after
   pub seen : IsSeenFrom old.reading new.reading old.history new.history history after
   pub dropped : List Dropped
   pub stale : AreStale (longest_of old.watch) history dropped after
   pub as_many : length dropped ≡ count
+  pub hands : in_hand dropped ≡ from_hand
 
--- datagrams were dropped
-pub record Drops (old new : Kept) : Type 0 where
+-- datagrams were dropped, so many of them from hand
+pub record Drops (from_hand : ℕ) (old new : Kept) : Type 0 where
   pub count : ℕ
   pub counted : new.stale ≡ counted_on old.stale count
+  pub swept : new.sweeps ≡ counted_on old.sweeps from_hand
   pub turns : DropsTurns count old.told new.told
   pub longest : longest_of new.watch ≡ longest_of old.watch
-  pub each : (history : List QueueEvent) → Stands old history → DropsOn old new count history
+  pub each : (history : List QueueEvent) → Stands old history → DropsOn old new count from_hand history

@@ -3,7 +3,7 @@ ghost use Rattle.std.specs.Prelude.{◌≡◌, ◌+◌, ◌-◌, ◌/◌, ◌≤
 ghost use Rattle.std.specs.Option.{option_map_or};
 ghost use Rattle.ntp_port.specs.Port.{most_received_octets, failed_calls, counted_send, CountsReceive, CountsWait, Receives, DropsAny, NowTells, SendTells};
 ghost use Rattle.ntp_port.specs.declared.queue_event.QueueEvent.{QueueEvent};
-ghost use Rattle.ntp_port.specs.Freshness.{moment_of, IsInOrder, oldest_look};
+ghost use Rattle.ntp_port.specs.Freshness.{moment_of, IsInOrder, WasLookedAt, WasWatched};
 ghost use Rattle.ntp_port.specs.Queue.{ReadsClock};
 ghost use Rattle.ntp_port.specs.Watch.{Watches, Counts, longest_of, IsCounted, kept_after};
 
@@ -26,8 +26,8 @@ const MOST_SWEEPS: u32 = 4;
 ///
 /// Where one is too old, so are those behind it that were in the queue when it was looked at last: these are swept out, one
 /// after another, and neither the clock nor the queue is asked in between. So what came after that look is reached
-/// soonest. One is dropped from hand only where the queue was looked at in time before, and a sweep takes out no more than a look
-/// counted.
+/// soonest. One is dropped from hand only where the queue was looked at and counted in time before, and a sweep takes out no more than
+/// a look counted.
 ///
 /// The other port's waits have to end well within that time: else a datagram that came during a long wait is dropped.
 #[derive(Drop)]
@@ -42,6 +42,7 @@ pub struct FreshPort<P: QueuedPort> {
     sweeps: u64,
     ghost few: { failed_calls counts < 2 ^ 64 },
     ghost fits: { counts.dropped < 2 ^ 64 },
+    ghost swept: { sweeps < 2 ^ 64 },
     ghost below: { failed_calls (P.counts port) ≤ failed_calls counts },
 }
 
@@ -58,8 +59,8 @@ enum Next {
 }
 
 impl<P: QueuedPort> FreshPort<P> {
-    ghost use Rattle.ntp_port.specs.Fresh.{KeepsHistory, IsShown, counted_on, kept_by, PassesOnFresh};
-    ghost use Rattle.ntp_port.specs.Next.{TakesNext, LooksAtQueue, Drops, CountsNext};
+    ghost use Rattle.ntp_port.specs.Fresh.{KeepsHistory, IsShown, counted_on, kept_by, PassesOnInTime};
+    ghost use Rattle.ntp_port.specs.Next.{TakesNext, Unsaid, LooksAtQueue, Drops, CountsNext};
 
     /// A port that passes on what may be answered of what comes at `port`, by what `watch` was told and will be. It has dropped
     /// nothing, and calls of `port` that failed before are counted as receives. `watch` may know the queue already, by the port's
@@ -107,7 +108,7 @@ impl<P: QueuedPort> FreshPort<P> {
         self.counts.dropped
     }
 
-    /// How many times the queue was swept, as far as the number can count.
+    /// How many times the queue was swept, which is how many datagrams were dropped from hand, as far as the number can count.
     pub fn sweeps(&self) -> u64
         ensures { result ≡ self.now.sweeps }
     {
@@ -124,7 +125,8 @@ impl<P: QueuedPort> FreshPort<P> {
     }
 
     /// Receives a datagram that may be answered, where one comes in time: those that may not be answered, and come before it, are
-    /// dropped and counted. Nothing where none did, or where the queue was swept several times: so never without a look at it.
+    /// dropped and counted. At most four of them are dropped from hand, each with a sweep behind it. Nothing only where four were, or
+    /// where the queue was found empty: so never without a look at it.
     ///
     /// Whatever history the watch stood for, it goes on to stand for one more, with which this is so; and where the other port
     /// tells what it saw, it is just that. Where it tells its turns, what is passed on is its next one, behind as many as were dropped.
@@ -136,7 +138,7 @@ impl<P: QueuedPort> FreshPort<P> {
         ensures length { IfSome result (λ received. IfOk received (λ arrival. arrival.length ≤ most_received_octets)) }
         ensures fault { IfSome result (λ received. IfErr received (λ fault. fault ≡ PortFault.Receive)) }
         ensures counts { CountsWait self.old.counts self.new.counts result }
-        ensures fresh { PassesOnFresh (kept_by self.old) (kept_by self.new) result datagram.new }
+        ensures fresh { PassesOnInTime (kept_by self.old) (kept_by self.new) result datagram.new }
     {
         for _sweep in 0..MOST_SWEEPS {
             match self.take_next(datagram) {
@@ -193,7 +195,7 @@ impl<P: QueuedPort> FreshPort<P> {
     // Drops what was in the queue when it was looked at last, as long as it may not be answered.
     fn sweep(&mut self)
         ensures counts { CountsNext self.old.counts self.new.counts Next.Stale }
-        ensures drops { Drops (kept_by self.old) (kept_by self.new) }
+        ensures drops { Drops 0 (kept_by self.old) (kept_by self.new) }
     {
         for _ in 0..self.watch.waiting() {
             if !self.drop_next() {
@@ -205,7 +207,7 @@ impl<P: QueuedPort> FreshPort<P> {
     // Drops the next datagram, where it is one of those that were counted and may not be answered by what is known. Whether it did.
     fn drop_next(&mut self) -> bool
         ensures counts { CountsNext self.old.counts self.new.counts Next.Stale }
-        ensures drops { Drops (kept_by self.old) (kept_by self.new) }
+        ensures drops { Drops 0 (kept_by self.old) (kept_by self.new) }
         ensures did { self.new.counts.dropped ≡ counted_on self.old.counts.dropped (if result then 1 else 0) }
     {
         let dropped = self.counts.dropped;
@@ -226,8 +228,7 @@ impl<P: QueuedPort> FreshPort<P> {
     // Looks at the queue where it is time to, once in a ten-thousandth of a second at most.
     fn look(&mut self)
         ensures counts { self.new.counts ≡ self.old.counts }
-        ensures looks { LooksAtQueue (kept_by self.old) (kept_by self.new) (Some (oldest_look (longest_of self.old.watch))) }
-        ensures counted { self.old.next_look ≤ self.old.reading → IsCounted self.new.watch self.old.reading }
+        ensures looks { LooksAtQueue (kept_by self.old) (kept_by self.new) (WasWatched (longest_of self.old.watch)) }
     {
         if self.reading >= self.next_look {
             self.look_where_due();
@@ -238,7 +239,7 @@ impl<P: QueuedPort> FreshPort<P> {
     // Looks at the queue where what is known of it is old.
     fn look_where_due(&mut self)
         ensures counts { self.new.counts ≡ self.old.counts }
-        ensures looks { LooksAtQueue (kept_by self.old) (kept_by self.new) (Some (longest_of self.old.watch / 10)) }
+        ensures looks { LooksAtQueue (kept_by self.old) (kept_by self.new) (WasLookedAt (longest_of self.old.watch / 10)) }
         ensures counted { IsCounted self.new.watch self.old.reading }
     {
         if self.watch.is_due(self.reading) {
@@ -249,7 +250,7 @@ impl<P: QueuedPort> FreshPort<P> {
     // Looks whether the queue is empty, and how many datagrams are in it where that has to be known.
     fn look_now(&mut self)
         ensures counts { self.new.counts ≡ self.old.counts }
-        ensures looks { LooksAtQueue (kept_by self.old) (kept_by self.new) (Some 0) }
+        ensures looks { LooksAtQueue (kept_by self.old) (kept_by self.new) (WasLookedAt 0) }
         ensures counted { IsCounted self.new.watch self.old.reading }
     {
         self.look_whether_empty();
@@ -259,7 +260,7 @@ impl<P: QueuedPort> FreshPort<P> {
     // Looks whether the queue is empty.
     fn look_whether_empty(&mut self)
         ensures counts { self.new.counts ≡ self.old.counts }
-        ensures looks { LooksAtQueue (kept_by self.old) (kept_by self.new) (Some 0) }
+        ensures looks { LooksAtQueue (kept_by self.old) (kept_by self.new) (WasLookedAt 0) }
     {
         if self.port.is_empty() {
             self.watch.saw(0, self.reading);
@@ -269,7 +270,7 @@ impl<P: QueuedPort> FreshPort<P> {
     // Looks how many datagrams are in the queue, where no earlier look is waited for and what is known is old: that costs more.
     fn look_how_many(&mut self)
         ensures counts { self.new.counts ≡ self.old.counts }
-        ensures looks { LooksAtQueue (kept_by self.old) (kept_by self.new) None }
+        ensures looks { LooksAtQueue (kept_by self.old) (kept_by self.new) Unsaid }
         ensures counted { IsCounted self.new.watch self.old.reading }
     {
         if !self.watch.is_waiting() && self.watch.is_old(self.reading) {
@@ -344,7 +345,7 @@ impl<P: QueuedPort> Port for FreshPort<P> {
 }
 
 impl<P: QueuedPort> TimedPort for FreshPort<P> {
-    ghost use Rattle.ntp_port.specs.Fresh.{kept_by, PassesOnFresh};
+    ghost use Rattle.ntp_port.specs.Fresh.{kept_by, PassesOnInTime};
 
     /// As `receive_fresh`.
     fn receive_in_time(&mut self, datagram: &mut DatagramRoom) -> Option<Result<Arrival, PortFault>>
@@ -356,7 +357,7 @@ impl<P: QueuedPort> TimedPort for FreshPort<P> {
             Receives true self.old.counts.dropped self.new.counts.dropped (P.told self.old.port) (P.told self.new.port) received datagram.new) }
         ensures nothing { IfNone result ((false ≡ false)
             × DropsAny true self.old.counts.dropped self.new.counts.dropped (P.told self.old.port) (P.told self.new.port)) }
-        ensures fresh { PassesOnFresh (kept_by self.old) (kept_by self.new) result datagram.new }
+        ensures fresh { PassesOnInTime (kept_by self.old) (kept_by self.new) result datagram.new }
     {
         self.receive_fresh(datagram)
     }

@@ -1,12 +1,11 @@
 use Rattle.ntp_port.specs.declared.fresh_port.Next.TheVariants.{Stale}
 use Rattle.ntp_port.specs.Fresh.{kept_by}
-use Rattle.ntp_port.specs.Next.{CountsNext}
-use Rattle.ntp_port.proofs.DroppingStale.{DropsMany}
+use Rattle.ntp_port.specs.Next.{CountsNext, Drops}
 use Rattle.ntp_port.proofs.fresh_port.FreshPort.receive_fresh.Given as goal
 
 abbrev pub invariant-loop-sweep : goal.invariant-loop-sweep
 invariant-loop-sweep g l = record {
   counts : CountsNext l.fn.self.counts l.self.counts Stale;
-  drops : DropsMany l._sweep (kept_by l.fn.self)
+  drops : Drops l._sweep (kept_by l.fn.self)
       (kept_by l.self);
 }

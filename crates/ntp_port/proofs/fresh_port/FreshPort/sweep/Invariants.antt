@@ -6,6 +6,6 @@ use Rattle.ntp_port.proofs.fresh_port.FreshPort.sweep.Given as goal
 abbrev pub invariant-loop : goal.invariant-loop
 invariant-loop g l = record {
   counts : CountsNext l.fn.self.counts l.self.counts Stale;
-  drops : Drops (kept_by l.fn.self)
+  drops : Drops 0 (kept_by l.fn.self)
       (kept_by l.self);
 }

@@ -109,12 +109,11 @@ pub struct Gauges<'a> {
     pub version: &'a str,
 }
 
-// Whether a metric only grows, or comes and goes.
-#[derive(Clone, Copy)]
-enum Sort {
-    Counter,
-    Gauge,
-}
+// The type of a metric that only grows.
+const COUNTER: &str = "counter";
+
+// The type of one that comes and goes.
+const GAUGE: &str = "gauge";
 
 // What a metric has behind its name. A number or a time that is not known is `NaN`.
 #[derive(Clone, Copy)]
@@ -129,13 +128,25 @@ enum Samples<'a> {
     Version(&'a str),
 }
 
-// A metric, with its help.
+// A metric, with its type and its help.
 #[derive(Clone, Copy)]
 struct Metric<'a> {
+    sort: &'static str,
     name: &'static str,
-    sort: Sort,
-    help: &'static str,
     samples: Samples<'a>,
+    help: &'static str,
+}
+
+// Metrics: of each its type, its name, its samples and its help.
+macro_rules! metrics {
+    ($($sort:ident $name:literal = $samples:ident($value:expr), $help:literal;)*) => {
+        [$(Metric {
+            sort: $sort,
+            name: $name,
+            samples: Samples::$samples($value),
+            help: $help,
+        }),*]
+    };
 }
 
 /// Writes the counts and gauges in the text form of Prometheus, each with its help and its type. It takes no memory.
@@ -167,211 +178,96 @@ pub fn write_statistics<W: Write>(
 
 // What is told of datagrams, of the socket and of its queue.
 fn datagram_metrics(counts: &Counts, gauges: &Gauges<'_>) -> [Metric<'static>; 10] {
-    [
-        Metric {
-            name: "labntp_answers_total",
-            sort: Sort::Counter,
-            help: "Answers to datagrams.",
-            samples: Samples::Counts(answers()),
-        },
-        Metric {
-            name: "labntp_receive_failures_total",
-            sort: Sort::Counter,
-            help: "Calls that received no datagram.",
-            samples: Samples::Number(Some(counts.count(Kind::NothingReceived))),
-        },
-        Metric {
-            name: "labntp_send_failures_total",
-            sort: Sort::Counter,
-            help: "Replies that could not be sent.",
-            samples: Samples::Number(Some(counts.count(Kind::NotSent))),
-        },
-        Metric {
-            name: "labntp_stale_total",
-            sort: Sort::Counter,
-            help: "Datagrams that were dropped, since they may have waited for too long.",
-            samples: Samples::Number(Some(gauges.stale)),
-        },
-        Metric {
-            name: "labntp_kernel_drops_total",
-            sort: Sort::Counter,
-            help: "Datagrams that the kernel dropped for want of room.",
-            samples: Samples::Number(Some(gauges.kernel_drops)),
-        },
-        Metric {
-            name: "labntp_departures_noted_total",
-            sort: Sort::Counter,
-            help: "Replies whose departure was noted.",
-            samples: Samples::Number(Some(counts.count(Kind::Noted))),
-        },
-        Metric {
-            name: "labntp_receive_buffer_octets",
-            sort: Sort::Gauge,
-            help: "The socket's receive buffer, as the kernel counts.",
-            samples: Samples::Number(Some(gauges.receive_buffer)),
-        },
-        Metric {
-            name: "labntp_queue_wait_seconds",
-            sort: Sort::Gauge,
-            help: "How long a datagram can have waited at most.",
-            samples: Samples::Seconds(gauges.queue_wait),
-        },
-        Metric {
-            name: "labntp_send_would_wait_total",
-            sort: Sort::Counter,
-            help: "Replies that were not sent, since the socket would have waited.",
-            samples: Samples::Number(Some(gauges.send_would_wait)),
-        },
-        Metric {
-            name: "labntp_sweeps_total",
-            sort: Sort::Counter,
-            help: "Times that the queue was swept.",
-            samples: Samples::Number(Some(gauges.sweeps)),
-        },
-    ]
+    metrics! {
+        COUNTER "labntp_answers_total" = Counts(answers()),
+            "Answers to datagrams.";
+        COUNTER "labntp_receive_failures_total" = Number(Some(counts.count(Kind::NothingReceived))),
+            "Calls that received no datagram.";
+        COUNTER "labntp_send_failures_total" = Number(Some(counts.count(Kind::NotSent))),
+            "Replies that could not be sent.";
+        COUNTER "labntp_stale_total" = Number(Some(gauges.stale)),
+            "Datagrams that were dropped, since they may have waited for too long.";
+        COUNTER "labntp_kernel_drops_total" = Number(Some(gauges.kernel_drops)),
+            "Datagrams that the kernel dropped for want of room.";
+        COUNTER "labntp_departures_noted_total" = Number(Some(counts.count(Kind::Noted))),
+            "Replies whose departure was noted.";
+        GAUGE "labntp_receive_buffer_octets" = Number(Some(gauges.receive_buffer)),
+            "The socket's receive buffer, as the kernel counts.";
+        GAUGE "labntp_queue_wait_seconds" = Seconds(gauges.queue_wait),
+            "How long a datagram can have waited at most.";
+        COUNTER "labntp_send_would_wait_total" = Number(Some(gauges.send_would_wait)),
+            "Replies that were not sent, since the socket would have waited.";
+        COUNTER "labntp_sweeps_total" = Number(Some(gauges.sweeps)),
+            "Times that the queue was swept.";
+    }
 }
 
 // What is told of commands and customers.
 fn command_metrics(gauges: &Gauges<'_>) -> [Metric<'static>; 6] {
-    [
-        Metric {
-            name: "labntp_commands_total",
-            sort: Sort::Counter,
-            help: "Lines of commands.",
-            samples: Samples::Counts(commands()),
-        },
-        Metric {
-            name: "labntp_commands_lines",
-            sort: Sort::Gauge,
-            help: "Lines of the commands file that are applied.",
-            samples: Samples::Number(Some(gauges.commands_lines)),
-        },
-        Metric {
-            name: "labntp_commands_octets",
-            sort: Sort::Gauge,
-            help: "Octets of the commands file.",
-            samples: Samples::Number(gauges.commands_octets),
-        },
-        Metric {
-            name: "labntp_commands_other_line",
-            sort: Sort::Gauge,
-            help: "The first line that is not the one that was applied; 0 for none.",
-            samples: Samples::Number(Some(gauges.commands_other_line.unwrap_or(0))),
-        },
-        Metric {
-            name: "labntp_register_digest",
-            sort: Sort::Gauge,
-            help: "The first six octets of the register file's SHA-256 digest.",
-            samples: Samples::Number(Some(gauges.register_digest)),
-        },
-        Metric {
-            name: "labntp_customers",
-            sort: Sort::Gauge,
-            help: "Customers that are enrolled.",
-            samples: Samples::Number(Some(gauges.customers)),
-        },
-    ]
+    metrics! {
+        COUNTER "labntp_commands_total" = Counts(commands()),
+            "Lines of commands.";
+        GAUGE "labntp_commands_lines" = Number(Some(gauges.commands_lines)),
+            "Lines of the commands file that are applied.";
+        GAUGE "labntp_commands_octets" = Number(gauges.commands_octets),
+            "Octets of the commands file.";
+        GAUGE "labntp_commands_other_line" = Number(Some(gauges.commands_other_line.unwrap_or(0))),
+            "The first line that is not the one that was applied; 0 for none.";
+        GAUGE "labntp_register_digest" = Number(Some(gauges.register_digest)),
+            "The first six octets of the register file's SHA-256 digest.";
+        GAUGE "labntp_customers" = Number(Some(gauges.customers)),
+            "Customers that are enrolled.";
+    }
 }
 
 // What is told of the clock.
 fn clock_metrics(clock: &ClockGauges) -> [Metric<'static>; 8] {
-    [
-        Metric {
-            name: "labntp_clock_synchronised",
-            sort: Sort::Gauge,
-            help: "Whether replies say that the clock is synchronised.",
-            samples: Samples::Number(Some(u64::from(clock.is_synchronised))),
-        },
-        Metric {
-            name: "labntp_clock_age_seconds",
-            sort: Sort::Gauge,
-            help: "How old what is known of the clock is.",
-            samples: Samples::Seconds(clock.age),
-        },
-        Metric {
-            name: "labntp_clock_stratum",
-            sort: Sort::Gauge,
-            help: "The stratum that replies tell.",
-            samples: Samples::Number(Some(u64::from(clock.stratum))),
-        },
-        Metric {
-            name: "labntp_clock_leap",
-            sort: Sort::Gauge,
-            help: "The leap indicator that replies tell.",
-            samples: Samples::Number(Some(u64::from(clock.leap))),
-        },
-        Metric {
-            name: "labntp_clock_root_delay_seconds",
-            sort: Sort::Gauge,
-            help: "The root delay that replies tell.",
-            samples: Samples::Seconds(Some(nanos_of(clock.root_delay))),
-        },
-        Metric {
-            name: "labntp_clock_root_dispersion_seconds",
-            sort: Sort::Gauge,
-            help: "The root dispersion that replies tell.",
-            samples: Samples::Seconds(Some(nanos_of(clock.root_dispersion))),
-        },
-        Metric {
-            name: "labntp_clock_offset_seconds",
-            sort: Sort::Gauge,
-            help: "How far the daemon's clock was from the host's at its last answer.",
-            samples: Samples::SignedSeconds(clock.offset),
-        },
-        Metric {
-            name: "labntp_clock_believed",
-            sort: Sort::Gauge,
-            help: "Whether the clock's daemon is believed, or why not.",
-            samples: Samples::Belief(clock.belief),
-        },
-    ]
+    metrics! {
+        GAUGE "labntp_clock_synchronised" = Number(Some(u64::from(clock.is_synchronised))),
+            "Whether replies say that the clock is synchronised.";
+        GAUGE "labntp_clock_age_seconds" = Seconds(clock.age),
+            "How old what is known of the clock is.";
+        GAUGE "labntp_clock_stratum" = Number(Some(u64::from(clock.stratum))),
+            "The stratum that replies tell.";
+        GAUGE "labntp_clock_leap" = Number(Some(u64::from(clock.leap))),
+            "The leap indicator that replies tell.";
+        GAUGE "labntp_clock_root_delay_seconds" = Seconds(Some(nanos_of(clock.root_delay))),
+            "The root delay that replies tell.";
+        GAUGE "labntp_clock_root_dispersion_seconds" = Seconds(Some(nanos_of(clock.root_dispersion))),
+            "The root dispersion that replies tell.";
+        GAUGE "labntp_clock_offset_seconds" = SignedSeconds(clock.offset),
+            "How far the daemon's clock was from the host's at its last answer.";
+        GAUGE "labntp_clock_believed" = Belief(clock.belief),
+            "Whether the clock's daemon is believed, or why not.";
+    }
 }
 
 // What the program tells of itself.
 fn program_metrics<'a>(gauges: &Gauges<'a>) -> [Metric<'a>; 5] {
-    [
-        Metric {
-            name: "labntp_log_lines_dropped_total",
-            sort: Sort::Counter,
-            help: "Lines of the log that were not written.",
-            samples: Samples::Number(Some(gauges.log_lines_dropped)),
-        },
-        Metric {
-            name: "labntp_files_unreadable_total",
-            sort: Sort::Counter,
-            help: "Times that a file began to fail, at reading or writing.",
-            samples: Samples::Number(Some(gauges.files_unreadable)),
-        },
-        Metric {
-            name: "labntp_file_ok",
-            sort: Sort::Gauge,
-            help: "Whether a file can be read or written.",
-            samples: Samples::Files(gauges.files),
-        },
-        Metric {
-            name: "labntp_start_time_seconds",
-            sort: Sort::Gauge,
-            help: "When the server was started, since 1970.",
-            samples: Samples::Seconds(Some(gauges.start_time)),
-        },
-        Metric {
-            name: "labntp_build_info",
-            sort: Sort::Gauge,
-            help: "The version of the server.",
-            samples: Samples::Version(gauges.version),
-        },
-    ]
+    metrics! {
+        COUNTER "labntp_log_lines_dropped_total" = Number(Some(gauges.log_lines_dropped)),
+            "Lines of the log that were not written.";
+        COUNTER "labntp_files_unreadable_total" = Number(Some(gauges.files_unreadable)),
+            "Times that a file began to fail, at reading or writing.";
+        GAUGE "labntp_file_ok" = Files(gauges.files),
+            "Whether a file can be read or written.";
+        GAUGE "labntp_start_time_seconds" = Seconds(Some(gauges.start_time)),
+            "When the server was started, since 1970.";
+        GAUGE "labntp_build_info" = Version(gauges.version),
+            "The version of the server.";
+    }
 }
 
 // A metric with its help, its type and its samples.
 fn write_metric<W: Write>(out: &mut W, counts: &Counts, metric: &Metric<'_>) -> io::Result<()> {
-    let Metric { name, help, .. } = *metric;
-    let sort = match metric.sort {
-        Sort::Counter => "counter",
-        Sort::Gauge => "gauge",
-    };
+    let Metric {
+        sort,
+        name,
+        samples,
+        help,
+    } = *metric;
     write!(out, "# HELP {name} {help}\n# TYPE {name} {sort}\n")?;
-    match metric.samples {
+    match samples {
         Samples::Number(Some(number)) => writeln!(out, "{name} {number}"),
         Samples::Seconds(Some(nanos)) => write_seconds(out, name, "", nanos),
         Samples::SignedSeconds(Some(nanos)) => {

@@ -5,26 +5,20 @@ use crate::kind::Kind;
 /// A kind that is told, what stands before its word in the labels of the statistics, and the word.
 pub(crate) type CountedKind = (Kind, &'static str, &'static str);
 
-/// The labels that come before a word.
+/// The label before the word of an answer.
 const ANSWER: &str = "answer";
 
+/// The labels before the word of a time reply's mode.
 const MODE: &str = r#"answer="time",mode"#;
 
+/// The labels before the word of the reason of no reply.
 const SILENT: &str = r#"answer="silent",reason"#;
 
+/// The labels before the word of the reason of a refusal.
 const REFUSED: &str = r#"answer="refused",reason"#;
 
 /// The answers to datagrams.
-pub(crate) fn answers() -> &'static [CountedKind] {
-    &ANSWERS
-}
-
-/// What became of lines of commands.
-pub(crate) fn commands() -> &'static [CountedKind] {
-    &COMMANDS
-}
-
-const ANSWERS: [CountedKind; 17] = [
+pub(crate) const ANSWERS: [CountedKind; 17] = [
     (Kind::Basic, MODE, "basic"),
     (Kind::Interleaved, MODE, "interleaved"),
     (Kind::Rate, ANSWER, "rate"),
@@ -44,7 +38,8 @@ const ANSWERS: [CountedKind; 17] = [
     (Kind::OverBudget, SILENT, "over-budget"),
 ];
 
-const COMMANDS: [CountedKind; 10] = [
+/// What became of lines of commands.
+pub(crate) const COMMANDS: [CountedKind; 10] = [
     (Kind::Done, ANSWER, "done"),
     (Kind::AlreadyEnrolled, REFUSED, "already-enrolled"),
     (Kind::KeyTaken, REFUSED, "key-taken"),

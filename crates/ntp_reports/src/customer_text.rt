@@ -1,6 +1,6 @@
 //! What is written of a customer: a line of JSON.
 
-use crate::counted_kinds::answers;
+use crate::counted_kinds::ANSWERS;
 use crate::counts::Counts;
 use crate::customer_report::CustomerReport;
 use crate::kind::Kind;
@@ -47,7 +47,7 @@ impl Described for AnswerCounts {}
 impl Serialize for AnswerCounts {
     fn serialize<S: Serializer>(&self, out: &mut S) -> Result<(), S::Error> {
         out.begin_map(None)?;
-        for (kind, _, word) in answers() {
+        for (kind, _, word) in &ANSWERS {
             if *kind != Kind::Unregistered {
                 out.key(word)?;
                 out.u64(self.counts.count(*kind))?;

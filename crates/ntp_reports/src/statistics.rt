@@ -1,6 +1,6 @@
 //! Statistics in the text form of Prometheus.
 
-use crate::counted_kinds::{CountedKind, answers, commands};
+use crate::counted_kinds::{ANSWERS, COMMANDS, CountedKind};
 use crate::counts::Counts;
 use crate::kind::Kind;
 use ntp_client::Doubt;
@@ -23,6 +23,7 @@ pub enum Belief {
     Doubted(Doubt),
 }
 
+/// Each belief, with its word.
 const BELIEFS: [(Belief, &str); 9] = [
     (Belief::Believed, "believed"),
     (Belief::Fixed, "fixed"),
@@ -179,7 +180,7 @@ pub fn write_statistics<W: Write>(
 // What is told of datagrams, of the socket and of its queue.
 fn datagram_metrics(counts: &Counts, gauges: &Gauges<'_>) -> [Metric<'static>; 10] {
     metrics! {
-        COUNTER "labntp_answers_total" = Counts(answers()),
+        COUNTER "labntp_answers_total" = Counts(&ANSWERS),
             "Answers to datagrams.";
         COUNTER "labntp_receive_failures_total" = Number(Some(counts.count(Kind::NothingReceived))),
             "Calls that received no datagram.";
@@ -205,7 +206,7 @@ fn datagram_metrics(counts: &Counts, gauges: &Gauges<'_>) -> [Metric<'static>; 1
 // What is told of commands and customers.
 fn command_metrics(gauges: &Gauges<'_>) -> [Metric<'static>; 6] {
     metrics! {
-        COUNTER "labntp_commands_total" = Counts(commands()),
+        COUNTER "labntp_commands_total" = Counts(&COMMANDS),
             "Lines of commands.";
         GAUGE "labntp_commands_lines" = Number(Some(gauges.commands_lines)),
             "Lines of the commands file that are applied.";
@@ -305,14 +306,9 @@ fn write_counts<W: Write>(
     Ok(())
 }
 
-// Each belief, with its word.
-fn beliefs() -> &'static [(Belief, &'static str)] {
-    &BELIEFS
-}
-
 // Whether the daemon is believed, and why not: of all reasons 1 stands at the one that there is.
 fn write_belief<W: Write>(out: &mut W, name: &str, belief: Belief) -> io::Result<()> {
-    for (each, word) in beliefs() {
+    for (each, word) in &BELIEFS {
         let is_so = u8::from(belief == *each);
         writeln!(out, "{name}{{why=\"{word}\"}} {is_so}")?;
     }

@@ -1,5 +1,6 @@
 //! The file of what a customer gets.
 
+use labntpd_assembly::directory_of;
 use labntpd_files::{Configuration, Listen};
 use ntp_clerk::{Grant, NewKey, customer_text};
 use ntp_query::Server;
@@ -9,7 +10,6 @@ use std::fs::{self, File, OpenOptions};
 use std::io::{self, Write};
 use std::num::NonZero;
 use std::os::unix::fs::OpenOptionsExt;
-use std::path::Path;
 
 /// The mode of the file: its owner alone may read it.
 const OWNERS: u32 = 0o600;
@@ -107,12 +107,4 @@ fn write_stored(rt: &HostRuntime, file: &mut File, path: &str, text: &str) -> io
 /// Has the system store which file stands at a path.
 pub fn store_name(rt: &HostRuntime, path: &str) -> io::Result<()> {
     fs::open(rt, directory_of(path))?.sync_all()
-}
-
-// The directory of a path.
-fn directory_of(path: &str) -> &str {
-    match Path::new(path).parent() {
-        Some(parent) if !parent.as_str().is_empty() => parent.as_str(),
-        _ => ".",
-    }
 }

@@ -33,7 +33,7 @@ pub use lines::{log_form, start_lines};
 pub use observers::{DaemonObserver, ReportingObserver, observer};
 pub use opened::{answers_file, clock_source, watch_from_now};
 pub use parts::{Begun, Daemon, DaemonPort, Host, Parts};
-pub use places::{NamedFiles, Readers, readers_of, tell_places};
+pub use places::{NamedFiles, Readers, directory_of, readers_of, tell_places};
 pub use prepared::{
     Beginning, FollowedDaemon, KEY_LINE_WANTED, Prepared, ReadRegister, configuration_at, prepare,
     register_at, small_text,

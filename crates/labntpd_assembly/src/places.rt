@@ -290,8 +290,8 @@ fn place_of<'a, R: Files>(files: &R, path: &'a str) -> Option<Place<'a>> {
     })
 }
 
-// The directory in which a path's file stands.
-fn directory_of(path: &str) -> &str {
+/// The path of the directory in which a path's file stands.
+pub fn directory_of(path: &str) -> &str {
     match path.rsplit_once('/') {
         None => ".",
         Some(("", _)) => "/",

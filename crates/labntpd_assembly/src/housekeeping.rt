@@ -31,12 +31,13 @@ const STATISTICS_PERIOD: u64 = 10;
 /// How many seconds lie between two lines of totals.
 const TOTALS_PERIOD: u64 = 3_600;
 
-/// How many customers are written at once beside datagrams, and how long after such a piece the next one is, in nanoseconds, so that a
-/// large file holds up none for long; and how many are written after a wait in which none came.
+/// How many customers are written at once beside datagrams, so that a large file holds up none of them for long.
 const PIECE: usize = 64;
 
+/// How long after such a piece the next one is written, in nanoseconds: a hundredth of a second.
 const PIECE_PERIOD: u64 = 10_000_000;
 
+/// How many customers are written after a wait in which no datagram came.
 const IDLE_PIECE: usize = 1_024;
 
 /// After how many seconds a clock's daemon that has not answered yet is told as such.

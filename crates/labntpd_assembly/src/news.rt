@@ -24,6 +24,7 @@ const NO_LEAP: u8 = 0;
 /// What was done in some hours.
 #[derive(Clone, Copy)]
 pub(crate) struct HourTotals {
+    /// How many hours.
     pub hours: u64,
     /// Replies with the time.
     pub time: u64,

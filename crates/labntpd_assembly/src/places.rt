@@ -39,16 +39,22 @@ struct Place<'a> {
     name: Option<&'a str>,
 }
 
-/// The files that a configuration names. Some may be left out.
+/// The paths of the files that a configuration names. Some may be left out.
 #[derive(Clone, Copy)]
 pub struct NamedFiles<'a> {
     /// The file of the configuration itself.
     pub configuration: &'a str,
+    /// The register file.
     pub register: Option<&'a str>,
+    /// The commands file.
     pub commands: Option<&'a str>,
+    /// The file of the key of the clock's daemon.
     pub key_file: Option<&'a str>,
+    /// The file of the answers to lines of commands.
     pub answers: Option<&'a str>,
+    /// The file of the statistics.
     pub statistics: Option<&'a str>,
+    /// The file of what each customer has and was answered.
     pub customers: Option<&'a str>,
 }
 

@@ -25,16 +25,19 @@ const MOST_SMALL_FILE_OCTETS: u32 = 65_536;
 /// What is wanted in the file of the clock's key.
 pub const KEY_LINE_WANTED: &str = "one line of 2 to 64 hexadecimal digits is wanted";
 
-/// A configuration, and what a server begins with by it.
+/// What was read from a configuration file, and from the files that it names.
 #[derive(Drop)]
 pub struct Prepared {
+    /// What the configuration file says.
     pub configuration: Configuration,
+    /// What a server begins with by it.
     pub beginning: Beginning,
 }
 
 /// What a server begins with.
 #[derive(Drop)]
 pub struct Beginning {
+    /// The service with the customers of the register file, and the state of the clock that this names.
     pub loaded: Loaded,
     /// How many customers the register file enrols.
     pub customers: u64,
@@ -46,10 +49,12 @@ pub struct Beginning {
     pub digests: [[u8; 32]; 2],
 }
 
-/// The host's clock daemon: where it answers, and who follows it.
+/// The host's clock daemon, which is followed.
 #[derive(Drop)]
 pub struct FollowedDaemon {
+    /// Where it answers.
     pub source: Endpoint,
+    /// Who follows it; it was not asked yet.
     pub follower: Follower,
 }
 

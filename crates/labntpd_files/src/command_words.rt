@@ -4,10 +4,12 @@ ghost use Rattle.labntpd_files.specs.CommandWords.{faulty_place};
 
 use ntp_service::LineFault;
 
-/// A word of a line, and the column of its first octet, counted from 1.
+/// A word of a line, and where it stands.
 #[derive(Clone, Copy)]
 pub struct PlacedWord<'a> {
+    /// The column of its first octet, counted from 1.
     pub column: u64,
+    /// The word, up to the next space or the end of the line.
     pub word: &'a str,
 }
 

@@ -11,7 +11,7 @@ use ntp_mac::Algorithm;
 use ntp_service::LineFault;
 use toml::{Table, Value};
 
-/// A key of a customer, in the order in which they are looked at.
+/// A key of a customer, in the order in which they are looked at: its address, its key's number, algorithm and octets, and its budget.
 #[derive(Clone, Copy, Debug, PartialEq, Eq)]
 pub enum Member {
     Address,

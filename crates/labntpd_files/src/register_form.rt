@@ -8,8 +8,11 @@ use toml::{Table, Value};
 /// What is wrong with a table at a key, in words.
 #[derive(Clone, Copy)]
 pub enum TableFault<'a> {
+    /// This key is wanted, and is not there.
     Missing(&'static str),
+    /// This key is not known.
     Unknown(&'a str),
+    /// At this key something else is wanted; the words say what.
     Wanted(&'static str, &'static str),
 }
 

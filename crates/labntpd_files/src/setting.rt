@@ -7,7 +7,7 @@ use std::fmt;
 use toml::Table;
 
 /// A key of a configuration file, in the order in which they are documented and looked at. Those from
-/// `Source` on stand in the table `[clock]`.
+/// `Source` on stand in the table `[clock]`. `Configuration` says what stands at each.
 #[derive(Clone, Copy)]
 pub enum Setting {
     Listen,
@@ -30,7 +30,7 @@ pub enum Setting {
     MostStep,
 }
 
-/// The keys of the top level, and those of the table `[clock]`.
+/// The keys of the top level, in that order.
 pub const KEYS: [Setting; 10] = [
     Setting::Listen,
     Setting::Register,
@@ -44,6 +44,7 @@ pub const KEYS: [Setting; 10] = [
     Setting::Clock,
 ];
 
+/// The keys of the table `[clock]`, in that order.
 pub const CLOCK_KEYS: [Setting; 8] = [
     Setting::Source,
     Setting::Number,

@@ -18,11 +18,13 @@ use std::marker::Model;
 use std::num::NonZero;
 use toml::{Table, Value};
 
-/// Units of a second: nanoseconds, those of the short format (RFC 5905, 6), and seconds.
+/// How many nanoseconds a second has.
 const NANOSECONDS: u32 = 1_000_000_000;
 
+/// How many units of the short format a second has (RFC 5905, 6).
 const SHORT_UNITS: u32 = 65_536;
 
+/// The unit of what is counted in whole seconds.
 const SECONDS: u32 = 1;
 
 /// What a configuration file says, with its texts as they stand there.
@@ -90,8 +92,8 @@ impl<'a> Model for ClockSettings<'a> {
     } };
 }
 
-/// A span of seconds that a setting may have: what it is counted in, what it is where the setting is left out, and from
-/// which count to which it may be.
+/// A span of seconds that a setting may have: how many of its units a second has, and, in these units, what it is where the setting is
+/// left out, and the least and the most that it may be.
 struct Span {
     units: u32,
     default: u64,
@@ -99,6 +101,7 @@ struct Span {
     most: u64,
 }
 
+/// How long a datagram may have waited: 0.15 to 60 s, and 0.25 s where it is left out.
 const LONGEST_WAIT: Span = Span {
     units: NANOSECONDS,
     default: 250_000_000,
@@ -106,6 +109,7 @@ const LONGEST_WAIT: Span = Span {
     most: 60_000_000_000,
 };
 
+/// For how long an answer of the clock's daemon is believed: 2 to 3,600 s, and 16 s where it is left out.
 const VALID_FOR: Span = Span {
     units: NANOSECONDS,
     default: 16_000_000_000,
@@ -113,6 +117,7 @@ const VALID_FOR: Span = Span {
     most: 3_600_000_000_000,
 };
 
+/// The root distance up to which it is believed: 1 unit to 16 s, and 1 s where it is left out.
 const MOST_ROOT_DISTANCE: Span = Span {
     units: SHORT_UNITS,
     default: 65_536,
@@ -120,6 +125,7 @@ const MOST_ROOT_DISTANCE: Span = Span {
     most: 1_048_576,
 };
 
+/// The age of its reference time up to which it is believed: 1 to 1,000,000 s, and 4,096 s where it is left out.
 const MOST_REFERENCE_AGE: Span = Span {
     units: SECONDS,
     default: 4_096,
@@ -127,6 +133,7 @@ const MOST_REFERENCE_AGE: Span = Span {
     most: 1_000_000,
 };
 
+/// How far the host's clock may have been set since its answer: 1 ns to 3,600 s, and 0.5 s where it is left out.
 const MOST_STEP: Span = Span {
     units: NANOSECONDS,
     default: 500_000_000,
@@ -134,14 +141,16 @@ const MOST_STEP: Span = Span {
     most: 3_600_000_000_000,
 };
 
-/// The buffers of the socket where none is given, and their range, in octets. The kernel doubles what it is asked for, and
-/// counts in 31 bits.
+/// The socket's receive buffer where none is given, in octets.
 const RECEIVE_BUFFER: u32 = 524_288;
 
+/// Its send buffer where none is given, in octets.
 const SEND_BUFFER: u32 = 1_048_576;
 
+/// The least that a buffer may be, in octets.
 const LEAST_BUFFER: u32 = 65_536;
 
+/// The most that a buffer may be, in octets: the kernel doubles what it is asked for, and counts in 31 bits.
 const MOST_BUFFER: u32 = 1_073_741_823;
 
 /// The settings of a document, or the first fault in them.

@@ -2,10 +2,12 @@
 
 use std::fmt;
 
-/// A place in a text: a line and a column of octets, both counted from 1.
+/// A place in a text.
 #[derive(Clone, Copy, Debug, PartialEq, Eq)]
 pub struct TextPlace {
+    /// The line, counted from 1.
     pub line: u64,
+    /// The column in octets, counted from 1.
     pub column: u64,
 }
 

@@ -8,23 +8,25 @@ use crate::link::{Link, link_of};
 use crate::wide::{four_octets, four_turned, split};
 use std::fmt;
 
-/// The magic numbers of a file whose numbers have the most significant octet first, with stamps in microseconds and in nanoseconds
-/// (pcap-savefile(5)).
+/// The magic number of a file whose numbers have the most significant octet first, with stamps in microseconds (pcap-savefile(5)).
 const BIG_ENDIAN: u64 = 0xa1b2_c3d4;
 
+/// The same, with stamps in nanoseconds.
 const BIG_ENDIAN_NANOSECONDS: u64 = 0xa1b2_3c4d;
 
-/// Those of a file whose numbers have it last.
+/// The magic number of a file whose numbers have it last, with stamps in microseconds.
 const LITTLE_ENDIAN: u64 = 0xd4c3_b2a1;
 
+/// The same, with stamps in nanoseconds.
 const LITTLE_ENDIAN_NANOSECONDS: u64 = 0x4d3c_b2a1;
 
 /// The first four octets of a file in the form pcapng, which is another one.
 const NEXT_GENERATION: u64 = 0x0a0d_0d0a;
 
-/// How many octets the header of a file has, and that of a record.
+/// How many octets the header of a file has.
 const HEAD_OCTETS: usize = 24;
 
+/// How many octets the header of a record has.
 const RECORD_HEAD_OCTETS: usize = 16;
 
 /// The order of the octets in a file's numbers.
@@ -37,6 +39,7 @@ pub enum Order {
 /// A capture file.
 #[derive(Clone, Copy)]
 pub struct Capture<'a> {
+    /// The order of the octets in its numbers.
     pub order: Order,
     /// What its frames begin with.
     pub link: Link,
@@ -49,6 +52,7 @@ pub struct Capture<'a> {
 pub struct Record<'a> {
     /// What was captured.
     pub frame: &'a [u8],
+    /// What stands behind the record.
     pub behind: &'a [u8],
 }
 

@@ -21,10 +21,10 @@ const LATER_PERIOD: u64 = 10_000_000;
 /// How many datagrams are taken at one look at most.
 const MOST_ANSWERS: usize = 8;
 
-/// How long the reading of both clocks may take, in nanoseconds: a hundred-thousandth of a second; and how often they are read at most to
-/// find such a reading.
+/// How long the reading of both clocks may take, in nanoseconds: a hundred-thousandth of a second.
 const LONGEST_READING: u64 = 10_000;
 
+/// How often they are read at most to find such a reading.
 const MOST_READINGS: usize = 8;
 
 /// The host's clock daemon, which is asked once a second for the state of its clock (RFC 5905, 7.3).

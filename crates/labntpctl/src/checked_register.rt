@@ -36,10 +36,7 @@ impl Checked {
     /// How many are enrolled.
     pub fn customers(&self) -> u64 {
         let mut customers = 0_u64;
-        for place in 0..self.counts.len() {
-            let Some((address, _)) = self.counts.nth(place) else {
-                break;
-            };
+        for (address, _) in self.counts.iter() {
             match self.service.customer(*address) {
                 Some(customer) if customer.is_enrolled() => {
                     customers = customers.saturating_add(1);

@@ -108,10 +108,7 @@ fn lines_by(rt: &HostRuntime, register: &str, commands: Option<&str>) -> Result<
 // The line of each customer.
 fn customer_lines(alloc: Global, standing: &Standing) -> Result<String, AllocError> {
     let mut octets = Vec::new(alloc);
-    for place in 0..standing.counts.len() {
-        let Some((address, report)) = standing.counts.nth(place) else {
-            break;
-        };
+    for (address, report) in standing.counts.iter() {
         if let Some(customer) = standing.service.customer(*address) {
             let line = customer_line(alloc, *address, customer, report)?;
             octets.extend_from_slice(&line)?;

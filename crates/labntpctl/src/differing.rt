@@ -79,10 +79,7 @@ pub fn add_unknown(
     for customer in daemon {
         known.insert(customer.address, customer.line)?;
     }
-    for place in 0..files.counts.len() {
-        let Some((address, _)) = files.counts.nth(place) else {
-            break;
-        };
+    for (address, _) in files.counts.iter() {
         if known.get(address).is_none() {
             let nothing = Reported {
                 address: *address,

@@ -131,10 +131,7 @@ fn rules(
 // The rules for these customers.
 fn rules_of(alloc: Global, server: Server, standing: &Standing) -> Result<String, AllocError> {
     let mut sources = Vec::new(alloc);
-    for place in 0..standing.counts.len() {
-        let Some((address, _)) = standing.counts.nth(place) else {
-            break;
-        };
+    for (address, _) in standing.counts.iter() {
         if let Some(customer) = standing.service.customer(*address) {
             let is_enrolled = customer.is_enrolled();
             sources.push(Source {

@@ -208,10 +208,7 @@ fn add_spare(alloc: Global, octets: &mut KeyOctets, spare: &SpareKey) -> Result<
 // The customers, in the order of their first enrolments.
 fn customers_of(alloc: Global, old: &Standing) -> Result<Vec<Kept>, AllocError> {
     let mut customers = Vec::new(alloc);
-    for place in 0..old.counts.len() {
-        let Some((address, report)) = old.counts.nth(place) else {
-            break;
-        };
+    for (address, report) in old.counts.iter() {
         let [older, newer] = report.numbers();
         add_kept(
             &mut customers,

@@ -46,10 +46,7 @@ impl Standing {
     /// The numbers that are held. The memory for them is taken from `alloc`.
     pub fn held_numbers(&self, alloc: Global) -> Result<Vec<u16>, AllocError> {
         let mut held = Vec::new(alloc);
-        for place in 0..self.counts.len() {
-            let Some((_, report)) = self.counts.nth(place) else {
-                break;
-            };
+        for (_, report) in self.counts.iter() {
             for number in report.numbers().into_iter().flatten() {
                 held.push(number)?;
             }

@@ -9,6 +9,7 @@ ghost use Rattle.ntp_reports.specs.Reported.{report_at, done_in, AreSame, HasRep
 
 use crate::customer_report::{CustomerReport, report_after};
 use indexmap::IndexMap;
+use indexmap::map::Iter;
 use ntp_service::{Address, Command, LineOutcome, Observer, TurnOutcome};
 use std::alloc::{AllocError, Allocator, Global};
 use std::hash::{BuildHasherDefault, FoldHasher};
@@ -60,6 +61,13 @@ impl<A: Allocator + Copy> CustomerCounts<A> {
         ensures { result ≡ length self.now.reports.entries }
     {
         self.reports.len()
+    }
+
+    /// Each address with what is reported of it, in the order of first enrolments.
+    pub fn iter(&self) -> Iter<'_, Address, CustomerReport>
+        ensures { result ≡ self.now.reports.entries }
+    {
+        self.reports.iter()
     }
 
     /// An address and what is reported of it, by its place in the order of first enrolments, counted from 0.

@@ -55,7 +55,6 @@ fn explain_by(
     port: u16,
     explained: Explained<'_>,
 ) -> Result<Status, Status> {
-    explainer.head();
     let status = match explained {
         Explained::Datagram { octets, from } => datagram_status(rt, explainer, octets, from)?,
         Explained::Capture(path) => capture_status(rt, explainer, path, port)?,
@@ -111,6 +110,7 @@ fn datagram_status(
 ) -> Result<Status, Status> {
     match hex::decode(rt.alloc(), word) {
         Ok(octets) => {
+            explainer.head();
             told(rt, explainer.datagram(rt.alloc(), from, &octets))?;
             Ok(Status::Done)
         }
@@ -137,6 +137,7 @@ fn capture_status(
         Ok(capture) => capture,
         Err(fault) => return Err(faulty(rt, path, fault)),
     };
+    explainer.head();
     let records = told(rt, explainer.capture(rt.alloc(), capture, port))?;
     if records.is_cut {
         flushed(rt, explainer)?;

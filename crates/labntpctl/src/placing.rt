@@ -219,7 +219,7 @@ fn hold(rt: &HostRuntime, path: &str) -> Result<HeldFile, Status> {
 
 // Keeps a file under another name too, under which there is none yet.
 fn keep(rt: &HostRuntime, path: &str, kept: &str) -> Result<(), Status> {
-    judged(rt, path, fs::hard_link(rt, path, kept))
+    judged(rt, kept, fs::hard_link(rt, path, kept))
 }
 
 // Removes the other name of a file, unless the file has lost its own: the system may tell an error of what it did.

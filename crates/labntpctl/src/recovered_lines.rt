@@ -12,7 +12,7 @@ use std::num::NonZero;
 
 /// What stands between the lines of a backup and those that amend what they make.
 const HEAD: &str =
-    "# labntpctl recover: the lines above are those of the backup. What labntpd had beside them, and what is lost, follows.\n";
+    "# labntpctl recover: above stand the lines of the backup, where it has any. What labntpd had beside them, and what is lost, follows.\n";
 
 /// What is had back, and what is lost.
 #[derive(Drop)]

@@ -142,11 +142,11 @@ class Gate:
     def show(self):
         for line in self.checks.table():
             self.say(line)
-        self.say(f"{'part':24}{'minutes':>9}{'of a processor':>16}{'passed':>8}{'failed':>8}{'skipped':>8}")
+        self.say(f"{'part':28}{'minutes':>9}{'of a processor':>16}{'passed':>8}{'failed':>8}{'skipped':>8}")
         for name, clock, processors, (passed, failed, skipped) in self.parts:
-            self.say(f"{name:24}{clock / 60:9.1f}{processors / 60:16.1f}{passed:8}{failed:8}{skipped:8}")
+            self.say(f"{name:28}{clock / 60:9.1f}{processors / 60:16.1f}{passed:8}{failed:8}{skipped:8}")
         clock, processors = time.monotonic() - self.begun, sum(it[2] for it in self.parts)
-        self.say(f"{'in all':24}{clock / 60:9.1f}{processors / 60:16.1f}   on {len(os.sched_getaffinity(0))} processors, load {os.getloadavg()[2]:.1f}")
+        self.say(f"{'in all':28}{clock / 60:9.1f}{processors / 60:16.1f}   on {len(os.sched_getaffinity(0))} processors, load {os.getloadavg()[2]:.1f}")
         passed, failed, skipped = (sum(it[3][at] for it in self.parts) for at in range(3))
         self.say(f"{passed} passed, {failed} failed" + (f", {skipped} skipped" if skipped else ""))
         return failed

@@ -15,6 +15,8 @@ from processes import give_way
 FUNCTION = re.compile(r"( *)(?:pub(?:\([^)]*\))? )?(?:final )?(const )?(?:unsafe )?fn (\w+)")
 BLOCK = re.compile(r"(?:unsafe )?(?:impl\b|(?:pub(?:\([^)]*\))? )?(?:unsafe )?trait ).*")
 TYPE = re.compile(r"^(?:pub(?:\([^)]*\))? )?(?:struct|enum|union) (\w+)", re.M)
+# A call of a function by its bare name, and what is written like one. The language itself has `drop`.
+CALL, NO_FUNCTIONS = re.compile(r"(?<![\w.:!'])([a-z_]\w*)\("), {"drop", "fn", "for", "if", "in", "match", "return", "while"}
 STATE = re.compile(r"fn (\S.*?): (proved|not proved|no proof|could not tell)(.*)")
 PLACE = re.compile(r"(?:note: )?(?:\./)?((?:src|specs|proofs)/\S+?):(\d+):\d+: (.*)")
 # What a proof file is told where it names what an edit took away, and what is told of all that cites such a proof.
@@ -144,22 +146,16 @@ def read_edit(label, path, folder):
         return Edit(label, {}, getattr(error, "strerror", None) or str(error))
 
 
-# A call of a function by its bare name, and what is written like one. The language itself has `drop`.
-CALL, NO_FUNCTIONS = re.compile(r"(?<![\w.:!'])([a-z_]\w*)\("), {"drop", "fn", "for", "if", "in", "match", "return", "while"}
-
-
 def unknown_calls(edit, folder):
     """The functions that an edit of a crate in a folder calls by their bare names, and that its files do not name: `rt` would say so too,
     once the crate is checked."""
-    texts = {}
-    for file in {file for file, _ in edit.lines if file.endswith(".rt")}:
-        with open(f"{folder}/{file}", encoding="utf-8") as it:
-            lines = it.read().split("\n")
-        texts[file] = "\n".join(edit.lines.get((file, number), line) for number, line in enumerate(lines))
-    for (file, _), line in sorted(edit.lines.items()):
-        code = re.sub(r'"(\\.|[^"\\])*"', '""', line).partition("//")[0]
-        for name in set(CALL.findall(code)) - NO_FUNCTIONS if file in texts else ():
-            if not re.search(rf"\b(fn|let|mut) {name}\b|\b{name}: |^\s*(pub(\([^)]*\))? )?use [^;]*\b{name}\b", texts[file], re.M):
+    for path in sorted({file for file, _ in edit.lines if file.endswith(".rt")}):
+        changed = {number: line for (file, number), line in edit.lines.items() if file == path}
+        with open(f"{folder}/{path}", encoding="utf-8") as file:
+            text = "\n".join(changed.get(number, line) for number, line in enumerate(file.read().split("\n")))
+        code = "\n".join(re.sub(r'"(\\.|[^"\\])*"', '""', line).partition("//")[0] for line in changed.values())
+        for name in sorted({*CALL.findall(code)} - NO_FUNCTIONS):
+            if not re.search(rf"\b(fn|let|mut) {name}\b|\b{name}: |^\s*(pub(\([^)]*\))? )?use [^;]*\b{name}\b", text, re.M):
                 yield name
 
 

@@ -5,7 +5,8 @@ use Rattle.std.proofs.lemmas.List.Elements.{All-nil, All-cons, All-append}
 use Rattle.labntp_jobs.specs.declared.engine.Engine.{Engine}
 use Rattle.labntp_jobs.specs.declared.faults.ReplayFaultKind.{ReplayFaultKind}
 use Rattle.labntp_jobs.specs.declared.faults.ReplayFaultKind.TheVariants.{NoMemory, LineLong}
-use Rattle.labntp_jobs.specs.Script.{most_line_octets, lines_of}
+use Rattle.ntp_admin.specs.CommandsFile.{most_line_octets}
+use Rattle.labntp_jobs.specs.Script.{lines_of}
 use Rattle.labntp_jobs.specs.Engine.{AnswersLines, Halts, Fed, Stops}
 use Rattle.labntp_jobs.proofs.LineFeeds.{IsUnbroken, lines_of-ended, lines_of-begun}
 use Rattle.labntp_jobs.proofs.LinesReplayed.{Answers-nil, Answers-append, Halts-more}

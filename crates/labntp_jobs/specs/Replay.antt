@@ -12,7 +12,8 @@ use Rattle.labntp_jobs.specs.declared.faults.ReplayFault.{ReplayFault}
 use Rattle.labntp_jobs.specs.declared.faults.ReplayFaultKind.{ReplayFaultKind}
 use Rattle.labntp_jobs.specs.declared.faults.ReplayFaultKind.TheVariants.{Line, Read, Write, NoMemory, LineLong, NotUtf8}
 use Rattle.ntp_service.specs.Headline.{Tells}
-use Rattle.labntp_jobs.specs.Script.{most_line_octets, IsReadable}
+use Rattle.ntp_admin.specs.CommandsFile.{most_line_octets}
+use Rattle.labntp_jobs.specs.Script.{IsReadable}
 
 -- how many reads of a text there are at most
 abbrev pub most_reads : ℕ

@@ -1,9 +1,6 @@
 -- The text of a script: its lines.
 use Rattle.std.specs.Prelude.{ℕ, ◌≤◌, ◌==◌, List, [], ◌∷◌, length, if◌then◌else◌, IsUtf8}
-
--- how many octets a line has at most, without its line feed
-abbrev pub most_line_octets : ℕ
-most_line_octets = 4096
+use Rattle.ntp_admin.specs.CommandsFile.{most_line_octets}
 
 -- an octet, and then lines: it begins the first of them
 abbrev pub begin_line : ℕ → List (List ℕ) → List (List ℕ)

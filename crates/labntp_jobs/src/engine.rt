@@ -1,18 +1,17 @@
 //! The engine of a replay: octets in, answer lines out.
 ghost use Rattle.std.specs.Prelude.{◌≡◌, ◌≢◌, ℕ, ◌+◌, ◌≤◌, ◌<◌, ◌^◌, List, [], ◌∷◌, ◌++◌, length, vec_len, All, OnOk, IfOk, IfErr};
-ghost use Rattle.labntp_jobs.specs.Script.{most_line_octets, lines_of};
+ghost use Rattle.ntp_admin.specs.CommandsFile.{most_line_octets};
+ghost use Rattle.labntp_jobs.specs.Script.{lines_of};
 ghost use Rattle.labntp_jobs.specs.Lines.{IsPastReading};
 ghost use Rattle.labntp_jobs.specs.Watched.{Wrote};
 
 use crate::faults::{ReplayFault, ReplayFaultKind};
 use crate::lines::{judge, write_answer};
 use crate::watch::Watched;
+use ntp_admin::MOST_LINE_OCTETS;
 use ntp_service::Service;
 use std::alloc::Allocator;
 use std::io::Write;
-
-// How many octets a line has at most, without its line feed.
-const MOST_LINE_OCTETS: usize = 4096;
 
 /// A service that is fed a script, and has the line that has begun.
 #[derive(Drop)]

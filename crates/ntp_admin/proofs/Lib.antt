@@ -5,7 +5,6 @@ mod Counts
 mod Wholes
 mod FileOrder
 mod LinesCut
-mod SameLines
 mod LinesTaken
 mod LinesApplied
 mod Enrolments

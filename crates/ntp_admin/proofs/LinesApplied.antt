@@ -1,147 +1,123 @@
--- Lines applied one after another.
-use Rattle.std.proofs.Common.{◌≡◌, ℕ, ◌+◌, ◌<◌, ◌≤◌, ◌-◌, true, false, List, [], ◌∷◌, ◌++◌, length, drop, Option, Ok, Err, arith, refl, sym, ap, ◌∙◌, subst, append_assoc, append-nil}
-use Rattle.std.specs.Prelude.{Result}
-use Rattle.std.proofs.lemmas.List.{length-append, length-map, length-drop, drop-append-le, drop_all, map-append}
+-- Lines carried out one after another.
+use Rattle.std.proofs.Common.{◌≡◌, ℕ, ◌+◌, ◌<◌, ◌≤◌, ◌^◌, false, List, [], ◌∷◌, ◌++◌, length, Option, Some, None, Ok, Err, arith, refl, sym, ap, ◌∙◌, subst, append_assoc, append-nil}
+use Rattle.std.specs.Prelude.{Result, IfOk, IfErr, IsUtf8, nat_lt}
+use Rattle.std.specs.Str.{is_utf8}
+use Rattle.std.proofs.lemmas.Bool.{false_from_ne_true}
+use Rattle.std.proofs.lemmas.Bool.Decides.{nat_tests}
+use Rattle.std.proofs.lemmas.Str.{is_utf8-from_IsUtf8, IsUtf8-from_is_utf8}
+use Rattle.std.proofs.lemmas.List.{length-append}
 use Rattle.ntp_service.specs.declared.refusal.Refusal.{Refusal}
 use Rattle.ntp_service.specs.Registry.{Registry}
-use Rattle.ntp_admin.specs.Words.{words}
-use Rattle.ntp_admin.specs.Spells.{command_in, is_passed_over}
 use Rattle.ntp_service.specs.declared.command.Command.{Command}
 use Rattle.ntp_service.specs.declared.event.Event.{Event}
 use Rattle.ntp_service.specs.declared.event.Event.TheVariants as event
 use Rattle.ntp_service.specs.declared.line_fault.LineFault.{LineFault}
+use Rattle.ntp_service.specs.declared.line_fault.LineFault.TheVariants.{NotUtf8}
 use Rattle.ntp_service.specs.declared.observation.LineOutcome.{LineOutcome}
-use Rattle.ntp_service.specs.declared.observation.LineOutcome.TheVariants.{Faulty}
 use Rattle.ntp_service.specs.declared.observation.Observation.{Observation}
 use Rattle.ntp_service.specs.declared.observation.Observation.TheVariants as observation
 use Rattle.ntp_service.specs.Sees.{Sees}
 use Rattle.ntp_service.proofs.PublicLaws.{Sees-nil, Sees-append, Tells-nil, Tells-one}
 use Rattle.ntp_service.specs.Headline.{StandsFor, TellsOne, command_outcome}
+use Rattle.ntp_admin.specs.Words.{words}
+use Rattle.ntp_admin.specs.Spells.{command_in, is_passed_over}
 use Rattle.ntp_admin.specs.FileText.{IsText}
-use Rattle.ntp_admin.specs.CommandsFile.{complete_lines, line_reading, TakenLine, carried_out, observed_read, CarriesOutDue}
-use Rattle.ntp_admin.specs.Applying.{told_before, LeadsTo, AppliesLine, Applies}
-use Rattle.ntp_admin.proofs.LinesTaken.{CarriesOut-none, CarriesOut-more}
+use Rattle.ntp_admin.specs.CommandsFile.{complete_lines, line_reading, count_on, carried_out, CarriesOut, CarriesOutDue}
+use Rattle.ntp_admin.specs.Applying.{told_before, LeadsTo, AppliesLine}
+use Rattle.ntp_admin.proofs.LinesTaken.{count_on-none, CarriesOut-none, CarriesOut-more}
+
+-- ---- what a line is read as
+-- a text is read as a command, or as what is wrong with it
+pub reads-text : (most : ℕ) (line text : List ℕ) (read : Result Command LineFault) → is_passed_over line ≡ false → length line ≤ most
+    → text ≡ line → IsUtf8 line → IfOk read (λ command. command_in (words text) ≡ Ok command)
+    → IfErr read (λ fault. command_in (words text) ≡ Err fault) → Some read ≡ line_reading most line
+reads-text most line text read taken short same utf8 ok err =
+    let near : nat_lt most (length line) ≡ false = grind (arith, nat_tests) in
+    rw (taken, near, is_utf8-from_IsUtf8 line utf8) (ap Some (one read (command_in (words text)) ok err ∙ ap (λ t. command_in (words t)) same))
+  where
+    one : {X E : Type 0} (r s : Result X E) → IfOk r (λ x. s ≡ Ok x) → IfErr r (λ e. s ≡ Err e) → r ≡ s
+    one (Ok x) s ok err = sym ok
+    one (Err e) s ok err = sym err
+
+-- what is no text is not
+pub reads-no-text : (most : ℕ) (line : List ℕ) → is_passed_over line ≡ false → length line ≤ most → (IsUtf8 line → ⊥)
+    → Some (Err NotUtf8) ≡ line_reading most line
+reads-no-text most line taken short none =
+    let near : nat_lt most (length line) ≡ false = grind (arith, nat_tests) in
+    rw (taken, near, false_from_ne_true (is_utf8 line) (λ yes. none (IsUtf8-from_is_utf8 line yes))) refl
 
 -- ---- one line
 -- a command was carried out or refused
-pub LeadsTo-command : (A : Type 0) (old new : Registry) (read : Result Command LineFault) (c : Command) (r : Result (Unit {0}) Refusal)
-    (o : LineOutcome) → read ≡ Ok c → o ≡ carried_out r
+pub LeadsTo-command : (A : Type 0) (old new : Registry) (c : Command) (r : Result (Unit {0}) Refusal) (o : LineOutcome) → o ≡ carried_out r
     → ((history : List (Event A)) → StandsFor old history → TellsOne history (event.Command c) (command_outcome r) new)
-    → LeadsTo A read o old new
-LeadsTo-command A old new read c r o is said tells =
-    subst (λ x. LeadsTo A x o old new) (sym is)
+    → LeadsTo A (Ok c) o old new
+LeadsTo-command A old new c r o said tells =
     (r, λ number. ap (λ x. observation.Command c ∷ observation.Line number x ∷ []) (sym said), λ history stands. Tells-one history _ _ new (tells history stands))
 
--- there is no command
-pub LeadsTo-fault : (A : Type 0) (s : Registry) (read : Result Command LineFault) (f : LineFault) → read ≡ Err f
-    → LeadsTo A read (Faulty f) s s
-LeadsTo-fault A s read f is =
-    subst (λ x. LeadsTo A x (Faulty f) s s) (sym is) (Ok tt, λ number. refl, λ history stands. Tells-nil history s stands)
-
 -- a line that is passed over
-pub AppliesLine-none : (A : Type 0) (number : ℕ) (line : List ℕ) (s : Registry) (seen : Option (List Observation))
-    → is_passed_over line ≡ true → AppliesLine A number line s s seen seen
-AppliesLine-none A number line s seen over =
+pub AppliesLine-none : (A : Type 0) (most number : ℕ) (line : List ℕ) (s : Registry) (seen : Option (List Observation))
+    → line_reading most line ≡ None → AppliesLine A most number line s s seen seen
+AppliesLine-none A most number line s seen over =
     rw over (Ok tt, Sees-nil seen, λ history stands. Tells-nil history s stands)
 
--- of a line that is no command nothing is told before
-pub told-command : (read : Result Command LineFault) (c : Command) (t u : Option (List Observation)) → read ≡ Ok c
-    → Sees t u (observation.Command c ∷ []) → Sees t u (told_before read)
-told-command read c t u is sees = subst (λ x. Sees t u (told_before x)) (sym is) sees
-
-pub told-fault : (read : Result Command LineFault) (f : LineFault) (t : Option (List Observation)) → read ≡ Err f
-    → Sees t t (told_before read)
-told-fault read f t is = subst (λ x. Sees t t (told_before x)) (sym is) (Sees-nil t)
-
 -- one that is not, of whose command an observer heard before
-pub AppliesLine-read : (A : Type 0) (number : ℕ) (line : List ℕ) (o : LineOutcome) (old new : Registry)
-    (seen heard told : Option (List Observation)) → is_passed_over line ≡ false → LeadsTo A (command_in (words line)) o old new
-    → Sees seen heard (told_before (command_in (words line))) → Sees heard told (observation.Line number o ∷ [])
-    → AppliesLine A number line old new seen told
-AppliesLine-read A number line o old new seen heard told taken c before behind =
+pub AppliesLine-read : (A : Type 0) (most number : ℕ) (line : List ℕ) (read : Result Command LineFault) (o : LineOutcome) (old new : Registry)
+    (seen heard told : Option (List Observation)) → line_reading most line ≡ Some read → LeadsTo A read o old new
+    → Sees seen heard (told_before read) → Sees heard told (observation.Line number o ∷ [])
+    → AppliesLine A most number line old new seen told
+AppliesLine-read A most number line read o old new seen heard told taken c before behind =
     rw taken (c.0, subst (λ os. Sees seen told os) (sym (c.1 number)) (Sees-append seen heard told _ _ before behind), c.2)
 
--- ---- the lines of a text
--- what was applied of a text whose rest is still to be read
-pub record Applied (A : Type 0) (old : Registry) (seen : Option (List Observation)) (text : List ℕ) (applied : ℕ) (rest : List ℕ)
-    (number : ℕ) (new : Registry) (told : Option (List Observation)) : Type 0 where
+-- ---- the lines of octets
+-- what was carried out of octets, of which some are still to be read
+pub record Applied (A : Type 0) (most before : ℕ) (old : Registry) (seen : Option (List Observation)) (octets rest : List ℕ) (number : ℕ)
+    (new : Registry) (told : Option (List Observation)) : Type 0 where
   pub done : List (List ℕ)
-  pub whole : complete_lines text ≡ done ++ complete_lines rest
-  pub counted : length done ≡ number
-  pub lines : Applies A applied (drop applied done) old new seen told
+  pub whole : complete_lines octets ≡ done ++ complete_lines rest
+  pub counted : number ≡ count_on before (length done)
+  pub carried : CarriesOut A most before done old new seen told
 
-pub Applied-none : (A : Type 0) (s : Registry) (seen : Option (List Observation)) (text : List ℕ) (applied : ℕ)
-    → Applied A s seen text applied text 0 s seen
-Applied-none A s seen text applied = record {
+pub Applied-none : (A : Type 0) (most before : ℕ) (s : Registry) (seen : Option (List Observation)) (octets : List ℕ) → before < 2 ^ 64
+    → Applied A most before s seen octets octets before s seen
+Applied-none A most before s seen octets fits = record {
   done = [];
   whole = refl;
-  counted = refl;
-  lines = ([], sym (drop_all {X = List ℕ} applied [] (omega arith)), CarriesOut-none A applied s seen);
+  counted = count_on-none before fits;
+  carried = CarriesOut-none A most before s seen;
 }
 
-module _ (A : Type 0) (old mid new : Registry) (seen halfway told : Option (List Observation)) (text : List ℕ) (applied : ℕ)
-    (rest line others : List ℕ) (number : ℕ) (a : Applied A old seen text applied rest number mid halfway)
-    (cut : complete_lines rest ≡ line ∷ complete_lines others) where
-  -- the lines with one more
-  more-lines : complete_lines text ≡ (a.done ++ line ∷ []) ++ complete_lines others
-  more-lines = a.whole ∙ ap (λ l. a.done ++ l) cut ∙ sym (append_assoc a.done (line ∷ []) (complete_lines others))
-
-  more-count : length (a.done ++ line ∷ []) ≡ number + 1
-  more-count = omega (arith, length-append a.done (line ∷ []), a.counted)
-
-  -- the place of a line that is due
-  place : applied ≤ number → applied + length a.lines.0 + 1 ≡ number + 1
-  place due =
-      let some : length a.lines.0 ≡ length a.done - applied =
-      sym (length-map a.lines.0 (λ t. t.line)) ∙ ap length a.lines.1 ∙ length-drop applied a.done in
-      omega (arith, some, a.counted)
-
-  -- a line that is due
-  pub Applied-due : applied ≤ number → AppliesLine A (number + 1) line mid new halfway told
-      → Applied A old seen text applied others (number + 1) new told
-  Applied-due due carried =
-      let t : TakenLine = record { line = line; result = carried.0 } in
-      record {
-        done = a.done ++ line ∷ [];
-        whole = more-lines;
-        counted = more-count;
-        lines = (
-          a.lines.0 ++ t ∷ [],
-          map-append (λ x. x.line) a.lines.0 (t ∷ []) ∙ ap (λ ls. ls ++ line ∷ []) a.lines.1
-              ∙ sym (drop-append-le applied a.done (line ∷ []) (omega (arith, a.counted))),
-          CarriesOut-more A applied a.lines.0 t old mid new seen halfway told a.lines.2
-              (subst (λ n. Sees halfway told (observed_read n (line_reading line) carried.0)) (sym (place due)) carried.1) carried.2,
-        );
-      }
-
-  -- a line that was applied before
-  pub Applied-before : number < applied → Applied A old seen text applied others (number + 1) mid halfway
-  Applied-before early = record {
-    done = a.done ++ line ∷ [];
-    whole = more-lines;
-    counted = more-count;
-    lines = subst (λ ls. Applies A applied ls old mid seen halfway) (drop_all applied a.done (omega (arith, a.counted))
-        ∙ sym (drop_all applied (a.done ++ line ∷ []) (omega (arith, more-count)))) a.lines;
-  }
+-- and one line more
+pub Applied-more : (A : Type 0) (most before : ℕ) (old mid new : Registry) (seen halfway told : Option (List Observation))
+    (octets rest line others : List ℕ) (number next : ℕ) → before < 2 ^ 64 → Applied A most before old seen octets rest number mid halfway
+    → complete_lines rest ≡ line ∷ complete_lines others → next ≡ count_on number 1
+    → AppliesLine A most next line mid new halfway told → Applied A most before old seen octets others next new told
+Applied-more A most before old mid new seen halfway told octets rest line others number next fits a cut is one =
+    let many : length (a.done ++ line ∷ []) ≡ length a.done + 1 = length-append a.done (line ∷ []) in
+    let place : next ≡ count_on before (length a.done + 1) = omega (arith, is, a.counted) in
+    record {
+      done = a.done ++ line ∷ [];
+      whole = a.whole ∙ ap (λ l. a.done ++ l) cut ∙ sym (append_assoc a.done (line ∷ []) (complete_lines others));
+      counted = place ∙ ap (count_on before) (sym many);
+      carried = CarriesOut-more A most before next a.done line old mid new seen halfway told fits place a.carried one;
+    }
 
 -- at the end
-module _ (A : Type 0) (old new : Registry) (seen told : Option (List Observation)) (text : List ℕ) (applied : ℕ) (rest : List ℕ)
-    (number : ℕ) (a : Applied A old seen text applied rest number new told) (end : complete_lines rest ≡ []) where
-  all-done : complete_lines text ≡ a.done
-  all-done = a.whole ∙ ap (λ l. a.done ++ l) end ∙ append-nil a.done
+module _ (A : Type 0) (most before : ℕ) (old new : Registry) (seen told : Option (List Observation)) (octets rest : List ℕ)
+    (number : ℕ) (a : Applied A most before old seen octets rest number new told) (end : complete_lines rest ≡ []) where
+  all-done : a.done ≡ complete_lines octets
+  all-done = sym (a.whole ∙ ap (λ l. a.done ++ l) end ∙ append-nil a.done)
 
-  pub Applied-count : number ≡ length (complete_lines text)
-  Applied-count = sym a.counted ∙ ap length (sym all-done)
+  pub Applied-count : number ≡ count_on before (length (complete_lines octets))
+  Applied-count = a.counted ∙ ap (λ ls. count_on before (length ls)) all-done
 
-  pub Applied-lines : Applies A applied (drop applied (complete_lines text)) old new seen told
-  Applied-lines = subst (λ ls. Applies A applied (drop applied ls) old new seen told) (sym all-done) a.lines
+  pub Applied-lines : CarriesOut A most before (complete_lines octets) old new seen told
+  Applied-lines = subst (λ ls. CarriesOut A most before ls old new seen told) all-done a.carried
 
 -- ---- octets that are no text
 pub Due-none : (A : Type 0) (applied : ℕ) (octets : List ℕ) (s : Registry) (seen : Option (List Observation))
     → (IsText octets → ⊥) → CarriesOutDue A applied octets applied s s seen seen
 Due-none A applied octets s seen not = record {
-  taken = [];
+  lines = [];
   due = (λ yes. absurd (not yes), λ no. (refl, refl));
-  observed = Sees-nil seen;
-  tells = λ history stands. Tells-nil history s stands;
+  carried = CarriesOut-none A _ applied s seen;
 }

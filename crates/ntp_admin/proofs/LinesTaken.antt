@@ -1,53 +1,73 @@
 -- Lists of lines that were taken.
-use Rattle.std.proofs.Common.{◌≡◌, ℕ, ◌+◌, List, [], ◌∷◌, ◌++◌, length, Option, arith, sym, ap, ◌∙◌, subst, append_assoc, append-nil}
+use Rattle.std.proofs.Common.{◌≡◌, ℕ, ◌+◌, ◌<◌, ◌^◌, List, [], ◌∷◌, ◌++◌, length, Option, arith, refl, sym, ap, ◌∙◌, subst, append_assoc, append-nil}
+use Rattle.std.proofs.lemmas.List.{length-map, map-append}
 use Rattle.std.proofs.lemmas.Grind.{flat_map-append}
 use Rattle.ntp_service.specs.Registry.{Registry}
-use Rattle.ntp_service.specs.declared.event.Event.{Event}
 use Rattle.ntp_service.specs.declared.observation.Observation.{Observation}
 use Rattle.ntp_service.specs.Sees.{Sees}
 use Rattle.ntp_service.proofs.PublicLaws.{Sees-nil, Sees-append, Tells-nil, Tells-append}
-use Rattle.ntp_service.specs.Headline.{StandsFor, Tells}
-use Rattle.ntp_admin.specs.CommandsFile.{line_reading, TakenLine, happened_read, observed_read, happened_at_lines, line_observations}
-use Rattle.ntp_admin.specs.Applying.{CarriesOut}
+use Rattle.ntp_service.specs.Headline.{Tells}
+use Rattle.ntp_admin.specs.CommandsFile.{line_reading, count_on, TakenLine, happened_read, observed_read, happened_at_lines, line_observations, CarriesOut}
+use Rattle.ntp_admin.specs.Applying.{AppliesLine}
+
+-- ---- numbers
+pub count_on-none : (before : ℕ) → before < 2 ^ 64 → before ≡ count_on before 0
+count_on-none before fits = omega arith
+
+pub count_on-more : (before some more : ℕ) → count_on (count_on before some) more ≡ count_on before (some + more)
+count_on-more before some more = omega arith
 
 -- ---- some lines and then others
-pub line_observations-append : (before : ℕ) (xs ys : List TakenLine)
-    → line_observations before (xs ++ ys) ≡ line_observations before xs ++ line_observations (before + length xs) ys
-line_observations-append before [] ys = let count : before ≡ before + 0 = omega arith in ap (λ n. line_observations n ys) count
-line_observations-append before (x ∷ xs) ys =
-    let first = observed_read (before + 1) (line_reading x.line) x.result in
-    let later = line_observations (before + 1) xs in
-    let count : before + 1 + length xs ≡ before + length (x ∷ xs) = omega arith in
-    ap (λ l. first ++ l) (line_observations-append (before + 1) xs ys)
-    ∙ sym (append_assoc first later (line_observations (before + 1 + length xs) ys))
-    ∙ ap (λ n. (first ++ later) ++ line_observations n ys) count
+line_observations-append : (most before : ℕ) (xs ys : List TakenLine) → before < 2 ^ 64
+    → line_observations most before (xs ++ ys) ≡ line_observations most before xs ++ line_observations most (count_on before (length xs)) ys
+line_observations-append most before [] ys fits = ap (λ n. line_observations most n ys) (count_on-none before fits)
+line_observations-append most before (x ∷ xs) ys fits =
+    let next = count_on before 1 in
+    let first = observed_read next (line_reading most x.line) x.result in
+    let later = line_observations most next xs in
+    let count : count_on next (length xs) ≡ count_on before (length (x ∷ xs)) = omega arith in
+    ap (λ l. first ++ l) (line_observations-append most next xs ys (omega arith))
+    ∙ sym (append_assoc first later (line_observations most (count_on next (length xs)) ys))
+    ∙ ap (λ n. (first ++ later) ++ line_observations most n ys) count
 
 -- ---- one line more
-module _ (taken : List TakenLine) (t : TakenLine) where
+module _ (most : ℕ) (taken : List TakenLine) (t : TakenLine) where
   happened-more : {A : Type 0}
-      → happened_at_lines {A = A} (taken ++ t ∷ []) ≡ happened_at_lines taken ++ happened_read (line_reading t.line) t.result
-  happened-more {A} = flat_map-append (λ x. happened_read (line_reading x.line) x.result) taken (t ∷ [])
-      ∙ ap (λ l. happened_at_lines {A = A} taken ++ l) (append-nil (happened_read (line_reading t.line) t.result))
+      → happened_at_lines {A = A} most (taken ++ t ∷ []) ≡ happened_at_lines most taken ++ happened_read (line_reading most t.line) t.result
+  happened-more {A} = flat_map-append (λ x. happened_read (line_reading most x.line) x.result) taken (t ∷ [])
+      ∙ ap (λ l. happened_at_lines {A = A} most taken ++ l) (append-nil (happened_read (line_reading most t.line) t.result))
 
-  line_observations-more : (before : ℕ) → line_observations before (taken ++ t ∷ [])
-      ≡ line_observations before taken ++ observed_read (before + length taken + 1) (line_reading t.line) t.result
-  line_observations-more before = line_observations-append before taken (t ∷ [])
-      ∙ ap (λ os. line_observations before taken ++ os)
-      (append-nil (observed_read (before + length taken + 1) (line_reading t.line) t.result))
+  line_observations-more : (before : ℕ) → before < 2 ^ 64 → line_observations most before (taken ++ t ∷ [])
+      ≡ line_observations most before taken ++ observed_read (count_on before (length taken + 1)) (line_reading most t.line) t.result
+  line_observations-more before fits = line_observations-append most before taken (t ∷ []) fits
+      ∙ ap (λ os. line_observations most before taken ++ os)
+      (append-nil (observed_read (count_on (count_on before (length taken)) 1) (line_reading most t.line) t.result)
+      ∙ ap (λ n. observed_read n (line_reading most t.line) t.result) (count_on-more before (length taken) 1))
 
 -- no line was carried out
-pub CarriesOut-none : (A : Type 0) (before : ℕ) (s : Registry) (seen : Option (List Observation)) → CarriesOut A before [] s s seen seen
-CarriesOut-none A before s seen = record { observed = Sees-nil seen; tells = λ history stands. Tells-nil history s stands }
+pub CarriesOut-none : (A : Type 0) (most before : ℕ) (s : Registry) (seen : Option (List Observation)) → CarriesOut A most before [] s s seen seen
+CarriesOut-none A most before s seen = record {
+  taken = [];
+  these = refl;
+  observed = Sees-nil seen;
+  tells = λ history stands. Tells-nil history s stands;
+}
 
 -- and then one more
-pub CarriesOut-more : (A : Type 0) (before : ℕ) (taken : List TakenLine) (t : TakenLine) (old mid new : Registry)
-    (seen halfway told : Option (List Observation)) → CarriesOut A before taken old mid seen halfway
-    → Sees halfway told (observed_read (before + length taken + 1) (line_reading t.line) t.result)
-    → ((history : List (Event A)) → StandsFor mid history → Tells history (happened_read (line_reading t.line) t.result) new)
-    → CarriesOut A before (taken ++ t ∷ []) old new seen told
-CarriesOut-more A before taken t old mid new seen halfway told c observed tells = record {
-  observed = subst (λ os. Sees seen told os) (sym (line_observations-more taken t before))
-      (Sees-append seen halfway told _ _ c.observed observed);
-  tells = λ history stands. subst (λ l. Tells history l new) (sym (happened-more taken t))
-      (Tells-append history _ _ mid new (c.tells history stands) (λ there. tells _ there));
-}
+pub CarriesOut-more : (A : Type 0) (most before number : ℕ) (lines : List (List ℕ)) (line : List ℕ) (old mid new : Registry)
+    (seen halfway told : Option (List Observation)) → before < 2 ^ 64 → number ≡ count_on before (length lines + 1)
+    → CarriesOut A most before lines old mid seen halfway → AppliesLine A most number line mid new halfway told
+    → CarriesOut A most before (lines ++ line ∷ []) old new seen told
+CarriesOut-more A most before number lines line old mid new seen halfway told fits place c one =
+    let t : TakenLine = record { line = line; result = one.0 } in
+    let many : length lines ≡ length c.taken = sym (ap length c.these) ∙ length-map c.taken (λ x. x.line) in
+    let same : number ≡ count_on before (length c.taken + 1) = place ∙ ap (λ n. count_on before (n + 1)) many in
+    record {
+      taken = c.taken ++ t ∷ [];
+      these = map-append (λ x. x.line) c.taken (t ∷ []) ∙ ap (λ ls. ls ++ line ∷ []) c.these;
+      observed = subst (λ os. Sees seen told os) (sym (line_observations-more most c.taken t before fits))
+          (Sees-append seen halfway told _ _ c.observed
+          (subst (λ n. Sees halfway told (observed_read n (line_reading most line) one.0)) same one.1));
+      tells = λ history stands. subst (λ l. Tells history l new) (sym (happened-more most c.taken t))
+          (Tells-append history _ _ mid new (c.tells history stands) (λ there. one.2 _ there));
+    }

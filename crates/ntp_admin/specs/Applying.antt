@@ -1,5 +1,5 @@
--- Not to be believed: for proofs. What becomes of a text, of its lines, and of one of them.
-use Rattle.std.specs.Prelude.{◌≡◌, ℕ, max, List, [], ◌∷◌, ◌++◌, length, map, drop, Option, Some, Result, Ok, Err}
+-- Not to be believed: for proofs. What becomes of a text, and of one line.
+use Rattle.std.specs.Prelude.{◌≡◌, ℕ, max, List, [], ◌∷◌, ◌++◌, length, drop, Option, Some, Result, Ok, Err}
 use Rattle.ntp_service.specs.declared.refusal.Refusal.{Refusal}
 use Rattle.ntp_service.specs.Registry.{Registry}
 use Rattle.ntp_service.specs.declared.command.Command.{Command}
@@ -10,7 +10,8 @@ use Rattle.ntp_service.specs.declared.observation.Observation.{Observation}
 use Rattle.ntp_service.specs.declared.observation.Observation.TheVariants as observation
 use Rattle.ntp_service.specs.Sees.{Sees}
 use Rattle.ntp_service.specs.Headline.{StandsFor, Tells}
-use Rattle.ntp_admin.specs.CommandsFile.{complete_lines, line_reading, TakenLine, happened_read, observed_read, happened_at_lines, line_observations}
+use Rattle.ntp_admin.specs.FileText.{most_file_octets}
+use Rattle.ntp_admin.specs.CommandsFile.{complete_lines, line_reading, happened_read, observed_read, CarriesOut}
 
 -- what an observer is told of a line that is read so, before it is carried out
 abbrev pub told_before : Result Command LineFault → List Observation
@@ -24,23 +25,14 @@ LeadsTo A read outcome old new = (result : Result (Unit {0}) Refusal)
     × ((history : List (Event A)) → StandsFor old history → Tells history (happened_read (Some read) result) new)
 
 -- the line with a number was taken
-abbrev pub AppliesLine : (A : Type 0) → ℕ → List ℕ → Registry → Registry → Option (List Observation) → Option (List Observation) → Type 0
-AppliesLine A number line old new seen told = (result : Result (Unit {0}) Refusal)
-    × Sees seen told (observed_read number (line_reading line) result)
-    × ((history : List (Event A)) → StandsFor old history → Tells history (happened_read (line_reading line) result) new)
+abbrev pub AppliesLine :
+    (A : Type 0) → ℕ → ℕ → List ℕ → Registry → Registry → Option (List Observation) → Option (List Observation) → Type 0
+AppliesLine A most number line old new seen told = (result : Result (Unit {0}) Refusal)
+    × Sees seen told (observed_read number (line_reading most line) result)
+    × ((history : List (Event A)) → StandsFor old history → Tells history (happened_read (line_reading most line) result) new)
 
--- lines were carried out, with `before` lines in front of them
-pub record CarriesOut (A : Type 0) (before : ℕ) (taken : List TakenLine) (old new : Registry) (seen told : Option (List Observation)) : Type 0 where
-  pub observed : Sees seen told (line_observations before taken)
-  pub tells : (history : List (Event A)) → StandsFor old history → Tells history (happened_at_lines taken) new
-
--- lines were taken, with `before` lines in front of them
-abbrev pub Applies :
-    (A : Type 0) → ℕ → List (List ℕ) → Registry → Registry → Option (List Observation) → Option (List Observation) → Type 0
-Applies A before lines old new seen told = (taken : List TakenLine) × (map (λ t. t.line) taken ≡ lines) × CarriesOut A before taken old new seen told
-
--- the lines of a text that are due were taken
+-- the lines of a text that are due were carried out
 abbrev pub AppliesText :
     (A : Type 0) → ℕ → List ℕ → ℕ → Registry → Registry → Option (List Observation) → Option (List Observation) → Type 0
 AppliesText A applied text after old new seen told = (after ≡ max applied (length (complete_lines text)))
-    × Applies A applied (drop applied (complete_lines text)) old new seen told
+    × CarriesOut A most_file_octets applied (drop applied (complete_lines text)) old new seen told

@@ -1,6 +1,7 @@
 -- What a commands file orders.
-use Rattle.std.specs.Prelude.{◌≡◌, ℕ, ◌+◌, ◌-◌, max, List, [], ◌∷◌, ◌++◌, length, map, flat_map, take, drop, if◌then◌else◌, Option, None, Some, Result, Ok, Err, codes}
+use Rattle.std.specs.Prelude.{◌≡◌, ℕ, ◌+◌, ◌-◌, ◌^◌, min, max, nat_lt, List, [], ◌∷◌, ◌++◌, length, map, flat_map, take, drop, if◌then◌else◌, Option, None, Some, Result, Ok, Err, codes}
 use Rattle.std.specs.Fmt.{decimal}
+use Rattle.std.specs.Str.{is_utf8}
 use Rattle.ntp_service.specs.declared.refusal.Refusal.{Refusal}
 use Rattle.ntp_service.specs.Registry.{Registry}
 use Rattle.ntp_admin.specs.Words.{words, parts}
@@ -11,6 +12,7 @@ use Rattle.ntp_service.specs.declared.command.Command.{Command}
 use Rattle.ntp_service.specs.declared.event.Event.{Event}
 use Rattle.ntp_service.specs.declared.event.Event.TheVariants as event
 use Rattle.ntp_service.specs.declared.line_fault.LineFault.{LineFault}
+use Rattle.ntp_service.specs.declared.line_fault.LineFault.TheVariants.{LineLong, NotUtf8}
 use Rattle.ntp_service.specs.declared.outcome.Outcome.{Outcome}
 use Rattle.ntp_service.specs.declared.observation.LineOutcome.{LineOutcome}
 use Rattle.ntp_service.specs.declared.observation.LineOutcome.TheVariants.{Done, Refused, Faulty}
@@ -18,22 +20,24 @@ use Rattle.ntp_service.specs.declared.observation.Observation.{Observation}
 use Rattle.ntp_service.specs.declared.observation.Observation.TheVariants as observation
 use Rattle.ntp_service.specs.Sees.{Sees}
 use Rattle.ntp_service.specs.Headline.{StandsFor, Tells, command_outcome}
-use Rattle.ntp_admin.specs.FileText.{IsText}
+use Rattle.ntp_admin.specs.FileText.{most_file_octets, IsText}
 
 -- the lines that a line feed ends: what stands between line feeds, without the last such piece
 abbrev pub complete_lines : List ℕ → List (List ℕ)
 complete_lines text = let pieces = parts 10 text in take (length pieces - 1) pieces
 
--- what a line is read as: nothing where it is passed over, else a command, or the first fault
-abbrev pub line_reading : List ℕ → Option (Result Command LineFault)
-line_reading line = if is_passed_over line then None else Some (command_in (words line))
+-- how many octets a line has at most, without its line feed (profile)
+abbrev pub most_line_octets : ℕ
+most_line_octets = 4096
 
--- the lines of a file that are due, where `applied` are applied, and how many are applied once they were taken: of a text, its complete
--- lines behind those; of other octets none
-abbrev pub AreDue : ℕ → List ℕ → List (List ℕ) → ℕ → Type 0
-AreDue applied octets lines after =
-    (IsText octets → (lines ≡ drop applied (complete_lines octets)) × (after ≡ max applied (length (complete_lines octets))))
-    × ((IsText octets → ⊥) → (lines ≡ []) × (after ≡ applied))
+-- what a line is read as: nothing where it is passed over, else a command, or the first fault
+abbrev pub line_reading : ℕ → List ℕ → Option (Result Command LineFault)
+line_reading most line = if is_passed_over line then None else Some (if nat_lt most (length line) then Err LineLong
+    else if is_utf8 line then command_in (words line) else Err NotUtf8)
+
+-- how many lines there are once more follow: what 64 bits do not hold stays at the most that they hold
+abbrev pub count_on : ℕ → ℕ → ℕ
+count_on lines more = min (lines + more) (2 ^ 64 - 1)
 
 -- a line that was taken, and what its command came to, which says nothing where it is none
 pub record TakenLine : Type 0 where
@@ -56,22 +60,38 @@ observed_read number None result = []
 observed_read number (Some (Ok command)) result = observation.Command command ∷ observation.Line number (carried_out result) ∷ []
 observed_read number (Some (Err fault)) result = observation.Line number (Faulty fault) ∷ []
 
--- what happened at lines that were taken, in their order
-abbrev pub happened_at_lines : {A : Type 0} → List TakenLine → List (Event A × Outcome)
-happened_at_lines taken = flat_map (λ t. happened_read (line_reading t.line) t.result) taken
+-- what happened at lines of so many octets at most, in their order
+abbrev pub happened_at_lines : {A : Type 0} → ℕ → List TakenLine → List (Event A × Outcome)
+happened_at_lines most taken = flat_map (λ t. happened_read (line_reading most t.line) t.result) taken
 
--- what an observer is told of them, where `before` lines stand before the first
-abbrev pub line_observations : ℕ → List TakenLine → List Observation
-line_observations before [] = []
-line_observations before (t ∷ taken) = observed_read (before + 1) (line_reading t.line) t.result ++ line_observations (before + 1) taken
+-- what an observer is told of them, where `before` lines stand in front of the first
+abbrev pub line_observations : ℕ → ℕ → List TakenLine → List Observation
+line_observations most before [] = []
+line_observations most before (t ∷ taken) =
+    observed_read (count_on before 1) (line_reading most t.line) t.result ++ line_observations most (count_on before 1) taken
 
--- the lines that are due in a file's octets were carried out, each once: whatever history the service stood for, it tells what happened
--- at them, and the observer is told what became of each
-pub record CarriesOutDue (A : Type 0) (applied : ℕ) (octets : List ℕ) (after : ℕ) (old new : Registry) (seen told : Option (List Observation)) : Type 0 where
+-- these lines were carried out, each once: whatever history the service stood for, it tells what happened at them, and the observer is
+-- told what became of each
+pub record CarriesOut (A : Type 0) (most before : ℕ) (lines : List (List ℕ)) (old new : Registry)
+    (seen told : Option (List Observation)) : Type 0 where
   pub taken : List TakenLine
-  pub due : AreDue applied octets (map (λ t. t.line) taken) after
-  pub observed : Sees seen told (line_observations applied taken)
-  pub tells : (history : List (Event A)) → StandsFor old history → Tells history (happened_at_lines taken) new
+  pub these : map (λ t. t.line) taken ≡ lines
+  pub observed : Sees seen told (line_observations most before taken)
+  pub tells : (history : List (Event A)) → StandsFor old history → Tells history (happened_at_lines most taken) new
+
+-- the lines of a file that are due, where `applied` are applied, and how many are applied once they were taken: of a text, its complete
+-- lines behind those; of other octets none
+abbrev pub AreDue : ℕ → List ℕ → List (List ℕ) → ℕ → Type 0
+AreDue applied octets lines after =
+    (IsText octets → (lines ≡ drop applied (complete_lines octets)) × (after ≡ max applied (length (complete_lines octets))))
+    × ((IsText octets → ⊥) → (lines ≡ []) × (after ≡ applied))
+
+-- the lines that are due in a file's octets were carried out; each may be as long as the file
+pub record CarriesOutDue (A : Type 0) (applied : ℕ) (octets : List ℕ) (after : ℕ) (old new : Registry)
+    (seen told : Option (List Observation)) : Type 0 where
+  pub lines : List (List ℕ)
+  pub due : AreDue applied octets lines after
+  pub carried : CarriesOut A most_file_octets applied lines old new seen told
 
 -- the line that tells of a fault of the commands file
 abbrev pub fault_line : ℕ → List ℕ → List ℕ

@@ -6,7 +6,6 @@ pub mod Enrolment
 pub mod RegisterFile
 pub mod FileText
 pub mod CommandsFile
-pub mod Admitting
 pub mod Applying
 pub mod Loading
 pub mod Starts

@@ -1,7 +1,7 @@
 -- The words of a line, and what each kind of word says.
 use Rattle.std.specs.Prelude.{ℕ, zero, suc, ◌-◌, ◌^◌, ◌==◌, ◌&&◌, ◌||◌, Bool, not, nat_le, nat_lt, if◌then◌else◌, List, [], ◌∷◌, ◌++◌, length, map, slice_index, codes, Option, Some, None}
 use Rattle.std.specs.List.{list_all, slice_split, slice_range, join_with_byte}
-use Rattle.std.specs.Option.{option_map, option_map_or}
+use Rattle.std.specs.Option.{option_map, option_map_or, option_and_then}
 use Rattle.std.specs.Result.{result_ok}
 use Rattle.std.specs.Char.{is_ascii_digit}
 use Rattle.std.specs.Str.{bytes_eq}
@@ -28,12 +28,6 @@ parts separator text = slice_split (λ c. c == separator) text
 abbrev pub words : List ℕ → List (List ℕ)
 words line = parts 32 line
 
--- the second step, where the first gave a value
-infixl 10 ◌>>=◌
-abbrev pub ◌>>=◌ : {X Y : Type 0} → Option X → (X → Option Y) → Option Y
-Some x >>= f = f x
-None >>= f = None
-
 -- digits and no sign, one digit at least, and no zero in front of others
 abbrev pub is_decimal : List ℕ → Bool
 is_decimal word = list_all is_ascii_digit word && nat_lt 0 (length word) && (not (slice_index word 0 == 48) || (length word == 1))
@@ -43,19 +37,14 @@ abbrev pub decimal_in : ℕ → ℕ → List ℕ → Option ℕ
 decimal_in least most word =
     let n = digits_value 10 word in if is_decimal word && nat_le least n && nat_le n most then Some n else None
 
--- four numbers from 0 to 255
-abbrev pub address_from : List (List ℕ) → Option Address
-address_from (first ∷ second ∷ third ∷ fourth ∷ []) = do
-  a ← decimal_in 0 255 first
-  b ← decimal_in 0 255 second
-  c ← decimal_in 0 255 third
-  d ← decimal_in 0 255 fourth
-  Some (record { 0 = a ∷ b ∷ c ∷ d ∷ [] })
+-- an address of numbers, where there are four
+abbrev pub address_from : List (Option ℕ) → Option Address
+address_from (Some a ∷ Some b ∷ Some c ∷ Some d ∷ []) = Some (record { 0 = a ∷ b ∷ c ∷ d ∷ [] })
 address_from other = None
 
--- an address: its numbers, with dots between them
+-- an address: four numbers from 0 to 255, with dots between them
 abbrev pub address_in : List ℕ → Option Address
-address_in word = address_from (parts 46 word)
+address_in word = address_from (map (decimal_in 0 255) (parts 46 word))
 
 -- an address as a word
 unfoldable pub address_text : Address → List ℕ
@@ -68,7 +57,7 @@ non_zero (suc n) = Some (record { value = suc n; ok = zero-lt-suc n })
 
 -- a key number or a budget: from 1 to 65,535
 abbrev pub number_in : List ℕ → Option NonZeroU16
-number_in word = decimal_in 1 65535 word >>= non_zero
+number_in word = option_and_then non_zero (decimal_in 1 65535 word)
 
 -- a number with a space before it, where there is one
 abbrev pub number_behind : Option NonZeroU16 → List ℕ
@@ -96,6 +85,12 @@ stamp_of octets = record { 0 = from_be_bytes w64 octets }
 -- a stamp: 16 digits
 abbrev pub stamp_in : List ℕ → Option Stamp
 stamp_in word = option_map stamp_of (result_ok (decode_sized word 8))
+
+-- the second step, where the first gave a value
+infixl 10 ◌>>=◌
+abbrev pub ◌>>=◌ : {X Y : Type 0} → Option X → (X → Option Y) → Option Y
+Some x >>= f = f x
+None >>= f = None
 
 -- an era and a stamp
 abbrev pub moment_from : List (List ℕ) → Option Moment

@@ -2,7 +2,6 @@
 //! a program ends with, as where a file cannot be read.
 #![tactic(auto)]
 
-mod applied_lines;
 mod commands;
 mod customers;
 mod escaped;
@@ -10,7 +9,6 @@ mod fault;
 mod fault_lines;
 mod file_text;
 mod form;
-mod laws;
 mod loading;
 mod parsing;
 mod parts;
@@ -20,14 +18,12 @@ mod starting;
 mod status;
 pub mod words;
 
-pub use applied_lines::{AdmitFault, AppliedLines};
-pub use commands::{apply_commands, commands_step};
+pub use commands::{MOST_LINE_OCTETS, apply_lines, commands_step};
 pub use customers::customer_in;
 pub use escaped::Escaped;
 pub use fault::RegisterFault;
 pub use fault_lines::FaultLines;
 pub use file_text::{MOST_FILE_OCTETS, line_without_text};
-pub use laws::what_is_due_stands_behind_what_was_applied;
 pub use loading::{LoadFault, Loaded, load_register};
 pub use ntp_service::{Command, Event, LineFault, NoMemory, Octets, Outcome};
 pub use parsing::{is_passed_over, parse_command, parse_event};

@@ -61,14 +61,14 @@ pub fn address(word: &str) -> Option<Address>
     ensures { result ≡ address_in word.now }
 {
     let mut parts = TextParts::new(word, '.');
-    let first = parts.next()?;
-    let second = parts.next()?;
-    let third = parts.next()?;
-    let fourth = parts.next()?;
-    if parts.next().is_some() {
-        return None;
+    let first = octet(parts.next()?)?;
+    let second = octet(parts.next()?)?;
+    let third = octet(parts.next()?)?;
+    let fourth = octet(parts.next()?)?;
+    match parts.next() {
+        None => Some(Address([first, second, third, fourth])),
+        Some(_) => None,
     }
-    Some(Address([octet(first)?, octet(second)?, octet(third)?, octet(fourth)?]))
 }
 
 /// A key number or a budget: from 1 to 65,535.

@@ -1,4 +1,4 @@
-//! What is wrong with a line of a script.
+//! What is wrong with a line of a script, or of a commands file.
 ghost use Rattle.std.specs.Prelude.{◌≡◌};
 ghost use Rattle.ntp_service.specs.Vocabulary.{line_fault_word};
 
@@ -30,6 +30,10 @@ pub enum LineFault {
     Reference = 11,
     /// Octets are not an even number of hexadecimal digits, at least 2, nor `-`.
     Hex = 12,
+    /// A line of a commands file has more than 4,096 octets.
+    LineLong = 13,
+    /// A line of a commands file is no UTF-8.
+    NotUtf8 = 14,
 }
 
 impl LineFault {
@@ -50,6 +54,8 @@ impl LineFault {
             LineFault::Stamp => "stamp",
             LineFault::Reference => "reference",
             LineFault::Hex => "hex",
+            LineFault::LineLong => "line-long",
+            LineFault::NotUtf8 => "not-utf8",
         }
     }
 }

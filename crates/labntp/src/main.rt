@@ -4,6 +4,7 @@
 
 mod loopback;
 mod serve_job;
+mod whole_commands;
 
 use labntp_jobs::{Job, Watched, job, replay_status};
 use loopback::loopback_status;

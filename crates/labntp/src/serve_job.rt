@@ -2,12 +2,13 @@
 ghost use Rattle.std.specs.Prelude.{◌≡◌};
 ghost use Rattle.ntp_host.specs.Failures.{udp_failures};
 
+use crate::whole_commands::WholeCommands;
 use labntp_jobs::Serving;
 use ntp_admin::{
     FaultLines, LoadFault, Loaded, MOST_FILE_OCTETS, RegisterFault, Status, load_register,
     load_status, socket_status, write_status,
 };
-use ntp_host::{CommandsFile, UdpPort, read_regular_file};
+use ntp_host::{UdpPort, read_regular_file};
 use ntp_port::FixedReference;
 use ntp_server::{Server, Totals};
 use std::alloc::Global;
@@ -84,13 +85,13 @@ fn server<'a, R: Files + Clock, F: Write>(
     commands: &'a str,
     loaded: Loaded,
     faults: &'a mut F,
-) -> Server<UdpPort<&'a R>, CommandsFile<'a, R>, FixedReference, FaultLines<&'a mut F>, Global>
+) -> Server<UdpPort<&'a R>, WholeCommands<'a, R>, FixedReference, FaultLines<&'a mut F>, Global>
     ensures { udp_failures result.port ≡ 0 }
 {
     let Loaded { reference, service } = loaded;
     Server {
         port: UdpPort::new(socket, rt),
-        commands: CommandsFile::new(rt, commands, MOST_FILE_OCTETS as u32),
+        commands: WholeCommands::new(rt, commands),
         applied: 0,
         reference: FixedReference(reference),
         observer: FaultLines::new(faults),

@@ -7,16 +7,16 @@ use ntp_packet::Moment;
 use ntp_reply::Reference;
 use std::alloc::Allocator;
 
-/// The commands file of a server, which is looked at in each turn, before its datagram is answered.
+/// The commands of a server, which are looked at before its first turn and in each turn, before the datagram is answered.
 ///
 /// A source may tell what its looks will give, to whatever they are asked with.
 pub trait CommandsSource<A: Allocator> {
     // What its looks will give from here on, where the source tells it.
     ghost coming: { Self → Option (Coming (Option (List ℕ))) } = { λ _. None };
 
-    /// The whole file if it changed since it was last given; `None` if it did not or cannot be read. `receipt` is when the
-    /// datagram came that waits for its answer, and nothing where none waits. It may take memory from `alloc`, and gives
-    /// nothing where there is none.
+    /// Returns complete lines, each with its line feed, that are new since it last gave some, and nothing where there are none.
+    /// At a look it takes 64 KiB of a file at most. `receipt` is when the datagram came that waits for its answer, and nothing
+    /// where none waits. It may take memory from `alloc`, and gives nothing where there is none.
     fn look(&mut self, alloc: A, receipt: Option<Moment>) -> Option<Vec<u8, A>>
         ensures { Gives (coming self.old) (coming self.new) (receipt ∷ []) (option_map (λ octets. octets.items) result ∷ []) };
 }

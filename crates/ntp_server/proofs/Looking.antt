@@ -1,154 +1,216 @@
 -- Some looks and then others.
-use Rattle.std.proofs.Common.{◌≡◌, ℕ, ◌+◌, Bool, true, false, Option, None, Some, List, [], ◌∷◌, ◌++◌, length, map, refl, sym, ap, ◌∙◌, subst, append-nil, length-append, arith}
-use Rattle.std.proofs.lemmas.List.{append_assoc, map-append}
+use Rattle.std.proofs.Common.{◌≡◌, ℕ, ◌+◌, ◌-◌, ◌<◌, ◌^◌, Bool, true, false, Option, None, Some, List, [], ◌∷◌, ◌++◌, length, map, refl, sym, ap, ◌∙◌, subst, append-nil, length-append, arith, inl, inr}
+use Rattle.std.specs.Prelude.{is_none, is_some, flat_map}
+use Rattle.std.proofs.lemmas.List.{map-append, length-map}
+use Rattle.std.proofs.lemmas.List.Elements.{filter-append, filter_map-append}
 use Rattle.std.proofs.lemmas.Grind.{flat_map-append}
 use Rattle.ntp_packet.specs.declared.moment.Moment.{Moment}
-use Rattle.ntp_reply.specs.Reference.{ReferenceState}
 use Rattle.ntp_service.specs.Sees.{Sees}
 use Rattle.ntp_service.proofs.PublicLaws.{Sees-nil, Sees-append, Tells-nil, Tells-append}
 use Rattle.ntp_service.specs.Headline.{Tells}
-use Rattle.ntp_port.specs.declared.port.PortCounts.{PortCounts}
-use Rattle.ntp_port.specs.Port.{Told, CountsMore}
+use Rattle.ntp_port.specs.Port.{CountsMore}
 use Rattle.ntp_port.proofs.PublicLaws.{CountsMore-nil, CountsMore-append}
-use Rattle.ntp_admin.specs.CommandsFile.{TakenLine, CarriesOutDue, happened_at_lines, line_observations}
-use Rattle.ntp_admin.specs.Applying.{CarriesOut}
-use Rattle.ntp_port.specs.Sources.{Coming, Gives, CountsOn}
-use Rattle.ntp_server.specs.Rounds.{Look, ServerTold, AreDueAt, AreDueInTurn}
-use Rattle.ntp_server.specs.Steps.{Looks, LooksOnce, Waits, unasked, given_of, happened_at_looks, looks_observations}
+use Rattle.ntp_port.specs.Sources.{Gives, CountsOn}
+use Rattle.ntp_admin.specs.CommandsFile.{most_line_octets, count_on, complete_lines, CarriesOut, line_observations, happened_at_lines}
+use Rattle.ntp_server.specs.declared.server.Server.{Server}
+use Rattle.ntp_server.specs.Rounds.{Round, PartsTell, AreDueInTurn, given_in, turns_in, asked_in, happened_in_round, round_observations}
+use Rattle.ntp_server.specs.Steps.{Looks, Orders, Starts, Waits}
+use Rattle.ntp_server.proofs.Telling.{Gives-nil, Gives-append, CountsOn-nil, CountsOn-append}
 
--- ---- what sources gave
-pub Gives-nil : {X : Type 0} (t : Option (Coming X)) → Gives t t [] []
-Gives-nil None = tt
-Gives-nil (Some l) = λ later. refl
-
-pub Gives-append : {X : Type 0} (t u v : Option (Coming X)) (earlier later : List (Option Moment)) (xs ys : List X) → Gives t u earlier xs
-    → Gives u v later ys → Gives t v (earlier ++ later) (xs ++ ys)
-Gives-append None u v earlier later xs ys p q = tt
-Gives-append (Some l) None v earlier later xs ys p q = absurd p
-Gives-append (Some l) (Some m) None earlier later xs ys p q = absurd q
-Gives-append (Some l) (Some m) (Some k) earlier later xs ys p q = λ more.
-    ap l (append_assoc earlier later more) ∙ p (later ++ more) ∙ ap (λ z. xs ++ z) (q more) ∙ sym (append_assoc xs ys (k more))
-
--- ---- what was counted
-pub CountsOn-nil : (t : Option ℕ) → CountsOn t t 0
-CountsOn-nil None = tt
-CountsOn-nil (Some n) = let none : n ≡ n + 0 = omega arith in none
-
-pub CountsOn-append : (t u v : Option ℕ) (m n : ℕ) → CountsOn t u m → CountsOn u v n → CountsOn t v (m + n)
-CountsOn-append t u None m n p q = tt
-CountsOn-append t None (Some c) m n p q = absurd q
-CountsOn-append None (Some b) (Some c) m n p q = absurd p
-CountsOn-append (Some a) (Some b) (Some c) m n p q = let more : c ≡ a + (m + n) = omega (arith, p, q) in more
-
--- ---- looks
-pub due-append : (xs ys : List Look) (a b c : ℕ) → AreDueInTurn a xs b → AreDueInTurn b ys c → AreDueInTurn a (xs ++ ys) c
+-- ---- rounds
+due-append : (xs ys : List Round) (a b c : ℕ) → AreDueInTurn a xs b → AreDueInTurn b ys c → AreDueInTurn a (xs ++ ys) c
 due-append [] ys a b c p q = subst (λ n. AreDueInTurn n ys c) p q
-due-append (x ∷ xs) ys a b c p q = (p.0, p.1, p.2, due-append xs ys p.0 b c p.3 q)
+due-append (x ∷ xs) ys a b c p q = (p.0, p.1, due-append xs ys (count_on a (length x.taken)) b c p.2 q)
 
-unasked-append : (xs ys : List Look) → unasked (xs ++ ys) ≡ unasked xs ++ unasked ys
-unasked-append xs ys = map-append (λ l. None) xs ys
+pub Orders-nil : {P C R O A : Type 0} (t : PartsTell P C R O) (p : Server P C R O A) → Orders p p t []
+Orders-nil t p = record {
+  due = refl;
+  commands = Gives-nil (t.looks p.commands);
+  observed = Sees-nil (t.seen p.observer);
+  tells = λ history stands. Tells-nil history p.service stands;
+}
 
-module _ (A : Type 0) where
-  pub Looks-nil : (p : ServerTold) → Looks A [] [] p p
-  Looks-nil p = record {
-    due = refl;
-    commands = Gives-nil p.commands;
-    observed = Sees-nil p.seen;
-    tells = λ history stands. Tells-nil history p.service stands;
-  }
+pub Orders-append : {P C R O A : Type 0} (t : PartsTell P C R O) (xs ys : List Round) (p q r : Server P C R O A) → Orders p q t xs
+    → Orders q r t ys → Orders p r t (xs ++ ys)
+Orders-append t xs ys p q r x y = record {
+  due = due-append xs ys p.applied q.applied r.applied x.due y.due;
+  commands = subst (λ l. Gives (t.looks p.commands) (t.looks r.commands) l (given_in (xs ++ ys))) (sym (map-append asked_in xs ys))
+      (subst (λ l. Gives (t.looks p.commands) (t.looks r.commands) (map asked_in xs ++ map asked_in ys) l)
+      (sym (map-append (λ l. l.given) xs ys))
+      (Gives-append (t.looks p.commands) (t.looks q.commands) (t.looks r.commands) (map asked_in xs) (map asked_in ys) (given_in xs)
+      (given_in ys) x.commands y.commands));
+  observed = subst (λ l. Sees (t.seen p.observer) (t.seen r.observer) l) (sym (flat_map-append round_observations xs ys))
+      (Sees-append (t.seen p.observer) (t.seen q.observer) (t.seen r.observer) (flat_map round_observations xs) (flat_map round_observations ys)
+      x.observed y.observed);
+  tells = λ history stands. subst (λ l. Tells history l r.service) (sym (flat_map-append happened_in_round xs ys))
+      (Tells-append history (flat_map happened_in_round xs) (flat_map happened_in_round ys) q.service r.service (x.tells history stands)
+      (λ stood. y.tells _ stood));
+}
 
-  pub Looks-append : (xs ys : List Look) (earlier later : List (Option Moment)) (p q r : ServerTold) → Looks A xs earlier p q
-      → Looks A ys later q r → Looks A (xs ++ ys) (earlier ++ later) p r
-  Looks-append xs ys earlier later p q r x y = record {
-    due = due-append xs ys p.applied q.applied r.applied x.due y.due;
-    commands = subst (λ l. Gives p.commands r.commands (earlier ++ later) l) (sym (map-append (λ l. l.given) xs ys))
-        (Gives-append p.commands q.commands r.commands earlier later (given_of xs) (given_of ys) x.commands y.commands);
-    observed = subst (λ l. Sees p.seen r.seen l) (sym (flat_map-append (λ l. line_observations l.applied l.taken) xs ys))
-        (Sees-append p.seen q.seen r.seen (looks_observations xs) (looks_observations ys) x.observed y.observed);
-    tells = λ history stands.
-        subst (λ l. Tells history l r.service) (sym (flat_map-append (λ l. happened_at_lines l.taken) xs ys))
-        (Tells-append history (happened_at_looks xs) (happened_at_looks ys) q.service r.service
-        (x.tells history stands) (λ stood. y.tells _ stood));
-  }
+-- ---- a look
+-- one that gave something
+pub Looks-due : {P C R O A : Type 0} (t : PartsTell P C R O) (asked : Option Moment) (octets items : List ℕ) (p q : Server P C R O A) → octets ≡ items
+    → Gives (t.looks p.commands) (t.looks q.commands) (asked ∷ []) (Some items ∷ [])
+    → q.applied ≡ count_on p.applied (length (complete_lines octets))
+    → CarriesOut A most_line_octets p.applied (complete_lines octets) p.service q.service (t.seen p.observer) (t.seen q.observer)
+    → Looks p q t asked true
+Looks-due t asked octets items p q same gives counted c = record {
+  given = Some octets;
+  is = refl;
+  taken = c.taken;
+  lines = c.these;
+  counted = counted ∙ ap (count_on p.applied) (sym (sym (length-map c.taken (λ x. x.line)) ∙ ap length c.these));
+  commands = subst (λ o. Gives (t.looks p.commands) (t.looks q.commands) (asked ∷ []) (Some o ∷ [])) (sym same) gives;
+  observed = c.observed;
+  tells = c.tells;
+}
 
-  Looks-one : (asked : Option Moment) (given : Option (List ℕ)) (taken : List TakenLine) (p q : ServerTold)
-      → AreDueAt p.applied given (map (λ t. t.line) taken) q.applied → Gives p.commands q.commands (asked ∷ []) (given ∷ [])
-      → CarriesOut A p.applied taken p.service q.service p.seen q.seen → LooksOnce A asked p q
-  Looks-one asked given taken p q due gives done = record {
-    look = record { applied = p.applied; given = given; taken = taken };
-    done = record {
-      due = (q.applied, refl, due, refl);
-      commands = gives;
-      observed = subst (λ l. Sees p.seen q.seen l) (sym (append-nil (line_observations p.applied taken))) done.observed;
-      tells = λ history stands.
-          subst (λ l. Tells history l q.service) (sym (append-nil (happened_at_lines taken))) (done.tells history stands);
-    };
-  }
+-- one that gave nothing, behind which all but the commands is as it was
+pub Looks-nothing : {P C R O A : Type 0} (t : PartsTell P C R O) (asked : Option Moment) (given : Option (List ℕ)) (p q : Server P C R O A)
+    → p.applied < 2 ^ 64 → q.applied ≡ p.applied → q.observer ≡ p.observer → q.service ≡ p.service → given ≡ None
+    → Gives (t.looks p.commands) (t.looks q.commands) (asked ∷ []) (given ∷ []) → Looks p q t asked false
+Looks-nothing t asked given p q fits applied observer service none gives = record {
+  given = None;
+  is = refl;
+  taken = [];
+  lines = refl;
+  counted = omega (arith, applied);
+  commands = subst (λ o. Gives (t.looks p.commands) (t.looks q.commands) (asked ∷ []) (o ∷ [])) none gives;
+  observed = subst (λ o. Sees (t.seen p.observer) (t.seen o) []) (sym observer) (Sees-nil (t.seen p.observer));
+  tells = λ history stands. subst (λ s. Tells history [] s) (sym service) (Tells-nil history p.service stands);
+}
 
-  -- a look that gave octets
-  pub Looks-due : (asked : Option Moment) (octets items : List ℕ) (p q : ServerTold) → octets ≡ items
-      → Gives p.commands q.commands (asked ∷ []) (Some items ∷ [])
-      → CarriesOutDue A p.applied octets q.applied p.service q.service p.seen q.seen → LooksOnce A asked p q
-  Looks-due asked octets items p q same gives due = Looks-one asked (Some octets) due.taken p q due.due
-      (subst (λ o. Gives p.commands q.commands (asked ∷ []) (Some o ∷ [])) (sym same) gives)
-      (record { observed = due.observed; tells = due.tells })
+-- the round of a look without a turn
+abbrev pub waiting : {P C R O A : Type 0} {p q : Server P C R O A} {t : PartsTell P C R O} {gave : Bool} → Looks p q t None gave → Round
+waiting {p = p} l = record { applied = p.applied; given = l.given; taken = l.taken; turn = None }
 
-  -- a look that gave nothing, behind which all else is as it was
-  pub Looks-nothing : (asked : Option Moment) (given : Option (List ℕ)) (p q : ServerTold) → q.applied ≡ p.applied → q.seen ≡ p.seen
-      → q.service ≡ p.service → given ≡ None → Gives p.commands q.commands (asked ∷ []) (given ∷ []) → LooksOnce A asked p q
-  Looks-nothing asked given p q applied seen service none gives =
-      Looks-one asked None [] p q (refl, applied) (subst (λ o. Gives p.commands q.commands (asked ∷ []) (o ∷ [])) none gives) (record {
-        observed = subst (λ l. Sees p.seen l []) (sym seen) (Sees-nil p.seen);
-        tells = λ history stands. subst (λ s. Tells history [] s) (sym service) (Tells-nil history p.service stands);
-      })
-
-  -- ---- a wait
-  pub Waits-none : (prompt : Bool) (p : ServerTold) → (w : Waits A prompt p p) × (length w.looks ≡ 0)
-  Waits-none prompt p = (
+pub Orders-look : {P C R O A : Type 0} {p q : Server P C R O A} {t : PartsTell P C R O} {gave : Bool} (l : Looks p q t None gave)
+    → Orders p q t (waiting l ∷ [])
+Orders-look {p = p} {q = q} {t = t} l =
+    let heard = line_observations most_line_octets p.applied l.taken in
+    let happened = happened_at_lines most_line_octets l.taken in
     record {
-      looks = [];
-      one_look = λ is. refl;
-      done = Looks-nil p;
-      waited = CountsMore-nil p.counts.idle_waits;
-      tended = CountsOn-nil p.tended;
-      reported = Sees-nil p.shown;
-    },
-    refl,
-  )
+      due = (refl, l.lines, l.counted);
+      commands = l.commands;
+      observed = subst (λ os. Sees (t.seen p.observer) (t.seen q.observer) os) (sym (append-nil (heard ++ []) ∙ append-nil heard)) l.observed;
+      tells = λ history stands. subst (λ es. Tells history es q.service) (sym (append-nil (happened ++ []) ∙ append-nil happened))
+          (l.tells history stands);
+    }
 
-  -- it goes on only at a port that is not prompt; what the port, the source of the states and the reporter tell does not matter to a look
-  pub Waits-more : (prompt : Bool) (p q r : ServerTold) (port : Option Told) (counts : PortCounts) (states later : Option (Coming ReferenceState))
-      (tended : Option ℕ) (blank shown : Option (List (Option Moment))) (n : ℕ) → prompt ≡ false
-      → (w : Waits A prompt p q) × (length w.looks ≡ n)
-      → LooksOnce A None (record q { port = port; counts = counts; states = states; shown = blank }) r
-      → CountsMore q.counts.idle_waits r.counts.idle_waits 1 → r.tended ≡ q.tended → CountsOn r.tended tended 1 → Sees q.shown shown (None ∷ [])
-      → (w : Waits A prompt p (record r { states = later; tended = tended; shown = shown })) × (length w.looks ≡ n + 1)
-  Waits-more prompt p q r port counts states later tended blank shown n waits (w, many) l waited same tends shows =
-      let all : length (w.looks ++ l.look ∷ []) ≡ length w.looks + 1 = length-append w.looks (l.look ∷ []) in (
-        record {
-          looks = w.looks ++ l.look ∷ [];
-          one_look = λ is. let bad : false ≡ true = sym waits ∙ is in absurd cc;
-          done = subst (λ asked. Looks A (w.looks ++ l.look ∷ []) asked p (record r { states = later; tended = tended; shown = shown }))
-              (sym (unasked-append w.looks (l.look ∷ [])))
-              (Looks-append w.looks (l.look ∷ []) (unasked w.looks) (None ∷ []) p q (record r { states = later; tended = tended; shown = shown })
-              w.done (record { due = l.done.due; commands = l.done.commands; observed = l.done.observed; tells = l.done.tells }));
-          waited = CountsMore-append p.counts.idle_waits q.counts.idle_waits r.counts.idle_waits (length w.looks) 1 _ all w.waited waited;
-          tended = subst (λ n. CountsOn p.tended tended n) (sym all)
-              (CountsOn-append p.tended q.tended tended (length w.looks) 1 w.tended (subst (λ c. CountsOn c tended 1) same tends));
-          reported = subst (λ xs. Sees p.shown shown xs) (sym (unasked-append w.looks (l.look ∷ [])))
-              (Sees-append p.shown q.shown shown (unasked w.looks) (None ∷ []) w.reported shows);
-        },
-        all ∙ ap (λ m. m + 1) many,
-      )
+-- ---- the start
+-- so many looks gave something
+pub record Starting {P C R O A : Type 0} (before after : Server P C R O A) (t : PartsTell P C R O) (many : ℕ) : Type 0 where
+  pub start : List Round
+  pub at_start : turns_in start ≡ []
+  pub gave : List (List ℕ)
+  pub all : given_in start ≡ map Some gave
+  pub counted : length gave ≡ many
+  pub orders : Orders before after t start
 
-  -- the port goes on, as far as its waits are counted
-  pub Waits-port : (prompt : Bool) (p q : ServerTold) (port : Option Told) (counts : PortCounts) (w : Waits A prompt p q)
-      → CountsMore p.counts.idle_waits counts.idle_waits (length w.looks) → Waits A prompt p (record q { port = port; counts = counts })
-  Waits-port prompt p q port counts w waited = record {
-    looks = w.looks;
-    one_look = w.one_look;
-    done = record { due = w.done.due; commands = w.done.commands; observed = w.done.observed; tells = w.done.tells };
-    waited = waited;
-    tended = w.tended;
-    reported = w.reported;
-  }
+pub Starting-none : {P C R O A : Type 0} (t : PartsTell P C R O) (p : Server P C R O A) → Starting p p t 0
+Starting-none t p = record { start = []; at_start = refl; gave = []; all = refl; counted = refl; orders = Orders-nil t p }
+
+module _ {P C R O A : Type 0} (p q r : Server P C R O A) (t : PartsTell P C R O) (many : ℕ) (s : Starting p q t many) where
+  with_look : {gave : Bool} (l : Looks q r t None gave) → Orders p r t (s.start ++ waiting l ∷ [])
+  with_look l = Orders-append t s.start (waiting l ∷ []) p q r s.orders (Orders-look l)
+
+  no_turn : {gave : Bool} (l : Looks q r t None gave) → turns_in (s.start ++ waiting l ∷ []) ≡ []
+  no_turn l = filter_map-append (λ x. x.turn) s.start (waiting l ∷ []) ∙ ap (λ xs. xs ++ []) s.at_start
+
+  with_given : {gave : Bool} (l : Looks q r t None gave) → given_in (s.start ++ waiting l ∷ []) ≡ map Some s.gave ++ l.given ∷ []
+  with_given l = map-append (λ x. x.given) s.start (waiting l ∷ []) ∙ ap (λ xs. xs ++ l.given ∷ []) s.all
+
+  pub Starting-more : Looks q r t None true → Starting p r t (many + 1)
+  Starting-more l = by l.given refl l.is
+    where
+      by : (given : Option (List ℕ)) → l.given ≡ given → true ≡ is_some given → Starting p r t (many + 1)
+      by None same is = absurd (cc)
+      by (Some octets) same is = record {
+        start = s.start ++ waiting l ∷ [];
+        at_start = no_turn l;
+        gave = s.gave ++ octets ∷ [];
+        all = with_given l ∙ ap (λ g. map Some s.gave ++ g ∷ []) same ∙ sym (map-append Some s.gave (octets ∷ []));
+        counted = length-append s.gave (octets ∷ []) ∙ ap (λ n. n + 1) s.counted;
+        orders = with_look l;
+      }
+
+  pub Starts-nothing : Looks q r t None false → Starts p r t
+  Starts-nothing l = by l.given refl l.is
+    where
+      by : (given : Option (List ℕ)) → l.given ≡ given → false ≡ is_some given → Starts p r t
+      by (Some octets) same is = absurd (cc)
+      by None same is = record {
+        start = s.start ++ waiting l ∷ [];
+        at_start = no_turn l;
+        gave = s.gave;
+        until = inl (with_given l ∙ ap (λ g. map Some s.gave ++ g ∷ []) same);
+        orders = with_look l;
+      }
+
+-- as many as there may be
+pub Starts-all : {P C R O A : Type 0} (p q : Server P C R O A) (t : PartsTell P C R O) (many : ℕ) → Starting p q t many → many ≡ 2 ^ 64 - 1
+    → Starts p q t
+Starts-all p q t many s all =
+    record { start = s.start; at_start = s.at_start; gave = s.gave; until = inr (s.all, s.counted ∙ all); orders = s.orders }
+
+-- ---- a wait
+pub Waits-none : {P C R O A : Type 0} (t : PartsTell P C R O) (prompt : Bool) (shown : Option (List (Option Moment))) (p : Server P C R O A)
+    → (w : Waits p p t shown shown prompt) × (length w.rounds ≡ 0)
+Waits-none t prompt shown p = (
+  record {
+    rounds = [];
+    no_turn = refl;
+    waiting = refl;
+    one_look = λ is. refl;
+    orders = Orders-nil t p;
+    waited = CountsMore-nil (t.counts p.port).idle_waits;
+    tended = CountsOn-nil (t.tended p.reference);
+    reported = Sees-nil shown;
+  },
+  refl,
+)
+
+-- it goes on only at a port that is not prompt
+pub Waits-more : {P C R O A : Type 0} (t : PartsTell P C R O) (prompt gave : Bool) (shown halfway later : Option (List (Option Moment)))
+    (p q r : Server P C R O A) (port : P) (states : R) (n : ℕ) → prompt ≡ false
+    → (w : Waits p q t shown halfway prompt) × (length w.rounds ≡ n)
+    → Looks (record q { port = port }) r t None gave → CountsMore (t.counts q.port).idle_waits (t.counts r.port).idle_waits 1
+    → r.reference ≡ q.reference → CountsOn (t.tended r.reference) (t.tended states) 1 → Sees halfway later (None ∷ [])
+    → (w : Waits p (record r { reference = states }) t shown later prompt) × (length w.rounds ≡ n + 1)
+Waits-more {P} {C} {R} {O} {A} t prompt gave shown halfway later p q r port states n waits (w, many) l waited same tends shows =
+    let round = waiting l in
+    let end : Server P C R O A = record r { reference = states } in
+    let all : length (w.rounds ++ round ∷ []) ≡ length w.rounds + 1 = length-append w.rounds (round ∷ []) in
+    let look = Orders-look l in (
+      record {
+        rounds = w.rounds ++ round ∷ [];
+        no_turn = filter_map-append (λ x. x.turn) w.rounds (round ∷ []) ∙ ap (λ xs. xs ++ []) w.no_turn;
+        waiting = filter-append (λ x. is_none x.turn) w.rounds (round ∷ []) ∙ ap (λ xs. xs ++ round ∷ []) w.waiting;
+        one_look = λ is. let bad : false ≡ true = sym waits ∙ is in absurd cc;
+        orders = Orders-append t w.rounds (round ∷ []) p q end w.orders
+            (record { due = look.due; commands = look.commands; observed = look.observed; tells = look.tells });
+        waited = CountsMore-append (t.counts p.port).idle_waits (t.counts q.port).idle_waits (t.counts r.port).idle_waits (length w.rounds) 1 _ all
+            w.waited waited;
+        tended = subst (λ n. CountsOn (t.tended p.reference) (t.tended states) n) (sym all)
+            (CountsOn-append (t.tended p.reference) (t.tended q.reference) (t.tended states) (length w.rounds) 1 w.tended
+            (subst (λ c. CountsOn (t.tended c) (t.tended states) 1) same tends));
+        reported = subst (λ xs. Sees shown later xs) (sym (map-append asked_in w.rounds (round ∷ [])))
+            (Sees-append shown halfway later (map asked_in w.rounds) (None ∷ []) w.reported shows);
+      },
+      all ∙ ap (λ m. m + 1) many,
+    )
+
+-- the port goes on, as far as its waits are counted
+pub Waits-port : {P C R O A : Type 0} (t : PartsTell P C R O) (prompt : Bool) (shown later : Option (List (Option Moment))) (p q : Server P C R O A)
+    (port : P) (w : Waits p q t shown later prompt) → CountsMore (t.counts p.port).idle_waits (t.counts port).idle_waits (length w.rounds)
+    → Waits p (record q { port = port }) t shown later prompt
+Waits-port t prompt shown later p q port w waited = record {
+  rounds = w.rounds;
+  no_turn = w.no_turn;
+  waiting = w.waiting;
+  one_look = w.one_look;
+  orders = record { due = w.orders.due; commands = w.orders.commands; observed = w.orders.observed; tells = w.orders.tells };
+  waited = waited;
+  tended = w.tended;
+  reported = w.reported;
+}

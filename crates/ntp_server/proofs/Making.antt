@@ -1,8 +1,10 @@
--- One round after another.
-use Rattle.std.proofs.Common.{◌≡◌, ℕ, ◌+◌, ◌≤◌, Bool, Option, None, Some, Result, List, [], ◌∷◌, ◌++◌, length, refl, sym, ap, ◌∙◌, subst, append-nil, length-append, arith}
-use Rattle.std.specs.Prelude.{option_map, flat_map}
+-- One turn after another.
+use Rattle.std.proofs.Common.{◌≡◌, ℕ, ◌+◌, ◌-◌, ◌≤◌, Bool, Option, None, Some, Result, List, [], ◌∷◌, ◌++◌, length, map, cond, refl, sym, ap, ◌∙◌, subst, append-nil, length-append, arith}
+use Rattle.std.specs.Prelude.{option_map, is_none, IsSome, IfSome, slice_get}
+use Rattle.std.specs.List.{cons_option}
 use Rattle.std.specs.Result.{result_ok}
-use Rattle.std.proofs.lemmas.List.{map-append, length-map}
+use Rattle.std.proofs.lemmas.List.{append_assoc, map-append, length-map}
+use Rattle.std.proofs.lemmas.List.Elements.{filter-append, filter_map-append}
 use Rattle.std.proofs.lemmas.Grind.{flat_map-append}
 use Rattle.std.proofs.lemmas.List.Sums.{length-filter, count_by-le-length}
 use Rattle.ntp_packet.specs.declared.moment.Moment.{Moment}
@@ -12,20 +14,23 @@ use Rattle.ntp_service.specs.declared.observation.Observation.TheVariants.{Turn}
 use Rattle.ntp_service.specs.declared.observation.TurnOutcome.{TurnOutcome}
 use Rattle.ntp_service.specs.declared.observation.TurnOutcome.TheVariants.{NothingReceived, Answered}
 use Rattle.ntp_service.specs.Sees.{Sees}
-use Rattle.ntp_service.proofs.PublicLaws.{Sees-nil, Sees-append, Tells-nil, Tells-append}
+use Rattle.ntp_service.specs.Sending.{was_sent}
+use Rattle.ntp_service.proofs.PublicLaws.{Sees-nil, Sees-append, Tells-append}
 use Rattle.ntp_service.specs.Headline.{Tells}
 use Rattle.ntp_port.specs.declared.port.PortCounts.{PortCounts}
 use Rattle.ntp_port.specs.declared.port.PortFault.{PortFault}
 use Rattle.ntp_port.specs.Port.{IncomingValue, failed_calls, counted_send, CountsMore}
-use Rattle.ntp_port.proofs.PublicLaws.{CountsMore-nil, CountsMore-append, TakesTurn, sent_of, count_of, if_so, count-more, Makes-nil, Makes-append, Makes-few, at-most-one, sent-one, noted-one}
 use Rattle.ntp_port.specs.Made.{Made, Missed, Received, turn_of, arrival_of, happened_in_turn, sent_in, has_arrived, has_departed, is_unsent, turn_outcome}
 use Rattle.ntp_port.specs.Serving.{Makes}
-use Rattle.ntp_service.specs.Sending.{was_sent}
-use Rattle.ntp_server.specs.declared.server.Totals.{Totals}
 use Rattle.ntp_port.specs.Sources.{Gives, CountsOn}
-use Rattle.ntp_server.specs.Rounds.{Round, ServerTold, AreDueInTurn, ServesRounds, looks_in, looks_of, earlier_looks, made_in, receipt_in, asked_in, happened_in_round, round_observations}
-use Rattle.ntp_server.specs.Steps.{LooksOnce, Waits, MakesRound, unasked, given_of, happened_at_looks, looks_observations, receipts_of, states_of, arrivals_in, replies_of_turn, departures_in}
-use Rattle.ntp_server.proofs.Looking.{Gives-nil, Gives-append, CountsOn-nil, CountsOn-append, due-append, Looks-append}
+use Rattle.ntp_port.proofs.PublicLaws.{CountsMore-nil, CountsMore-append, TakesTurn, sent_of, count_of, if_so, count-more, Makes-nil, Makes-append, Makes-few, at-most-one, sent-one, noted-one}
+use Rattle.ntp_admin.specs.CommandsFile.{most_line_octets, line_observations, happened_at_lines}
+use Rattle.ntp_server.specs.declared.server.Server.{Server}
+use Rattle.ntp_server.specs.declared.server.Totals.{Totals}
+use Rattle.ntp_server.specs.Rounds.{Round, PartsTell, ServesRounds, turns_in, made_in, waits_in, receipt_in, asked_in}
+use Rattle.ntp_server.specs.Steps.{Looks, Orders, Starts, Waits, MakesTurn, arrivals_in, replies_of_turn, departures_in}
+use Rattle.ntp_server.proofs.Telling.{Gives-nil, Gives-append, CountsOn-nil, CountsOn-append}
+use Rattle.ntp_server.proofs.Looking.{Orders-append}
 
 -- ---- a turn behind a wait and a look
 -- when the datagram of a turn came, as it was received
@@ -37,47 +42,56 @@ came made r arrived = sym (ap (option_map (λ a. a.receipt)) arrived) ∙ any (t
     any None = refl
     any (Some d) = refl
 
-pub Makes-turn : (A : Type 0) (prompt may : Bool) (asked : Option Moment) (p q r s : ServerTold) (blank : Option (List (Option Moment)))
-    (reference : ReferenceState) (received : Result Arrival PortFault) (buffer : List ℕ) (outcome : TurnOutcome) → s.applied ≡ r.applied
-    → s.commands ≡ r.commands → Waits A prompt p q → LooksOnce A asked (record q { shown = blank }) r
-    → asked ≡ option_map (λ a. a.receipt) (result_ok received) → r.states ≡ p.states
-    → Gives r.states s.states (asked ∷ []) (reference ∷ []) → s.tended ≡ q.tended
-    → r.counts ≡ q.counts
-    → TakesTurn A reference may received buffer p.port s.port p.counts r.counts s.counts r.service s.service outcome
-    → Sees r.seen s.seen (Turn outcome ∷ []) → Sees q.shown s.shown (asked ∷ []) → MakesRound A prompt may p s outcome
-Makes-turn A prompt may asked p q r s blank reference received buffer outcome applied commands waits looked receipt same states tended counts
-    taken seen shows =
+pub Makes-turn : {P C R O A : Type 0} (t : PartsTell P C R O) (prompt may gave : Bool) (asked : Option Moment)
+    (shown halfway later : Option (List (Option Moment))) (p q r s : Server P C R O A) (reference : ReferenceState)
+    (received : Result Arrival PortFault) (buffer : List ℕ) (outcome : TurnOutcome) → s.applied ≡ r.applied → s.commands ≡ r.commands
+    → Waits p q t shown halfway prompt → Looks q r t asked gave → asked ≡ option_map (λ a. a.receipt) (result_ok received)
+    → t.states r.reference ≡ t.states p.reference → Gives (t.states r.reference) (t.states s.reference) (asked ∷ []) (reference ∷ [])
+    → t.tended s.reference ≡ t.tended q.reference → r.port ≡ q.port
+    → TakesTurn A reference may received buffer (t.port p.port) (t.port s.port) (t.counts p.port) (t.counts r.port) (t.counts s.port) r.service
+    s.service outcome
+    → Sees (t.seen r.observer) (t.seen s.observer) (Turn outcome ∷ []) → Sees halfway later (asked ∷ [])
+    → MakesTurn p s t shown later prompt may outcome
+Makes-turn t prompt may gave asked shown halfway later p q r s reference received buffer outcome applied commands w l receipt same states tended
+    port taken seen shows =
     let turn = taken.turn in
-    let looks = waits.looks ++ looked.look ∷ [] in
-    let all = Looks-append A waits.looks (looked.look ∷ []) (unasked waits.looks) (asked ∷ []) p q r waits.done
-    (record { due = looked.done.due; commands = looked.done.commands; observed = looked.done.observed; tells = looked.done.tells }) in
     let right : asked ≡ receipt_in turn.made = receipt ∙ came turn.made received turn.arrived in
+    let round : Round = record { applied = q.applied; given = l.given; taken = l.taken; turn = Some (reference, turn.made) } in
+    let heard = line_observations most_line_octets q.applied l.taken in
+    let happened = happened_at_lines most_line_octets l.taken in
     record {
-      round = record { earlier = waits.looks; last = looked.look; reference = reference; made = turn.made };
-      one_look = waits.one_look;
-      due = subst (λ n. AreDueInTurn p.applied looks n) (sym applied) all.due;
-      commands = subst (λ a. Gives p.commands s.commands (unasked waits.looks ++ a ∷ []) (given_of looks)) right
-          (subst (λ c. Gives p.commands c (unasked waits.looks ++ asked ∷ []) (given_of looks)) (sym commands) all.commands);
-      states = subst (λ a. Gives p.states s.states (a ∷ []) (reference ∷ [])) right
-          (subst (λ l. Gives l s.states (asked ∷ []) (reference ∷ [])) same states);
-      waits = subst (λ n. CountsMore p.counts.idle_waits n (length waits.looks)) (sym (ap (λ (k : PortCounts). k.idle_waits) (turn.counts ∙ ap (counted_send (is_unsent turn.made)) counts))) waits.waited;
-      tended = subst (λ c. CountsOn p.tended c (length waits.looks)) (sym tended) waits.tended;
-      reported = subst (λ a. Sees p.shown s.shown (unasked waits.looks ++ a ∷ [])) right
-          (Sees-append p.shown q.shown s.shown (unasked waits.looks) (asked ∷ []) waits.reported shows);
+      earlier = w.rounds;
+      round = round;
+      reference = reference;
+      made = turn.made;
+      no_turn = w.no_turn;
+      waiting = w.waiting;
+      turn = refl;
+      one_look = w.one_look;
+      orders = Orders-append t w.rounds (round ∷ []) p q s w.orders (record {
+        due = (refl, l.lines, applied ∙ l.counted);
+        commands = subst (λ a. Gives (t.looks q.commands) (t.looks s.commands) (a ∷ []) (l.given ∷ [])) right
+            (subst (λ c. Gives (t.looks q.commands) (t.looks c) (asked ∷ []) (l.given ∷ [])) (sym commands) l.commands);
+        observed = subst (λ os. Sees (t.seen q.observer) (t.seen s.observer) os) (sym (append-nil (heard ++ Turn (turn_outcome turn.made) ∷ [])))
+            (Sees-append (t.seen q.observer) (t.seen r.observer) (t.seen s.observer) heard (Turn (turn_outcome turn.made) ∷ []) l.observed
+            (subst (λ o. Sees (t.seen r.observer) (t.seen s.observer) (Turn o ∷ [])) turn.comes_to seen));
+        tells = λ history stands.
+            subst (λ es. Tells history es s.service) (sym (append-nil (happened ++ happened_in_turn reference turn.made)))
+            (Tells-append history happened (happened_in_turn reference turn.made) r.service s.service (l.tells history stands)
+            (λ stood. turn.tells _ stood));
+      });
+      states = subst (λ a. Gives (t.states p.reference) (t.states s.reference) (a ∷ []) (reference ∷ [])) right
+          (subst (λ l. Gives l (t.states s.reference) (asked ∷ []) (reference ∷ [])) same states);
+      waits = subst (λ n. CountsMore (t.counts p.port).idle_waits n (length w.rounds))
+          (sym (ap (λ (k : PortCounts). k.idle_waits) (turn.counts ∙ ap (λ port. counted_send (is_unsent turn.made) (t.counts port)) port)))
+          w.waited;
+      tended = subst (λ c. CountsOn (t.tended p.reference) c (length w.rounds)) (sym tended) w.tended;
+      reported = subst (λ xs. Sees shown later xs) (sym (map-append asked_in w.rounds (round ∷ [])))
+          (Sees-append shown halfway later (map asked_in w.rounds) (receipt_in turn.made ∷ []) w.reported
+          (subst (λ a. Sees halfway later (a ∷ [])) right shows));
       port = taken.port;
-      observed = Sees-append p.seen r.seen s.seen (looks_observations looks) (Turn (turn_outcome turn.made) ∷ []) all.observed
-          (subst (λ l. Sees r.seen s.seen (Turn l ∷ [])) turn.comes_to seen);
       comes_to = turn.comes_to;
-      tells = λ history stands. Tells-append history (happened_at_looks looks) (happened_in_turn reference turn.made) r.service s.service
-          (all.tells history stands) (λ stood. turn.tells _ stood);
     }
-
--- ---- what lists of rounds come to
-flat_map-push : {X Y : Type 0} (f : X → List Y) (xs : List X) (x : X) → flat_map f (xs ++ x ∷ []) ≡ flat_map f xs ++ f x
-flat_map-push f xs x = flat_map-append f xs (x ∷ []) ∙ ap (λ l. flat_map f xs ++ l) (append-nil (f x))
-
-made_in-push : (rounds : List Round) (r : Round) → made_in (rounds ++ r ∷ []) ≡ made_in rounds ++ r.made ∷ []
-made_in-push rounds r = map-append (λ x. x.made) rounds (r ∷ [])
 
 -- ---- what a turn comes to, counted
 arrivals-made : (m : Made) → arrivals_in (turn_outcome m) ≡ if_so (has_arrived m)
@@ -105,108 +119,158 @@ few_sent (m ∷ ms) =
 few_such : (is : Made → Bool) (ms : List Made) → count_of is ms ≤ length ms
 few_such is ms = omega (arith, length-filter is ms, count_by-le-length is ms)
 
--- ---- one round more
-pub Serves-none : (A : Type 0) (prompt may : Bool) (p : ServerTold)
-    → ServesRounds A prompt may 0 p p (record { arrivals = 0; sent = 0; departed = 0 })
-Serves-none A prompt may p = record {
-  rounds = [];
-  each = refl;
-  one_look = λ is. refl;
-  due = refl;
-  commands = Gives-nil p.commands;
-  states = Gives-nil p.states;
-  waits = CountsMore-nil p.counts.idle_waits;
-  tended = CountsOn-nil p.tended;
-  reported = Sees-nil p.shown;
-  port = Makes-nil may p.counts p.port;
-  observed = Sees-nil p.seen;
-  arrivals = refl;
-  sent = refl;
-  departed = refl;
-  tells = λ history stands. Tells-nil history p.service stands;
-}
-
-pub Serves-round : (A : Type 0) (prompt may : Bool) (n : ℕ) (p q r : ServerTold) (a b : Totals) (outcome : TurnOutcome)
-    → ServesRounds A prompt may n p q a → MakesRound A prompt may q r outcome → b.arrivals ≡ a.arrivals + arrivals_in outcome
-    → b.sent ≡ a.sent + replies_of_turn outcome → b.departed ≡ a.departed + departures_in outcome → ServesRounds A prompt may (n + 1) p r b
-Serves-round A prompt may n p q r a b outcome s m arrivals sent departed =
-    let rounds = s.rounds in
-    let round = m.round in
-    let made = round.made in
-    let turns : made_in (rounds ++ round ∷ []) ≡ made_in rounds ++ made ∷ [] = made_in-push rounds round in
-    let looks : looks_of (rounds ++ round ∷ []) ≡ looks_of rounds ++ looks_in round = flat_map-push looks_in rounds round in
-    let asked : flat_map asked_in (rounds ++ round ∷ []) ≡ flat_map asked_in rounds ++ asked_in round = flat_map-push asked_in rounds round in
-    let earlier : earlier_looks (rounds ++ round ∷ []) ≡ earlier_looks rounds ++ round.earlier = flat_map-push (λ x. x.earlier) rounds round in
-    let many = ap length earlier ∙ length-append (earlier_looks rounds) round.earlier in
+-- ---- one turn more
+-- behind the start
+pub Serves-none : {P C R O A : Type 0} (t : PartsTell P C R O) (prompt may : Bool) (shown : Option (List (Option Moment))) (p q : Server P C R O A)
+    → q.port ≡ p.port → q.reference ≡ p.reference → Starts p q t
+    → ServesRounds p q t shown shown prompt may 0 (record { arrivals = 0; sent = 0; departed = 0 })
+Serves-none t prompt may shown p q port reference s =
+    let all : s.start ++ [] ≡ s.start = append-nil s.start in
+    let orders = subst (λ l. Orders p q t l) (sym all) s.orders in
     record {
-      rounds = rounds ++ round ∷ [];
-      each = length-append rounds (round ∷ []) ∙ ap (λ l. l + 1) s.each;
-      one_look = λ is. earlier ∙ ap (λ l. l ++ round.earlier) (s.one_look is) ∙ m.one_look is;
-      due = subst (λ l. AreDueInTurn p.applied l r.applied) (sym looks)
-          (due-append (looks_of rounds) (looks_in round) p.applied q.applied r.applied s.due m.due);
-      commands = subst (λ l. Gives p.commands r.commands l (given_of (looks_of (rounds ++ round ∷ [])))) (sym asked)
-          (subst (λ l. Gives p.commands r.commands (flat_map asked_in rounds ++ asked_in round) (given_of l)) (sym looks)
-          (subst (λ l. Gives p.commands r.commands (flat_map asked_in rounds ++ asked_in round) l)
-          (sym (map-append (λ l. l.given) (looks_of rounds) (looks_in round)))
-          (Gives-append p.commands q.commands r.commands (flat_map asked_in rounds) (asked_in round) (given_of (looks_of rounds))
-          (given_of (looks_in round)) s.commands m.commands)));
-      states = subst (λ l. Gives p.states r.states l (states_of (rounds ++ round ∷ [])))
-          (sym (map-append (λ l. receipt_in l.made) rounds (round ∷ [])))
-          (subst (λ l. Gives p.states r.states (receipts_of rounds ++ receipt_in round.made ∷ []) l)
-          (sym (map-append (λ l. l.reference) rounds (round ∷ [])))
-          (Gives-append p.states q.states r.states (receipts_of rounds) (receipt_in round.made ∷ []) (states_of rounds)
-          (round.reference ∷ []) s.states m.states));
-      waits = CountsMore-append p.counts.idle_waits q.counts.idle_waits r.counts.idle_waits (length (earlier_looks rounds)) (length round.earlier) _ many
-          s.waits m.waits;
-      tended = subst (λ n. CountsOn p.tended r.tended n) (sym many)
-          (CountsOn-append p.tended q.tended r.tended (length (earlier_looks rounds)) (length round.earlier) s.tended m.tended);
-      reported = subst (λ l. Sees p.shown r.shown l) (sym asked)
-          (Sees-append p.shown q.shown r.shown (flat_map asked_in rounds) (asked_in round) s.reported m.reported);
-      port = subst (λ l. Makes may l p.counts r.counts p.port r.port) (sym turns)
-          (Makes-append may (made_in rounds) (made ∷ []) p.counts q.counts r.counts p.port q.port r.port s.port m.port);
-      observed = subst (λ l. Sees p.seen r.seen l) (sym (flat_map-push round_observations rounds round))
-          (Sees-append p.seen q.seen r.seen (flat_map round_observations rounds) (round_observations round) s.observed m.observed);
+      start = s.start;
+      at_start = s.at_start;
+      gave = s.gave;
+      until = s.until;
+      rounds = [];
+      each = refl;
+      last = tt;
+      one_look = λ is. refl;
+      due = orders.due;
+      commands = orders.commands;
+      states = subst (λ x. Gives (t.states p.reference) (t.states x) [] []) (sym reference) (Gives-nil (t.states p.reference));
+      waits = subst (λ x. CountsMore (t.counts p.port).idle_waits (t.counts x).idle_waits 0) (sym port) (CountsMore-nil (t.counts p.port).idle_waits);
+      tended = subst (λ x. CountsOn (t.tended p.reference) (t.tended x) 0) (sym reference) (CountsOn-nil (t.tended p.reference));
+      reported = Sees-nil shown;
+      port = subst (λ x. Makes may [] (t.counts p.port) (t.counts x) (t.port p.port) (t.port x)) (sym port) (Makes-nil may (t.counts p.port) (t.port p.port));
+      observed = orders.observed;
+      arrivals = refl;
+      sent = refl;
+      departed = refl;
+      tells = orders.tells;
+    }
+
+-- the last of a list
+last-of : {X : Type 0} (xs : List X) (x : X) → slice_get (xs ++ x ∷ []) (length (xs ++ x ∷ []) - 1) ≡ Some x
+last-of {X = X} xs x =
+    let end : length (xs ++ x ∷ []) - 1 ≡ length xs = omega (arith, length-append xs (x ∷ [])) in
+    ap (λ n. slice_get (xs ++ x ∷ []) n) end ∙ there xs
+  where
+    there : (ys : List X) → slice_get (ys ++ x ∷ []) (length ys) ≡ Some x
+    there [] = refl
+    there (y ∷ ys) = there ys
+
+-- rounds of which the last alone has a turn, behind others
+module _ (rounds earlier : List Round) (round : Round) (reference : ReferenceState) (made : Made) (no_turn : turns_in earlier ≡ [])
+    (waiting : waits_in earlier ≡ earlier) (turn : round.turn ≡ Some (reference, made)) where
+  abbrev with_turn : List Round
+  with_turn = rounds ++ (earlier ++ round ∷ [])
+
+  turns-more : turns_in with_turn ≡ turns_in rounds ++ (reference, made) ∷ []
+  turns-more = filter_map-append (λ x. x.turn) rounds (earlier ++ round ∷ [])
+      ∙ ap (λ l. turns_in rounds ++ l) (filter_map-append (λ x. x.turn) earlier (round ∷ [])
+      ∙ ap (λ l. l ++ turns_in (round ∷ [])) no_turn ∙ ap (λ o. cons_option o []) turn)
+
+  made-more : made_in with_turn ≡ made_in rounds ++ made ∷ []
+  made-more = ap (map (λ x. x.1)) turns-more ∙ map-append (λ x. x.1) (turns_in rounds) ((reference, made) ∷ [])
+
+  waits-more : waits_in with_turn ≡ waits_in rounds ++ earlier
+  waits-more = filter-append (λ x. is_none x.turn) rounds (earlier ++ round ∷ [])
+      ∙ ap (λ l. waits_in rounds ++ l) (filter-append (λ x. is_none x.turn) earlier (round ∷ [])
+      ∙ ap (λ l. l ++ waits_in (round ∷ [])) waiting ∙ ap (λ o. earlier ++ cond (is_none o) (round ∷ []) []) turn ∙ append-nil earlier)
+
+  last-more : IfSome (slice_get with_turn (length with_turn - 1)) (λ r. IsSome r.turn)
+  last-more =
+      subst (λ l. IfSome (slice_get l (length l - 1)) (λ r. IsSome r.turn)) (append_assoc rounds earlier (round ∷ []))
+      (subst (λ o. IfSome o (λ r. IsSome r.turn)) (sym (last-of (rounds ++ earlier) round)) (subst IsSome (sym turn) refl))
+
+pub Serves-turn : {P C R O A : Type 0} (t : PartsTell P C R O) (prompt may : Bool) (shown halfway later : Option (List (Option Moment))) (n : ℕ)
+    (p q r : Server P C R O A) (a b : Totals) (outcome : TurnOutcome) → ServesRounds p q t shown halfway prompt may n a
+    → MakesTurn q r t halfway later prompt may outcome → b.arrivals ≡ a.arrivals + arrivals_in outcome
+    → b.sent ≡ a.sent + replies_of_turn outcome → b.departed ≡ a.departed + departures_in outcome
+    → ServesRounds p r t shown later prompt may (n + 1) b
+Serves-turn t prompt may shown halfway later n p q r a b outcome s m arrivals sent departed =
+    let more = m.earlier ++ m.round ∷ [] in
+    let turns : turns_in (s.rounds ++ more) ≡ turns_in s.rounds ++ (m.reference, m.made) ∷ []
+    = turns-more s.rounds m.earlier m.round m.reference m.made m.no_turn m.waiting m.turn in
+    let made : made_in (s.rounds ++ more) ≡ made_in s.rounds ++ m.made ∷ []
+    = made-more s.rounds m.earlier m.round m.reference m.made m.no_turn m.waiting m.turn in
+    let waits : waits_in (s.rounds ++ more) ≡ waits_in s.rounds ++ m.earlier
+    = waits-more s.rounds m.earlier m.round m.reference m.made m.no_turn m.waiting m.turn in
+    let many : length (waits_in (s.rounds ++ more)) ≡ length (waits_in s.rounds) + length m.earlier
+    = ap length waits ∙ length-append (waits_in s.rounds) m.earlier in
+    let orders = subst (λ l. Orders p r t l) (append_assoc s.start s.rounds more)
+    (Orders-append t (s.start ++ s.rounds) more p q r (record { due = s.due; commands = s.commands; observed = s.observed; tells = s.tells }) m.orders) in
+    record {
+      start = s.start;
+      at_start = s.at_start;
+      gave = s.gave;
+      until = s.until;
+      rounds = s.rounds ++ more;
+      each = ap length turns ∙ length-append (turns_in s.rounds) ((m.reference, m.made) ∷ []) ∙ ap (λ l. l + 1) s.each;
+      last = last-more s.rounds m.earlier m.round m.reference m.made m.no_turn m.waiting m.turn;
+      one_look = λ is. waits ∙ ap (λ l. l ++ m.earlier) (s.one_look is) ∙ m.one_look is;
+      due = orders.due;
+      commands = orders.commands;
+      states = subst (λ l. Gives (t.states p.reference) (t.states r.reference) (map receipt_in l) (map (λ x. x.0) (turns_in (s.rounds ++ more)))) (sym made)
+          (subst (λ l. Gives (t.states p.reference) (t.states r.reference) l (map (λ x. x.0) (turns_in (s.rounds ++ more))))
+          (sym (map-append receipt_in (made_in s.rounds) (m.made ∷ [])))
+          (subst (λ l. Gives (t.states p.reference) (t.states r.reference) (map receipt_in (made_in s.rounds) ++ receipt_in m.made ∷ []) l)
+          (sym (ap (map (λ x. x.0)) turns ∙ map-append (λ x. x.0) (turns_in s.rounds) ((m.reference, m.made) ∷ [])))
+          (Gives-append (t.states p.reference) (t.states q.reference) (t.states r.reference) (map receipt_in (made_in s.rounds)) (receipt_in m.made ∷ [])
+          (map (λ x. x.0) (turns_in s.rounds)) (m.reference ∷ []) s.states m.states)));
+      waits = CountsMore-append (t.counts p.port).idle_waits (t.counts q.port).idle_waits (t.counts r.port).idle_waits (length (waits_in s.rounds))
+          (length m.earlier) _ many s.waits m.waits;
+      tended = subst (λ n. CountsOn (t.tended p.reference) (t.tended r.reference) n) (sym many)
+          (CountsOn-append (t.tended p.reference) (t.tended q.reference) (t.tended r.reference) (length (waits_in s.rounds)) (length m.earlier)
+          s.tended m.tended);
+      reported = subst (λ l. Sees shown later l) (sym (map-append asked_in s.rounds more))
+          (Sees-append shown halfway later (map asked_in s.rounds) (map asked_in more) s.reported m.reported);
+      port = subst (λ l. Makes may l (t.counts p.port) (t.counts r.port) (t.port p.port) (t.port r.port)) (sym made)
+          (Makes-append may (made_in s.rounds) (m.made ∷ []) (t.counts p.port) (t.counts q.port) (t.counts r.port) (t.port p.port) (t.port q.port)
+          (t.port r.port) s.port m.port);
+      observed = orders.observed;
       arrivals = omega (
         arith,
         arrivals,
         s.arrivals,
         ap arrivals_in m.comes_to,
-        arrivals-made made,
-        ap (count_of has_arrived) turns,
-        count-more has_arrived (made_in rounds) made,
+        arrivals-made m.made,
+        ap (count_of has_arrived) made,
+        count-more has_arrived (made_in s.rounds) m.made,
       );
       sent = omega (
         arith,
         sent,
         s.sent,
         ap replies_of_turn m.comes_to,
-        replies-made made,
-        ap (λ l. length (sent_of l)) turns,
-        ap length (flat_map-push sent_in (made_in rounds) made),
-        length-append (sent_of (made_in rounds)) (sent_in made),
+        replies-made m.made,
+        ap (λ l. length (sent_of l)) made,
+        ap length (flat_map-append sent_in (made_in s.rounds) (m.made ∷ [])),
+        ap length (append-nil (sent_in m.made)),
+        length-append (sent_of (made_in s.rounds)) (sent_in m.made ++ []),
       );
       departed = omega (
         arith,
         departed,
         s.departed,
         ap departures_in m.comes_to,
-        departures-made made,
-        ap (count_of has_departed) turns,
-        count-more has_departed (made_in rounds) made,
+        departures-made m.made,
+        ap (count_of has_departed) made,
+        count-more has_departed (made_in s.rounds) m.made,
       );
-      tells = λ history stands. subst (λ l. Tells history l r.service) (sym (flat_map-push happened_in_round rounds round))
-          (Tells-append history (flat_map happened_in_round rounds) (happened_in_round round) q.service r.service
-          (s.tells history stands) (λ stood. m.tells _ stood));
+      tells = orders.tells;
     }
 
 -- how many there can be
-pub Serves-few : (A : Type 0) (prompt may : Bool) (n : ℕ) (p q : ServerTold) (a : Totals) → ServesRounds A prompt may n p q a
-    → (a.arrivals ≤ n) × (a.sent ≤ n) × (a.departed ≤ n) × (failed_calls q.counts ≤ failed_calls p.counts + n)
-Serves-few A prompt may n p q a s =
+pub Serves-few : {P C R O A : Type 0} (t : PartsTell P C R O) (prompt may : Bool) (shown later : Option (List (Option Moment))) (n : ℕ)
+    (p q : Server P C R O A) (a : Totals) → ServesRounds p q t shown later prompt may n a
+    → (a.arrivals ≤ n) × (a.sent ≤ n) × (a.departed ≤ n) × (failed_calls (t.counts q.port) ≤ failed_calls (t.counts p.port) + n)
+Serves-few t prompt may shown later n p q a s =
     let made = made_in s.rounds in
-    let all : length made ≡ n = length-map s.rounds (λ x. x.made) ∙ s.each in (
+    let all : length made ≡ n = length-map (turns_in s.rounds) (λ x. x.1) ∙ s.each in (
       omega (arith, all, s.arrivals, few_such has_arrived made),
       omega (arith, all, s.sent, few_sent made),
       omega (arith, all, s.departed, few_such has_departed made),
-      omega (arith, all, Makes-few may made p.counts q.counts p.port q.port s.port),
+      omega (arith, all, Makes-few may made (t.counts p.port) (t.counts q.port) (t.port p.port) (t.port q.port) s.port),
     )

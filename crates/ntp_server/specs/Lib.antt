@@ -1,4 +1,3 @@
 pub mod Memory
 pub mod Rounds
 pub mod Steps
-pub mod Parts

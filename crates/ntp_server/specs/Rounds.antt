@@ -1,7 +1,8 @@
 -- What a server with its commands does.
-use Rattle.std.specs.Prelude.{◌≡◌, ℕ, Bool, true, Option, None, Some, option_map, List, [], ◌∷◌, ◌++◌, length, map, filter, flat_map}
+use Rattle.std.specs.Prelude.{◌≡◌, ◌⊎◌, ℕ, ◌-◌, ◌^◌, Bool, true, is_none, Option, None, Some, IfSome, IsSome, option_map, List, [], ◌∷◌, ◌++◌, length, map, filter, flat_map, slice_get}
+use Rattle.std.specs.List.{filter_map}
+use Rattle.std.specs.Option.{option_map_or, option_and_then}
 use Rattle.ntp_packet.specs.declared.moment.Moment.{Moment}
-use Rattle.ntp_service.specs.Registry.{Registry}
 use Rattle.ntp_reply.specs.Reference.{ReferenceState}
 use Rattle.ntp_service.specs.declared.event.Event.{Event}
 use Rattle.ntp_service.specs.declared.outcome.Outcome.{Outcome}
@@ -13,95 +14,94 @@ use Rattle.ntp_port.specs.declared.port.PortCounts.{PortCounts}
 use Rattle.ntp_port.specs.Port.{Told, CountsMore}
 use Rattle.ntp_port.specs.Made.{Made, turn_of, happened_in_turn, sent_in, has_arrived, has_departed, turn_outcome}
 use Rattle.ntp_port.specs.Serving.{Makes}
-use Rattle.ntp_admin.specs.CommandsFile.{TakenLine, AreDue, happened_at_lines, line_observations}
-use Rattle.ntp_server.specs.declared.server.Totals.{Totals}
 use Rattle.ntp_port.specs.Sources.{Coming, Gives, CountsOn}
+use Rattle.ntp_admin.specs.CommandsFile.{most_line_octets, count_on, complete_lines, TakenLine, happened_at_lines, line_observations}
+use Rattle.ntp_server.specs.declared.server.Server.{Server}
+use Rattle.ntp_server.specs.declared.server.Totals.{Totals}
 
--- a look at the commands: how many lines were applied before, the octets that their source gave, if any, and the lines that were taken
-pub record Look : Type 0 where
+-- a round: a look at the commands, before which so many lines were applied, with the octets that their source gave, if any, and the lines
+-- that were taken; and the turn behind it, if one was made, with the state of the clock that was in force
+pub record Round : Type 0 where
   pub applied : ℕ
   pub given : Option (List ℕ)
   pub taken : List TakenLine
+  pub turn : Option (ReferenceState × Made)
 
--- a turn, with the looks at the commands before it, the last one by itself, and the state of the clock that was in force
-pub record Round : Type 0 where
-  pub earlier : List Look
-  pub last : Look
-  pub reference : ReferenceState
-  pub made : Made
-
--- the lines that are due at a look
-abbrev pub AreDueAt : ℕ → Option (List ℕ) → List (List ℕ) → ℕ → Type 0
-AreDueAt applied None lines after = (lines ≡ []) × (after ≡ applied)
-AreDueAt applied (Some octets) lines after = AreDue applied octets lines after
-
--- at each of these looks, one after another, the lines that were due were taken
-abbrev pub AreDueInTurn : ℕ → List Look → ℕ → Type 0
+-- in these rounds the complete lines of what was given were taken, and their numbers go on from round to round
+abbrev pub AreDueInTurn : ℕ → List Round → ℕ → Type 0
 AreDueInTurn applied [] after = after ≡ applied
-AreDueInTurn applied (l ∷ looks) after = (next : ℕ)
-    × (l.applied ≡ applied) × AreDueAt applied l.given (map (λ t. t.line) l.taken) next × AreDueInTurn next looks after
+AreDueInTurn applied (r ∷ rounds) after = (r.applied ≡ applied) × (map (λ t. t.line) r.taken ≡ option_map_or complete_lines r.given [])
+    × AreDueInTurn (count_on applied (length r.taken)) rounds after
 
--- the looks of a round, and of rounds, in their order
-abbrev pub looks_in : Round → List Look
-looks_in r = r.earlier ++ r.last ∷ []
+-- what the looks of rounds gave
+abbrev pub given_in : List Round → List (Option (List ℕ))
+given_in rounds = map (λ r. r.given) rounds
 
-abbrev pub looks_of : List Round → List Look
-looks_of rounds = flat_map looks_in rounds
-
--- the looks but the last of each round, and the turns
-abbrev pub earlier_looks : List Round → List Look
-earlier_looks rounds = flat_map (λ r. r.earlier) rounds
+-- the turns of rounds, with their states, what was made in them, and the rounds without a turn
+abbrev pub turns_in : List Round → List (ReferenceState × Made)
+turns_in rounds = filter_map (λ r. r.turn) rounds
 
 abbrev pub made_in : List Round → List Made
-made_in rounds = map (λ r. r.made) rounds
+made_in rounds = map (λ t. t.1) (turns_in rounds)
 
--- what happened in a round: at the lines that were taken at its looks, then in its turn
-abbrev pub happened_in_round : {A : Type 0} → Round → List (Event A × Outcome)
-happened_in_round r = flat_map (λ l. happened_at_lines l.taken) (looks_in r) ++ happened_in_turn r.reference r.made
-
--- what an observer is told of a round: each line that was taken, then the turn
-abbrev pub round_observations : Round → List Observation
-round_observations r = flat_map (λ l. line_observations l.applied l.taken) (looks_in r) ++ Turn (turn_outcome r.made) ∷ []
+abbrev pub waits_in : List Round → List Round
+waits_in rounds = filter (λ r. is_none r.turn) rounds
 
 -- when the datagram of a turn came
 abbrev pub receipt_in : Made → Option Moment
 receipt_in m = option_map (λ d. d.receipt) (turn_of m).arrival
 
--- what the source of commands is asked with at the looks of a round: with nothing, and at the last one with when the datagram came
-abbrev pub asked_in : Round → List (Option Moment)
-asked_in r = map (λ l. None) r.earlier ++ receipt_in r.made ∷ []
+-- what the source of commands is asked with at the look of a round: with when the datagram came that its turn answers, or with nothing
+abbrev pub asked_in : Round → Option Moment
+asked_in r = option_and_then (λ t. receipt_in t.1) r.turn
 
--- what the parts of a server and its reporter tell, with what its port counted, how many lines were applied, and its service
-pub record ServerTold : Type 0 where
-  pub port : Option Told
-  pub counts : PortCounts
-  pub commands : Option (Coming (Option (List ℕ)))
-  pub applied : ℕ
-  pub states : Option (Coming ReferenceState)
-  pub tended : Option ℕ
-  pub seen : Option (List Observation)
-  pub shown : Option (List (Option Moment))
-  pub service : Registry
+-- what happened in a round: at the lines that were taken, then in its turn
+abbrev pub happened_in_round : {A : Type 0} → Round → List (Event A × Outcome)
+happened_in_round r = happened_at_lines most_line_octets r.taken ++ option_map_or (λ t. happened_in_turn t.0 t.1) r.turn []
 
--- `turns` rounds were made at a port that is prompt or not, and may drop or not; `before` was told of the server before, `after` after
-pub record ServesRounds (A : Type 0) (prompt may_drop : Bool) (turns : ℕ) (before after : ServerTold) (totals : Totals) : Type 0 where
+-- what an observer is told of a round: each line that was taken, then the turn
+abbrev pub round_observations : Round → List Observation
+round_observations r = line_observations most_line_octets r.applied r.taken ++ option_map_or (λ t. Turn (turn_outcome t.1) ∷ []) r.turn []
+
+-- what the parts of a server tell: its port, and what that counted; what looks at its commands will give; its states, and how often
+-- their source was given time; its observer
+pub record PartsTell (P C R O : Type 0) : Type 0 where
+  pub port : P → Option Told
+  pub counts : P → PortCounts
+  pub looks : C → Option (Coming (Option (List ℕ)))
+  pub states : R → Option (Coming ReferenceState)
+  pub tended : R → Option ℕ
+  pub seen : O → Option (List Observation)
+
+-- a server that was `before` made `turns` turns and is `after`, at a port that is prompt or not, and may drop or not; its reporter tells
+-- that it was shown `shown` before and `later` after
+pub record ServesRounds {P C R O A : Type 0} (before after : Server P C R O A) (t : PartsTell P C R O)
+    (shown later : Option (List (Option Moment))) (prompt may_drop : Bool) (turns : ℕ) (totals : Totals) : Type 0 where
+  -- the rounds at the start, none with a turn: their looks gave these octets one by one, and then nothing, or were 2^64 - 1
+  pub start : List Round
+  pub at_start : turns_in start ≡ []
+  pub gave : List (List ℕ)
+  pub until : (given_in start ≡ map Some gave ++ None ∷ []) ⊎ (given_in start ≡ map Some gave) × (length gave ≡ 2 ^ 64 - 1)
+  -- the rounds behind them, of which the last one has a turn
   pub rounds : List Round
-  pub each : length rounds ≡ turns
-  -- where no wait of the port ends with nothing, there is one look a round
-  pub one_look : prompt ≡ true → earlier_looks rounds ≡ []
-  pub due : AreDueInTurn before.applied (looks_of rounds) after.applied
-  pub commands : Gives before.commands after.commands (flat_map asked_in rounds) (map (λ l. l.given) (looks_of rounds))
-  pub states : Gives before.states after.states (map (λ r. receipt_in r.made) rounds) (map (λ r. r.reference) rounds)
-  -- as many waits of the port ended with nothing as there were looks but the last of each round, and the source of the states was given
-  -- time as often
-  pub waits : CountsMore before.counts.idle_waits after.counts.idle_waits (length (earlier_looks rounds))
-  pub tended : CountsOn before.tended after.tended (length (earlier_looks rounds))
-  -- the reporter was shown the server once for each look, with what the source of commands was asked with at that
-  pub reported : Sees before.shown after.shown (flat_map asked_in rounds)
-  pub port : Makes may_drop (made_in rounds) before.counts after.counts before.port after.port
-  pub observed : Sees before.seen after.seen (flat_map round_observations rounds)
+  pub each : length (turns_in rounds) ≡ turns
+  pub last : IfSome (slice_get rounds (length rounds - 1)) (λ r. IsSome r.turn)
+  -- where no wait of the port ends with nothing, each of them has one
+  pub one_look : prompt ≡ true → waits_in rounds ≡ []
+  pub due : AreDueInTurn before.applied (start ++ rounds) after.applied
+  pub commands : Gives (t.looks before.commands) (t.looks after.commands) (map asked_in (start ++ rounds)) (given_in (start ++ rounds))
+  pub states : Gives (t.states before.reference) (t.states after.reference) (map receipt_in (made_in rounds))
+      (map (λ x. x.0) (turns_in rounds))
+  -- in each round without a turn one wait of the port ended with nothing, and the source of the states was given time once
+  pub waits : CountsMore (t.counts before.port).idle_waits (t.counts after.port).idle_waits (length (waits_in rounds))
+  pub tended : CountsOn (t.tended before.reference) (t.tended after.reference) (length (waits_in rounds))
+  -- the reporter was shown the server once in each round, with what the source of commands was asked with there
+  pub reported : Sees shown later (map asked_in rounds)
+  pub port : Makes may_drop (made_in rounds) (t.counts before.port) (t.counts after.port) (t.port before.port) (t.port after.port)
+  pub observed : Sees (t.seen before.observer) (t.seen after.observer) (flat_map round_observations (start ++ rounds))
   pub arrivals : totals.arrivals ≡ length (filter has_arrived (made_in rounds))
   pub sent : totals.sent ≡ length (flat_map sent_in (made_in rounds))
   pub departed : totals.departed ≡ length (filter has_departed (made_in rounds))
   -- whatever history the service stood for, it tells what happened in the rounds
-  pub tells : (history : List (Event A)) → StandsFor before.service history → Tells history (flat_map happened_in_round rounds) after.service
+  pub tells : (history : List (Event A)) → StandsFor before.service history
+      → Tells history (flat_map happened_in_round (start ++ rounds)) after.service

@@ -1,82 +1,81 @@
--- Not to be believed: for proofs. What one look, a wait and one turn do.
-use Rattle.std.specs.Prelude.{◌≡◌, ℕ, Bool, true, Option, None, List, [], ◌∷◌, length, map, flat_map, if◌then◌else◌}
+-- Not to be believed: for proofs. What a look, the start, a wait and a turn do.
+use Rattle.std.specs.Prelude.{◌≡◌, ◌⊎◌, ℕ, ◌-◌, ◌^◌, Bool, true, is_some, Option, None, Some, List, [], ◌∷◌, ◌++◌, length, map, flat_map, if◌then◌else◌}
+use Rattle.std.specs.Option.{option_map_or}
 use Rattle.ntp_packet.specs.declared.moment.Moment.{Moment}
 use Rattle.ntp_reply.specs.Reference.{ReferenceState}
 use Rattle.ntp_service.specs.declared.event.Event.{Event}
-use Rattle.ntp_service.specs.declared.outcome.Outcome.{Outcome}
-use Rattle.ntp_service.specs.declared.observation.Observation.{Observation}
 use Rattle.ntp_service.specs.declared.observation.TurnOutcome.{TurnOutcome}
 use Rattle.ntp_service.specs.declared.observation.TurnOutcome.TheVariants.{NothingReceived, Answered}
 use Rattle.ntp_service.specs.Sees.{Sees}
+use Rattle.ntp_service.specs.Sending.{was_sent, was_noted}
 use Rattle.ntp_service.specs.Headline.{StandsFor, Tells}
 use Rattle.ntp_port.specs.Port.{CountsMore}
-use Rattle.ntp_port.specs.Made.{turn_outcome}
+use Rattle.ntp_port.specs.Made.{Made, turn_outcome}
 use Rattle.ntp_port.specs.Serving.{Makes}
-use Rattle.ntp_service.specs.Sending.{was_sent, was_noted}
-use Rattle.ntp_admin.specs.CommandsFile.{happened_at_lines, line_observations}
 use Rattle.ntp_port.specs.Sources.{Gives, CountsOn}
-use Rattle.ntp_server.specs.Rounds.{Look, Round, ServerTold, AreDueInTurn, looks_in, asked_in, receipt_in, happened_in_round, round_observations}
+use Rattle.ntp_admin.specs.CommandsFile.{most_line_octets, count_on, complete_lines, TakenLine, happened_at_lines, line_observations}
+use Rattle.ntp_server.specs.declared.server.Server.{Server}
+use Rattle.ntp_server.specs.Rounds.{Round, PartsTell, AreDueInTurn, given_in, turns_in, waits_in, receipt_in, asked_in, happened_in_round, round_observations}
 
--- what is asked with at looks while nothing came, and what looks gave
-abbrev pub unasked : List Look → List (Option Moment)
-unasked looks = map (λ l. None) looks
+-- a look was made, which asked with this, and gave something or not
+pub record Looks {P C R O A : Type 0} (before after : Server P C R O A) (t : PartsTell P C R O) (asked : Option Moment) (gave : Bool)
+    : Type 0 where
+  pub given : Option (List ℕ)
+  pub is : gave ≡ is_some given
+  pub taken : List TakenLine
+  pub lines : map (λ x. x.line) taken ≡ option_map_or complete_lines given []
+  pub counted : after.applied ≡ count_on before.applied (length taken)
+  pub commands : Gives (t.looks before.commands) (t.looks after.commands) (asked ∷ []) (given ∷ [])
+  pub observed : Sees (t.seen before.observer) (t.seen after.observer) (line_observations most_line_octets before.applied taken)
+  pub tells : (history : List (Event A)) → StandsFor before.service history
+      → Tells history (happened_at_lines most_line_octets taken) after.service
 
-abbrev pub given_of : List Look → List (Option (List ℕ))
-given_of looks = map (λ l. l.given) looks
+-- what was done in these rounds at the service and its commands
+pub record Orders {P C R O A : Type 0} (before after : Server P C R O A) (t : PartsTell P C R O) (rounds : List Round) : Type 0 where
+  pub due : AreDueInTurn before.applied rounds after.applied
+  pub commands : Gives (t.looks before.commands) (t.looks after.commands) (map asked_in rounds) (given_in rounds)
+  pub observed : Sees (t.seen before.observer) (t.seen after.observer) (flat_map round_observations rounds)
+  pub tells : (history : List (Event A)) → StandsFor before.service history
+      → Tells history (flat_map happened_in_round rounds) after.service
 
--- what happened at them, and what an observer is told of them
-abbrev pub happened_at_looks : {A : Type 0} → List Look → List (Event A × Outcome)
-happened_at_looks looks = flat_map (λ l. happened_at_lines l.taken) looks
+-- the looks at the start were made
+pub record Starts {P C R O A : Type 0} (before after : Server P C R O A) (t : PartsTell P C R O) : Type 0 where
+  pub start : List Round
+  pub at_start : turns_in start ≡ []
+  pub gave : List (List ℕ)
+  pub until : (given_in start ≡ map Some gave ++ None ∷ []) ⊎ (given_in start ≡ map Some gave) × (length gave ≡ 2 ^ 64 - 1)
+  pub orders : Orders before after t start
 
-abbrev pub looks_observations : List Look → List Observation
-looks_observations looks = flat_map (λ l. line_observations l.applied l.taken) looks
+-- rounds were made while waiting at a port that is prompt or not
+pub record Waits {P C R O A : Type 0} (before after : Server P C R O A) (t : PartsTell P C R O)
+    (shown later : Option (List (Option Moment))) (prompt : Bool) : Type 0 where
+  pub rounds : List Round
+  pub no_turn : turns_in rounds ≡ []
+  pub waiting : waits_in rounds ≡ rounds
+  pub one_look : prompt ≡ true → rounds ≡ []
+  pub orders : Orders before after t rounds
+  pub waited : CountsMore (t.counts before.port).idle_waits (t.counts after.port).idle_waits (length rounds)
+  pub tended : CountsOn (t.tended before.reference) (t.tended after.reference) (length rounds)
+  pub reported : Sees shown later (map asked_in rounds)
 
--- when the datagrams of rounds came, and their states
-abbrev pub receipts_of : List Round → List (Option Moment)
-receipts_of rounds = map (λ r. receipt_in r.made) rounds
-
-abbrev pub states_of : List Round → List ReferenceState
-states_of rounds = map (λ r. r.reference) rounds
-
--- these looks were made, which asked with these, between this and this of what is told
-pub record Looks (A : Type 0) (looks : List Look) (asked : List (Option Moment)) (before after : ServerTold) : Type 0 where
-  pub due : AreDueInTurn before.applied looks after.applied
-  pub commands : Gives before.commands after.commands asked (given_of looks)
-  pub observed : Sees before.seen after.seen (looks_observations looks)
-  pub tells : (history : List (Event A)) → StandsFor before.service history → Tells history (happened_at_looks looks) after.service
-
--- a look was made, which asked with this
-pub record LooksOnce (A : Type 0) (asked : Option Moment) (before after : ServerTold) : Type 0 where
-  pub look : Look
-  pub done : Looks A (look ∷ []) (asked ∷ []) before after
-
--- at a port that is prompt nobody looks while waiting
-abbrev pub NoneIfPrompt : Bool → List Look → Type 0
-NoneIfPrompt prompt looks = prompt ≡ true → looks ≡ []
-
--- looks were made while waiting at a port that is prompt or not
-pub record Waits (A : Type 0) (prompt : Bool) (before after : ServerTold) : Type 0 where
-  pub looks : List Look
-  pub one_look : NoneIfPrompt prompt looks
-  pub done : Looks A looks (unasked looks) before after
-  pub waited : CountsMore before.counts.idle_waits after.counts.idle_waits (length looks)
-  pub tended : CountsOn before.tended after.tended (length looks)
-  pub reported : Sees before.shown after.shown (unasked looks)
-
--- a round was made, and its turn came to this
-pub record MakesRound (A : Type 0) (prompt may_drop : Bool) (before after : ServerTold) (outcome : TurnOutcome) : Type 0 where
+-- rounds were made, of which the last alone has a turn, which came to this
+pub record MakesTurn {P C R O A : Type 0} (before after : Server P C R O A) (t : PartsTell P C R O)
+    (shown later : Option (List (Option Moment))) (prompt may_drop : Bool) (outcome : TurnOutcome) : Type 0 where
+  pub earlier : List Round
   pub round : Round
-  pub one_look : NoneIfPrompt prompt round.earlier
-  pub due : AreDueInTurn before.applied (looks_in round) after.applied
-  pub commands : Gives before.commands after.commands (asked_in round) (given_of (looks_in round))
-  pub states : Gives before.states after.states (receipt_in round.made ∷ []) (round.reference ∷ [])
-  pub waits : CountsMore before.counts.idle_waits after.counts.idle_waits (length round.earlier)
-  pub tended : CountsOn before.tended after.tended (length round.earlier)
-  pub reported : Sees before.shown after.shown (asked_in round)
-  pub port : Makes may_drop (round.made ∷ []) before.counts after.counts before.port after.port
-  pub observed : Sees before.seen after.seen (round_observations round)
-  pub comes_to : outcome ≡ turn_outcome round.made
-  pub tells : (history : List (Event A)) → StandsFor before.service history → Tells history (happened_in_round round) after.service
+  pub reference : ReferenceState
+  pub made : Made
+  pub no_turn : turns_in earlier ≡ []
+  pub waiting : waits_in earlier ≡ earlier
+  pub turn : round.turn ≡ Some (reference, made)
+  pub one_look : prompt ≡ true → earlier ≡ []
+  pub orders : Orders before after t (earlier ++ round ∷ [])
+  pub states : Gives (t.states before.reference) (t.states after.reference) (receipt_in made ∷ []) (reference ∷ [])
+  pub waits : CountsMore (t.counts before.port).idle_waits (t.counts after.port).idle_waits (length earlier)
+  pub tended : CountsOn (t.tended before.reference) (t.tended after.reference) (length earlier)
+  pub reported : Sees shown later (map asked_in (earlier ++ round ∷ []))
+  pub port : Makes may_drop (made ∷ []) (t.counts before.port) (t.counts after.port) (t.port before.port) (t.port after.port)
+  pub comes_to : outcome ≡ turn_outcome made
 
 -- how many datagrams came in a turn
 abbrev pub arrivals_in : TurnOutcome → ℕ

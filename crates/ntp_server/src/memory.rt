@@ -8,7 +8,7 @@ use ntp_reply::Reference;
 use ntp_service::{Command, LineOutcome, NoMemory, Observation, Observer, TurnOutcome};
 use std::alloc::{Allocator, Global};
 
-/// A commands file in memory: each look gives the next of a list, and nothing once the list has run out.
+/// Commands in memory: each look gives the next of a list of pieces, and nothing once the list has run out.
 #[derive(Debug, Drop)]
 pub struct MemoryCommands<A: Allocator = Global> {
     looks: Vec<Option<Vec<u8, A>>, A>,
@@ -20,7 +20,7 @@ pub struct MemoryCommands<A: Allocator = Global> {
 impl<A: Allocator> MemoryCommands<A> {
     ghost use Rattle.ntp_server.specs.Memory.{commands_coming, commands_told};
 
-    /// A file whose looks will give these.
+    /// Commands whose looks will give these pieces.
     pub fn new(looks: Vec<Option<Vec<u8, A>>, A>) -> MemoryCommands<A>
         ensures { commands_told result ≡ commands_coming (map (λ look. option_map (λ octets. octets.items) look) looks.items) }
     {

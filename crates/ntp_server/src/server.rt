@@ -5,7 +5,7 @@ ghost use Rattle.ntp_port.specs.Port.{most_received_octets, failed_calls, Counts
 ghost use Rattle.ntp_server.specs.Steps.{arrivals_in, replies_of_turn, departures_in};
 
 use crate::reporter::{NoReports, Reporter};
-use ntp_admin::apply_commands;
+use ntp_admin::apply_lines;
 use ntp_packet::Moment;
 use ntp_port::{
     CommandsSource, DatagramRoom, MOST_RECEIVED_OCTETS, PortFault, ReferenceSource, TimedPort,
@@ -53,37 +53,36 @@ impl<
     A: Allocator + Copy,
 > Server<P, C, R, O, A> {
     ghost use Rattle.ntp_server.specs.Rounds.{ServesRounds};
-    ghost use Rattle.ntp_server.specs.Parts.{parts_of};
-    ghost use Rattle.ntp_server.specs.Steps.{LooksOnce, Waits, MakesRound};
+    ghost use Rattle.ntp_server.specs.Steps.{Looks, Starts, Waits, MakesTurn};
 
-    /// Makes `turns` turns. In each a datagram is waited for. Once it has come, and whenever a wait ended with none, the
-    /// commands file is looked at, and the lines that are due are carried out, in order, each once. Then the datagram is
-    /// answered with the state of the clock that is in force, and its reply is sent, as `serve` does it. The observer is
-    /// told each line and each turn as it is done. It takes memory for enrolments, rollovers and the octets of a commands
-    /// file that changed.
+    /// Carries out the commands that stand there at the start: looks at them until a look gives nothing. Then makes `turns`
+    /// turns. In each a datagram is waited for. Once it has come, and whenever a wait ended with none, the commands are looked
+    /// at, and the lines that this gives are carried out, in order. Then the datagram is answered with the state of the clock
+    /// that is in force, and its reply is sent, as `serve` of a port does it. The observer hears of each line and each turn as
+    /// it is done. It takes memory for enrolments, rollovers and the octets of new lines.
     pub fn serve(&mut self, turns: u64) -> Totals
         requires { failed_calls (P.counts self.old.port) + turns < 2 ^ 64 }
-        ensures { ServesRounds A P.is_prompt P.may_drop turns
-            (parts_of P.told P.counts C.coming R.coming R.tended O.seen None self.old)
-            (parts_of P.told P.counts C.coming R.coming R.tended O.seen None self.new) result }
+        ensures { ServesRounds self.old self.new
+            (record { port = P.told; counts = P.counts; looks = C.coming; states = R.coming; tended = R.tended; seen = O.seen })
+            None None P.is_prompt P.may_drop turns result }
     {
         self.serve_reported(turns, &mut NoReports)
     }
 
-    /// The same, and a reporter is shown this server as it is: after each turn, with when its datagram came, and with nothing
-    /// where none could be received; and whenever a wait ended with none, with nothing, once the commands that were due are
-    /// carried out and the source of the clock's state has looked after itself. It sees the server behind a shared
-    /// reference: what the server does is the same whatever the reporter does. Behind the last turn it has been shown the server as it
-    /// is then.
+    /// Does what `serve` does, and shows a reporter this server as it is: after each turn, with when its datagram came, and with
+    /// nothing where none could be received; and whenever a wait ended with none, with nothing, once new commands are carried
+    /// out and the source of the clock's state has looked after itself. The reporter sees the server behind a shared
+    /// reference: what the server does is the same whatever the reporter does. Behind the last turn it has been shown the
+    /// server as it is then.
     pub fn serve_reported<Q: Reporter<Server<P, C, R, O, A>>>(
         &mut self,
         turns: u64,
         reporter: &mut Q,
     ) -> Totals
         requires { failed_calls (P.counts self.old.port) + turns < 2 ^ 64 }
-        ensures rounds { ServesRounds A P.is_prompt P.may_drop turns
-            (parts_of P.told P.counts C.coming R.coming R.tended O.seen (Q.shown reporter.old) self.old)
-            (parts_of P.told P.counts C.coming R.coming R.tended O.seen (Q.shown reporter.new) self.new) result }
+        ensures rounds { ServesRounds self.old self.new
+            (record { port = P.told; counts = P.counts; looks = C.coming; states = R.coming; tended = R.tended; seen = O.seen })
+            (Q.shown reporter.old) (Q.shown reporter.new) P.is_prompt P.may_drop turns result }
         ensures known { 0 < turns → Q.knows reporter.new self.new }
     {
         let mut datagram = [0; MOST_RECEIVED_OCTETS];
@@ -92,6 +91,7 @@ impl<
             sent: 0,
             departed: 0,
         };
+        self.start();
         for _turn in 0..turns {
             let outcome = self.turn(&mut datagram, reporter);
             totals.count(&outcome);
@@ -106,9 +106,9 @@ impl<
         reporter: &mut Q,
     ) -> TurnOutcome
         requires { failed_calls (P.counts self.old.port) < 2 ^ 64 - 1 }
-        ensures made { MakesRound A P.is_prompt P.may_drop
-            (parts_of P.told P.counts C.coming R.coming R.tended O.seen (Q.shown reporter.old) self.old)
-            (parts_of P.told P.counts C.coming R.coming R.tended O.seen (Q.shown reporter.new) self.new) result }
+        ensures made { MakesTurn self.old self.new
+            (record { port = P.told; counts = P.counts; looks = C.coming; states = R.coming; tended = R.tended; seen = O.seen })
+            (Q.shown reporter.old) (Q.shown reporter.new) P.is_prompt P.may_drop result }
         ensures known { Q.knows reporter.new self.new }
     {
         let received = self.wait(datagram, reporter);
@@ -139,9 +139,9 @@ impl<
         ensures turns { Receives P.may_drop (P.counts self.old.port).dropped (P.counts self.new.port).dropped
             (P.told self.old.port) (P.told self.new.port) result datagram.new }
         ensures reference { R.coming self.new.reference ≡ R.coming self.old.reference }
-        ensures looks { Waits A P.is_prompt
-            (parts_of P.told P.counts C.coming R.coming R.tended O.seen (Q.shown reporter.old) self.old)
-            (parts_of P.told P.counts C.coming R.coming R.tended O.seen (Q.shown reporter.new) self.new) }
+        ensures waits { Waits self.old self.new
+            (record { port = P.told; counts = P.counts; looks = C.coming; states = R.coming; tended = R.tended; seen = O.seen })
+            (Q.shown reporter.old) (Q.shown reporter.new) P.is_prompt }
     {
         for _wait in 0..UNCOUNTED_WAITS {
             if let Some(received) = self.port.receive_in_time(datagram) {
@@ -154,23 +154,35 @@ impl<
         self.port.receive(datagram)
     }
 
-    // Looks at the commands file, and carries out the lines that are due.
-    fn look(&mut self, receipt: Option<Moment>)
+    // Carries out the commands that stand there at the start: looks until a look gives nothing.
+    fn start(&mut self)
         ensures port { self.new.port ≡ self.old.port }
         ensures reference { self.new.reference ≡ self.old.reference }
-        ensures looks { LooksOnce A receipt
-            (parts_of P.told P.counts C.coming R.coming R.tended O.seen None self.old)
-            (parts_of P.told P.counts C.coming R.coming R.tended O.seen None self.new) }
+        ensures starts { Starts self.old self.new
+            (record { port = P.told; counts = P.counts; looks = C.coming; states = R.coming; tended = R.tended; seen = O.seen }) }
     {
-        let alloc = self.service.allocator();
-        if let Some(octets) = self.commands.look(alloc, receipt) {
-            self.applied = apply_commands(
-                &mut self.service,
-                &octets,
-                self.applied,
-                &mut self.observer,
-            );
+        for _look in 0..u64::MAX {
+            if !self.look(None) {
+                return;
+            }
         }
+    }
+
+    // Looks at the commands, and carries out the lines that it gives. Returns whether it gave something.
+    fn look(&mut self, receipt: Option<Moment>) -> bool
+        ensures port { self.new.port ≡ self.old.port }
+        ensures reference { self.new.reference ≡ self.old.reference }
+        ensures looks { Looks self.old self.new
+            (record { port = P.told; counts = P.counts; looks = C.coming; states = R.coming; tended = R.tended; seen = O.seen })
+            receipt result }
+    {
+        let before = self.applied;
+        let alloc = self.service.allocator();
+        let Some(octets) = self.commands.look(alloc, receipt) else {
+            return false;
+        };
+        self.applied = apply_lines(&mut self.service, &octets, before, &mut self.observer);
+        true
     }
 }
 

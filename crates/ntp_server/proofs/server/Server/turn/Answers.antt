@@ -14,7 +14,7 @@ returns-clause-made g c =
     (sym c.look.ensures.port) c.wait-received.ensures.turns in
     let taken = takes-turn _ _ _ _ _ _ _ _ _ _ _ _ _ counts _ received c.answer_received-outcome.ensures.idle
     c.answer_received-outcome.ensures.makes in
-    Makes-turn _ _ _ _ _ _ _ _ _ _ _ _ _ refl refl c.wait-received.ensures.looks c.look.ensures.looks
+    Makes-turn _ _ _ _ _ _ _ _ _ _ _ _ _ _ _ _ refl refl c.wait-received.ensures.waits c.look.ensures.looks
     c.receipt_of-receipt.ensures (ap g.R.ReferenceSource.coming c.look.ensures.reference ∙ c.wait-received.ensures.reference)
     c.in_force-reference.ensures.given (c.in_force-reference.ensures.tended ∙ ap g.R.ReferenceSource.tended c.look.ensures.reference)
-    (ap g.P.Port.counts c.look.ensures.port) taken c.turn.ensures c.report.ensures.shown
+    c.look.ensures.port taken c.turn.ensures c.report.ensures.shown

@@ -6,7 +6,7 @@ use Rattle.ntp_server.proofs.Looking.{Waits-none, Waits-more, Waits-port}
 use Rattle.ntp_server.proofs.server.Server.wait.Goals as goal
 
 pub loop-wait-init : goal.loop-wait-init
-loop-wait-init g c = record { port = DropsAny-none _ _ _; counts = search rules; reference = search rules; waits = Waits-none _ _ _ }
+loop-wait-init g c = record { port = DropsAny-none _ _ _; counts = search rules; reference = search rules; waits = Waits-none _ _ _ _ }
 
 pub loop-wait-preserved : goal.loop-wait-preserved
 loop-wait-preserved g c =
@@ -21,25 +21,25 @@ loop-wait-preserved g c =
         omega (arith, ap (λ (k : PortCounts). k.failed_sends) same, waited.1.1, c.loop-wait.invariant.counts.1),
       );
       reference = c.tend.ensures.coming ∙ ap g.R.ReferenceSource.coming c.look.ensures.reference ∙ c.loop-wait.invariant.reference;
-      waits = Waits-more _ _ _ _ _ _ _ _ _ _ _ _ _ c.in_default.ensures.nothing.0 c.loop-wait.invariant.waits c.look.ensures.looks
+      waits = Waits-more _ _ _ _ _ _ _ _ _ _ _ _ c.in_default.ensures.nothing.0 c.loop-wait.invariant.waits c.look.ensures.looks
           (subst (λ (k : PortCounts). CountsMore (g.P.Port.counts c.loop-wait.self.port).idle_waits k.idle_waits 1) (sym same) waited.0)
-          (ap g.R.ReferenceSource.tended c.look.ensures.reference) c.tend.ensures.tended c.report.ensures.shown;
+          c.look.ensures.reference c.tend.ensures.tended c.report.ensures.shown;
     }
 
 pub returns-in-Some-clause-turns : goal.returns-in-Some-clause-turns
 returns-in-Some-clause-turns g c = Receives-after _ _ _ _ _ _ _ _ _ c.loop-wait.invariant.port c.in-Some.ensures.turns
 
-pub returns-in-Some-clause-looks : goal.returns-in-Some-clause-looks
-returns-in-Some-clause-looks g c =
+pub returns-in-Some-clause-waits : goal.returns-in-Some-clause-waits
+returns-in-Some-clause-waits g c =
     let w = c.loop-wait.invariant.waits.0 in
-    Waits-port _ _ _ _ _ _ w (subst (λ n. CountsMore (g.P.Port.counts c.args.self.now.port).idle_waits n (length w.looks))
+    Waits-port _ _ _ _ _ _ _ w (subst (λ n. CountsMore (g.P.Port.counts c.args.self.now.port).idle_waits n (length w.rounds))
     (sym c.in-Some.ensures.counts.0) w.waited)
 
 pub returns-clause-turns : goal.returns-clause-turns
 returns-clause-turns g c = Receives-after _ _ _ _ _ _ _ _ _ c.loop-wait.invariant.port c.receive.ensures.turns
 
 -- so many waits are not counted
-pub returns-clause-looks : goal.returns-clause-looks
-returns-clause-looks g c =
+pub returns-clause-waits : goal.returns-clause-waits
+returns-clause-waits g c =
     let w = c.loop-wait.invariant.waits.0 in
-    Waits-port _ _ _ _ _ _ w (λ below. absurd (omega (arith, below, c.loop-wait.invariant.waits.1, c.loop-wait-test.false)))
+    Waits-port _ _ _ _ _ _ _ w (λ below. absurd (omega (arith, below, c.loop-wait.invariant.waits.1, c.loop-wait-test.false)))

@@ -1,0 +1,12 @@
+use Rattle.std.specs.Prelude.{◌≡◌}
+use Rattle.ntp_server.proofs.Looking.{Starting}
+use Rattle.ntp_server.proofs.server.Server.start.Given as goal
+
+abbrev pub invariant-loop-look : goal.invariant-loop-look
+invariant-loop-look g l = record {
+  port : l.self.port ≡ l.fn.self.port;
+  reference : l.self.reference ≡ l.fn.self.reference;
+  starting : Starting l.fn.self l.self
+      (record { port = g.P.Port.told; counts = g.P.Port.counts; looks = g.C.CommandsSource.coming; states = g.R.ReferenceSource.coming; tended = g.R.ReferenceSource.tended; seen = g.O.Observer.seen })
+      l._look;
+}

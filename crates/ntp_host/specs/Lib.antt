@@ -1,6 +1,8 @@
 pub mod Clock
 pub mod Failures
+pub mod Faults
 pub mod Pacing
+pub mod Progress
 pub mod FixedClock
+pub mod Growth
 pub mod Reading
-pub mod HandingOn

@@ -1,5 +1,5 @@
 -- What the clock of a port shows that takes the middle of two readings as a departure.
-use Rattle.std.specs.Prelude.{◌≡◌, ◌-◌, ◌/◌, ◌==◌, ◌&&◌, nat_le, Bool, true, false, if◌then◌else◌, Option, None, Some}
+use Rattle.std.specs.Prelude.{◌≡◌, ◌-◌, ◌/◌, ◌==◌, ◌&&◌, nat_le, Bool, if◌then◌else◌, Option, None, Some}
 use Rattle.ntp_packet.specs.declared.moment.Moment.{Moment}
 use Rattle.ntp_port.specs.Port.{Told, NowTells}
 

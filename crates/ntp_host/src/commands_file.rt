@@ -1,178 +1,252 @@
 //! A commands file that is looked at in each turn of a server, before its datagram is answered.
+ghost use Rattle.std.specs.Prelude.{◌≡◌, ◌+◌, ◌≤◌, None, [], ◌∷◌, vec_len, option_map, IsTrue, IfSome, IfOk};
+ghost use Rattle.ntp_port.specs.Sources.{Gives};
+ghost use Rattle.ntp_host.specs.Progress.{next_from};
 
-use crate::pacing::{MILLISECOND, is_due};
-use crate::version::Version;
-use crate::whole_read::{read_open, regular_metadata};
+use crate::growth::{FileState, Growth};
+use crate::not_regular;
+use crate::pacing::{TENTH, is_due};
+use crate::progress::{MOST_COMMANDS_OCTETS, Progress};
+use crate::whole_read::regular_metadata;
 use ntp_packet::{Moment, Stamp};
 use ntp_port::CommandsSource;
 use std::alloc::Allocator;
+use std::fmt;
 use std::fs::{self, Files, OpenFile};
-use std::io::{self, Read};
+use std::io::{self, Read, Seek, SeekFrom, Write};
+use std::os::unix::fs::MetadataExt;
 
-/// Period after which the metadata of the open file is asked for again.
-const METADATA_PERIOD: u64 = MILLISECOND;
+/// The octets from which on a commands file is nearly full: 80 in 100 of the most, rounded up.
+const NEARLY_FULL_OCTETS: u64 = 53_687_092;
 
-/// Period after which what stands at its path is asked for again, in units of 2^-32 seconds: a tenth of a second.
-const PATH_PERIOD: u64 = 429_496_729;
+/// Returns whether a commands file of `octets` octets is nearly full.
+pub fn is_nearly_full(octets: u64) -> bool {
+    octets >= NEARLY_FULL_OCTETS
+}
 
-/// The commands file of a server.
+/// Writes that a commands file of `octets` octets is nearly full. A failed write is passed over.
+pub fn write_nearly_full<W: Write>(out: &mut W, octets: u64) {
+    let most = MOST_COMMANDS_OCTETS;
+    let _ = write!(
+        out,
+        "has {octets} of at most {most} octets; no line behind these is carried out"
+    );
+}
+
+/// What is wrong with a commands file.
+#[derive(Clone, Copy)]
+pub enum CommandsFault {
+    /// It is not there or cannot be read, or there is no memory for its lines. Nothing is given until it is well again.
+    Unreadable(io::Error),
+    /// It has more than `MOST_COMMANDS_OCTETS` octets. The lines that end in these are given.
+    Full,
+    /// Another file stands at its path.
+    Replaced,
+    /// It has fewer octets than the lines that were given.
+    Shorter,
+    /// It was modified, and did not become longer within a tenth of a second.
+    Rewritten,
+}
+
+impl CommandsFault {
+    ghost use Rattle.ntp_host.specs.Faults.{is_final};
+
+    /// Returns whether nothing is given any more, whatever becomes of the file.
+    pub fn is_final(&self) -> bool
+        ensures { result ≡ is_final self.now }
+    {
+        !matches!(self, CommandsFault::Unreadable(_) | CommandsFault::Full)
+    }
+}
+
+impl From<io::Error> for CommandsFault {
+    fn from(error: io::Error) -> CommandsFault {
+        CommandsFault::Unreadable(error)
+    }
+}
+
+/// Writes what the log says of the file.
+impl fmt::Display for CommandsFault {
+    fn fmt<W: fmt::Write>(&self, f: &mut fmt::Formatter<W>) -> fmt::Result {
+        let most = MOST_COMMANDS_OCTETS;
+        let why = match self {
+            CommandsFault::Unreadable(error) => return write!(f, "cannot be read: {error}"),
+            CommandsFault::Full => return write!(
+                f,
+                "has more than {most} octets; no line behind these is carried out"
+            ),
+            CommandsFault::Replaced => "another file stands there",
+            CommandsFault::Shorter => "it is shorter than what was read of it",
+            CommandsFault::Rewritten => "it was written anew in its place",
+        };
+        write!(f, "{why}; no line is carried out until a restart")
+    }
+}
+
+/// The commands file of a server, which is read on as it grows.
 ///
-/// The file that was read last stays open. What is looked at:
+/// It stays open. At each look its metadata are asked for, and it is read where it is longer than what was read of it. What stands
+/// at its path is asked for where a tenth of a second has passed, by the receipts of the datagrams, where no datagram waits, and
+/// where the clock was set back.
 ///
-/// - one octet at the end of the open file, at each look, which costs least: so octets that are appended are seen at the
-///   next look. Where the file is longer than the most octets it is not read: behind a cut there is always more;
-/// - the metadata of the open file, at a look a thousandth of a second or more after the last time, and at the look after
-///   it was read: so a file is seen that is written anew, and one that is renamed over it or moved away;
-/// - what stands at the path, at a look a tenth of a second or more after the last time, and where the open file has
-///   changed: so another file is seen where nothing happened to the first, and one that is made later.
-///
-/// Time is told by the receipts of the datagrams. All three are looked at where there is no datagram, and where the clock
-/// was set back.
-///
-/// A file is told from its earlier state by device, node, length, count of names and time of change. So one that is written
-/// anew to the same length, within one tick of the file system's clock, looks unchanged.
+/// One that is written anew and becomes longer looks as one that has grown; one that is written anew to the same length within one
+/// tick of the file system's clock looks unchanged.
 ///
 /// Nothing is known of what a file has: no clause speaks of it.
 #[derive(Drop)]
 pub struct CommandsFile<'a, R: Files> {
     files: &'a R,
     path: &'a str,
-    // How many octets are given at most, and one more.
-    most: u32,
-    // The file that was read last; none where it could not be read, and then why not.
-    given: Option<Given<R::File>>,
-    fault: Option<io::Error>,
+    file: R::File,
+    // Which file it is.
+    device: u64,
+    node: u64,
+    // The octets in front of what the next read gives, where that is known.
+    position: Option<u64>,
+    progress: Progress,
+    growth: Growth,
+    // Whether it was read to its end once. Until then what stands at its path does not matter, so that a start carries out one file, and no
+    // part of one.
+    was_read: bool,
     // When what stands at the path was last asked for.
     asked: Option<Stamp>,
-}
-
-// A file that was read, and how it was just before.
-#[derive(Drop)]
-struct Given<F: Drop> {
-    file: F,
-    version: Version,
-    // Whether it had more octets than are given.
-    is_cut: bool,
-    // When its metadata was last asked for; none where it was not yet.
-    asked: Option<Stamp>,
-}
-
-impl<F: OpenFile + Read + Drop> Given<F> {
-    // Whether something happened to it. Its metadata is asked for first: so what came to the path just as it was opened,
-    // and may be a pipe, is not read on.
-    fn has_changed(&mut self, receipt: Option<Moment>) -> bool {
-        self.is_another(receipt) || self.has_grown()
-    }
-
-    // Whether its metadata is not what it was, where it is time to ask for it.
-    fn is_another(&mut self, receipt: Option<Moment>) -> bool {
-        if !is_due(self.asked, receipt, METADATA_PERIOD) {
-            return false;
-        }
-        if let Some(receipt) = receipt {
-            self.asked = Some(receipt.stamp);
-        }
-        match self.file.metadata() {
-            Ok(metadata) => Version::of(&metadata) != self.version,
-            Err(_) => true,
-        }
-    }
-
-    // Whether octets stand behind those that were read.
-    fn has_grown(&mut self) -> bool {
-        let mut next = [0];
-        !self.is_cut && !matches!(self.file.read(&mut next), Ok(0))
-    }
+    fault: Option<CommandsFault>,
 }
 
 impl<'a, R: Files> CommandsFile<'a, R> {
-    /// The file at `path`, before its first read. At most `most` octets and one more will be given.
-    pub fn new(files: &'a R, path: &'a str, most: u32) -> CommandsFile<'a, R> {
-        CommandsFile {
+    /// Opens the regular file at `path`. The error is the system's, or says that a regular file is wanted.
+    pub fn open(files: &'a R, path: &'a str) -> io::Result<CommandsFile<'a, R>> {
+        // To open a pipe might take for ever.
+        regular_metadata(files, path)?;
+        let file = fs::open(files, path)?;
+        let metadata = file.metadata()?;
+        if !metadata.is_file() {
+            return Err(not_regular());
+        }
+        Ok(CommandsFile {
             files,
             path,
-            most,
-            given: None,
-            fault: None,
+            file,
+            device: metadata.dev(),
+            node: metadata.ino(),
+            position: Some(0),
+            progress: Progress::new(),
+            growth: Growth::new(FileState::of(&metadata)),
+            was_read: false,
             asked: None,
-        }
+            fault: None,
+        })
     }
 
-    /// Reads the whole file for the first time: its octets, cut to one more than the most, or why there are none. It takes memory
-    /// from `alloc`.
-    pub fn begin<A: Allocator + Copy>(&mut self, alloc: A) -> io::Result<Vec<u8, A>> {
-        let found = self.version_at_path();
-        self.read_whole(alloc, found)
-    }
-
-    /// Why the file at its path could not be read when that was last tried: the system's error, or that a regular file is wanted.
-    /// Nothing where it was read, and before the first look.
-    pub fn fault(&self) -> Option<io::Error> {
+    /// Returns what was wrong with it at the last look; nothing before the first.
+    pub fn fault(&self) -> Option<CommandsFault> {
         self.fault
     }
 
-    // Whether something happened to the file that was read last.
-    fn has_changed(&mut self, receipt: Option<Moment>) -> bool {
-        match &mut self.given {
-            Some(given) => given.has_changed(receipt),
-            None => false,
-        }
+    /// Returns how many octets of it the lines have that were given.
+    pub fn octets(&self) -> u64 {
+        self.progress.given
     }
 
-    // The version of the regular file that stands at the path, or why there is none.
-    fn version_at_path(&self) -> io::Result<Version> {
-        let metadata = regular_metadata(self.files, self.path)?;
-        Ok(Version::of(&metadata))
-    }
-
-    // Whether what was found at the path is the file that was read last, as it was.
-    fn is_given(&self, found: &io::Result<Version>) -> bool {
-        match (&self.given, found) {
-            (Some(given), Ok(version)) => given.version == *version,
-            _ => false,
-        }
-    }
-
-    // Reads the file that was found at the path, if a regular one was: to open a pipe might take for ever. Its version was taken
-    // before, so one that changes in between is read once more.
-    fn read_whole<A: Allocator + Copy>(
+    // Does what `look` does, where it is not given up, and notes whether it has too many octets.
+    fn read_on<A: Allocator>(
         &mut self,
         alloc: A,
-        found: io::Result<Version>,
-    ) -> io::Result<Vec<u8, A>> {
-        let version = found?;
-        let mut file = fs::open(self.files, self.path)?;
-        let octets = read_open(&mut file, alloc, self.most)?;
-        self.given = Some(Given {
-            file,
-            version,
-            is_cut: octets.len() > self.most as usize,
-            asked: None,
-        });
-        Ok(octets)
+        receipt: Option<Moment>,
+    ) -> Result<Option<Vec<u8, A>>, CommandsFault>
+        ensures { IfOk result (λ lines. IfSome lines (λ octets. vec_len octets ≤ 65536)) }
+    {
+        if self.was_read {
+            self.ask_path(receipt)?;
+        }
+        let found = FileState::of(&self.file.metadata()?);
+        if found.length < self.octets() {
+            return Err(CommandsFault::Shorter);
+        }
+        self.growth.see(found, receipt);
+        self.fault = (found.length > MOST_COMMANDS_OCTETS).then_some(CommandsFault::Full);
+        let count = self.progress.next_count(found.length);
+        if count > 0 {
+            return Ok(self.lines(alloc, count, found.length)?);
+        }
+        self.was_read = true;
+        if self.growth.is_rewritten(receipt) {
+            return Err(CommandsFault::Rewritten);
+        }
+        Ok(None)
     }
-}
 
-impl<'a, R: Files, A: Allocator + Copy> CommandsSource<A> for CommandsFile<'a, R> {
-    /// The whole file if something about it changed since it was last given, cut to one octet more than the most;
-    /// `None` if nothing did, or it cannot be read or is no regular file. It takes memory from `alloc` only where
-    /// something changed; want of it counts as a file that cannot be read. Such a file is tried again when what stands
-    /// at the path is next asked for.
-    fn look(&mut self, alloc: A, receipt: Option<Moment>) -> Option<Vec<u8, A>> {
-        let has_changed = self.has_changed(receipt);
-        if !has_changed && !is_due(self.asked, receipt, PATH_PERIOD) {
-            return None;
+    // Asks what stands at the path, where it is time to.
+    fn ask_path(&mut self, receipt: Option<Moment>) -> Result<(), CommandsFault> {
+        if !is_due(self.asked, receipt, TENTH) {
+            return Ok(());
         }
         if let Some(receipt) = receipt {
             self.asked = Some(receipt.stamp);
         }
-        let found = self.version_at_path();
-        if !has_changed && self.is_given(&found) {
+        let found = fs::metadata(self.files, self.path)?;
+        if found.dev() != self.device || found.ino() != self.node {
+            return Err(CommandsFault::Replaced);
+        }
+        Ok(())
+    }
+
+    // Reads the next piece, which has `count` octets, and returns its lines; nothing where it has none, and a file of this length has
+    // no piece behind it.
+    fn lines<A: Allocator>(
+        &mut self,
+        alloc: A,
+        count: usize,
+        length: u64,
+    ) -> io::Result<Option<Vec<u8, A>>>
+        requires limited { next_from self.old.progress + count ≤ MOST_COMMANDS_OCTETS }
+        requires ended { IsTrue self.old.progress.is_ended → count ≡ 4098 }
+        requires most { count ≤ 65536 }
+        ensures { IfOk result (λ lines. IfSome lines (λ octets. vec_len octets ≤ 65536)) }
+    {
+        let mut octets = vec![in alloc; 0; count]?;
+        let from = self.progress.next_from();
+        if self.position.take() != Some(from) {
+            self.file.seek(SeekFrom::Start(from))?;
+        }
+        self.file.read_exact(&mut octets)?;
+        self.position = Some(from + count as u64);
+        let given = self.progress.take(&mut octets);
+        octets.truncate(given);
+        if given == 0 && self.progress.next_count(length) == 0 {
+            return Ok(None);
+        }
+        Ok(Some(octets))
+    }
+}
+
+impl<'a, R: Files, A: Allocator> CommandsSource<A> for CommandsFile<'a, R> {
+    ghost use Rattle.ntp_host.specs.Faults.{is_final};
+
+    /// Returns the complete lines behind those that were given, as far as 65,536 octets of the file have them; of a line that is
+    /// longer its first 4,097 octets, with a line feed. Returns nothing where nothing is to be read, and where there is a fault but
+    /// `Full`; no octets where a part of a longer line was read, and more is to be read.
+    ///
+    /// It takes memory from `alloc` for what it reads. What is not read for want of memory is read at a later look.
+    fn look(&mut self, alloc: A, receipt: Option<Moment>) -> Option<Vec<u8, A>>
+        ensures gives { Gives None None (receipt ∷ []) (option_map (λ octets. octets.items) result ∷ []) }
+        ensures most { IfSome result (λ octets. vec_len octets ≤ 65536) }
+        ensures ended { IfSome self.old.fault (λ fault. IsTrue (is_final fault) → (result ≡ None) × (self.new ≡ self.old)) }
+    {
+        let is_tried = match &self.fault {
+            Some(CommandsFault::Unreadable(_)) => is_due(self.asked, receipt, TENTH),
+            Some(fault) => !fault.is_final(),
+            None => true,
+        };
+        if !is_tried {
             return None;
         }
-        self.given = None;
-        let read = self.read_whole(alloc, found);
-        self.fault = read.as_ref().err().copied();
-        read.ok()
+        match self.read_on(alloc, receipt) {
+            Ok(lines) => lines,
+            Err(fault) => {
+                self.fault = Some(fault);
+                None
+            }
+        }
     }
 }

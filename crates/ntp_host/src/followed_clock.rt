@@ -245,7 +245,7 @@ impl<'a, C: Clock + Copy + Drop> ReferenceSource for FollowedClock<'a, C> {
 /// Where the state of the clock comes from.
 #[derive(Drop)]
 pub enum ClockSource<'a, C: Clock + Copy + Drop> {
-    /// From the register file, for ever.
+    /// From the configuration, for ever.
     Fixed(Reference),
     /// From the host's clock daemon.
     Followed(FollowedClock<'a, C>),

@@ -2,29 +2,27 @@
 //! clause says what a host gives.
 #![tactic(auto)]
 
-mod admitted_commands;
 mod clock;
 mod commands_file;
 mod followed_clock;
-mod held_commands;
+mod growth;
 mod kernel_queue;
 mod log;
 mod pacing;
+mod progress;
 mod queued_udp;
 mod socket;
 mod udp_port;
-mod version;
 mod whole_file;
 mod whole_read;
 
-pub use admitted_commands::AdmittedCommands;
 pub use clock::moment_now;
-pub use commands_file::CommandsFile;
+pub use commands_file::{CommandsFault, CommandsFile, is_nearly_full, write_nearly_full};
 pub use followed_clock::{ClockSource, FollowedClock};
-pub use held_commands::{HeldCommands, begin_commands, is_nearly_full, write_nearly_full};
 pub use kernel_queue::{QueueState, SOCKETS_ROOM, is_of_other_protocol, queue_state};
 pub use log::{Log, LogForm, Priority, StartLines, form_for, has_standard_streams, pause};
 pub use pacing::EachMillisecond;
+pub use progress::MOST_COMMANDS_OCTETS;
 pub use queued_udp::{BoundAt, BoundSocket, HostClocks, LONGEST_WAIT, QueuedUdp};
 pub use socket::{bound, inherited, receive_buffer, set_receive_buffer, set_send_buffer};
 pub use udp_port::UdpPort;

@@ -8,7 +8,10 @@ use ntp_port::CommandsSource;
 use std::alloc::Allocator;
 
 /// A thousandth of a second, in units of 2^-32 seconds.
-pub(crate) const MILLISECOND: u64 = 4_294_967;
+const MILLISECOND: u64 = 4_294_967;
+
+/// A tenth of a second, in these units.
+pub(crate) const TENTH: u64 = 429_496_729;
 
 /// A source of commands that is asked with a receipt at most once in a thousandth of a second, so that looks at it cost nothing
 /// in between.

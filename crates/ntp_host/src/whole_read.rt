@@ -15,15 +15,6 @@ pub fn read_regular_file<R: Files, A: Allocator + Copy>(
 ) -> io::Result<Vec<u8, A>> {
     regular_metadata(files, path)?;
     let mut file = fs::open(files, path)?;
-    read_open(&mut file, alloc, most)
-}
-
-/// The same, of an open file before its first read.
-pub(crate) fn read_open<F: Read, A: Allocator + Copy>(
-    file: &mut F,
-    alloc: A,
-    most: u32,
-) -> io::Result<Vec<u8, A>> {
     let mut octets = Vec::new(alloc);
     file.take(u64::from(most) + 1).read_to_end(&mut octets)?;
     Ok(octets)

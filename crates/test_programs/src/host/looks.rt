@@ -9,9 +9,7 @@ use std::cell::Cell;
 use std::fs::{self, Files};
 use std::io;
 
-// How many octets a file has at most, and its path.
-const MOST: u32 = 100;
-
+// The path of the commands file.
 const PATH: &str = "commands";
 
 // A second, and a thousandth of it, rounded up, in units of 2^-32 seconds.
@@ -70,33 +68,29 @@ pub fn show_paced(rt: &HostRuntime) -> io::Result<()> {
 pub fn show_calls(rt: &HostRuntime) -> io::Result<()> {
     let calls = Cell::new(0);
     let files = Counting::new(rt, &calls);
-    let mut file = CommandsFile::new(&files, PATH, MOST);
-    show_looks(rt, &mut file, &calls, "no file", &[None])?;
     fs::write(rt, PATH, "one\n")?;
+    let mut file = CommandsFile::open(&files, PATH)?;
     show_looks(rt, &mut file, &calls, "a file", &[None])?;
-    // Its metadata, one octet, and what stands at the path.
+    // Its metadata alone: it was not read to its end before.
     show_looks(rt, &mut file, &calls, "unchanged", &[receipt(SECOND)])?;
-    // One octet.
+    // Its metadata each time, and once what stands at its path.
     let soon = [receipt(SECOND + MILLISECOND / 2); 10];
     show_looks(rt, &mut file, &calls, "ten looks", &soon)?;
-    // One octet, and its metadata once in a thousandth of a second.
-    for i in 1u64..=10 {
-        let twice = [receipt(SECOND + MILLISECOND * i); 2];
-        show_looks(rt, &mut file, &calls, "two looks", &twice)?;
-    }
-    // All of these, after a tenth of a second, where the clock was set back, and with no datagram.
+    // Both, after a tenth of a second, where the clock was set back, and with no datagram.
     let later = [receipt(SECOND + SECOND / 9)];
     show_looks(rt, &mut file, &calls, "later", &later)?;
     show_looks(rt, &mut file, &calls, "set back", &[receipt(SECOND)])?;
     show_looks(rt, &mut file, &calls, "no datagram", &[None])?;
-    // Nothing is read behind a cut.
-    fs::write(rt, PATH, [b'#'; 102])?;
-    show_looks(rt, &mut file, &calls, "long", &[None])?;
-    let soon = [receipt(SECOND + MILLISECOND); 10];
-    show_looks(rt, &mut file, &calls, "ten looks", &soon)?;
-    fs::write(rt, PATH, [b'#'; 103])?;
-    let later = [receipt(SECOND + 2 * MILLISECOND)];
-    show_looks(rt, &mut file, &calls, "longer", &later)
+    fs::write(rt, PATH, "one\ntwo")?;
+    let soon = [receipt(SECOND + MILLISECOND)];
+    show_looks(rt, &mut file, &calls, "an unfinished line", &soon)?;
+    fs::write(rt, PATH, "one\ntwo\n")?;
+    show_looks(rt, &mut file, &calls, "a line more", &soon)?;
+    fs::write(rt, PATH, "one\n")?;
+    show_looks(rt, &mut file, &calls, "shorter", &soon)?;
+    // It is given up.
+    let later = [receipt(SECOND + 2 * SECOND); 10];
+    show_looks(rt, &mut file, &calls, "ten looks", &later)
 }
 
 // How many octets looks with these receipts give first, if they give any.

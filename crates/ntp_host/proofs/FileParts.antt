@@ -1,0 +1,56 @@
+-- Parts of a file that are read as pieces.
+use Rattle.std.proofs.Common.{◌≡◌, ◌≢◌, ℕ, ◌+◌, ◌-◌, ◌≤◌, ◌<◌, List, [], length, take, drop, get_or, ap, sym, ◌∙◌, inl, inr, refl, arith}
+use Rattle.std.specs.Prelude.{IsTrue, IsFalse, slice_index, slice_range}
+use Rattle.std.proofs.lemmas.List.{take-take}
+use Rattle.std.proofs.lemmas.List.Edits.{get_or-between}
+use Rattle.std.proofs.lemmas.Bool.{cases_lt, le-leb, lt-leb}
+use Rattle.ntp_host.specs.declared.progress.Progress.{Progress}
+use Rattle.ntp_host.specs.Progress.{next_from, StandsAt, HasNoEnd, GivesPart}
+
+-- a place in a file, and the place in a piece where the same octet stands
+pub octet_at : (file octets : List ℕ) (from j k : ℕ) → StandsAt file from octets → j ≡ from + k → k < length octets
+    → slice_index file j ≡ slice_index octets k
+octet_at file octets from j k stands there below =
+    ap (slice_index file) there ∙ sym (ap (λ o. get_or o k 0) stands ∙ get_or-between file from (from + length octets) k 0 (omega arith))
+
+-- the first octets of a piece are those of the file behind what stands in front of it
+pub front_of : (file octets : List ℕ) (from n : ℕ) → StandsAt file from octets → n ≤ length octets → take n octets ≡ take n (drop from file)
+front_of file octets from n stands within =
+    let all : from + length octets - from ≡ length octets = omega arith in
+    ap (take n) stands ∙ ap (λ m. take n (take m (drop from file))) all ∙ take-take n (length octets) (drop from file) within
+
+-- they are a part of the file
+pub part_of : (file octets : List ℕ) (from n : ℕ) → StandsAt file from octets → n ≤ length octets
+    → take n octets ≡ slice_range file from (from + n)
+part_of file octets from n stands within =
+    let some : from + n - from ≡ n = omega arith in
+    front_of file octets from n stands within ∙ ap (λ m. take m (drop from file)) (sym some)
+
+-- where nothing is given, nothing of the file is
+pub nothing_of : (file : List ℕ) (at : ℕ) → GivesPart file at at []
+nothing_of file at =
+    let none : at - at ≡ 0 = omega arith in
+    inl (omega arith, ap (λ m. take m (drop at file)) (sym none), λ some. absurd (omega arith))
+
+-- where a part of a piece has no line feed, the file has none there
+pub no_end_in : (file octets : List ℕ) (from low high a b : ℕ) → StandsAt file from octets → high ≤ length octets → from + low ≤ a → b ≤ from + high
+    → ((k : ℕ) → low ≤ k → k < high → slice_index octets k ≢ 10) → HasNoEnd file a b
+no_end_in file octets from low high a b stands within from_a to_b none k above below is =
+    none (k - from) (omega arith) (omega arith) (sym (octet_at file octets from k (k - from) stands (omega arith) (omega arith)) ∙ is)
+
+-- two parts of a file beside each other
+pub no_end_joined : (file : List ℕ) (from mid to : ℕ) → HasNoEnd file from mid → HasNoEnd file mid to → HasNoEnd file from to
+no_end_joined file from mid to first second k above below is =
+    elim (cases_lt k mid) [ inl before ↦ first k above before is | inr behind ↦ second k behind below is ]
+
+-- where the next piece begins: behind what was given, or behind what was searched of a line that has no room
+pub next_from-ended : (p : Progress) → IsTrue p.is_ended → next_from p ≡ p.given
+next_from-ended p ended = rw ended refl
+
+pub next_from-long : (p : Progress) → IsFalse p.is_ended → p.given + 65536 ≤ p.searched → next_from p ≡ p.searched
+next_from-long p unended long = rw (unended, le-leb (p.given + 65536) p.searched long) refl
+
+pub next_from-short : (p : Progress) → IsFalse p.is_ended → (p.given + 65536 ≤ p.searched → ⊥) → next_from p ≡ p.given
+next_from-short p unended short =
+    let below : p.searched < p.given + 65536 = elim (cases_lt p.searched (p.given + 65536)) [ inl less ↦ less | inr long ↦ absurd (short long) ] in
+    rw (unended, lt-leb (p.given + 65536) p.searched below) refl

@@ -15,7 +15,7 @@ use Rattle.ntp_service.specs.Commands.{address_named, number_named}
 use Rattle.ntp_service.specs.Vocabulary.{command_word}
 use Rattle.ntp_service.specs.declared.command.Command.{Command}
 use Rattle.ntp_service.specs.declared.command.Command.TheVariants as command
-use Rattle.ntp_clerk.specs.CommandText.{algorithm_text, budget_named, key_named, key_behind, command_text, AreKeyOctets, HasOctets, IsNumber, IsCommand, WritesCommand}
+use Rattle.ntp_clerk.specs.CommandText.{algorithm_text, budget_named, key_named, key_behind, command_text, key_digits, AreKeyOctets, IsNumber, IsCommand, WritesCommand}
 use Rattle.ntp_clerk.specs.Grants.{number_text}
 use Rattle.ntp_clerk.proofs.Joined.{lacks, AllLack, parts-all, lacks-all, parts-line, lacks-by}
 use Rattle.ntp_clerk.proofs.Spelled.{reads-address, reads-number, reads-key, lacks-address, lacks-decimal, lacks-digits}
@@ -42,6 +42,10 @@ lacks-algorithm c out Sha1 = out.sha1
 reads-algorithm : (algorithm : Algorithm) → algorithm_in (algorithm_text algorithm) ≡ Some algorithm
 reads-algorithm Md5 = refl
 reads-algorithm Sha1 = refl
+
+-- the octets of a command's key can be a key's
+abbrev pub HasKeyOctets : Command → Type 0
+HasKeyOctets o = IfSome (key_named o) (λ key. AreKeyOctets key.octets)
 
 -- a number is one word, where there is one; a key is two, its algorithm and this word for it
 abbrev number_words : Option NonZeroU16 → List (List ℕ)
@@ -102,10 +106,10 @@ number-lacks : (c : ℕ) → Outside c → (number : Option NonZeroU16) → IfSo
 number-lacks c out None is = tt
 number-lacks c out (Some n) is = (lacks-decimal c n.value out.digit (omega (arith, is)), tt)
 
-key-lacks : (c : ℕ) → Outside c → (key : Option SymmetricKey) (octets : List ℕ) → IfSome key (λ k. (k.octets ≡ octets) × AreKeyOctets octets)
-    → AllLack c (key_words (encode_lower octets) key)
-key-lacks c out None octets has = tt
-key-lacks c out (Some k) octets has = (lacks-algorithm c out k.algorithm, (lacks-digits c octets out.hex has.1.2, tt))
+key-lacks : (c : ℕ) → Outside c → (key : Option SymmetricKey) → IfSome key (λ k. AreKeyOctets k.octets)
+    → AllLack c (key_words (option_map_or (λ k. encode_lower k.octets) key []) key)
+key-lacks c out None are = tt
+key-lacks c out (Some k) are = (lacks-algorithm c out k.algorithm, (lacks-digits c k.octets out.hex are.2, tt))
 
 word-lowercase : (c : Command) → list_all is_ascii_lowercase (command_word c) ≡ true
 word-lowercase (command.Enrol address number key budget) = refl
@@ -114,9 +118,9 @@ word-lowercase (command.Budget address budget) = refl
 word-lowercase (command.Rollover address number key) = refl
 word-lowercase (command.Retire address number) = refl
 
-words-lack : (c : ℕ) → Outside c → (o : Command) (octets : List ℕ) → IsCommand o → HasOctets o octets → AllLack c (words_of (encode_lower octets) o)
-words-lack c out o octets is has =
-    let key = key-lacks c out (key_named o) octets has in
+words-lack : (c : ℕ) → Outside c → (o : Command) → IsCommand o → HasKeyOctets o → AllLack c (words_of (key_digits o) o)
+words-lack c out o is are =
+    let key = key-lacks c out (key_named o) are in
     let budget = number-lacks c out (budget_named o) is.2 in (
       lacks-by is_ascii_lowercase c out.lower (command_word o) (word-lowercase o),
       (
@@ -126,26 +130,24 @@ words-lack c out o octets is has =
     )
 
 -- they are the command's
-pub words-say : (o : Command) (octets : List ℕ) → IsCommand o → HasOctets o octets → command_in (words_of (encode_lower octets) o) ≡ Ok o
+pub words-say : (o : Command) → IsCommand o → HasKeyOctets o → command_in (words_of (key_digits o) o) ≡ Ok o
 unfolding command_in
-words-say (command.Enrol address number key budget) octets is has =
-    rw (reads-address address is.0, reads-number number is.1, reads-algorithm key.algorithm, reads-key octets has.1, reads-number budget is.2, ← has.0) refl
-words-say (command.Revoke address) octets is has = rw (reads-address address is.0) refl
-words-say (command.Budget address budget) octets is has = rw (reads-address address is.0, reads-number budget is.2) refl
-words-say (command.Rollover address number key) octets is has =
-    rw (reads-address address is.0, reads-number number is.1, reads-algorithm key.algorithm, reads-key octets has.1, ← has.0) refl
-words-say (command.Retire address number) octets is has = rw (reads-address address is.0, reads-number number is.1) refl
+words-say (command.Enrol address number key budget) is are =
+    rw (reads-address address is.0, reads-number number is.1, reads-algorithm key.algorithm, reads-key key.octets are, reads-number budget is.2) refl
+words-say (command.Revoke address) is are = rw (reads-address address is.0) refl
+words-say (command.Budget address budget) is are = rw (reads-address address is.0, reads-number budget is.2) refl
+words-say (command.Rollover address number key) is are =
+    rw (reads-address address is.0, reads-number number is.1, reads-algorithm key.algorithm, reads-key key.octets are) refl
+words-say (command.Retire address number) is are = rw (reads-address address is.0, reads-number number is.1) refl
 
 -- the line of a command, with its line feed
-pub line-says : (o : Command) (octets text : List ℕ) → IsCommand o → HasOctets o octets → text ≡ command_text (encode_lower octets) o ++ (10 ∷ [])
-    → WritesCommand text o
-line-says o octets text is has whole =
-    let key_word = encode_lower octets in
-    let all = words_of key_word o in
+pub line-says : (o : Command) (text : List ℕ) → IsCommand o → HasKeyOctets o → text ≡ command_text (key_digits o) o ++ (10 ∷ []) → WritesCommand text o
+line-says o text is are whole =
+    let all = words_of (key_digits o) o in
     let line = join_with_byte 32 all in
     let some : 0 < length all = omega arith in (
       line,
-      ap (parts 10) (whole ∙ ap (λ words. words ++ (10 ∷ [])) (text-joins key_word o))
-          ∙ parts-line line (lacks-all 10 32 refl all some (words-lack 10 line_feed o octets is has)),
-      ap command_in (parts-all 32 all some (words-lack 32 space o octets is has)) ∙ words-say o octets is has,
+      ap (parts 10) (whole ∙ ap (λ words. words ++ (10 ∷ [])) (text-joins (key_digits o) o))
+          ∙ parts-line line (lacks-all 10 32 refl all some (words-lack 10 line_feed o is are)),
+      ap command_in (parts-all 32 all some (words-lack 32 space o is are)) ∙ words-say o is are,
     )

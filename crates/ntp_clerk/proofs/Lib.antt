@@ -4,10 +4,13 @@ mod Joined
 mod Spelled
 mod CommandLines
 mod KeyText
-mod SameKeys
-mod SameTerms
-mod Standings
-mod Amended
 mod Windows
 mod Passing
 mod Frames
+mod Stepping
+mod Doing
+mod Judging
+mod Leads
+mod Having
+mod Revoking
+mod NameLines

@@ -1,6 +1,7 @@
 -- What is written of a number, an address and a key is read as it.
 use Rattle.std.proofs.Common.{◌≡◌, ℕ, zero, suc, ◌*◌, ◌^◌, ◌<◌, ◌≤◌, ◌==◌, ◌&&◌, ◌||◌, true, false, List, [], ◌∷◌, length, Some, None, refl, ap, subst, sym, ◌∙◌, arith, rules, lit<}
 use Rattle.std.specs.Prelude.{map, not, slice_index, nat_le, if◌then◌else◌}
+use Rattle.std.specs.Option.{option_and_then}
 use Rattle.std.specs.Result.{result_ok}
 use Rattle.std.specs.List.{join_with_byte, list_all}
 use Rattle.std.specs.Char.{is_ascii_digit}
@@ -14,7 +15,7 @@ use Rattle.std.proofs.lemmas.List.Sums.{list_all-from_AllPass}
 use Rattle.hex.specs.Hex.{decode_of, encode_lower, lower_digits, IsBytes, is_hex_digit}
 use Rattle.hex.proofs.HexLemmas.{decode_of-encode_lower, decode_of-ok, length-encode_with}
 use Rattle.ntp_service.specs.declared.address.Address.{Address}
-use Rattle.ntp_admin.specs.Words.{is_decimal, decimal_in, number_in, key_in, address_in, address_from, address_text, non_zero, ◌>>=◌}
+use Rattle.ntp_admin.specs.Words.{is_decimal, decimal_in, number_in, key_in, address_in, address_from, address_text, non_zero}
 use Rattle.ntp_admin.proofs.PublicLaws.{new-non_zero}
 use Rattle.ntp_clerk.specs.declared.new_key.NewKey.{NewKey}
 use Rattle.ntp_clerk.specs.CommandText.{AreKeyOctets, IsAddress, IsNewKey, IsNumber}
@@ -49,7 +50,7 @@ reads-decimal least most n low high fits =
 
 pub reads-number : (number : NonZeroU16) → IsNumber number → number_in (number_text number) ≡ Some number
 reads-number number fits =
-    ap (λ found. found >>= non_zero) (reads-decimal 1 65535 number.value (number.ok) (omega arith) (omega arith))
+    ap (option_and_then non_zero) (reads-decimal 1 65535 number.value (number.ok) (omega arith) (omega arith))
     ∙ sym (new-non_zero number.value (Some number) refl)
 
 -- an address
@@ -64,7 +65,7 @@ reads-octets (a ∷ b ∷ c ∷ d ∷ []) four bytes =
     let rb = reads-decimal 0 255 b (omega arith) (omega (arith, bytes 1)) (omega (arith, bytes 1)) in
     let rc = reads-decimal 0 255 c (omega arith) (omega (arith, bytes 2)) (omega (arith, bytes 2)) in
     let rd = reads-decimal 0 255 d (omega arith) (omega (arith, bytes 3)) (omega (arith, bytes 3)) in
-    ap address_from
+    ap (λ words. address_from (map (decimal_in 0 255) words))
     (parts-joined 46 (decimal a) (decimal b ∷ decimal c ∷ decimal d ∷ []) (
       lacks-decimal 46 a refl (omega (arith, bytes 0)),
       (

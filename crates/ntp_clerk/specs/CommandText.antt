@@ -3,7 +3,7 @@ use Rattle.std.specs.Prelude.{◌≡◌, ◌<◌, ◌≤◌, ◌^◌, ℕ, List,
 use Rattle.std.specs.Option.{option_map_or}
 use Rattle.std.specs.Int.NonZero.{non_zero_u16_get}
 use Rattle.std.specs.declared.num.NonZeroU16.{NonZeroU16}
-use Rattle.hex.specs.Hex.{IsBytes}
+use Rattle.hex.specs.Hex.{IsBytes, encode_lower}
 use Rattle.ntp_mac.specs.Key.{SymmetricKey, most_key_octets}
 use Rattle.ntp_mac.specs.declared.key.Algorithm.{Algorithm}
 use Rattle.ntp_mac.specs.declared.key.Algorithm.TheVariants.{Md5, Sha1}
@@ -63,9 +63,9 @@ AreKeyOctets octets = (1 ≤ length octets) × (length octets ≤ most_key_octet
 abbrev pub IsCommand : Command → Type 0
 IsCommand c = IsAddress (address_named c) × IfSome (number_named c) IsNumber × IfSome (budget_named c) IsNumber
 
--- the key of a command has these octets, if it has a key
-abbrev pub HasOctets : Command → List ℕ → Type 0
-HasOctets c octets = IfSome (key_named c) (λ key. (key.octets ≡ octets) × AreKeyOctets octets)
+-- the octets of the key that a command names, in hexadecimal digits
+abbrev pub key_digits : Command → List ℕ
+key_digits c = option_map_or (λ key. encode_lower key.octets) (key_named c) []
 
 -- a text is one line with its line feed, and the line says a command
 abbrev pub WritesCommand : List ℕ → Command → Type 0

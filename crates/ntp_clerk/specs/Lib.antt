@@ -2,8 +2,9 @@ pub mod Numbers
 pub mod CommandText
 pub mod Grants
 pub mod AnswersFile
-pub mod Alike
-pub mod Recovery
+pub mod Leading
+pub mod Steps
+pub mod Names
 pub mod Wide
 pub mod Capture
 pub mod Link

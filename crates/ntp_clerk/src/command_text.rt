@@ -1,73 +1,52 @@
 //! How commands are written.
-ghost use Rattle.std.specs.Prelude.{◌≡◌, ◌++◌, true, IfOk, IfSome, IsSome, codes, string_bytes};
-ghost use Rattle.std.specs.Bool.{OnTrue};
-ghost use Rattle.hex.specs.Hex.{encode_lower};
+ghost use Rattle.std.specs.Prelude.{◌≡◌, ◌++◌, IfOk, IfSome, codes, string_bytes};
+ghost use Rattle.hex.specs.Hex.{encode_lower, IsBytes};
 ghost use Rattle.ntp_admin.specs.Words.{address_text, number_behind};
 ghost use Rattle.ntp_admin.specs.Answers.{line_feed};
-ghost use Rattle.ntp_clerk.specs.CommandText.{algorithm_text, budget_named, command_text, key_behind, key_named, AreKeyOctets, HasOctets, IsAddress, IsCommand, IsNumber, WritesCommand};
+ghost use Rattle.ntp_clerk.specs.CommandText.{algorithm_text, budget_named, command_text, key_behind, key_digits, key_named, AreKeyOctets, IsAddress, IsCommand, IsNumber, WritesCommand};
 
 use ntp_mac::{Algorithm, Key};
 use ntp_service::{Address, Command};
 use std::alloc::{AllocError, Global};
 use std::num::NonZero;
 
-/// The line of a command, with its line feed, where its key has these octets or it has none: what is read from it is the command. Else
-/// nothing. The memory for it is taken from `alloc`.
-pub fn command_line(
-    alloc: Global,
-    command: &Command,
-    octets: &[u8],
-) -> Result<Option<String>, AllocError>
-    ensures command { IfOk result (λ line. IfSome line (λ text. WritesCommand (string_bytes text) command.now)) }
-    ensures line { HasOctets command.now octets.now → IfOk result (λ line. IsSome line) }
-{
-    if !has_octets(command, octets) {
-        return Ok(None);
-    }
-    let line = line_of(alloc, command, octets)?;
-    Ok(Some(line))
-}
-
-// Whether the key of a command has these octets, if it has a key.
-fn has_octets(command: &Command, octets: &[u8]) -> bool
-    ensures has { OnTrue result (HasOctets command.now octets.now) }
-    ensures whole { HasOctets command.now octets.now → result ≡ true }
-{
-    match key_named(command) {
-        Some(key) => is_of(&key, octets),
-        None => true,
-    }
-}
-
-// Whether a key has these octets.
-fn is_of(key: &Key, octets: &[u8]) -> bool
-    ensures same { OnTrue result (key.now.octets ≡ octets.now) }
-    ensures fit { OnTrue result (AreKeyOctets octets.now) }
-    ensures whole { key.now.octets ≡ octets.now → AreKeyOctets octets.now → result ≡ true }
-{
-    match Key::new(key.algorithm(), octets) {
-        Ok(made) => made == *key,
-        Err(_) => false,
-    }
-}
-
-// The line of a command, whose key has these octets, if it has a key.
-fn line_of(alloc: Global, command: &Command, octets: &[u8]) -> Result<String, AllocError>
-    requires { HasOctets command.now octets.now }
+/// The line of a command, with its line feed: what is read from it is the command. It has the octets of the command's key, which
+/// are a secret. The memory for it is taken from `alloc`.
+pub fn command_line(alloc: Global, command: &Command) -> Result<String, AllocError>
     ensures { IfOk result (λ text. WritesCommand (string_bytes text) command.now) }
 {
-    let text = line_text(alloc, command, octets)?;
+    let text = line_text(alloc, command)?;
     Ok(text)
 }
 
 // The text of this line.
-fn line_text(alloc: Global, command: &Command, octets: &[u8]) -> Result<String, AllocError>
-    ensures text { IfOk result (λ text. string_bytes text ≡ command_text (encode_lower octets.now) command.now ++ line_feed) }
+fn line_text(alloc: Global, command: &Command) -> Result<String, AllocError>
+    ensures text { IfOk result (λ text. string_bytes text ≡ command_text (key_digits command.now) command.now ++ line_feed) }
     ensures command { IfOk result (λ _. IsCommand command.now) }
+    ensures octets { IfOk result (λ _. IfSome (key_named command.now) (λ key. AreKeyOctets key.octets)) }
 {
-    let digits = hex::encode(alloc, octets)?;
+    let digits = key_digits(alloc, command)?;
     let text = text_of(alloc, command, digits.as_str())?;
     format!(in alloc; "{text}\n")
+}
+
+// The octets of the key that a command names, in hexadecimal digits; nothing where it names none.
+fn key_digits(alloc: Global, command: &Command) -> Result<String, AllocError>
+    ensures digits { IfOk result (λ digits. string_bytes digits ≡ key_digits command.now) }
+    ensures octets { IfSome (key_named command.now) (λ key. AreKeyOctets key.octets) }
+{
+    match key_named(command) {
+        Some(key) => octet_digits(alloc, key.octets()),
+        None => Ok(String::new(alloc)),
+    }
+}
+
+// Octets in hexadecimal digits.
+fn octet_digits(alloc: Global, octets: &[u8]) -> Result<String, AllocError>
+    ensures digits { IfOk result (λ digits. string_bytes digits ≡ encode_lower octets.now) }
+    ensures octets { IsBytes octets.now }
+{
+    hex::encode(alloc, octets)
 }
 
 /// The line of a command as anybody may see it: `KEY` stands in the place of the key. The memory for it is taken from `alloc`.
@@ -114,7 +93,7 @@ fn key_named(command: &Command) -> Option<Key>
 
 // The word of an address.
 #[tactic(auto, unfolding(ntp_admin::specs::Words::address_text))]
-fn address_word(alloc: Global, address: Address) -> Result<String, AllocError>
+pub(crate) fn address_word(alloc: Global, address: Address) -> Result<String, AllocError>
     ensures word { IfOk result (λ text. string_bytes text ≡ address_text address) }
     ensures octets { IsAddress address }
 {

@@ -1,10 +1,10 @@
-//! What is decided for a clerk who keeps customers: which key number is the lowest that is free, how a command is written, what a customer is
-//! told of its key, what an answers file answers, into which fewer commands others are folded, and what is had back of lost commands. And
-//! what comes to the door of the server: the datagrams of a capture file in pcap form; and, where the kernel polices the door, which limit a
-//! budget gets and which customers share one. It reads no file, and writes none.
+//! What is decided for a clerk who keeps customers: which commands lead from the customers of a service to others, and which make
+//! them out of none; which key number is the lowest that is free; how a command and a customer's name are written; what a
+//! customer is told of its key; and what an answers file answers. And what comes to the door of the server: the datagrams of a
+//! capture file in pcap form; and, where the kernel polices the door, which limit a budget gets and which customers share one. It
+//! reads no file, and writes none.
 #![tactic(auto)]
 
-mod alike;
 mod answers;
 mod capture;
 mod command_text;
@@ -12,25 +12,30 @@ mod datagram;
 mod folding;
 mod grant;
 mod groups;
+mod leading;
 mod limit;
 mod link;
+mod names;
 mod new_key;
 mod numbers;
-mod recovery;
+mod seen;
 mod statement;
+mod wanted;
 mod wide;
 
-pub use alike::leave_the_same;
 pub use answers::answer_behind;
 pub use capture::{Capture, CaptureFault, Order, Record, capture_in, next_record};
 pub use command_text::{command_line, command_shown};
 pub use datagram::{Datagram, datagram_in};
-pub use folding::{FoldFault, Folded, GivenKey, Kept, Terms, fold};
+pub use folding::fold;
 pub use grant::{Grant, customer_text};
 pub use groups::{Grouping, group_for};
+pub use leading::{LeadFault, commands_to};
 pub use limit::{Limit, limit_for};
 pub use link::{Link, packet_in};
+pub use names::{NameLine, name_in, name_line};
 pub use new_key::{NEW_KEY_OCTETS, NewKey};
 pub use numbers::lowest_free;
-pub use recovery::{Amendment, Seen, SeenKey, SeenTerms, amendment_for, are_same, lost_keys};
+pub use seen::{Seen, SeenKey, SeenTerms, are_same};
 pub use statement::limit_statement;
+pub use wanted::{GivenKey, Terms, Wanted, customers_of, terms_of};

@@ -1,5 +1,5 @@
 //! What a customer has while it is enrolled.
-ghost use Rattle.std.specs.Prelude.{◌≡◌, ◌↔◌, ◌<◌, ℕ, None, Some, IsSome, Contains, List, [], ◌∷◌, ◌++◌, length, nat_lt, option_copied, option_map, ◌==◌, not, filter};
+ghost use Rattle.std.specs.Prelude.{◌≡◌, ◌≢◌, ◌↔◌, ◌<◌, ℕ, None, Some, IfSome, IsSome, Contains, List, [], ◌∷◌, ◌++◌, length, nat_lt, option_copied, option_map, ◌==◌, not, filter};
 ghost use Rattle.std.specs.Borrow.{sem};
 ghost use Rattle.std.specs.Option.{option_to_list};
 ghost use Rattle.ntp_customer.specs.Tally.{capped_count, tally};
@@ -76,6 +76,15 @@ impl<A: Allocator> Account<A> {
         ensures positive { 0 < result.now.number }
     {
         &self.older
+    }
+
+    // The keys with their numbers, the older one first.
+    pub(crate) fn keys(&self) -> (NumberedKey, Option<NumberedKey>)
+        ensures keys { self.now.enrolment.keys ≡ result.0 ∷ option_to_list result.1 }
+        ensures positive { (0 < result.0.number) × IfSome result.1 (λ newer. 0 < newer.number) }
+        ensures apart { IfSome result.1 (λ newer. result.0.number ≢ newer.number) }
+    {
+        (self.older, self.newer)
     }
 
     // The numbers of the keys, the older one's first.

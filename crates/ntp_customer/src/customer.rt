@@ -1,5 +1,5 @@
 //! One customer.
-ghost use Rattle.std.specs.Prelude.{◌≡◌, ◌↔◌, ◌<◌, [], ◌∷◌, None, Some, IfSome, IsSome, is_some, Contains, length, nat_lt, option_copied, option_map};
+ghost use Rattle.std.specs.Prelude.{◌≡◌, ◌≢◌, ◌↔◌, ◌<◌, [], ◌∷◌, None, Some, IfSome, IsSome, is_some, Contains, length, nat_lt, option_copied, option_map};
 ghost use Rattle.std.specs.Option.{option_to_list};
 ghost use Rattle.std.specs.Borrow.{sem};
 ghost use Rattle.ntp_customer.specs.Tally.{capped_count};
@@ -62,6 +62,17 @@ impl<A: Allocator> Customer<A> {
             }
             None => false,
         }
+    }
+
+    /// The keys of an enrolled customer with their numbers, the older one first.
+    pub fn keys(&self) -> (NumberedKey, Option<NumberedKey>)
+        requires { IsSome (enrolment_at self.now) }
+        ensures keys { IfSome (enrolment_at self.now) (λ e. e.keys ≡ result.0 ∷ option_to_list result.1) }
+        ensures positive { (0 < result.0.number) × IfSome result.1 (λ newer. 0 < newer.number) }
+        ensures apart { IfSome result.1 (λ newer. result.0.number ≢ newer.number) }
+    {
+        let account = self.account.as_ref().unwrap();
+        account.keys()
     }
 
     /// The number of the older key of an enrolled customer, from 1 to 65,535.

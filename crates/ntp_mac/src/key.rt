@@ -93,8 +93,8 @@ impl Key {
         self.len
     }
 
-    // The key's octets.
-    pub(crate) fn octets(&self) -> &[u8]
+    /// The key's octets: a secret, for a file of keys alone.
+    pub fn octets(&self) -> &[u8]
         ensures octets { result.now ≡ self.now.octets }
         ensures some { 1 ≤ length result.now }
         ensures most { length result.now ≤ most_key_octets }

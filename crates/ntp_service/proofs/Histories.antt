@@ -24,13 +24,16 @@ tie Less e = absurd (true≢false (sym e))
 tie Equal e = refl
 tie Greater e = absurd (true≢false (sym e))
 
--- a test of addresses says no where they differ
+-- a test of addresses says yes where they are one, and no where they differ
+pub same-address : (a b : Address) → address_eq a b ≡ true → a ≡ b
+same-address a b equal = addresses.same a b (tie (address_cmp a b) (sym (addresses.ties a b) ∙ equal))
+
 pub other-address : (a b : Address) → a ≢ b → address_eq a b ≡ false
 other-address a b ne = decided (address_eq a b) refl
   where
     decided : (t : Bool) → address_eq a b ≡ t → address_eq a b ≡ false
     decided false e = e
-    decided true e = absurd (ne (addresses.same a b (tie (address_cmp a b) (sym (addresses.ties a b) ∙ e))))
+    decided true e = absurd (ne (same-address a b e))
 
 module _ {A : Type 0} where
   -- the events of what happened

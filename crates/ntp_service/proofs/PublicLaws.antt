@@ -2,8 +2,12 @@
 
 -- two addresses are one, or not
 pub use Rattle.ntp_service.proofs.AddressLaws.{same_or_other_address}
--- a test of addresses says no where they differ
-pub use Rattle.ntp_service.proofs.Histories.{other-address}
+-- where a customer was written, its address has it, and each other address what it had
+pub use Rattle.ntp_service.proofs.Lookups.{customer_at-with_customer, customer_at-with_customer-other}
+-- the test of addresses is an equivalence
+pub use Rattle.ntp_service.proofs.AddressLaws.{address_eq_equiv}
+-- it says yes where addresses are one, and no where they differ
+pub use Rattle.ntp_service.proofs.Histories.{same-address, other-address}
 -- of nothing that happened a service tells nothing
 pub use Rattle.ntp_service.proofs.Runs.{Tells-nil}
 -- a service tells of one event as it tells of a list of one

@@ -1,7 +1,8 @@
 //! A service, one event at a time.
-ghost use Rattle.std.specs.Prelude.{◌≡◌, ◌↔◌, ◌≤◌, List, [], length, IsNone, IsTrue, OnErr, option_copied};
+ghost use Rattle.std.specs.Prelude.{◌≡◌, ◌↔◌, ◌≤◌, List, [], length, Contains, IsNone, IsSome, IsTrue, IfOk, OnErr, option_copied};
 ghost use Rattle.std.specs.Bool.{OnFalse};
-ghost use Rattle.ntp_service.specs.Registry.{customer_at};
+ghost use Rattle.ntp_service.specs.Registry.{customer_at, Agrees, AnswersCommand};
+ghost use Rattle.ntp_service.specs.declared.address.Address.{Address};
 ghost use Rattle.ntp_reply.specs.Verdict.{reply_length};
 ghost use Rattle.ntp_service.specs.declared.event.Event.{Event};
 ghost use Rattle.ntp_service.specs.Events.{own};
@@ -12,7 +13,7 @@ ghost use Rattle.ntp_service.specs.Forgery.{is_genuine, genuine};
 use crate::{Address, Command, Customer, Event, Outcome, Refusal, Register};
 use ntp_packet::{Moment, Stamp};
 use ntp_reply::{Answer, Reason, Reference, answer_octets, depart};
-use std::alloc::{Allocator, Global};
+use std::alloc::{AllocError, Allocator, Global};
 use std::marker::Model;
 
 /// A service for registered customers. Contracts see what each address has, and who holds each number.
@@ -49,6 +50,13 @@ impl<A: Allocator + Copy> Service<A> {
     /// The allocator from which the service takes its memory.
     pub fn allocator(&self) -> A {
         self.alloc
+    }
+
+    /// The addresses that were ever enrolled, in the order of their first enrolments.
+    pub fn addresses(&self) -> Result<Vec<Address, A>, AllocError>
+        ensures { IfOk result (λ addresses. (address : Address) → Contains addresses.items address ↔ IsSome (customer_at self.now address)) }
+    {
+        self.register.addresses()
     }
 
     /// The customer at an address: none exactly where the address was never enrolled.
@@ -110,6 +118,8 @@ impl<A: Allocator + Copy> Service<A> {
             → TellsOne history (Event.Command command.now) (command_outcome result) self.new }
         ensures taken { (history : List (Event A)) → StandsFor self.old history
             → (result ≡ Err Refusal.KeyTaken) ↔ IsTaken history (Event.Command command.now) }
+        ensures answers { AnswersCommand self.old self.new command.now result }
+        ensures agrees { Agrees self.new }
         ensures refused { OnErr result (self.new ≡ self.old) }
     {
         self.register.carry_out(command)

@@ -1,5 +1,5 @@
 //! The two tables of a register: its customers, and the holders of key numbers. Nothing else opens them.
-ghost use Rattle.std.specs.Prelude.{◌≡◌, ◌∷◌, None, IsSome, IsOk, OnOk, OnErr, option_copied};
+ghost use Rattle.std.specs.Prelude.{◌≡◌, ◌↔◌, ◌∷◌, None, Contains, IsSome, IfOk, IsOk, OnOk, OnErr, option_copied};
 ghost use Rattle.std.specs.Option.{option_copied_mut, option_to_list};
 ghost use Rattle.std.specs.Borrow.{sem};
 
@@ -36,6 +36,7 @@ impl<A: Allocator> Model for Register<A> {
 
 impl<A: Allocator + Copy> Register<A> {
     ghost use Rattle.ntp_service.specs.Registry.{Agrees, empty_registry, customer_at, holder_of, with_customer, with_holder, without_holder, without_holders};
+    ghost use Rattle.ntp_service.specs.declared.address.Address.{Address};
     ghost use Rattle.ntp_service.specs.Lends.{lends_customer};
 
     /// An empty register, which will take its memory from `alloc`.
@@ -54,6 +55,17 @@ impl<A: Allocator + Copy> Register<A> {
         ensures { result ≡ holder_of self.now number }
     {
         self.holders.get(&number).copied()
+    }
+
+    /// The addresses that were ever enrolled, in the order of their first enrolments.
+    pub fn addresses(&self) -> Result<Vec<Address, A>, AllocError>
+        ensures { IfOk result (λ addresses. (address : Address) → Contains addresses.items address ↔ IsSome (customer_at self.now address)) }
+    {
+        let mut addresses = Vec::new(self.allocator());
+        for address in self.customers.keys() {
+            addresses.push(*address)?;
+        }
+        Ok(addresses)
     }
 
     /// The customer at an address: none exactly where the address was never enrolled.

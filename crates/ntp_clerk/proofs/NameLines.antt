@@ -1,0 +1,48 @@
+-- The line of a name says it.
+use Rattle.std.proofs.Common.{◌≡◌, ℕ, ◌+◌, ◌==◌, Bool, true, List, [], ◌∷◌, ◌++◌, length, drop, take, Option, Some, None, refl, sym, ap, ◌∙◌, arith, append_assoc}
+use Rattle.std.specs.Prelude.{codes, option_map, if◌then◌else◌}
+use Rattle.std.specs.List.{position_or_len, before_first, after_first}
+use Rattle.std.proofs.lemmas.Bool.{and_parts}
+use Rattle.std.proofs.Math.Seq.{take-append_seam, drop-append-add}
+use Rattle.ntp_service.specs.declared.address.Address.{Address}
+use Rattle.ntp_admin.specs.Words.{address_in, address_text, parts}
+use Rattle.ntp_clerk.specs.CommandText.{IsAddress}
+use Rattle.ntp_clerk.specs.Names.{name_behind, name_in, IsName}
+use Rattle.ntp_clerk.proofs.Joined.{lacks, lacks-both, parts-line, not-true}
+use Rattle.ntp_clerk.proofs.Stepping.{other-test}
+use Rattle.ntp_clerk.proofs.Spelled.{reads-address, lacks-address}
+
+abbrev is_space : ℕ → Bool
+is_space c = c == 32
+
+at-space : (word name : List ℕ) → lacks 32 word ≡ true → position_or_len is_space (word ++ (32 ∷ name)) ≡ length word
+at-space [] name lack = refl
+at-space (x ∷ word) name lack =
+    let both = and_parts _ (lacks 32 word) lack in
+    let rest = at-space word name both.1 in
+    rw (not-true (x == 32) both.0) (omega (arith, rest))
+
+abbrev said : Bool → List ℕ → Option Address → Option (Address × List ℕ)
+said none after address = if none then None else option_map (λ address. (address, after)) address
+
+behind-address : (a : Address) (name : List ℕ) → IsAddress a → IsName name → name_behind (address_text a ++ (32 ∷ name)) ≡ Some (a, name)
+behind-address a name address is =
+    let word = address_text a in
+    let at = at-space word name (lacks-address 32 refl refl a address) in
+    parts-say (before_first is_space (word ++ (32 ∷ name))) (after_first is_space (word ++ (32 ∷ name)))
+    (ap (λ n. take n (word ++ (32 ∷ name))) at ∙ take-append_seam word (32 ∷ name))
+    (ap (λ n. drop (n + 1) (word ++ (32 ∷ name))) at ∙ drop-append-add word (32 ∷ name) 1)
+  where
+    parts-say : (before after : List ℕ) → before ≡ address_text a → after ≡ name
+        → said (length after == 0) after (address_in before) ≡ Some (a, name)
+    parts-say before after is_word is_name =
+        rw (is_word, is_name, other-test (length name) 0 (λ none. omega (arith, is.0, none)), reads-address a address) refl
+
+pub name-says : (a : Address) (name text : List ℕ) → IsAddress a → IsName name → text ≡ codes "# name " ++ (address_text a ++ (codes " " ++ (name ++ 10 ∷ [])))
+    → (line : List ℕ) × (parts 10 text ≡ line ∷ [] ∷ []) × (name_in line ≡ Some (a, name))
+name-says a name text address is whole =
+    let line = codes "# name " ++ (address_text a ++ (32 ∷ name)) in
+    let lack = lacks-both 10 (codes "# name ") (address_text a ++ (32 ∷ name)) refl
+    (lacks-both 10 (address_text a) (32 ∷ name) (lacks-address 10 refl refl a address) (lacks-both 10 (32 ∷ []) name refl is.1)) in
+    let ended : address_text a ++ (codes " " ++ (name ++ 10 ∷ [])) ≡ (address_text a ++ (32 ∷ name)) ++ 10 ∷ [] = sym (append_assoc (address_text a) (32 ∷ name) (10 ∷ [])) in
+    (line, ap (parts 10) (whole ∙ ap (λ end. codes "# name " ++ end) ended) ∙ parts-line line lack, behind-address a name address is)

@@ -1,0 +1,12 @@
+use Rattle.ntp_clerk.specs.Leading.{enrolment_if}
+use Rattle.std.proofs.Common.{◌∙◌}
+use Rattle.ntp_clerk.proofs.Stepping.{moves-given}
+use Rattle.ntp_clerk.proofs.leading.give.Goals as goal
+
+pub returns : goal.returns
+returns c =
+    let w = c.copied.ensures ∙ c.get.ensures.value in
+    let given = moves-given c.args.service.now c.order.new.service c.args.address _ c.args.commands.now.items c.order.new.commands.items _
+    c.in_ok-order.ensures.noted c.in_ok-order.ensures.done (enrolment_if c.terms_at-held.result) c.terms_at-held.ensures.terms
+    (rw w at c.giving-steps.ensures.needed) (rw w at c.giving-steps.ensures.goes) in
+    record { moves = given.0; has = given.1; fault = tt }

@@ -1,0 +1,98 @@
+-- Not to be believed: for proofs. The steps from what an address has to what it is to have.
+use Rattle.std.specs.Prelude.{ℕ, ◌≡◌, ◌≢◌, ◌⊎◌, ◌==◌, if◌then◌else◌, ◌++◌, [], Bool, true, false, Option, None, Some, option_map, option_and_then, List, All, IfSome, IsSome, Contains, fold, filter_map}
+use Rattle.std.specs.Int.NonZero.{non_zero_u16_get}
+use Rattle.indexmap.specs.IndexMap.{IndexMap, get}
+use Rattle.ntp_customer.specs.Tally.{tally}
+use Rattle.ntp_customer.specs.Customer.{Enrolment, enrolment_at, new_customer}
+use Rattle.ntp_service.specs.declared.address.Address.{Address}
+use Rattle.ntp_service.specs.Address.{address_eq}
+use Rattle.ntp_service.specs.Commands.{once_done}
+use Rattle.ntp_service.specs.Registry.{Registry, customer_at, terms_at}
+use Rattle.ntp_service.specs.declared.command.Command.{Command}
+use Rattle.ntp_service.specs.declared.command.Command.TheVariants.{Budget}
+use Rattle.ntp_clerk.specs.declared.wanted.Terms.{Terms}
+use Rattle.ntp_clerk.specs.declared.wanted.Wanted.{Wanted}
+use Rattle.ntp_clerk.specs.Leading.{enrolment_if, enrolment_with, enrolment_among, AreTwo, HasNumber, IsNeededAt, KeepsNoKey, LeadsTo, NobodyIsForgotten}
+
+-- the commands of steps
+abbrev pub done_in : List (Option Command) → List Command
+done_in steps = filter_map (λ step. step) steps
+
+-- the enrolment that a map of terms has for an address
+abbrev pub wanted_in : {S : Type 0} → IndexMap Address Terms S → Address → Option Enrolment
+wanted_in terms address = enrolment_if (get address_eq terms address)
+
+-- these are the terms of customers by their addresses, and none has one number twice
+pub record AreTerms {S : Type 0} (terms : IndexMap Address Terms S) (customers : List Wanted) : Type 0 where
+  pub among : (address : Address) → wanted_in terms address ≡ enrolment_among customers address
+  pub two : (address : Address) → IfSome (get address_eq terms address) AreTwo
+
+-- a number is noted that was not
+pub record NotesOne (number : ℕ) (old new : ℕ → Bool) : Type 0 where
+  pub free : old number ≡ false
+  pub noted : new number ≡ true
+  pub others : (n : ℕ) → n ≢ number → new n ≡ old n
+
+-- the terms of an address are noted, and its numbers, where none of them was
+pub record Notes (address : Address) (terms : Terms) (old new : Address → Option Terms) (numbers noted : ℕ → Bool) : Type 0 where
+  pub free : old address ≡ None
+  pub here : new address ≡ Some terms
+  pub others : (q : Address) → q ≢ address → new q ≡ old q
+  pub two : AreTwo terms
+  pub fresh : (n : ℕ) → HasNumber terms n → numbers n ≡ false
+  pub has : (n : ℕ) → HasNumber terms n → noted n ≡ true
+  pub kept : (n : ℕ) → numbers n ≡ true → noted n ≡ true
+  pub only : (n : ℕ) → noted n ≡ true → (numbers n ≡ true) ⊎ HasNumber terms n
+
+-- what an address is enrolled with after its command is done
+abbrev pub terms_after : Option Enrolment → Command → Option Enrolment
+terms_after held c = option_and_then enrolment_at (once_done (tally []) (option_map new_customer held) c)
+
+-- the command that gives an address the wanted budget, where it has another
+abbrev pub rebudgeting : Address → Terms → Terms → Option Command
+rebudgeting address held wanted =
+    if non_zero_u16_get held.budget == non_zero_u16_get wanted.budget then None else Some (Budget address wanted.budget)
+
+-- commands lead from what an address has to this
+pub record Goes (held : Option Enrolment) (cs : List Command) (new : Option Enrolment) : Type 0 where
+  pub leads : fold terms_after held cs ≡ new
+
+-- commands for an address are done: they change what it is enrolled with, and no other
+pub record AreDone (r : Registry) (address : Address) (cs : List Command) (s : Registry) : Type 0 where
+  pub leads : LeadsTo r cs s
+  pub here : terms_at s address ≡ fold terms_after (terms_at r address) cs
+  pub others : (other : Address) → other ≢ address → terms_at s other ≡ terms_at r other
+  pub known : NobodyIsForgotten r s
+
+-- each key of an enrolment is wanted
+abbrev pub OnlyWanted : Option Enrolment → Option Enrolment → Type 0
+OnlyWanted None wanted = Unit {0}
+OnlyWanted (Some e) None = ⊥
+OnlyWanted (Some e) (Some f) = All (Contains f.keys) e.keys
+
+-- of what an address held it has all keys that are wanted, and all else where it was as wanted
+pub record Kept (held wanted now : Option Enrolment) : Type 0 where
+  pub same : held ≡ wanted → now ≡ held
+  pub keeps : KeepsNoKey now wanted → KeepsNoKey held wanted
+
+-- commands take from an address what is not wanted of it
+pub record Frees (address : Address) (held wanted : Option Enrolment) (cs : List Command) : Type 0 where
+  pub needed : All (IsNeededAt address held wanted) cs
+  pub kept : Kept held wanted (fold terms_after held cs)
+  pub only : OnlyWanted (fold terms_after held cs) wanted
+
+-- commands for an address are given to a service behind others, and each is needed
+pub record Moves (r : Registry) (address : Address) (wanted : Option Enrolment) (old new : List Command) (s : Registry) : Type 0 where
+  pub more : List Command
+  pub noted : new ≡ old ++ more
+  pub done : AreDone r address more s
+  pub needed : All (IsNeededAt address (terms_at r address) wanted) more
+  pub kept : Kept (terms_at r address) wanted (terms_at s address)
+
+-- two commands make an address a revoked one, and nobody is forgotten
+pub record Revokes (r : Registry) (address : Address) (old new : List Command) (s : Registry) : Type 0 where
+  pub more : List Command
+  pub noted : new ≡ old ++ more
+  pub leads : LeadsTo r more s
+  pub is_known : IsSome (customer_at s address)
+  pub known : NobodyIsForgotten r s

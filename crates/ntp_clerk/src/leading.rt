@@ -1,0 +1,352 @@
+//! The commands that lead from the customers of a service to others.
+ghost use Rattle.std.specs.Prelude.{◌≡◌, ◌↔◌, ◌⊎◌, ℕ, ◌++◌, [], ◌∷◌, false, All, Contains, None, Some, IfErr, IfOk, IfSome, IsTrue, OnOk, nat_eq, option_map};
+ghost use Rattle.indexmap.specs.IndexMap.{get};
+ghost use Rattle.indexmap.specs.IndexSet.{contains};
+ghost use Rattle.ntp_service.specs.Address.{address_eq};
+ghost use Rattle.ntp_service.specs.Commands.{address_named};
+ghost use Rattle.ntp_service.specs.Registry.{terms_at};
+ghost use Rattle.ntp_service.specs.declared.address.Address.{Address};
+ghost use Rattle.ntp_service.specs.declared.command.Command.TheVariants as command;
+ghost use Rattle.ntp_clerk.specs.Leading.{ends, enrolment_if, enrolment_with, key_given, AreApart, AreTwo, HasExactly, HasNumber, IsOfService, IsNeeded, IsNeededAt, LeadsTo, NobodyIsForgotten};
+ghost use Rattle.ntp_clerk.specs.Steps.{done_in, rebudgeting, terms_after, wanted_in, AreDone, AreTerms, Frees, Goes, Notes, NotesOne, Moves, OnlyWanted};
+
+use crate::wanted::{GivenKey, Terms, Wanted, are_same_key, terms_at};
+use indexmap::{IndexMap, IndexSet};
+use ntp_service::{Address, Command, Refusal, Service};
+use std::alloc::{AllocError, Global};
+use std::hash::{BuildHasherDefault, FoldHasher};
+
+// How addresses and numbers are hashed, as the register's are.
+type Hashing = BuildHasherDefault<FoldHasher>;
+
+// What is wanted of each address.
+type ByAddress = IndexMap<Address, Terms, Hashing>;
+
+// The numbers of keys that are wanted.
+type Numbers = IndexSet<u16, Hashing>;
+
+/// Why no commands lead to wanted customers.
+#[derive(Clone, Copy, Debug, PartialEq, Eq)]
+pub enum LeadFault {
+    /// Two of them have this address.
+    SameAddress(Address),
+    /// Two of their keys have this number.
+    SameNumber(u16),
+    /// Memory ran out.
+    NoMemory,
+    /// A command was refused.
+    Other,
+}
+
+impl From<AllocError> for LeadFault {
+    ghost use Rattle.ntp_clerk.specs.declared.leading.LeadFault.TheVariants.{NoMemory};
+
+    ghost from_gives = { λ _ fault. fault ≡ NoMemory };
+
+    fn from(_error: AllocError) -> LeadFault {
+        LeadFault::NoMemory
+    }
+}
+
+/// The commands that lead from the customers of a service to the wanted ones. They are given to the service, which does each;
+/// then it has exactly these customers. Who is as wanted already is named by no command; who keeps a key is neither revoked nor
+/// enrolled anew. First each customer loses the keys that are not wanted of it, or is revoked where it keeps none; so the numbers
+/// are free that others get then. The wanted customers are judged before any command. After another fault the service has done
+/// some commands, and is of no use. The memory is taken from `alloc`.
+pub fn commands_to(
+    alloc: Global,
+    service: &mut Service,
+    wanted: &[Wanted],
+) -> Result<Vec<Command>, LeadFault>
+    ensures leads { IfOk result (λ commands. LeadsTo service.old commands.items service.new) }
+    ensures exactly { OnOk result (HasExactly service.new wanted.now) }
+    ensures needed { IfOk result (λ commands. All (IsNeeded service.old wanted.now) commands.items) }
+    ensures known { OnOk result (NobodyIsForgotten service.old service.new) }
+    ensures apart { OnOk result (AreApart wanted.now) }
+    ensures fault { AreApart wanted.now → IfErr result IsOfService }
+{
+    let terms = &judged(alloc, wanted)?;
+    let mut commands = Vec::new(alloc);
+    for address in &service.addresses()? {
+        free(service, &mut commands, *address, terms)?;
+    }
+    for customer in wanted {
+        give(service, &mut commands, customer.address, terms)?;
+    }
+    Ok(commands)
+}
+
+// What is wanted of each address, where no address and no number is wanted twice.
+fn judged(alloc: Global, wanted: &[Wanted]) -> Result<ByAddress, LeadFault>
+    ensures terms { IfOk result (λ terms. AreTerms terms wanted.now) }
+    ensures apart { OnOk result (AreApart wanted.now) }
+    ensures fault { AreApart wanted.now → IfErr result (λ fault. fault ≡ LeadFault.NoMemory) }
+{
+    let mut terms = IndexMap::new(alloc);
+    let mut numbers = IndexSet::new(alloc);
+    for customer in wanted {
+        note(&mut terms, &mut numbers, customer)?;
+    }
+    Ok(terms)
+}
+
+// Notes what is wanted of an address, and its numbers, where none of them was noted.
+fn note(terms: &mut ByAddress, numbers: &mut Numbers, customer: &Wanted) -> Result<(), LeadFault>
+    ensures notes { OnOk result (Notes customer.now.address customer.now.terms
+        (λ q. get address_eq terms.old q) (λ q. get address_eq terms.new q)
+        (λ n. contains nat_eq numbers.old n) (λ n. contains nat_eq numbers.new n)) }
+    ensures fault { get address_eq terms.old customer.now.address ≡ None → AreTwo customer.now.terms
+        → ((n : ℕ) → HasNumber customer.now.terms n → contains nat_eq numbers.old n ≡ false)
+        → IfErr result (λ fault. fault ≡ LeadFault.NoMemory) }
+{
+    let address = customer.address;
+    match terms.insert(address, customer.terms) {
+        Ok(None) => {}
+        Ok(Some(_)) => return Err(LeadFault::SameAddress(address)),
+        Err(_) => return Err(LeadFault::NoMemory),
+    }
+    note_number(numbers, &customer.terms.older)?;
+    if let Some(newer) = &customer.terms.newer {
+        note_number(numbers, newer)?;
+    }
+    Ok(())
+}
+
+// Notes the number of a key, where it was not noted.
+fn note_number(numbers: &mut Numbers, key: &GivenKey) -> Result<(), LeadFault>
+    ensures notes { OnOk result (NotesOne (key_given key.now).number
+        (λ n. contains nat_eq numbers.old n) (λ n. contains nat_eq numbers.new n)) }
+    ensures fault { contains nat_eq numbers.old (key_given key.now).number ≡ false
+        → IfErr result (λ fault. fault ≡ LeadFault.NoMemory) }
+{
+    let number = key.number.get();
+    match numbers.insert(number) {
+        Ok(true) => Ok(()),
+        Ok(false) => Err(LeadFault::SameNumber(number)),
+        Err(_) => Err(LeadFault::NoMemory),
+    }
+}
+
+// Takes from an address what is not wanted of it.
+fn free(
+    service: &mut Service,
+    commands: &mut Vec<Command>,
+    address: Address,
+    wanted: &ByAddress,
+) -> Result<(), LeadFault>
+    ensures moves { OnOk result
+        (Moves service.old address (wanted_in wanted.now address) commands.old.items commands.new.items service.new) }
+    ensures only { OnOk result (OnlyWanted (terms_at service.new address) (wanted_in wanted.now address)) }
+    ensures fault { IfErr result IsOfService }
+{
+    let held = terms_at(service, address);
+    let step = freeing(address, &held, &wanted.get(&address).copied());
+    order(service, commands, address, [step, None, None, None])?;
+    Ok(())
+}
+
+// Gives an address what is wanted of it, where it has nothing else.
+fn give(
+    service: &mut Service,
+    commands: &mut Vec<Command>,
+    address: Address,
+    wanted: &ByAddress,
+) -> Result<(), LeadFault>
+    requires only { OnlyWanted (terms_at service.old address) (wanted_in wanted.now address) }
+    requires two { IfSome (get address_eq wanted.now address) AreTwo }
+    ensures moves { OnOk result
+        (Moves service.old address (wanted_in wanted.now address) commands.old.items commands.new.items service.new) }
+    ensures has { OnOk result (terms_at service.new address ≡ wanted_in wanted.now address) }
+    ensures fault { IfErr result IsOfService }
+{
+    let held = terms_at(service, address);
+    let steps = giving(address, &held, &wanted.get(&address).copied());
+    order(service, commands, address, steps)?;
+    Ok(())
+}
+
+// Gives a service the commands of steps for an address, and notes them.
+fn order(
+    service: &mut Service,
+    commands: &mut Vec<Command>,
+    address: Address,
+    steps: [Option<Command>; 4],
+) -> Result<(), LeadFault>
+    requires { All (λ c. address_named c ≡ address) (done_in steps) }
+    ensures noted { OnOk result (commands.new.items ≡ commands.old.items ++ done_in steps) }
+    ensures done { OnOk result (AreDone service.old address (done_in steps) service.new) }
+    ensures fault { IfErr result IsOfService }
+{
+    for step in steps {
+        if let Some(command) = step {
+            carry_out(service, commands, command)?;
+        }
+    }
+    Ok(())
+}
+
+// Gives a service a command that it does, and notes it; else the fault says why not.
+pub(crate) fn carry_out(
+    service: &mut Service,
+    commands: &mut Vec<Command>,
+    command: Command,
+) -> Result<(), LeadFault>
+    ensures noted { OnOk result (commands.new.items ≡ commands.old.items ++ command ∷ []) }
+    ensures done { OnOk result (AreDone service.old (address_named command) (command ∷ []) service.new) }
+    ensures fault { IfErr result IsOfService }
+{
+    match service.command(&command) {
+        Ok(()) => {}
+        Err(Refusal::NoMemory) => return Err(LeadFault::NoMemory),
+        Err(_) => return Err(LeadFault::Other),
+    }
+    match commands.push(command) {
+        Ok(()) => Ok(()),
+        Err(_) => Err(LeadFault::NoMemory),
+    }
+}
+
+// What takes from an address what is not wanted of it.
+fn freeing(address: Address, held: &Option<Terms>, wanted: &Option<Terms>) -> Option<Command>
+    requires { IfSome held.now AreTwo }
+    ensures { Frees address (enrolment_if held.now) (enrolment_if wanted.now) (done_in (result ∷ [])) }
+{
+    match (held, wanted) {
+        (None, _) => None,
+        (Some(_), None) => Some(Command::Revoke { address }),
+        (Some(held), Some(wanted)) => freeing_keys(address, held, wanted),
+    }
+}
+
+// What takes from terms the keys that are not wanted: at most one command, since a customer has two at most.
+fn freeing_keys(address: Address, held: &Terms, wanted: &Terms) -> Option<Command>
+    requires { AreTwo held.now }
+    ensures { Frees address (Some (enrolment_with held.now)) (Some (enrolment_with wanted.now)) (done_in (result ∷ [])) }
+{
+    let has_older = has_key(wanted, &held.older);
+    let Some(newer) = held.newer else {
+        return if has_older {
+            None
+        } else {
+            Some(Command::Revoke { address })
+        };
+    };
+    match (has_older, has_key(wanted, &newer)) {
+        (true, true) => None,
+        (true, false) => Some(retirement(address, &newer)),
+        (false, true) => Some(retirement(address, &held.older)),
+        (false, false) => Some(Command::Revoke { address }),
+    }
+}
+
+// What gives an address what is wanted of it, where it has nothing else.
+fn giving(address: Address, held: &Option<Terms>, wanted: &Option<Terms>) -> [Option<Command>; 4]
+    requires only { OnlyWanted (enrolment_if held.now) (enrolment_if wanted.now) }
+    requires two { IfSome held.now AreTwo × IfSome wanted.now AreTwo }
+    ensures needed { All (IsNeededAt address (enrolment_if held.now) (enrolment_if wanted.now)) (done_in result) }
+    ensures goes { Goes (enrolment_if held.now) (done_in result) (enrolment_if wanted.now) }
+{
+    let Some(wanted) = wanted else {
+        return [None; 4];
+    };
+    match held {
+        Some(held) => arranging(address, held, wanted),
+        None => enrolling(address, wanted),
+    }
+}
+
+// What enrols an address with these terms.
+fn enrolling(address: Address, terms: &Terms) -> [Option<Command>; 4]
+    requires { AreTwo terms.now }
+    ensures named { All (λ c. address_named c ≡ address) (done_in result) }
+    ensures goes { Goes None (done_in result) (Some (enrolment_with terms.now)) }
+{
+    let GivenKey { number, key } = terms.older;
+    let enrol = Command::Enrol {
+        address,
+        number,
+        key,
+        budget: terms.budget,
+    };
+    [
+        Some(enrol),
+        rollover_if_any(address, &terms.newer),
+        None,
+        None,
+    ]
+}
+
+// What makes of terms, of which each key is wanted, the wanted ones.
+fn arranging(address: Address, held: &Terms, wanted: &Terms) -> [Option<Command>; 4]
+    requires only { OnlyWanted (Some (enrolment_with held.now)) (Some (enrolment_with wanted.now)) }
+    requires two { AreTwo held.now × AreTwo wanted.now }
+    ensures named { All (λ c. (address_named c ≡ address) × (ends c ≡ false)) (done_in result) }
+    ensures goes { Goes (Some (enrolment_with held.now)) (done_in result) (Some (enrolment_with wanted.now)) }
+    ensures none { enrolment_with held.now ≡ enrolment_with wanted.now → done_in result ≡ [] }
+{
+    let first = rollover(address, &wanted.older);
+    let retire = retirement(address, &held.older);
+    let newer = rollover_if_any(address, &wanted.newer);
+    let budget = rebudgeting(address, held, wanted);
+    match (
+        are_same_key(&held.older, &wanted.older),
+        held.newer.is_some(),
+    ) {
+        (true, true) => [None, None, None, budget],
+        (true, false) => [None, None, newer, budget],
+        (false, true) => [None, Some(retire), newer, budget],
+        (false, false) => [Some(first), Some(retire), newer, budget],
+    }
+}
+
+// What gives an address the wanted budget, where it has another.
+fn rebudgeting(address: Address, held: &Terms, wanted: &Terms) -> Option<Command>
+    ensures { result ≡ rebudgeting address held.now wanted.now }
+{
+    let budget = wanted.budget;
+    if held.budget.get() == budget.get() {
+        return None;
+    }
+    Some(Command::Budget { address, budget })
+}
+
+// The rollover to a newer key, if there is one.
+fn rollover_if_any(address: Address, newer: &Option<GivenKey>) -> Option<Command>
+    ensures { result ≡ option_map (λ key. command.Rollover address key.number key.key) newer.now }
+{
+    newer.map(|newer| rollover(address, &newer))
+}
+
+// The command that retires a key.
+fn retirement(address: Address, key: &GivenKey) -> Command
+    ensures { result ≡ command.Retire address key.now.number }
+{
+    Command::Retire {
+        address,
+        number: key.number,
+    }
+}
+
+// The rollover to a key.
+fn rollover(address: Address, key: &GivenKey) -> Command
+    ensures { result ≡ command.Rollover address key.now.number key.now.key }
+{
+    Command::Rollover {
+        address,
+        number: key.number,
+        key: key.key,
+    }
+}
+
+// Whether terms have a key.
+fn has_key(terms: &Terms, key: &GivenKey) -> bool
+    ensures { IsTrue result ↔ Contains (enrolment_with terms.now).keys (key_given key.now) }
+{
+    if are_same_key(&terms.older, key) {
+        return true;
+    }
+    match &terms.newer {
+        Some(newer) => are_same_key(newer, key),
+        None => false,
+    }
+}

@@ -17,7 +17,7 @@ TOP = os.path.dirname(os.path.dirname(os.path.realpath(__file__)))
 # How long a step that must come is waited for, in seconds.
 WAIT = 10
 SECOND = 1_000_000_000
-# A clock that is synchronised, as the register file has it.
+# A clock that is synchronised.
 REFERENCE = "0001ec00000000000000104e495354ec00000000000000"
 # A customer whom commands enrol.
 FIVE = "127.0.0.5/5/md5/6b6579"
@@ -54,8 +54,8 @@ def until(what, is_so, seconds=WAIT):
         time.sleep(0.002)
 
 
-def start(words, **how):
-    process = subprocess.Popen([PROGRAM, *words], **{"stdin": subprocess.DEVNULL, "cwd": ROOM, **how})
+def start(words, program=None, **how):
+    process = subprocess.Popen([program or PROGRAM, *words], **{"stdin": subprocess.DEVNULL, "cwd": ROOM, **how})
     started.append(process)
     return process
 
@@ -127,6 +127,11 @@ def table(address, number, algorithm, key, budget):
 
 def register_of(customers):
     return f'reference = "{REFERENCE}"\n' + "".join(table(*it) for it in customers)
+
+
+def enrolments(customers):
+    """The lines of a commands file that enrol them."""
+    return "".join(f"enrol {' '.join(map(str, it))}\n" for it in customers)
 
 
 # ---- Cases

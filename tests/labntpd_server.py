@@ -16,7 +16,7 @@ import time
 
 import judging
 import probe
-from judging import SECOND, WAIT, Odd, PassedOver, end, file_of, register_of, same, start, until
+from judging import REFERENCE, SECOND, WAIT, Odd, PassedOver, end, enrolments, file_of, same, start, until
 
 # The customers, with keys that stand in no other text.
 CUSTOMERS = [
@@ -65,13 +65,6 @@ def read(name):
     return ""
 
 
-def tail(name):
-    """The last octets of a file of the case; no more of it is read."""
-    with open(room(name), "rb") as it:
-        it.seek(max(0, os.path.getsize(room(name)) - 200))
-        return it.read().decode(errors="replace")
-
-
 # Where it writes: its standard streams and its files.
 TOLD = ("out", "err", "journal", "answers", "statistics", "statistics.new", "customers", "customers.new")
 
@@ -95,7 +88,7 @@ def window(seconds):
 
 # ---- The daemon
 
-FIXED = {"source": "fixed"}
+FIXED = {"source": "fixed", "reference": REFERENCE}
 CLOCK_KEY = "1f8b6b1c0e3f5a7d9c2b4e6f8a0d1c3e5b7f9a2d"
 
 
@@ -111,7 +104,7 @@ def toml(table):
 def configuration(clock=FIXED, **keys):
     """The text of a configuration file. A key that is None is left out."""
     files = {name: room(name) for name in ("commands", "answers", "statistics", "customers")}
-    table = {"listen": "127.0.0.1:20123", "register": room("register.toml"), **files, "longest_wait": LONG_WAIT, **keys}
+    table = {"listen": "127.0.0.1:20123", **files, "longest_wait": LONG_WAIT, **keys}
     return toml(table) + (f"[clock]\n{toml(clock)}" if clock is not None else "")
 
 
@@ -130,15 +123,16 @@ def run(words, *more, **how):
 def keys():
     """The keys in the files of the case, as octets. What stands in the place of a file may be no file, or not be readable."""
     is_file = lambda name: os.path.isfile(room(name)) and os.access(room(name), os.R_OK)
-    register, clock, commands = (read(it) if is_file(it) else "" for it in ("register.toml", "clock.key", "commands"))
-    texts = re.findall(r'key = "(\w+)"', register) + clock.split()
-    texts += re.findall(r"^(?:enrol|rollover) \S+ \S+ \S+ (\w+)", commands, re.M)
+    clock, commands = (read(it) if is_file(it) else "" for it in ("clock.key", "commands"))
+    texts = clock.split() + re.findall(r"^(?:enrol|rollover) \S+ \S+ \S+ (\w+)", commands, re.M)
     return {bytes.fromhex(it) for it in texts if re.fullmatch("([0-9a-fA-F]{2})+", it)}
 
 
 def tells_no_key(texts):
-    """No key stands in these texts, neither as hexadecimal digits nor, where it is too long to be a word, as octets."""
-    for key in keys():
+    """No key stands in these texts, neither as hexadecimal digits nor, where it is too long to be a word, as octets. So many are looked
+    for as some seconds allow."""
+    most = SECOND // (1 + sum(map(len, texts.values())))
+    for key in [*keys()][: max(50, most)]:
         for name, octets in texts.items():
             shown = key.decode(errors="backslashreplace").encode()
             if len(key) > 2 and key.hex().encode() in octets.lower() or len(key) > 7 and (key in octets or shown in octets):
@@ -161,15 +155,16 @@ def share_of_a_processor(process, seconds):
 
 class Daemon:
     """The daemon, from its first line on. Where `inherited` is a socket, that is handed down to it; else `prepare` is run in the new process.
-    Its configuration file is made of the keys, or has this text, where PORT stands for its port."""
+    Its configuration file is made of the keys, or has this text, where PORT stands for its port. At the head of its commands file
+    stand the lines that enrol its customers; those of the case come behind the head, and are counted from there."""
 
     def __init__(self, clock=FIXED, enrolled=CUSTOMERS, commands="", inherited=None, host=probe.HOST, stderr=None, text="", key=CLOCK_KEY,
-                 environment=None, on=None, prepare=None, **keys):
-        self.host, self.inherited, self.stderr, self.environment, self.on = host, inherited, stderr, environment, on
+                 on=None, prepare=None, program=None, **keys):
+        self.host, self.inherited, self.stderr, self.on, self.program = host, inherited, stderr, on, program
         self.prepare = self.hand_down if inherited else prepare
         self.port = inherited.getsockname()[1] if inherited else probe.free_port()
-        self.commands = file_of("commands", commands)
-        file_of("register.toml", register_of(enrolled))
+        self.head = enrolments(enrolled).encode()
+        self.commands = file_of("commands", self.head + (commands if isinstance(commands, bytes) else commands.encode()))
         file_of("clock.key", f"{key}\n")
         keys["listen"] = "inherited" if inherited else f"{host}:{self.port}"
         self.words = configured(text.replace("PORT", str(self.port)) or configuration(clock, **keys))
@@ -180,9 +175,10 @@ class Daemon:
 
     def start(self):
         how = {"close_fds": not self.inherited, "preexec_fn": self.prepare}
-        environment = self.on.environment() if self.on else self.environment
+        environment = self.on.environment() if self.on else None
         with open(room("out"), "wb") as out, open(room("err"), "wb") as err:
-            self.process = start(self.words, stdout=out, stderr=err if self.stderr is None else self.stderr, env=environment, **how)
+            stderr = err if self.stderr is None else self.stderr
+            self.process = start(self.words, self.program, stdout=out, stderr=stderr, env=environment, **how)
 
     def hand_down(self):
         """Run in the new process: the socket is its descriptor 3, as a manager of services does it."""
@@ -240,9 +236,9 @@ class Daemon:
         self.rests()
 
     def leaves_no_descriptor(self):
-        """It has no more open than when it began to serve, but for its commands file, which it opens then, and what it opens for a moment."""
+        """It has no more open than when it began to serve, but for what it opens for a moment."""
         give_up = time.monotonic() + 2
-        while more := self.descriptors() - self.open - collections.Counter(["the commands file"]):
+        while more := self.descriptors() - self.open:
             if time.monotonic() > give_up:
                 raise Odd(f"it has more open than at the start: {', '.join(f'{many} of {name}' for name, many in more.items())}")
             time.sleep(0.02)
@@ -268,6 +264,15 @@ class Daemon:
         with open(self.commands, "a") as it:
             it.write("".join(f"{line}\n" for line in lines))
         time.sleep(0.01)
+
+    def line(self, number):
+        """The number in its commands file of such a line behind the head."""
+        return self.head.count(b"\n") + number
+
+    def answers(self):
+        """The answers to the lines behind the head, which are numbered from there."""
+        numbered = re.sub(r"(?m)^\d+", lambda it: str(int(it[0]) - self.line(0)), read("answers"))
+        return re.sub(r"(?m)^(?:0|-\d+) done\n", "", numbered)
 
     def told(self, customer=ONE):
         """The reference state that a reply tells now."""

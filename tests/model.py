@@ -5,6 +5,7 @@ gives the words of an answer to a line of commands.
 """
 import collections
 import hashlib
+import re
 import struct
 
 # How many refusals of a window are sent, how many exchanges are saved, and a window's seconds.
@@ -100,6 +101,32 @@ def tail_of(octets):
     return (at, None) if len(octets) - at in (0, 4, *MACS) else (None, "rest")
 
 
+# What stands behind the first word of a command, and the form of each; most octets of a line.
+WORDS = {"enrol": "address number algorithm key budget", "revoke": "address", "budget": "address budget",
+         "rollover": "address number algorithm key", "retire": "address number"}
+BYTE = "(25[0-5]|2[0-4][0-9]|1[0-9][0-9]|[1-9]?[0-9])"
+NUMBER = "([1-9][0-9]{0,3}|[1-5][0-9]{4}|6[0-4][0-9]{3}|65[0-4][0-9]{2}|655[0-2][0-9]|6553[0-5])"
+FORMS = {"address": rf"{BYTE}(\.{BYTE}){{3}}", "number": NUMBER, "budget": NUMBER}
+FORMS |= {"algorithm": "md5|sha1", "key": "([0-9a-fA-F]{2}){1,32}"}
+LONGEST_LINE = 4096
+
+
+def fault_of(line):
+    """The fault of a line of a commands file, without its line feed, that is not passed over; nothing where it is a command."""
+    if len(line) > LONGEST_LINE:
+        return "line-long"
+    try:
+        verb, *words = line.decode().split(" ")
+    except UnicodeDecodeError:
+        return "not-utf8"
+    if verb not in WORDS:
+        return "word"
+    kinds = WORDS[verb].split()
+    if len(words) != len(kinds):
+        return "count"
+    return next((kind for kind, word in zip(kinds, words) if not re.fullmatch(FORMS[kind], word)), None)
+
+
 class Model:
     """The customers. Addresses and numbers are as the lines of commands have them."""
 
@@ -108,14 +135,20 @@ class Model:
         self.enrolments, self.refusals, self.holders = {}, {}, {}
 
     def line(self, line):
-        """The answer to a line: nothing to one that is passed over."""
-        if not line or line[0] == "#":
+        """The answer to a line, in text or in octets: nothing to one that is passed over."""
+        line = line.encode() if isinstance(line, str) else line
+        if line[:1] in (b"", b"#"):
             return None
-        verb, *words = line.split(" ")
-        if verb not in ("enrol", "revoke", "budget", "rollover", "retire"):
-            return "faulty word"
+        if fault := fault_of(line):
+            return f"faulty {fault}"
+        verb, *words = line.decode().split(" ")
         refusal = getattr(self, verb)(*words)
         return f"refused {refusal}" if refusal else "done"
+
+    def answers(self, octets):
+        """The answers file behind so much of a commands file."""
+        answers = ((number, self.line(line)) for number, line in enumerate(octets.split(b"\n")[:-1], 1))
+        return "".join(f"{number} {answer}\n" for number, answer in answers if answer)
 
     def enrol(self, address, number, algorithm, key, budget):
         if self.enrolments.get(address):

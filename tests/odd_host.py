@@ -1,7 +1,8 @@
-"""A host that does for a program what a test tells it to: clocks that are set, a send that takes long, a `poll` that fails.
+"""A host that does what a test tells it to: clocks that are set, or cannot be read, a send that takes long, a `poll` that fails.
 
 The program is started with a C library in front of the C library's own, made with gcc or clang when it is first wanted, whose
-`clock_gettime`, `poll`, `recvfrom` and `sendto` do as a few numbers in a file say, which both have in memory. They are the host's calls else.
+`clock_gettime`, `poll`, `recvfrom` and `sendto` do as a few numbers in a file say, which both have in memory. They are the host's
+calls else. No socket gets the kernel's stamps.
 """
 import mmap
 import os
@@ -23,7 +24,7 @@ LIBRARY = r"""
 #include <unistd.h>
 
 // In the order of the names in Python: what is told, and behind it how many readings of the clocks there were.
-enum { WALL, MONOTONIC, SHOWN, SEND, POLLS, HOLD, READINGS, NUMBERS };
+enum { WALL, MONOTONIC, SHOWN, SEND, POLLS, HOLD, READINGS, UNREAD, NUMBERS };
 
 static volatile int64_t at_first[NUMBERS], *told = at_first;
 
@@ -55,6 +56,10 @@ int clock_gettime(clockid_t clock, struct timespec *time) {
     if (clock == CLOCK_MONOTONIC && reached == STAMPED)
         wait(told[HOLD]);
     reached = clock == CLOCK_REALTIME && reached == RECEIVED ? STAMPED : NOTHING;
+    if (clock == CLOCK_REALTIME && told[UNREAD]) {
+        errno = EINVAL;
+        return -1;
+    }
     int status = syscall(SYS_clock_gettime, clock, time);
     int64_t readings = told[READINGS]++, nanos = time->tv_sec * 1000000000ll + time->tv_nsec;
     if (clock == CLOCK_MONOTONIC)
@@ -83,10 +88,19 @@ ssize_t sendto(int s, const void *octets, size_t length, int flags, const struct
     errno = error;
     return sent;
 }
+
+// The kernel's stamps of datagrams would show its clock as it is.
+int setsockopt(int s, int level, int name, const void *value, socklen_t size) {
+    if (level == SOL_SOCKET && (name == SO_TIMESTAMP || name == SO_TIMESTAMPNS || name == SO_TIMESTAMPING)) {
+        errno = ENOPROTOOPT;
+        return -1;
+    }
+    return syscall(SYS_setsockopt, s, level, name, value, size);
+}
 """
 
 SECOND = 1_000_000_000
-NUMBERS = 7
+NUMBERS = 8
 
 
 def number(place):
@@ -116,6 +130,8 @@ class OddHost:
     hold = number(5)
     # How often the program has read a clock.
     readings = number(6)
+    # Where not 0, the host's clock cannot be read.
+    unread = number(7)
 
     def __init__(self, folder):
         """Its files stand in this folder. Where there is no compiler, it is a FileNotFoundError."""

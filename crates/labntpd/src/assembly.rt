@@ -2,16 +2,18 @@
 ghost use Rattle.std.specs.Prelude.{◌≡◌, ◌+◌, IfOk};
 
 use labntpd_assembly::{
-    Assembly, Beginning, Begun, Host, Parts, Prepared, ReportingObserver, ServeFault, answers_file,
-    clock_source, log_form, observer, open_socket, set_up, start_lines, watch_from_now,
+    Assembly, Begun, FollowedDaemon, Host, Parts, Prepared, ReportingObserver, ServeFault,
+    answers_file, clock_source, commands_at, log_form, observer, open_socket, set_up, start_lines,
+    watch_from_now,
 };
 use labntpd_files::Configuration;
 use ntp_admin::{Status, memory_status, write_status};
 use ntp_host::{
-    BoundAt, BoundSocket, ClockSource, HeldCommands, HostClocks, Log, QueuedUdp, SOCKETS_ROOM,
-    UdpPort, begin_commands, has_standard_streams,
+    BoundAt, BoundSocket, ClockSource, CommandsFile, HostClocks, Log, QueuedUdp, SOCKETS_ROOM,
+    UdpPort, has_standard_streams,
 };
 use ntp_port::FreshPort;
+use ntp_reports::CustomerCounts;
 use std::alloc::Global;
 use std::fs::File;
 use std::io::{LineWriter, Stderr};
@@ -32,11 +34,11 @@ pub fn serve(rt: &HostRuntime, alloc: Global, prepared: Prepared) -> Result<(), 
     }
     let Prepared {
         configuration,
-        mut beginning,
+        followed,
+        digest,
     } = prepared;
     // It is judged before anything is written.
-    let path = configuration.commands.as_str();
-    let commands = begin_commands(rt, alloc, path, &mut start_lines(rt))?;
+    let commands = commands_at(rt, configuration.commands.as_str(), &mut start_lines(rt))?;
     let clocks = HostClocks::new();
     let host = Host {
         rt,
@@ -44,8 +46,8 @@ pub fn serve(rt: &HostRuntime, alloc: Global, prepared: Prepared) -> Result<(), 
         clocks: &clocks,
         configuration: &configuration,
     };
-    let opened = Opened::open(rt, alloc, &clocks, &configuration, &mut beginning)?;
-    serve_opened(host, beginning, commands, opened)
+    let opened = Opened::open(rt, alloc, &clocks, &configuration, followed)?;
+    serve_opened(host, digest, commands, opened)
 }
 
 // What was opened for a server on its host.
@@ -64,16 +66,15 @@ impl<'a> Opened<'a> {
         alloc: Global,
         clocks: &'a HostClocks,
         configuration: &Configuration,
-        beginning: &mut Beginning,
+        followed: Option<FollowedDaemon>,
     ) -> Result<Opened<'a>, Status>
         ensures { IfOk result (λ opened. opened.port.counts.failed_receives + opened.port.counts.failed_sends ≡ 0) }
     {
         let watch = watch_from_now(rt, clocks, configuration);
         let socket = open_socket(rt, alloc, configuration.listen)?;
         let bound = set_up(rt, &socket, configuration)?;
-        let fixed = beginning.loaded.reference;
-        let reference = clock_source(rt, clocks, fixed, beginning.followed.take())?;
-        let observer = open_observer(rt, alloc, clocks, configuration, beginning)?;
+        let reference = clock_source(rt, clocks, &configuration.clock, followed)?;
+        let observer = open_observer(rt, alloc, clocks, configuration)?;
         let Ok(room) = Vec::with_capacity(alloc, SOCKETS_ROOM) else {
             return Err(memory_status(&mut start_lines(rt)));
         };
@@ -87,27 +88,20 @@ impl<'a> Opened<'a> {
     }
 }
 
-// Serves for ever by what was prepared and opened. Gives the exit status where that cannot begin.
+// Serves for ever with what was opened. Gives the exit status where that cannot begin.
 fn serve_opened<'a>(
     host: Host<'a, HostRuntime>,
-    beginning: Beginning,
-    commands: HeldCommands<'a, HostRuntime>,
+    digest: [u8; 32],
+    commands: CommandsFile<'a, HostRuntime>,
     opened: Opened<'a>,
 ) -> Result<(), Status>
     requires { opened.port.counts.failed_receives + opened.port.counts.failed_sends ≡ 0 }
 {
     let rt = host.rt;
-    let Beginning {
-        loaded,
-        customers,
-        digests,
-        ..
-    } = beginning;
     let begun = Begun {
         bound: opened.bound,
         wanted_buffer: host.configuration.receive_buffer,
-        customers,
-        digests,
+        digest,
         form: log_form(rt),
     };
     let parts = Parts {
@@ -115,7 +109,6 @@ fn serve_opened<'a>(
         commands,
         reference: opened.reference,
         observer: opened.observer,
-        service: loaded.service,
         log: rt.stderr(),
     };
     let mut assembly = match Assembly::begin(host, parts, begun, &mut rt.stdout()) {
@@ -134,18 +127,20 @@ fn serve_fault_status(rt: &HostRuntime, fault: ServeFault) -> Status {
     }
 }
 
-// Who is told what the daemon does: it counts, answers lines of commands, and logs them.
+// Who is told what the daemon does: it counts, answers lines of commands, logs them, and reports on customers.
 fn open_observer<'a>(
     rt: &'a HostRuntime,
     alloc: Global,
     clocks: &'a HostClocks,
     configuration: &Configuration,
-    beginning: &mut Beginning,
 ) -> Result<HostObserver<'a>, Status> {
     let answers = answers_file(rt, alloc, configuration)?;
     let Ok(log) = Log::new(alloc, rt.stderr(), log_form(rt)) else {
         return Err(memory_status(&mut start_lines(rt)));
     };
-    let reports = beginning.reports.take();
-    Ok(observer(answers, log, clocks, beginning.customers, reports))
+    let reports = match &configuration.customers {
+        None => None,
+        Some(_) => Some(CustomerCounts::new(alloc)),
+    };
+    Ok(observer(answers, log, clocks, reports))
 }

@@ -1,17 +1,17 @@
-//! The daemon: `labntpd --config FILE` serves the customers of a register file day and night.
+//! The daemon: `labntpd --config FILE` serves the customers of a commands file day and night.
 #![tactic(auto)]
 
 mod assembly;
 
 use assembly::serve;
-use labntpd_assembly::{prepare, start_lines};
+use labntpd_assembly::{commands_at, prepare, start_lines};
 use labntpd_files::Configuration;
 use labntpd_files::command_line::{Asked, parse, refused_status};
 use ntp_admin::{Escaped, Status, unread_status, write_status};
-use ntp_host::{begin_commands, is_nearly_full, write_nearly_full};
+use ntp_host::{is_nearly_full, write_nearly_full};
 use std::io::Write;
 use std::process::ExitCode;
-use std::{env, io};
+use std::{env, fs, io};
 
 fn main(rt: HostRuntime) -> ExitCode {
     ExitCode::from(status(&rt).code())
@@ -48,11 +48,12 @@ fn do_job(rt: &HostRuntime, check: bool, config: &str) -> Result<(), Status> {
     }
 }
 
-// Reads the commands file too, and says that all is well.
+// Opens the commands file too, and says that all is well.
 fn check_commands(rt: &HostRuntime, configuration: &Configuration) -> Result<(), Status> {
     let mut faults = start_lines(rt);
     let path = configuration.commands.as_str();
-    let octets = begin_commands(rt, rt.alloc(), path, &mut faults)?.length();
+    commands_at(rt, path, &mut faults)?;
+    let octets = fs::metadata(rt, path).map_or(0, |metadata| metadata.len());
     if is_nearly_full(octets) {
         let _ = write!(faults.warning(), "{}: ", Escaped(path));
         write_nearly_full(&mut faults, octets);

@@ -22,17 +22,17 @@ pub struct CommandLog<'a, W: Write + Drop> {
 }
 
 impl<'a, W: Write + Drop> CommandLog<'a, W> {
-    /// Logs to `log`, with `customers` customers enrolled by now.
-    pub fn new(log: Log<W>, clocks: &'a HostClocks, customers: u64) -> CommandLog<'a, W>
+    /// Logs to `log`. Nobody is enrolled yet.
+    pub fn new(log: Log<W>, clocks: &'a HostClocks) -> CommandLog<'a, W>
         ensures log { result.log ≡ log }
-        ensures customers { result.customers ≡ customers }
+        ensures customers { result.customers ≡ 0 }
         ensures command { result.command ≡ None }
     {
         CommandLog {
             log,
             allowance: LineAllowance::new(),
             clocks,
-            customers,
+            customers: 0,
             command: None,
         }
     }

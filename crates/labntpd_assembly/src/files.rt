@@ -1,7 +1,6 @@
 //! What the daemon reads and writes while it serves, and why that fails.
 
-use ntp_admin::AdmitFault;
-use ntp_host::{AdmittedCommands, CommandsFile};
+use ntp_host::{CommandsFault, CommandsFile};
 use ntp_port::CommandsSource;
 use std::alloc::Global;
 use std::fs::Files;
@@ -10,44 +9,27 @@ use std::{fmt, io};
 /// The commands of a daemon, and what its log and its statistics tell of their file.
 pub trait DaemonCommands: CommandsSource<Global> {
     /// What is wrong with the file by now, if anything.
-    fn fault(&self) -> Option<FileFault>;
+    fn fault(&self) -> Option<CommandsFault>;
 
-    /// How many octets the file has.
-    fn octets(&self) -> usize;
+    /// How many octets the lines have that were read.
+    fn octets(&self) -> u64;
 }
 
-/// A file that is read again and again.
-pub trait ReadAgain {
-    /// Why it cannot be read by now, if it cannot.
-    fn read_fault(&self) -> Option<io::Error>;
-}
-
-impl<'a, R: Files> ReadAgain for CommandsFile<'a, R> {
-    fn read_fault(&self) -> Option<io::Error> {
+impl<'a, R: Files> DaemonCommands for CommandsFile<'a, R> {
+    fn fault(&self) -> Option<CommandsFault> {
         self.fault()
     }
-}
 
-impl<F: CommandsSource<Global> + ReadAgain + Drop> DaemonCommands for AdmittedCommands<F, Global> {
-    fn fault(&self) -> Option<FileFault> {
-        match self.source().read_fault() {
-            Some(error) => Some(FileFault::Unread(error)),
-            None => self.fault().map(FileFault::NotAdmitted),
-        }
-    }
-
-    fn octets(&self) -> usize {
-        self.length()
+    fn octets(&self) -> u64 {
+        self.octets()
     }
 }
 
 /// What is wrong with a file of the daemon.
 #[derive(Clone, Copy)]
 pub enum FileFault {
-    /// The commands file is not there, is no regular file, or cannot be read.
-    Unread(io::Error),
-    /// The commands file was read, and may not be carried out.
-    NotAdmitted(AdmitFault),
+    /// The commands file is not read, or not all of it.
+    Commands(CommandsFault),
     /// It cannot be written.
     Unwritten(io::Error),
     /// The customers file lacks a customer for which there was no memory.
@@ -67,40 +49,38 @@ impl FileFault {
     // Whether another fault is told alike.
     fn is_told_as(&self, other: &FileFault) -> bool {
         match (self, other) {
-            (FileFault::Unread(one), FileFault::Unread(other))
-            | (FileFault::Unwritten(one), FileFault::Unwritten(other)) => {
-                one.kind() == other.kind() && one.raw_os_error() == other.raw_os_error()
-            }
-            (FileFault::NotAdmitted(one), FileFault::NotAdmitted(other)) => one == other,
+            (FileFault::Commands(one), FileFault::Commands(other)) => is_commands_fault(one, other),
+            (FileFault::Unwritten(one), FileFault::Unwritten(other)) => is_error(one, other),
             (FileFault::Incomplete, FileFault::Incomplete) => true,
             _ => false,
         }
     }
 }
 
+// Whether two faults of the commands file are one.
+fn is_commands_fault(one: &CommandsFault, other: &CommandsFault) -> bool {
+    match (one, other) {
+        (CommandsFault::Unreadable(one), CommandsFault::Unreadable(other)) => is_error(one, other),
+        (CommandsFault::Full, CommandsFault::Full)
+        | (CommandsFault::Replaced, CommandsFault::Replaced)
+        | (CommandsFault::Shorter, CommandsFault::Shorter)
+        | (CommandsFault::Rewritten, CommandsFault::Rewritten) => true,
+        _ => false,
+    }
+}
+
+// Whether two errors of the system are one.
+fn is_error(one: &io::Error, other: &io::Error) -> bool {
+    one.kind() == other.kind() && one.raw_os_error() == other.raw_os_error()
+}
+
 /// What the log tells of it.
 impl fmt::Display for FileFault {
     fn fmt<W: fmt::Write>(&self, f: &mut fmt::Formatter<W>) -> fmt::Result {
         match self {
-            FileFault::Unread(error) => write!(f, "cannot be read: {error}"),
+            FileFault::Commands(fault) => write!(f, "{fault}"),
             FileFault::Unwritten(error) => write!(f, "cannot be written: {error}"),
             FileFault::Incomplete => f.write_str("lacks a customer, for want of memory"),
-            FileFault::NotAdmitted(fault) => {
-                write_not_admitted(f, fault)?;
-                f.write_str("; no line is carried out")
-            }
         }
-    }
-}
-
-// Tells why a commands file may not be carried out.
-fn write_not_admitted<W: fmt::Write>(out: &mut W, fault: &AdmitFault) -> fmt::Result {
-    match fault {
-        AdmitFault::TooLong => write!(out, "has more than 1,048,576 octets"),
-        AdmitFault::NotUtf8 => out.write_str("is not UTF-8"),
-        AdmitFault::OtherLine(number) => {
-            write!(out, "line {number} is not the one that was applied")
-        }
-        AdmitFault::NoMemory => out.write_str("there is no memory for it"),
     }
 }

@@ -209,6 +209,11 @@ impl<'a, R: Files + Clock, L: Write + Drop> Housekeeping<'a, R, L> {
             ticks: clocks.read(rt),
         };
         let state = server.reference.state(now);
+        // In the first second nothing was written yet.
+        if self.times.statistics == 0 {
+            self.news
+                .tell_customers(server.applied, server.observer.customers());
+        }
         // A clock's daemon that was just asked may not have answered yet.
         if server.reference.has_answered() || seconds >= CLOCK_PATIENCE {
             self.news.tell_clock(&state);
@@ -238,7 +243,9 @@ impl<'a, R: Files + Clock, L: Write + Drop> Housekeeping<'a, R, L> {
     {
         let commands = server.commands.inner();
         let fault = commands.fault();
-        self.seen.files.see(Watched::Commands, fault);
+        self.seen
+            .files
+            .see(Watched::Commands, fault.map(FileFault::Commands));
         if fault.is_none() {
             let path = self.host.configuration.commands.as_str();
             self.news.tell_nearly_full(path, commands.octets());
@@ -359,9 +366,8 @@ impl<'a, R: Files + Clock, L: Write + Drop> Housekeeping<'a, R, L> {
             send_would_wait: server.port.port().would_wait(),
             sweeps: server.port.sweeps(),
             commands_lines: server.applied,
-            commands_octets: Some(server.commands.inner().octets() as u64),
-            commands_other_line: self.seen.files.other_line(),
-            register_digest: first_six(&self.begun.digests[1]),
+            commands_octets: server.commands.inner().octets(),
+            commands_changed: self.seen.files.has_changed(),
             customers: server.observer.customers(),
             clock,
             log_lines_dropped: self.seen.log_dropped.saturating_add(logged),
@@ -435,12 +441,6 @@ fn written_by<'a, R: Files + Clock>(host: &Host<'a, R>) -> Result<Written<'a, R>
         customers,
         sockets: Vec::with_capacity(alloc, SOCKETS_ROOM)?,
     })
-}
-
-// The first six octets of a digest as a number, the first one highest: 48 bits, which Prometheus keeps exactly.
-fn first_six(digest: &[u8; 32]) -> u64 {
-    let [a, b, c, d, e, f, ..] = *digest;
-    u64::from_be_bytes([0, 0, a, b, c, d, e, f])
 }
 
 // The time of the host's clock, in nanoseconds since 1970; 0 where it cannot be read.

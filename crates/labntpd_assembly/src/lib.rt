@@ -21,7 +21,6 @@ mod parts;
 mod places;
 mod prepared;
 mod receiving;
-mod register_faults;
 mod serving;
 mod sockets;
 mod watched;
@@ -31,13 +30,11 @@ pub use command_log::CommandLog;
 pub use files::DaemonCommands;
 pub use lines::{log_form, start_lines};
 pub use observers::{DaemonObserver, ReportingObserver, observer};
-pub use opened::{answers_file, clock_source, watch_from_now};
+pub use opened::{answers_file, clock_source, commands_at, watch_from_now};
 pub use parts::{Begun, Daemon, DaemonPort, Host, Parts};
 pub use places::{NamedFiles, Readers, directory_of, readers_of, tell_places};
 pub use prepared::{
-    Beginning, FollowedDaemon, KEY_LINE_WANTED, Prepared, ReadRegister, configuration_at, prepare,
-    register_at, small_text,
+    FollowedDaemon, KEY_LINE_WANTED, Prepared, configuration_at, prepare, small_text,
 };
-pub use register_faults::tell_octets;
 pub use serving::{Assembly, ServeFault};
 pub use sockets::{open_socket, set_up};

@@ -108,24 +108,25 @@ impl<L: Write + Drop> News<L> {
         let Begun {
             bound: BoundAt { local, buffer },
             wanted_buffer,
-            customers,
-            digests: [configuration, register],
+            digest,
             ..
         } = *begun;
         let line = self.log.begin(Priority::Information);
-        let _ = write!(
-            line,
-            "labntpd {VERSION}: at {local}, {customers} customers, configuration "
-        );
-        write_digest(line, &configuration);
-        let _ = write!(line, ", register ");
-        write_digest(line, &register);
+        let _ = write!(line, "labntpd {VERSION}: at {local}, configuration ");
+        write_digest(line, &digest);
         self.log.end();
         let line = self.log.begin(Priority::Information);
         let _ = write!(
             line,
             "receive buffer: {wanted_buffer} octets wanted, {buffer} given, as the kernel counts"
         );
+        self.log.end();
+    }
+
+    /// Logs which customers the daemon serves, once it has carried out the lines that stood in its commands file.
+    pub(crate) fn tell_customers(&mut self, lines: u64, customers: u64) {
+        let line = self.log.begin(Priority::Information);
+        let _ = write!(line, "commands: {lines} lines read, {customers} customers");
         self.log.end();
     }
 
@@ -227,7 +228,7 @@ impl<L: Write + Drop> News<L> {
     }
 
     /// Logs that the commands file at `path`, which has `octets` octets, is nearly full, where that was not told last.
-    pub(crate) fn tell_nearly_full(&mut self, path: &str, octets: usize) {
+    pub(crate) fn tell_nearly_full(&mut self, path: &str, octets: u64) {
         let is_nearly_full = is_nearly_full(octets);
         let seconds = self.seconds;
         if is_nearly_full == self.told.is_nearly_full

@@ -83,19 +83,18 @@ impl<W: Write, G: LogObserver> DaemonObserver
     }
 }
 
-/// The observer of a daemon that has `customers` customers by now. Nothing is counted yet. `answers` answers lines, and `reports` reports
-/// on customers, where these are given.
+/// The observer of a daemon that has no customer yet. Nothing is counted. `answers` answers lines, and `reports` reports on customers,
+/// where these are given.
 pub fn observer<'a, L: Write + Drop, W: Write + Drop>(
     answers: Option<AnswerLines<W>>,
     log: Log<L>,
     clocks: &'a HostClocks,
-    customers: u64,
     reports: Option<CustomerCounts>,
 ) -> ReportingObserver<'a, L, W>
     ensures counts { result.counts ≡ nothing_counted }
     ensures answers { result.inner.first ≡ answers }
     ensures log { result.inner.second.first.log ≡ log }
-    ensures customers { result.inner.second.first.customers ≡ customers }
+    ensures customers { result.inner.second.first.customers ≡ 0 }
     ensures reports { result.inner.second.second ≡ reports }
 {
     Counting {
@@ -103,7 +102,7 @@ pub fn observer<'a, L: Write + Drop, W: Write + Drop>(
         inner: Both {
             first: answers,
             second: Both {
-                first: CommandLog::new(log, clocks, customers),
+                first: CommandLog::new(log, clocks),
                 second: reports,
             },
         },

@@ -1,16 +1,17 @@
-//! What the daemon works with beside its socket: who answers lines of commands, and where the clock's state comes from.
+//! What the daemon works with beside its socket: its commands, who answers them, and where the clock's state comes from.
 
 use crate::lines::judged;
 use crate::prepared::FollowedDaemon;
-use labntpd_files::{Configuration, Listen};
-use ntp_admin::Status;
-use ntp_host::{ClockSource, FollowedClock, HostClocks, emptied_file};
+use labntpd_files::{Clock, Configuration, Listen};
+use ntp_admin::{Status, failed_status};
+use ntp_client::reference_unsynchronised;
+use ntp_host::{ClockSource, CommandsFile, FollowedClock, HostClocks, emptied_file};
 use ntp_port::QueueWatch;
 use ntp_reply::Reference;
 use ntp_reports::AnswerLines;
 use std::alloc::Global;
-use std::fs::File;
-use std::io::{self, LineWriter};
+use std::fs::{File, Files};
+use std::io::{self, LineWriter, Write};
 use std::net::{Ipv4Addr, SocketAddrV4, UdpSocket};
 
 /// Who answers lines of commands, into a file that is made empty, where the configuration names one. Each line is written in one piece.
@@ -33,15 +34,23 @@ pub fn answers_file(
 pub fn clock_source<'a>(
     rt: &'a HostRuntime,
     clocks: &'a HostClocks,
-    fixed: Reference,
+    clock: &Clock,
     followed: Option<FollowedDaemon>,
 ) -> Result<ClockSource<'a, &'a HostRuntime>, Status> {
     let Some(FollowedDaemon { source, follower }) = followed else {
-        return Ok(ClockSource::Fixed(fixed));
+        return Ok(ClockSource::Fixed(fixed_state(clock)));
     };
     let socket = judged(rt, "clock.source", connected(rt, source.socket_address()))?;
     let followed = FollowedClock::new(socket, rt, clocks, follower);
     Ok(ClockSource::Followed(followed))
+}
+
+// The fixed state of a clock; that of an unsynchronised one where a daemon is to be asked.
+fn fixed_state(clock: &Clock) -> Reference {
+    match clock {
+        Clock::Fixed(reference) => *reference,
+        Clock::Followed(_) => reference_unsynchronised(),
+    }
 }
 
 // A socket that is connected to an address and does not wait.
@@ -65,4 +74,16 @@ pub fn watch_from_now(
         watch.saw(0, now);
     }
     watch
+}
+
+/// The commands file at a path, of which no line was read yet. A fault is told in one line to `faults`, and gives the exit status.
+pub fn commands_at<'a, R: Files, F: Write>(
+    files: &'a R,
+    path: &'a str,
+    faults: &mut F,
+) -> Result<CommandsFile<'a, R>, Status> {
+    match CommandsFile::open(files, path) {
+        Ok(commands) => Ok(commands),
+        Err(error) => Err(failed_status(path, &error, faults)),
+    }
 }

@@ -3,7 +3,6 @@ use labntpd_files::Configuration;
 use ntp_host::{BoundAt, EachMillisecond, HostClocks, LogForm, QueuedUdp};
 use ntp_port::{FreshPort, QueuedPort, TimedPort};
 use ntp_server::Server;
-use ntp_service::Service;
 use std::alloc::Global;
 use std::fs::Files;
 use std::time::Clock;
@@ -44,10 +43,8 @@ pub struct Begun {
     pub bound: BoundAt,
     /// The receive buffer that its configuration wants, in octets.
     pub wanted_buffer: u32,
-    /// How many customers it has.
-    pub customers: u64,
-    /// The SHA-256 digests of its configuration file and of its register file.
-    pub digests: [[u8; 32]; 2],
+    /// The SHA-256 digest of its configuration file.
+    pub digest: [u8; 32],
     /// How the lines of its log begin.
     pub form: LogForm,
 }
@@ -63,8 +60,6 @@ pub struct Parts<P: DaemonPort, C, S, O, L> {
     pub reference: S,
     /// Who is told what it does.
     pub observer: O,
-    /// Who answers.
-    pub service: Service,
     /// Where the other lines of its log are written.
     pub log: L,
 }

@@ -1,6 +1,6 @@
 //! Where the files of a configuration stand: no two of them at one place, and those that are written in directories that are there.
 
-use labntpd_files::{Configuration, Text};
+use labntpd_files::{Clock, Configuration, Text};
 use ntp_admin::{Escaped, Status, memory_status};
 use ntp_host::{StartLines, not_regular};
 use std::alloc::Global;
@@ -44,8 +44,6 @@ struct Place<'a> {
 pub struct NamedFiles<'a> {
     /// The file of the configuration itself.
     pub configuration: &'a str,
-    /// The register file.
-    pub register: Option<&'a str>,
     /// The commands file.
     pub commands: Option<&'a str>,
     /// The file of the key of the clock's daemon.
@@ -63,11 +61,10 @@ impl<'a> NamedFiles<'a> {
     pub fn of(path: &'a str, configuration: &'a Configuration) -> NamedFiles<'a> {
         NamedFiles {
             configuration: path,
-            register: Some(configuration.register.as_str()),
             commands: Some(configuration.commands.as_str()),
             key_file: match &configuration.clock {
-                None => None,
-                Some(daemon) => Some(daemon.key_file.as_str()),
+                Clock::Fixed(_) => None,
+                Clock::Followed(daemon) => Some(daemon.key_file.as_str()),
             },
             answers: path_of(&configuration.answers),
             statistics: path_of(&configuration.statistics),
@@ -194,10 +191,9 @@ fn all_named<'a>(
     named: NamedFiles<'a>,
     beside_statistics: &'a str,
     beside_customers: &'a str,
-) -> [Option<Named<'a>>; 9] {
+) -> [Option<Named<'a>>; 8] {
     [
         file_at("the configuration", Some(named.configuration), Use::Read),
-        file_at("register", named.register, Use::Read),
         file_at("commands", named.commands, Use::Read),
         file_at("clock.key_file", named.key_file, Use::Read),
         file_at("answers", named.answers, Use::Written),

@@ -1,19 +1,14 @@
 //! What a server begins with, read from its files.
 
 use crate::places::{judge_places, tell_readers};
-use crate::register_faults::register_status;
 use labntpd_files::{
-    ClockDaemon, Configuration, ConfigurationFault, Endpoint, key_in_file, read_configuration,
+    Clock, ClockDaemon, Configuration, ConfigurationFault, Endpoint, key_in_file,
+    read_configuration,
 };
-use ntp_admin::{
-    Escaped, Loaded, MOST_FILE_OCTETS, Status, failed_status, load_register, memory_status,
-    read_register,
-};
+use ntp_admin::{Escaped, Status, failed_status, memory_status};
 use ntp_client::{ClockLimits, Follower};
 use ntp_host::{StartLines, read_regular_file};
 use ntp_packet::Short;
-use ntp_reports::CustomerCounts;
-use ntp_service::Command;
 use sha2::{Digest, Sha256};
 use std::alloc::Global;
 use std::fs::Files;
@@ -25,28 +20,15 @@ const MOST_SMALL_FILE_OCTETS: u32 = 65_536;
 /// What is wanted in the file of the clock's key.
 pub const KEY_LINE_WANTED: &str = "one line of 2 to 64 hexadecimal digits is wanted";
 
-/// What was read from a configuration file, and from the files that it names.
+/// What was read from a configuration file, and from the key file that it names.
 #[derive(Drop)]
 pub struct Prepared {
     /// What the configuration file says.
     pub configuration: Configuration,
-    /// What a server begins with by it.
-    pub beginning: Beginning,
-}
-
-/// What a server begins with.
-#[derive(Drop)]
-pub struct Beginning {
-    /// The service with the customers of the register file, and the state of the clock that this names.
-    pub loaded: Loaded,
-    /// How many customers the register file enrols.
-    pub customers: u64,
-    /// What is reported of each of them, where the configuration asks for it.
-    pub reports: Option<CustomerCounts>,
-    /// The host's clock daemon, where it is asked; else the state of the clock is the register's.
+    /// The host's clock daemon, where one is asked.
     pub followed: Option<FollowedDaemon>,
-    /// The SHA-256 digests of the configuration file and of the register file.
-    pub digests: [[u8; 32]; 2],
+    /// The SHA-256 digest of the configuration file.
+    pub digest: [u8; 32],
 }
 
 /// The host's clock daemon, which is followed.
@@ -58,19 +40,8 @@ pub struct FollowedDaemon {
     pub follower: Follower,
 }
 
-/// A register file that was read.
-#[derive(Drop)]
-pub struct ReadRegister {
-    /// The service that has its customers, and the state of the clock that it names.
-    pub loaded: Loaded,
-    /// Its enrolments, in file order.
-    pub commands: Vec<Command>,
-    /// The SHA-256 digest of its octets.
-    pub digest: [u8; 32],
-}
-
-/// Reads the configuration file at a path, and the register and the key file that it names. A fault is told in one line to `faults`,
-/// where a failed write is passed over, and gives the exit status. Files with keys that others may read are told too.
+/// Reads the configuration file at a path, and the key file that it names. A fault is told in one line to `faults`, where a failed write
+/// is passed over, and gives the exit status. Files with keys that others may read are told too.
 pub fn prepare<R: Files, F: Write + Drop>(
     files: &R,
     alloc: Global,
@@ -81,26 +52,14 @@ pub fn prepare<R: Files, F: Write + Drop>(
     let configuration = configuration_in(alloc, path, text.as_str(), faults)?;
     judge_places(files, alloc, path, &configuration, faults)?;
     let followed = match &configuration.clock {
-        None => None,
-        Some(daemon) => Some(followed(files, alloc, daemon, faults)?),
+        Clock::Fixed(_) => None,
+        Clock::Followed(daemon) => Some(followed(files, alloc, daemon, faults)?),
     };
-    let register_path = configuration.register.as_str();
-    let register = register_at(files, alloc, register_path, faults)?;
-    tell_readers(files, register_path, faults);
     tell_readers(files, configuration.commands.as_str(), faults);
-    let reports = reports_of(alloc, &configuration, &register.commands);
-    if reports.as_ref().is_some_and(|reports| reports.has_missed()) {
-        return Err(memory_status(faults));
-    }
     Ok(Prepared {
         configuration,
-        beginning: Beginning {
-            customers: register.commands.len() as u64,
-            reports,
-            loaded: register.loaded,
-            followed,
-            digests: [Sha256::digest(text.as_bytes()), register.digest],
-        },
+        followed,
+        digest: Sha256::digest(text.as_bytes()),
     })
 }
 
@@ -114,31 +73,6 @@ pub fn configuration_at<R: Files, F: Write>(
 ) -> Result<Configuration, Status> {
     let text = small_text(files, alloc, path, faults)?;
     configuration_in(alloc, path, text.as_str(), faults)
-}
-
-/// The register file at a path. A fault is told in one line to `faults`, and gives the exit status.
-pub fn register_at<R: Files, F: Write>(
-    files: &R,
-    alloc: Global,
-    path: &str,
-    faults: &mut F,
-) -> Result<ReadRegister, Status> {
-    let register = match read_regular_file(files, alloc, path, MOST_FILE_OCTETS as u32) {
-        Ok(octets) => octets,
-        Err(error) => return Err(failed_status(path, &error, faults)),
-    };
-    let loaded = match load_register(alloc, &register) {
-        Ok(loaded) => loaded,
-        Err(fault) => return Err(register_status(alloc, path, &register, fault, faults)),
-    };
-    let Some(commands) = commands_in(alloc, &register) else {
-        return Err(memory_status(faults));
-    };
-    Ok(ReadRegister {
-        loaded,
-        commands,
-        digest: Sha256::digest(&register),
-    })
 }
 
 // The configuration of a text.
@@ -156,28 +90,6 @@ fn configuration_in<F: Write>(
             Err(Status::TextFaulty)
         }
     }
-}
-
-// The enrolments of a register file that was loaded; none where memory ran out.
-fn commands_in(alloc: Global, register: &[u8]) -> Option<Vec<Command>> {
-    let text = str::from_utf8(register).ok()?;
-    read_register(alloc, text).ok()
-}
-
-// What is reported of the customers that these commands enrolled, where a configuration asks for it.
-fn reports_of(
-    alloc: Global,
-    configuration: &Configuration,
-    commands: &[Command],
-) -> Option<CustomerCounts> {
-    if configuration.customers.is_none() {
-        return None;
-    }
-    let mut reports = CustomerCounts::new(alloc);
-    for command in commands {
-        reports.enrolled_at_start(command);
-    }
-    Some(reports)
 }
 
 // The clock daemon of a configuration, followed with the key of its key file.

@@ -1,10 +1,11 @@
 //! A daemon is put together, and serves.
-ghost use Rattle.std.specs.Prelude.{◌≡◌, ◌+◌, ◌<◌, ◌^◌, None, false, true, IfOk};
+ghost use Rattle.std.specs.Prelude.{◌≡◌, ◌+◌, ◌<◌, ◌^◌, None, option_map, false, true, [], IfOk};
 ghost use Rattle.std.specs.declared.alloc.Global.{Global};
 ghost use Rattle.ntp_reports.specs.Counted.{count_at};
+ghost use Rattle.ntp_service.specs.Headline.{StandsFor};
 ghost use Rattle.ntp_port.specs.Port.{failed_calls};
+ghost use Rattle.ntp_host.specs.Pacing.{each_millisecond};
 ghost use Rattle.ntp_server.specs.Rounds.{ServesRounds};
-ghost use Rattle.labntpd_assembly.specs.Assembled.{daemon_told};
 
 use crate::clock_told::DaemonClock;
 use crate::files::DaemonCommands;
@@ -14,6 +15,7 @@ use crate::parts::{Begun, Daemon, DaemonPort, Host, Parts};
 use ntp_host::EachMillisecond;
 use ntp_reports::Kind;
 use ntp_server::{Server, Totals};
+use ntp_service::Service;
 use std::fs::Files;
 use std::io::Write;
 use std::time::Clock;
@@ -44,8 +46,8 @@ where
     R: Files + Clock,
     L: Write + Drop,
 {
-    /// Puts a daemon together out of its parts, and says on `out` that it serves. No line of its commands is applied yet. It takes the
-    /// room for what is done beside it from the host's memory: `NoMemory` where that is refused.
+    /// Puts a daemon together out of its parts, and says on `out` that it serves. It has no customer yet, and no line of its commands is
+    /// applied. It takes the room for what is done beside it from the host's memory: `NoMemory` where that is refused.
     pub fn begin<N: Write>(
         host: Host<'a, R>,
         parts: Parts<P, C, S, O, L>,
@@ -58,8 +60,9 @@ where
         ensures applied { IfOk result (λ assembly. assembly.daemon.applied ≡ 0) }
         ensures reference { IfOk result (λ assembly. assembly.daemon.reference ≡ parts.reference) }
         ensures observer { IfOk result (λ assembly. assembly.daemon.observer ≡ parts.observer) }
-        ensures service { IfOk result (λ assembly. assembly.daemon.service ≡ parts.service) }
+        ensures service { IfOk result (λ assembly. StandsFor {A = Global} assembly.daemon.service []) }
     {
+        let service = Service::new(host.alloc);
         let beside = housekeeping_begun(host, parts.log, begun, out)?;
         Ok(Assembly {
             daemon: Server {
@@ -68,7 +71,7 @@ where
                 applied: 0,
                 reference: parts.reference,
                 observer: parts.observer,
-                service: parts.service,
+                service,
             },
             beside,
         })
@@ -76,14 +79,21 @@ where
 
     /// Serves for `turns` turns, with all that is done beside it. It cannot fail.
     ///
-    /// It makes the rounds of `serve_reported`. Where the port below `FreshPort` tells its turns, the rounds have these, but those whose
+    /// First it carries out the lines that stand in its commands file; then it makes the rounds of `serve_reported`. Where the port below `FreshPort` tells its turns, the rounds have these, but those whose
     /// datagrams were dropped and counted as stale, and what it sent is the replies; and so with the commands, as `EachMillisecond` asks
     /// for them, with the states of the clock and with the observer: each as far as it tells.
     pub fn serve(&mut self, turns: u64) -> Totals
         requires failures { failed_calls self.old.daemon.port.counts + turns < 2 ^ 64 }
-        ensures serves { ServesRounds Global false true turns
-            (daemon_told (λ p. P.told p.port) (λ p. p.counts) C.coming S.coming S.tended O.seen self.old.daemon)
-            (daemon_told (λ p. P.told p.port) (λ p. p.counts) C.coming S.coming S.tended O.seen self.new.daemon) result }
+        ensures serves { ServesRounds self.old.daemon self.new.daemon
+            (record {
+              port = λ p. P.told p.port;
+              counts = λ p. p.counts;
+              looks = λ c. option_map (each_millisecond c.asked) (C.coming c.source);
+              states = S.coming;
+              tended = S.tended;
+              seen = O.seen;
+            })
+            None None false true turns result }
         // Behind the last turn it is known how many receives have failed, and how many stale datagrams were dropped.
         ensures receives { 0 < turns → self.new.beside.seen.failed ≡ count_at (O.counted self.new.daemon.observer) Kind.NothingReceived }
         ensures stale { 0 < turns → self.new.beside.seen.stale ≡ self.new.daemon.port.counts.dropped }

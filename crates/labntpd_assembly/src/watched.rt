@@ -2,7 +2,6 @@
 
 use crate::files::{FileFault, are_told_alike};
 use labntpd_files::{Configuration, Text};
-use ntp_admin::AdmitFault;
 use ntp_reports::FileGauges;
 
 /// The files that can fail.
@@ -81,11 +80,11 @@ impl WatchedFiles {
         }
     }
 
-    /// The first line of the commands file in whose place another one stands than was applied, if one does.
-    pub(crate) fn other_line(&self) -> Option<u64> {
+    /// Whether no line of the commands file is carried out until a restart.
+    pub(crate) fn has_changed(&self) -> bool {
         match self.fault(Watched::Commands) {
-            Some(FileFault::NotAdmitted(AdmitFault::OtherLine(number))) => Some(number),
-            _ => None,
+            Some(FileFault::Commands(fault)) => fault.is_final(),
+            _ => false,
         }
     }
 }

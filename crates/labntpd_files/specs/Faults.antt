@@ -1,45 +1,63 @@
--- Every fault of a configuration file: what is wrong with each setting, whatever is wrong with the others.
-use Rattle.std.specs.Prelude.{ℕ, ◌*◌, ◌^◌, List, [], ◌∷◌, if◌then◌else◌, Option}
-use Rattle.std.specs.Option.{option_map}
-use Rattle.std.specs.Result.{result_err}
-use Rattle.toml.specs.Data.{Members, get_member, as_table}
-use Rattle.labntpd_files.specs.declared.fault.ConfigurationFault.{ConfigurationFault}
-use Rattle.labntpd_files.specs.declared.fault.ConfigurationFault.TheVariants as fault
+-- Not to be believed: for proofs. What is wrong at a key of a table, whatever is wrong at the others.
+use Rattle.std.specs.Prelude.{Bool, true, false, ◌||◌, if◌then◌else◌, Option, None, Some, is_some}
+use Rattle.toml.specs.Data.{Data, Members, get_member, as_array, as_table}
+use Rattle.ntp_admin.specs.Words.{address_in, algorithm_in, key_in, reference_in}
+use Rattle.labntpd_files.specs.declared.fault.KeyFault.{KeyFault}
+use Rattle.labntpd_files.specs.declared.fault.KeyFault.TheVariants.{Missing, Wanted}
 use Rattle.labntpd_files.specs.declared.setting.Setting.{Setting}
-use Rattle.labntpd_files.specs.declared.setting.Setting.TheVariants as setting
-use Rattle.ntp_admin.specs.Words.{◌>>=◌, algorithm_in}
-use Rattle.labntpd_files.specs.Keys.{setting_key, unknown_in}
-use Rattle.labntpd_files.specs.Settings.{required, optional, with_default}
-use Rattle.labntpd_files.specs.Values.{listen_in, endpoint_in, path_in, text_as, whole_of, number_of, seconds_of, is_fixed}
+use Rattle.labntpd_files.specs.declared.setting.Setting.TheVariants as s
+use Rattle.labntpd_files.specs.Keys.{setting_key}
+use Rattle.labntpd_files.specs.Values.{listen_in, endpoint_in, says_fixed, path_in, name_in, text_as, number_of, buffer_of, wait_of, validity_of, distance_of, age_of, step_of}
 
--- the fault of the clock's source: where it is fixed, that it has a further key beside it
-abbrev pub source_fault : Members → Option ConfigurationFault
-source_fault clock =
-    if is_fixed clock
-    then option_map (λ _. fault.Wanted setting.Source) (unknown_in (setting.Source ∷ []) clock)
-    else result_err (required setting.Source (text_as endpoint_in) clock)
+-- whether a setting may be left out
+abbrev pub is_optional : Setting → Bool
+is_optional s.Answers = true
+is_optional s.Statistics = true
+is_optional s.Customers = true
+is_optional s.ReceiveBuffer = true
+is_optional s.SendBuffer = true
+is_optional s.LongestWait = true
+is_optional s.ValidFor = true
+is_optional s.MostRootDistance = true
+is_optional s.MostReferenceAge = true
+is_optional s.MostStep = true
+is_optional s.Customer = true
+is_optional s.Name = true
+is_optional s.Newer = true
+is_optional other = false
 
--- the fault of a setting in its table, as the first fault of a file is told that has no other one
-abbrev pub setting_fault : Setting → Members → Option ConfigurationFault
-setting_fault setting.Listen table = result_err (required setting.Listen (text_as listen_in) table)
-setting_fault setting.Register table = result_err (required setting.Register (text_as path_in) table)
-setting_fault setting.Commands table = result_err (required setting.Commands (text_as path_in) table)
-setting_fault setting.Answers table = result_err (optional setting.Answers (text_as path_in) table)
-setting_fault setting.Statistics table = result_err (optional setting.Statistics (text_as path_in) table)
-setting_fault setting.Customers table = result_err (optional setting.Customers (text_as path_in) table)
-setting_fault setting.ReceiveBuffer table = result_err (with_default 524288 setting.ReceiveBuffer (whole_of 65536 1073741823) table)
-setting_fault setting.SendBuffer table = result_err (with_default 1048576 setting.SendBuffer (whole_of 65536 1073741823) table)
-setting_fault setting.LongestWait table = result_err (with_default (250 * 10 ^ 6) setting.LongestWait (seconds_of (10 ^ 9) (150 * 10 ^ 6) (60 * 10 ^ 9)) table)
-setting_fault setting.Clock table = result_err (required setting.Clock as_table table)
-setting_fault setting.Source table = source_fault table
-setting_fault setting.Number table = result_err (required setting.Number number_of table)
-setting_fault setting.Algorithm table = result_err (required setting.Algorithm (text_as algorithm_in) table)
-setting_fault setting.KeyFile table = result_err (required setting.KeyFile (text_as path_in) table)
-setting_fault setting.ValidFor table = result_err (with_default (16 * 10 ^ 9) setting.ValidFor (seconds_of (10 ^ 9) (2 * 10 ^ 9) (3600 * 10 ^ 9)) table)
-setting_fault setting.MostRootDistance table = result_err (with_default (2 ^ 16) setting.MostRootDistance (seconds_of (2 ^ 16) 1 (16 * 2 ^ 16)) table)
-setting_fault setting.MostReferenceAge table = result_err (with_default 4096 setting.MostReferenceAge (seconds_of 1 1 1000000) table)
-setting_fault setting.MostStep table = result_err (with_default (500 * 10 ^ 6) setting.MostStep (seconds_of (10 ^ 9) 1 (3600 * 10 ^ 9)) table)
+-- whether a value is what is wanted at a key
+abbrev pub is_right : Setting → Data → Bool
+is_right s.Listen value = is_some (text_as listen_in value)
+is_right s.Commands value = is_some (text_as path_in value)
+is_right s.Answers value = is_some (text_as path_in value)
+is_right s.Statistics value = is_some (text_as path_in value)
+is_right s.Customers value = is_some (text_as path_in value)
+is_right s.ReceiveBuffer value = is_some (buffer_of value)
+is_right s.SendBuffer value = is_some (buffer_of value)
+is_right s.LongestWait value = is_some (wait_of value)
+is_right s.Clock value = is_some (as_table value)
+is_right s.Source value = says_fixed value || is_some (text_as endpoint_in value)
+is_right s.Reference value = is_some (text_as reference_in value)
+is_right s.Number value = is_some (number_of value)
+is_right s.Algorithm value = is_some (text_as algorithm_in value)
+is_right s.KeyFile value = is_some (text_as path_in value)
+is_right s.ValidFor value = is_some (validity_of value)
+is_right s.MostRootDistance value = is_some (distance_of value)
+is_right s.MostReferenceAge value = is_some (age_of value)
+is_right s.MostStep value = is_some (step_of value)
+is_right s.Customer value = is_some (as_array value)
+is_right s.Address value = is_some (text_as address_in value)
+is_right s.Key value = is_some (text_as key_in value)
+is_right s.Budget value = is_some (number_of value)
+is_right s.Name value = is_some (text_as name_in value)
+is_right s.Newer value = is_some (as_table value)
 
--- the path at a setting, if one stands there
-abbrev pub path_at : Setting → Members → Option (List ℕ)
-path_at s table = get_member (setting_key s) table >>= text_as path_in
+-- what is wrong at a key where this stands
+abbrev pub wrong_value : Setting → Option Data → Option KeyFault
+wrong_value here None = if is_optional here then None else Some (Missing here)
+wrong_value here (Some value) = if is_right here value then None else Some (Wanted here)
+
+-- what is wrong at a key of a table
+abbrev pub wrong_at : Setting → Members → Option KeyFault
+wrong_at here table = wrong_value here (get_member (setting_key here) table)

@@ -4,8 +4,8 @@ pub mod Settings
 pub mod Document
 pub mod KeyFile
 pub mod Faults
-pub mod Members
 pub mod KeyText
 pub mod Shown
 pub mod HardlyMeant
 pub mod CommandWords
+pub mod Wanted

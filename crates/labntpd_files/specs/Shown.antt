@@ -1,4 +1,4 @@
--- Which words are shown: no key of three octets or more.
+-- Not to be believed: for proofs. Which words are shown: no key of three octets or more.
 use Rattle.std.specs.Prelude.{ℕ, ◌==◌, ◌&&◌, ◌||◌, Bool, nat_le, nat_lt, List, length}
 use Rattle.std.specs.List.{list_all, filter}
 use Rattle.std.specs.Char.{is_ascii_digit}

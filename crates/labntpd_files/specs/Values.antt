@@ -1,14 +1,17 @@
--- What the values of a configuration file say.
-use Rattle.std.specs.Prelude.{ℕ, Bool, false, pos, ◌*◌, ◌==◌, ◌&&◌, nat_le, nat_lt, if◌then◌else◌, List, length, codes, Option, Some, None}
-use Rattle.std.specs.List.{before_first, after_first}
+-- What the values of a configuration file and of a wanted customer say.
+use Rattle.std.specs.Prelude.{ℕ, Bool, false, pos, ◌^◌, ◌*◌, ◌==◌, ◌&&◌, not, nat_le, nat_lt, if◌then◌else◌, List, length, codes, Option, Some, None}
+use Rattle.std.specs.List.{before_first, after_first, list_any}
+use Rattle.std.specs.Char.{is_control}
 use Rattle.std.specs.Option.{option_map, option_map_or}
 use Rattle.std.specs.Int.{w64}
 use Rattle.std.specs.Float.Ieee as Ieee
 use Rattle.std.specs.Float.{Float, binary64, float_round, float_to_unsigned}
-use Rattle.std.specs.Str.{bytes_eq}
+use Rattle.std.specs.Str.{bytes_eq, chars}
 use Rattle.std.specs.declared.num.NonZeroU16.{NonZeroU16}
-use Rattle.toml.specs.Data.{Data, Members, integer, float, get_member, as_str}
-use Rattle.ntp_admin.specs.Words.{◌>>=◌, address_in, number_in, non_zero}
+use Rattle.toml.specs.Data.{Data, integer, float, as_str}
+use Rattle.ntp_admin.specs.Words.{◌>>=◌, address_in, number_in, key_in, non_zero}
+use Rattle.ntp_mac.specs.Key.{SymmetricKey}
+use Rattle.ntp_mac.specs.declared.key.Algorithm.{Algorithm}
 use Rattle.labntpd_files.specs.declared.configuration.Endpoint.{Endpoint}
 use Rattle.labntpd_files.specs.declared.configuration.Listen.{Listen}
 use Rattle.labntpd_files.specs.declared.configuration.Listen.TheVariants.{Bound, Inherited}
@@ -23,6 +26,10 @@ endpoint_in text = do
 -- where datagrams are received: an endpoint, or `inherited`
 abbrev pub listen_in : List ℕ → Option Listen
 listen_in text = if bytes_eq text (codes "inherited") then Some Inherited else option_map Bound (endpoint_in text)
+
+-- whether a source is fixed
+abbrev pub says_fixed : Data → Bool
+says_fixed value = option_map_or (bytes_eq (codes "fixed")) (as_str value) false
 
 -- a path: a text that is not empty
 abbrev pub path_in : List ℕ → Option (List ℕ)
@@ -60,6 +67,33 @@ units_of units other = None
 abbrev pub seconds_of : ℕ → ℕ → ℕ → Data → Option ℕ
 seconds_of units least most value = units_of units value >>= in_range least most
 
--- whether the source of a clock is fixed
-abbrev pub is_fixed : Members → Bool
-is_fixed clock = option_map_or (bytes_eq (codes "fixed")) (get_member (codes "source") clock >>= as_str) false
+-- the size of a buffer, in octets; spans of time in nanoseconds, a root distance in 2^-16 s, and an age in seconds
+abbrev pub buffer_of : Data → Option ℕ
+buffer_of = whole_of 65536 1073741823
+
+abbrev pub wait_of : Data → Option ℕ
+wait_of = seconds_of (10 ^ 9) (150 * 10 ^ 6) (60 * 10 ^ 9)
+
+abbrev pub validity_of : Data → Option ℕ
+validity_of = seconds_of (10 ^ 9) (2 * 10 ^ 9) (3600 * 10 ^ 9)
+
+abbrev pub distance_of : Data → Option ℕ
+distance_of = seconds_of (2 ^ 16) 1 (16 * 2 ^ 16)
+
+abbrev pub age_of : Data → Option ℕ
+age_of = seconds_of 1 1 1000000
+
+abbrev pub step_of : Data → Option ℕ
+step_of = seconds_of (10 ^ 9) 1 (3600 * 10 ^ 9)
+
+-- a key for an algorithm
+abbrev pub key_for : Algorithm → List ℕ → Option SymmetricKey
+key_for algorithm word = option_map (λ octets. record { algorithm = algorithm; octets = octets }) (key_in word)
+
+-- whether a text may be the name of a customer: 1 to 200 octets, and no control character (Unicode, Cc)
+abbrev pub is_name : List ℕ → Bool
+is_name text = nat_lt 0 (length text) && nat_le (length text) 200 && not (list_any is_control (chars text))
+
+-- the name of a customer
+abbrev pub name_in : List ℕ → Option (List ℕ)
+name_in text = if is_name text then Some text else None

@@ -2,6 +2,7 @@
 
 use crate::Text;
 use ntp_mac::Algorithm;
+use ntp_reply::Reference;
 use ntp_service::Address;
 use std::net::{Ipv4Addr, SocketAddrV4};
 use std::num::NonZero;
@@ -11,8 +12,6 @@ use std::num::NonZero;
 pub struct Configuration {
     /// Where datagrams are received.
     pub listen: Listen,
-    /// The path of the register file.
-    pub register: Text,
     /// The path of the commands file.
     pub commands: Text,
     /// The path of the file to which the answers to commands are written, if they are.
@@ -27,8 +26,17 @@ pub struct Configuration {
     pub send_buffer: u32,
     /// How long a datagram may have waited for an answer, in nanoseconds: 0.15 to 60 s.
     pub longest_wait: u64,
-    /// The daemon that is asked how good the host's clock is; with none, replies tell the reference state of the register file.
-    pub clock: Option<ClockDaemon>,
+    /// How good the host's clock is.
+    pub clock: Clock,
+}
+
+/// Who says how good the host's clock is.
+#[derive(Drop)]
+pub enum Clock {
+    /// Nobody: replies tell this reference state.
+    Fixed(Reference),
+    /// A daemon, which is asked.
+    Followed(ClockDaemon),
 }
 
 /// Where datagrams are received.

@@ -3,11 +3,13 @@ ghost use Rattle.std.specs.Prelude.{◌≡◌, ◌⊎◌, Some, None, Err, optio
 ghost use Rattle.toml.specs.View.{table_view};
 ghost use Rattle.toml.specs.Parse.{parse_document};
 ghost use Rattle.labntpd_files.specs.Settings.{HasRanges};
-ghost use Rattle.labntpd_files.specs.Document.{unknown_key, IsReadAs};
+ghost use Rattle.labntpd_files.specs.Document.{clock_of, unknown_key, IsReadAs};
 
-use crate::setting::unknown_in;
-use crate::settings::{ClockSettings, Settings, settings_in, value_at};
-use crate::{CLOCK_KEYS, ClockDaemon, Configuration, ConfigurationFault, KEYS, Setting, Text};
+use crate::found::{Found, add_faults, add_no_toml};
+use crate::line_numbers::{key_line, line_of};
+use crate::setting::{TOP_KEYS, clock_keys, unknown_in, value_at};
+use crate::settings::configuration_in;
+use crate::{Configuration, ConfigurationFault, Setting, Text};
 use std::alloc::{AllocError, Global};
 use toml::Table;
 
@@ -19,8 +21,26 @@ pub fn read_configuration(alloc: Global, text: &str) -> Result<Configuration, Co
 {
     let document = document(alloc, text)?;
     refuse_unknown_keys(alloc, &document)?;
-    let settings = settings_in(&document)?;
-    Ok(owned(alloc, settings)?)
+    configuration_in(alloc, &document)
+}
+
+/// Every fault of the text of a configuration file, in the order of its lines, with what stands there; those without a line stand in front.
+/// `read_configuration` says whether there is one.
+pub fn configuration_faults(alloc: Global, text: &str) -> Result<Vec<Found>, AllocError> {
+    let mut found = Vec::new(alloc);
+    match toml::table_from_str(alloc, text) {
+        Err(error) => add_no_toml(&mut found, text, &error)?,
+        Ok(document) => {
+            let line_of = |key: &str| key_line(text, "", key);
+            add_faults(&mut found, "", line_of, &document, &TOP_KEYS)?;
+            if let Some(clock) = clock_of(&document) {
+                let line_of = |key: &str| key_line(text, "clock", key);
+                add_faults(&mut found, "clock.", line_of, clock, clock_keys(clock))?;
+            }
+        }
+    }
+    found.sort_by_key(|found| found.line)?;
+    Ok(found)
 }
 
 // The document that a text is.
@@ -33,20 +53,10 @@ fn document(alloc: Global, text: &str) -> Result<Table, ConfigurationFault>
         Err(error) => match error.span() {
             None => Err(ConfigurationFault::NoMemory),
             Some(span) => Err(ConfigurationFault::Toml {
-                line: line_at(text, span.start),
+                line: line_of(text, span.start),
             }),
         },
     }
-}
-
-// The line in which an octet of the text stands, counted from 1.
-fn line_at(text: &str, place: usize) -> u64 {
-    let line_feeds = text
-        .as_bytes()
-        .iter()
-        .take(place)
-        .filter(|octet| **octet == b'\n');
-    line_feeds.count() as u64 + 1
 }
 
 // Refuses keys that are none, of the top level and then of the clock's table.
@@ -54,18 +64,15 @@ fn refuse_unknown_keys(alloc: Global, document: &Table) -> Result<(), Configurat
     ensures known { OnOk result (unknown_key (table_view document.now) ≡ None) }
     ensures fault { IfErr result (λ fault. (fault ≡ ConfigurationFault.NoMemory) ⊎ (unknown_key (table_view document.now) ≡ Some fault)) }
 {
-    if let Some(key) = unknown_in(&KEYS, document) {
+    if let Some(key) = unknown_in(&TOP_KEYS, document) {
         return Err(ConfigurationFault::Unknown {
             key: Text::of(alloc, key)?,
         });
     }
-    let Some(value) = value_at(document, Setting::Clock) else {
+    let Some(clock) = clock_of(document) else {
         return Ok(());
     };
-    let Some(clock) = value.as_table() else {
-        return Ok(());
-    };
-    match unknown_in(&CLOCK_KEYS, clock) {
+    match unknown_in(clock_keys(clock), clock) {
         None => Ok(()),
         Some(key) => Err(ConfigurationFault::UnknownOfClock {
             key: Text::of(alloc, key)?,
@@ -73,52 +80,9 @@ fn refuse_unknown_keys(alloc: Global, document: &Table) -> Result<(), Configurat
     }
 }
 
-// The configuration that has these settings.
-fn owned(alloc: Global, settings: Settings<'_>) -> Result<Configuration, AllocError>
-    ensures { IfOk result (λ configuration. configuration ≡ settings.entry) }
+// The table of the clock, where there is one.
+fn clock_of(document: &Table) -> Option<&Table>
+    ensures { option_map (λ clock. table_view clock.now) result ≡ clock_of (table_view document.now) }
 {
-    Ok(Configuration {
-        listen: settings.listen,
-        register: Text::of(alloc, settings.register)?,
-        commands: Text::of(alloc, settings.commands)?,
-        answers: owned_path(alloc, settings.answers)?,
-        statistics: owned_path(alloc, settings.statistics)?,
-        customers: owned_path(alloc, settings.customers)?,
-        receive_buffer: settings.receive_buffer,
-        send_buffer: settings.send_buffer,
-        longest_wait: settings.longest_wait,
-        clock: owned_clock(alloc, settings.clock)?,
-    })
-}
-
-// A path that may be left out.
-fn owned_path(alloc: Global, path: Option<&str>) -> Result<Option<Text>, AllocError>
-    ensures { IfOk result (λ owned. owned ≡ option_map (λ text. text.now) path.entry) }
-{
-    match path {
-        None => Ok(None),
-        Some(path) => Ok(Some(Text::of(alloc, path)?)),
-    }
-}
-
-// The daemon that the clock's settings tell of.
-fn owned_clock(
-    alloc: Global,
-    clock: Option<ClockSettings<'_>>,
-) -> Result<Option<ClockDaemon>, AllocError>
-    ensures { IfOk result (λ daemon. daemon ≡ clock.entry) }
-{
-    let Some(daemon) = clock else {
-        return Ok(None);
-    };
-    Ok(Some(ClockDaemon {
-        source: daemon.source,
-        number: daemon.number,
-        algorithm: daemon.algorithm,
-        key_file: Text::of(alloc, daemon.key_file)?,
-        valid_for: daemon.valid_for,
-        most_root_distance: daemon.most_root_distance,
-        most_reference_age: daemon.most_reference_age,
-        most_step: daemon.most_step,
-    }))
+    value_at(document, Setting::Clock)?.as_table()
 }

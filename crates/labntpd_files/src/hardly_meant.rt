@@ -1,6 +1,6 @@
 //! What is no fault, but hardly meant.
 ghost use Rattle.std.specs.Prelude.{◌≡◌};
-ghost use Rattle.labntpd_files.specs.HardlyMeant.{hostless, key_warning, budget_warning};
+ghost use Rattle.labntpd_files.specs.HardlyMeant.{address_warning, key_warning, budget_warning};
 
 use ntp_mac::{Algorithm, Key};
 use ntp_service::Address;
@@ -12,24 +12,17 @@ const FEW_OCTETS: usize = 16;
 /// The greatest budget that the rule of `examples/labntpd.nft` lets pass: 200 datagrams a second for 64 seconds.
 const DOOR_BUDGET: u16 = 12_800;
 
-/// Why no host sends from an address.
-#[derive(Clone, Copy, Debug, PartialEq, Eq)]
-pub enum NoHost {
-    /// Network 0 (RFC 1122, 3.2.1.3).
-    ThisNetwork,
-    /// A group (RFC 5771).
-    Multicast,
-    /// Networks 240 to 255 (RFC 1112, 4).
-    Reserved,
-    /// All hosts of a link (RFC 919, 7).
-    Broadcast,
-}
-
 /// What is hardly meant at a customer.
 #[derive(Clone, Copy, Debug, PartialEq, Eq)]
 pub enum HardlyMeant {
-    /// No host sends from the address.
-    Address(NoHost),
+    /// No host sends from network 0 (RFC 1122, 3.2.1.3).
+    ThisNetwork,
+    /// None sends from a group (RFC 5771).
+    Multicast,
+    /// None sends from networks 240 to 255 (RFC 1112, 4).
+    Reserved,
+    /// None sends from all hosts of a link (RFC 919, 7).
+    Broadcast,
     /// The key has few octets.
     ShortKey(usize),
     /// The key is for MD5.
@@ -40,21 +33,21 @@ pub enum HardlyMeant {
     LargeBudget(u16),
 }
 
-/// Why no host sends from an address, if none does.
-pub fn hostless(address: Address) -> Option<NoHost>
-    ensures { result ≡ hostless address }
+/// What is hardly meant with an address: one that no host sends from.
+pub fn address_warning(address: Address) -> Option<HardlyMeant>
+    ensures { result ≡ address_warning address }
 {
     let Address([first, second, third, fourth]) = address;
     if first == 0 {
-        Some(NoHost::ThisNetwork)
+        Some(HardlyMeant::ThisNetwork)
     } else if first < 224 {
         None
     } else if first < 240 {
-        Some(NoHost::Multicast)
+        Some(HardlyMeant::Multicast)
     } else if first == 255 && second == 255 && third == 255 && fourth == 255 {
-        Some(NoHost::Broadcast)
+        Some(HardlyMeant::Broadcast)
     } else {
-        Some(NoHost::Reserved)
+        Some(HardlyMeant::Reserved)
     }
 }
 
@@ -88,18 +81,12 @@ pub fn budget_warning(budget: u16) -> Option<HardlyMeant>
 impl fmt::Display for HardlyMeant {
     fn fmt<W: fmt::Write>(&self, f: &mut fmt::Formatter<W>) -> fmt::Result {
         match self {
-            HardlyMeant::Address(NoHost::ThisNetwork) => {
-                f.write_str("no host sends from network 0")
-            }
-            HardlyMeant::Address(NoHost::Multicast) => {
-                f.write_str("no host sends from a multicast address")
-            }
-            HardlyMeant::Address(NoHost::Reserved) => {
+            HardlyMeant::ThisNetwork => { f.write_str("no host sends from network 0") }
+            HardlyMeant::Multicast => { f.write_str("no host sends from a multicast address") }
+            HardlyMeant::Reserved => {
                 f.write_str("no host sends from network 240/4, which is reserved")
             }
-            HardlyMeant::Address(NoHost::Broadcast) => {
-                f.write_str("no host sends from the broadcast address")
-            }
+            HardlyMeant::Broadcast => { f.write_str("no host sends from the broadcast address") }
             HardlyMeant::ShortKey(count) => write!(f, "the key has fewer than 16 octets: {count}"),
             HardlyMeant::Md5 => f.write_str("the key is for MD5, the weaker algorithm"),
             HardlyMeant::SmallBudget => f.write_str(

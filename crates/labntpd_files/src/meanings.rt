@@ -19,6 +19,8 @@ pub fn fault_meaning(fault: LineFault) -> &'static str {
         LineFault::Stamp => "16 hexadecimal digits are wanted",
         LineFault::Reference => "the 46 hexadecimal digits of a reference state are wanted",
         LineFault::Hex => "hexadecimal digits, an even number, or - are wanted",
+        LineFault::LineLong => "a line of at most 4096 octets is wanted",
+        LineFault::NotUtf8 => "UTF-8 is wanted",
     }
 }
 

@@ -1,17 +1,18 @@
-//! The keys of a configuration file.
+//! The keys of a configuration file and of a wanted customer.
 ghost use Rattle.std.specs.Prelude.{◌≡◌, option_map};
-ghost use Rattle.toml.specs.View.{table_view};
-ghost use Rattle.labntpd_files.specs.Keys.{setting_key, is_known, unknown_in};
+ghost use Rattle.toml.specs.Data.{get_member};
+ghost use Rattle.toml.specs.View.{view, table_view};
+ghost use Rattle.labntpd_files.specs.Keys.{setting_key, is_fixed, clock_keys, is_known, unknown_in};
 
-use std::fmt;
-use toml::Table;
+use crate::values::says_fixed;
+use toml::{Table, Value};
 
-/// A key of a configuration file, in the order in which they are documented and looked at. Those from
-/// `Source` on stand in the table `[clock]`. `Configuration` says what stands at each.
-#[derive(Clone, Copy)]
+/// A key of a table, in the order in which they are documented and looked at: those of the top level of a configuration file, up to
+/// `Clock`; those of its table `[clock]`, up to `MostStep`; that of all wanted customers; and those of one of these, which has a `Number`
+/// and an `Algorithm` too.
+#[derive(Clone, Copy, PartialEq, Eq)]
 pub enum Setting {
     Listen,
-    Register,
     Commands,
     Answers,
     Statistics,
@@ -21,6 +22,7 @@ pub enum Setting {
     LongestWait,
     Clock,
     Source,
+    Reference,
     Number,
     Algorithm,
     KeyFile,
@@ -28,12 +30,17 @@ pub enum Setting {
     MostRootDistance,
     MostReferenceAge,
     MostStep,
+    Customer,
+    Address,
+    Key,
+    Budget,
+    Name,
+    Newer,
 }
 
-/// The keys of the top level, in that order.
-pub const KEYS: [Setting; 10] = [
+/// The keys of the top level of a configuration file.
+pub(crate) const TOP_KEYS: [Setting; 9] = [
     Setting::Listen,
-    Setting::Register,
     Setting::Commands,
     Setting::Answers,
     Setting::Statistics,
@@ -44,8 +51,11 @@ pub const KEYS: [Setting; 10] = [
     Setting::Clock,
 ];
 
-/// The keys of the table `[clock]`, in that order.
-pub const CLOCK_KEYS: [Setting; 8] = [
+/// The keys of a clock whose source is fixed.
+const FIXED_KEYS: [Setting; 2] = [Setting::Source, Setting::Reference];
+
+/// The keys of a clock that a daemon keeps.
+const DAEMON_KEYS: [Setting; 8] = [
     Setting::Source,
     Setting::Number,
     Setting::Algorithm,
@@ -56,8 +66,50 @@ pub const CLOCK_KEYS: [Setting; 8] = [
     Setting::MostStep,
 ];
 
+/// The keys of a wanted customer.
+pub(crate) const CUSTOMER_KEYS: [Setting; 7] = [
+    Setting::Address,
+    Setting::Number,
+    Setting::Algorithm,
+    Setting::Key,
+    Setting::Budget,
+    Setting::Name,
+    Setting::Newer,
+];
+
+/// The keys of its newer key.
+pub(crate) const NEWER_KEYS: [Setting; 3] = [Setting::Number, Setting::Algorithm, Setting::Key];
+
+/// The keys of the table of a clock, by its source.
+pub(crate) fn clock_keys(clock: &Table) -> &'static [Setting]
+    ensures { result.now ≡ clock_keys (table_view clock.now) }
+{
+    if is_fixed(clock) {
+        &FIXED_KEYS
+    } else {
+        &DAEMON_KEYS
+    }
+}
+
+/// Whether the source of a clock is fixed.
+pub fn is_fixed(clock: &Table) -> bool
+    ensures { result ≡ is_fixed (table_view clock.now) }
+{
+    match value_at(clock, Setting::Source) {
+        None => false,
+        Some(source) => says_fixed(source),
+    }
+}
+
+/// The value of a setting.
+pub fn value_at(table: &Table, setting: Setting) -> Option<&Value>
+    ensures { option_map (λ value. view value.now) result ≡ get_member (setting_key setting) (table_view table.now) }
+{
+    table.get(setting.key())
+}
+
 /// Whether a key is that of one of the known settings.
-pub fn is_known(known: &[Setting], key: &str) -> bool
+pub(crate) fn is_known(known: &[Setting], key: &str) -> bool
     ensures { result ≡ is_known known.now key.now }
 {
     known.iter().any(|setting| key == setting.key())
@@ -82,7 +134,6 @@ impl Setting {
     {
         match self {
             Setting::Listen => "listen",
-            Setting::Register => "register",
             Setting::Commands => "commands",
             Setting::Answers => "answers",
             Setting::Statistics => "statistics",
@@ -92,6 +143,7 @@ impl Setting {
             Setting::LongestWait => "longest_wait",
             Setting::Clock => "clock",
             Setting::Source => "source",
+            Setting::Reference => "reference",
             Setting::Number => "number",
             Setting::Algorithm => "algorithm",
             Setting::KeyFile => "key_file",
@@ -99,6 +151,12 @@ impl Setting {
             Setting::MostRootDistance => "most_root_distance",
             Setting::MostReferenceAge => "most_reference_age",
             Setting::MostStep => "most_step",
+            Setting::Customer => "customer",
+            Setting::Address => "address",
+            Setting::Key => "key",
+            Setting::Budget => "budget",
+            Setting::Name => "name",
+            Setting::Newer => "newer",
         }
     }
 
@@ -108,8 +166,7 @@ impl Setting {
             Setting::Listen => {
                 "an IPv4 address with a port, as \"192.0.2.1:123\", or \"inherited\" is wanted"
             }
-            Setting::Register
-            | Setting::Commands
+            Setting::Commands
             | Setting::Answers
             | Setting::Statistics
             | Setting::Customers
@@ -120,48 +177,20 @@ impl Setting {
             Setting::LongestWait => "a number of seconds from 0.15 to 60 is wanted",
             Setting::Clock => "a table is wanted",
             Setting::Source => {
-                "an IPv4 address with a port, as \"127.0.0.1:123\", or \"fixed\" and no further key of [clock] is wanted"
+                "an IPv4 address with a port, as \"127.0.0.1:123\", or \"fixed\" is wanted"
             }
-            Setting::Number => "a whole number from 1 to 65535 is wanted",
+            Setting::Reference => "the 46 hexadecimal digits of a reference state are wanted",
+            Setting::Number | Setting::Budget => "a whole number from 1 to 65535 is wanted",
             Setting::Algorithm => "\"md5\" or \"sha1\" is wanted",
             Setting::ValidFor => "a number of seconds from 2 to 3600 is wanted",
             Setting::MostRootDistance => "a number of seconds above 0 and up to 16 is wanted",
             Setting::MostReferenceAge => "a number of seconds from 1 to 1000000 is wanted",
             Setting::MostStep => "a number of seconds above 0 and up to 3600 is wanted",
+            Setting::Customer => "an array of tables is wanted",
+            Setting::Address => "an IPv4 address, as \"192.0.2.1\", is wanted",
+            Setting::Key => "2 to 64 hexadecimal digits, an even number, are wanted",
+            Setting::Name => "a text of 1 to 200 octets without control characters is wanted",
+            Setting::Newer => "a table with number, algorithm and key is wanted",
         }
-    }
-
-    // Whether the key stands in the table `[clock]`.
-    fn is_of_clock(self) -> bool {
-        match self {
-            Setting::Listen
-            | Setting::Register
-            | Setting::Commands
-            | Setting::Answers
-            | Setting::Statistics
-            | Setting::Customers
-            | Setting::ReceiveBuffer
-            | Setting::SendBuffer
-            | Setting::LongestWait
-            | Setting::Clock => false,
-            Setting::Source
-            | Setting::Number
-            | Setting::Algorithm
-            | Setting::KeyFile
-            | Setting::ValidFor
-            | Setting::MostRootDistance
-            | Setting::MostReferenceAge
-            | Setting::MostStep => true,
-        }
-    }
-}
-
-/// The key with its table, as `clock.number`.
-impl fmt::Display for Setting {
-    fn fmt<W: fmt::Write>(&self, f: &mut fmt::Formatter<W>) -> fmt::Result {
-        if self.is_of_clock() {
-            f.write_str("clock.")?;
-        }
-        f.write_str(self.key())
     }
 }

@@ -1,21 +1,23 @@
-//! The settings of a configuration file: its keys, and what stands there.
+//! The settings of a configuration file: what stands at its keys.
 ghost use Rattle.std.specs.Prelude.{◌≡◌, ◌≤◌, IfOk, Some, None, Ok, Err, option_map, IfSome, MatchResult};
 ghost use Rattle.toml.specs.Data.{get_member, as_table};
 ghost use Rattle.toml.specs.View.{view, table_view};
-ghost use Rattle.ntp_admin.specs.Words.{algorithm_in};
+ghost use Rattle.ntp_admin.specs.Words.{algorithm_in, reference_in};
 ghost use Rattle.labntpd_files.specs.Keys.{setting_key};
-ghost use Rattle.labntpd_files.specs.Settings.{required, optional, with_default, clock_in, daemon_in, settings_in, HasDaemonRanges, HasRanges};
-ghost use Rattle.labntpd_files.specs.Values.{listen_in, endpoint_in, path_in, text_as, number_of, whole_of, seconds_of, is_fixed};
-ghost use Rattle.labntpd_files.specs.Faults.{source_fault, setting_fault, path_at};
+ghost use Rattle.labntpd_files.specs.Settings.{required, optional, with_default, clock_in, daemon_in, settings_in, Reads, HasDaemonRanges, HasClockRanges, HasRanges};
+ghost use Rattle.labntpd_files.specs.Values.{listen_in, endpoint_in, path_in, text_as, number_of, whole_of, seconds_of};
+ghost use Rattle.labntpd_files.specs.Faults.{is_optional, is_right, wrong_at};
+ghost use Rattle.labntpd_files.specs.Document.{path_at};
 
-use crate::setting::unknown_in;
+use crate::fault::KeyFault;
+use crate::setting::{is_fixed, value_at};
 use crate::values::{
-    algorithm_of, endpoint_of, listen_of, number_of, path_of, seconds_of, whole_of,
+    Span, address_of, algorithm_of, endpoint_of, key_of, listen_of, name_of, number_of, path_of,
+    reference_of, says_fixed, seconds_of, whole_of,
 };
-use crate::{ConfigurationFault, Endpoint, Listen, Setting};
+use crate::{Clock, ClockDaemon, Configuration, ConfigurationFault, Setting, Text};
 use ntp_mac::Algorithm;
-use std::marker::Model;
-use std::num::NonZero;
+use std::alloc::Global;
 use toml::{Table, Value};
 
 /// How many nanoseconds a second has.
@@ -26,80 +28,6 @@ const SHORT_UNITS: u32 = 65_536;
 
 /// The unit of what is counted in whole seconds.
 const SECONDS: u32 = 1;
-
-/// What a configuration file says, with its texts as they stand there.
-#[derive(Drop)]
-pub(crate) struct Settings<'a> {
-    pub(crate) listen: Listen,
-    pub(crate) register: &'a str,
-    pub(crate) commands: &'a str,
-    pub(crate) answers: Option<&'a str>,
-    pub(crate) statistics: Option<&'a str>,
-    pub(crate) customers: Option<&'a str>,
-    pub(crate) receive_buffer: u32,
-    pub(crate) send_buffer: u32,
-    pub(crate) longest_wait: u64,
-    pub(crate) clock: Option<ClockSettings<'a>>,
-}
-
-impl<'a> Model for Settings<'a> {
-    ghost use Rattle.std.specs.Prelude.{option_map};
-    ghost use Rattle.labntpd_files.specs.declared.configuration.Configuration.{Configuration};
-
-    ghost Value = { Configuration };
-
-    ghost view = { λ settings. record {
-      listen = settings.listen;
-      register = settings.register.now;
-      commands = settings.commands.now;
-      answers = option_map (λ path. path.now) settings.answers;
-      statistics = option_map (λ path. path.now) settings.statistics;
-      customers = option_map (λ path. path.now) settings.customers;
-      receive_buffer = settings.receive_buffer;
-      send_buffer = settings.send_buffer;
-      longest_wait = settings.longest_wait;
-      clock = settings.clock;
-    } };
-}
-
-/// What the table `[clock]` says where its source is not fixed.
-#[derive(Drop)]
-pub(crate) struct ClockSettings<'a> {
-    pub(crate) source: Endpoint,
-    pub(crate) number: NonZero<u16>,
-    pub(crate) algorithm: Algorithm,
-    pub(crate) key_file: &'a str,
-    pub(crate) valid_for: u64,
-    pub(crate) most_root_distance: u32,
-    pub(crate) most_reference_age: u32,
-    pub(crate) most_step: u64,
-}
-
-impl<'a> Model for ClockSettings<'a> {
-    ghost use Rattle.labntpd_files.specs.declared.configuration.ClockDaemon.{ClockDaemon};
-
-    ghost Value = { ClockDaemon };
-
-    ghost view = { λ daemon. record {
-      source = daemon.source;
-      number = daemon.number;
-      algorithm = daemon.algorithm;
-      key_file = daemon.key_file.now;
-      valid_for = daemon.valid_for;
-      most_root_distance = daemon.most_root_distance;
-      most_reference_age = daemon.most_reference_age;
-      most_step = daemon.most_step;
-    } };
-}
-
-/// A span of seconds that a setting may have: how many of its units a second has, and, in these units, what it is where the setting is
-/// left out, and the least and the most that it may be.
-struct Span {
-    units: u32,
-    default: u64,
-    least: u64,
-    most: u64,
-}
 
 /// How long a datagram may have waited: 0.15 to 60 s, and 0.25 s where it is left out.
 const LONGEST_WAIT: Span = Span {
@@ -153,165 +81,61 @@ const LEAST_BUFFER: u32 = 65_536;
 /// The most that a buffer may be, in octets: the kernel doubles what it is asked for, and counts in 31 bits.
 const MOST_BUFFER: u32 = 1_073_741_823;
 
-/// The settings of a document, or the first fault in them.
-pub(crate) fn settings_in(document: &Table) -> Result<Settings<'_>, ConfigurationFault>
-    ensures settings { result ≡ settings_in (table_view document.now) }
+/// The configuration that a document says, or the first fault in its settings.
+pub(crate) fn configuration_in(
+    alloc: Global,
+    document: &Table,
+) -> Result<Configuration, ConfigurationFault>
+    ensures settings { Reads (settings_in (table_view document.now)) result }
     ensures ranges { IfOk result HasRanges }
 {
-    Ok(Settings {
-        listen: listen(document)?,
-        register: path(document, Setting::Register)?,
-        commands: path(document, Setting::Commands)?,
-        answers: optional_path(document, Setting::Answers)?,
-        statistics: optional_path(document, Setting::Statistics)?,
-        customers: optional_path(document, Setting::Customers)?,
+    Ok(Configuration {
+        listen: listen_of(required(document, Setting::Listen)?).ok_or(unfit(Setting::Listen))?,
+        commands: path(alloc, document, Setting::Commands)?,
+        answers: optional_path(alloc, document, Setting::Answers)?,
+        statistics: optional_path(alloc, document, Setting::Statistics)?,
+        customers: optional_path(alloc, document, Setting::Customers)?,
         receive_buffer: buffer(document, Setting::ReceiveBuffer, RECEIVE_BUFFER)?,
         send_buffer: buffer(document, Setting::SendBuffer, SEND_BUFFER)?,
         longest_wait: seconds(document, Setting::LongestWait, &LONGEST_WAIT)?,
-        clock: clock_in(clock_table(document)?)?,
+        clock: clock_in(
+            alloc,
+            required(document, Setting::Clock)?
+                .as_table()
+                .ok_or(unfit(Setting::Clock))?,
+        )?,
     })
 }
 
-/// What is wrong with a setting in its table: the top level, or that of the clock, whose further settings count only where its source is
-/// not fixed. The daemon tells the first of these.
-pub fn setting_fault(table: &Table, setting: Setting) -> Option<ConfigurationFault>
-    ensures { result ≡ setting_fault setting (table_view table.now) }
-{
-    match setting {
-        Setting::Listen => listen(table).err(),
-        Setting::Register => path(table, Setting::Register).err(),
-        Setting::Commands => path(table, Setting::Commands).err(),
-        Setting::Answers => optional_path(table, Setting::Answers).err(),
-        Setting::Statistics => optional_path(table, Setting::Statistics).err(),
-        Setting::Customers => optional_path(table, Setting::Customers).err(),
-        Setting::ReceiveBuffer => buffer(table, Setting::ReceiveBuffer, RECEIVE_BUFFER).err(),
-        Setting::SendBuffer => buffer(table, Setting::SendBuffer, SEND_BUFFER).err(),
-        Setting::LongestWait => seconds(table, Setting::LongestWait, &LONGEST_WAIT).err(),
-        Setting::Clock => clock_table(table).err(),
-        Setting::Source => source_fault(table),
-        Setting::Number => number(table).err(),
-        Setting::Algorithm => algorithm(table).err(),
-        Setting::KeyFile => path(table, Setting::KeyFile).err(),
-        Setting::ValidFor => seconds(table, Setting::ValidFor, &VALID_FOR).err(),
-        Setting::MostRootDistance => {
-            seconds(table, Setting::MostRootDistance, &MOST_ROOT_DISTANCE).err()
-        }
-        Setting::MostReferenceAge => {
-            seconds(table, Setting::MostReferenceAge, &MOST_REFERENCE_AGE).err()
-        }
-        Setting::MostStep => seconds(table, Setting::MostStep, &MOST_STEP).err(),
-    }
-}
-
-// What is wrong with the source of a clock.
-fn source_fault(clock: &Table) -> Option<ConfigurationFault>
-    ensures { result ≡ source_fault (table_view clock.now) }
+// What the clock's table says.
+fn clock_in(alloc: Global, clock: &Table) -> Result<Clock, ConfigurationFault>
+    ensures clock { Reads (clock_in (table_view clock.now)) result }
+    ensures ranges { IfOk result HasClockRanges }
 {
     if !is_fixed(clock) {
-        return source(clock).err();
+        return Ok(Clock::Followed(daemon_in(alloc, clock)?));
     }
-    match unknown_in(&[Setting::Source], clock) {
-        None => None,
-        Some(_) => Some(ConfigurationFault::Wanted {
-            setting: Setting::Source,
-        }),
-    }
-}
-
-/// The path at a setting, where one stands there.
-pub fn path_at(table: &Table, setting: Setting) -> Option<&str>
-    ensures { option_map (λ path. path.now) result ≡ path_at setting (table_view table.now) }
-{
-    path_of(value_at(table, setting)?)
-}
-
-// The clock: none where its source is fixed, and then it has no further key.
-fn clock_in(clock: &Table) -> Result<Option<ClockSettings<'_>>, ConfigurationFault>
-    ensures clock { result ≡ clock_in (table_view clock.now) }
-    ensures ranges { IfOk result (λ daemon. IfSome daemon HasDaemonRanges) }
-{
-    if is_fixed(clock) {
-        return match unknown_in(&[Setting::Source], clock) {
-            None => Ok(None),
-            Some(_) => Err(ConfigurationFault::Wanted {
-                setting: Setting::Source,
-            }),
-        };
-    }
-    Ok(Some(daemon_in(clock)?))
-}
-
-/// Whether the source of a clock is fixed.
-pub fn is_fixed(clock: &Table) -> bool
-    ensures { result ≡ is_fixed (table_view clock.now) }
-{
-    match value_at(clock, Setting::Source) {
-        Some(value) => match value.as_str() {
-            Some(text) => text == "fixed",
-            None => false,
-        },
-        None => false,
-    }
+    let reference = reference_of(required(clock, Setting::Reference)?);
+    Ok(Clock::Fixed(reference.ok_or(unfit(Setting::Reference))?))
 }
 
 // What the clock's table says of a daemon.
-fn daemon_in(clock: &Table) -> Result<ClockSettings<'_>, ConfigurationFault>
-    ensures daemon { result ≡ daemon_in (table_view clock.now) }
+fn daemon_in(alloc: Global, clock: &Table) -> Result<ClockDaemon, ConfigurationFault>
+    ensures daemon { Reads (daemon_in (table_view clock.now)) result }
     ensures ranges { IfOk result HasDaemonRanges }
 {
-    Ok(ClockSettings {
-        source: source(clock)?,
-        number: number(clock)?,
-        algorithm: algorithm(clock)?,
-        key_file: path(clock, Setting::KeyFile)?,
+    Ok(ClockDaemon {
+        source: endpoint_of(required(clock, Setting::Source)?).ok_or(unfit(Setting::Source))?,
+        number: number_of(required(clock, Setting::Number)?).ok_or(unfit(Setting::Number))?,
+        algorithm: algorithm_of(required(clock, Setting::Algorithm)?).ok_or(unfit(
+            Setting::Algorithm,
+        ))?,
+        key_file: path(alloc, clock, Setting::KeyFile)?,
         valid_for: seconds(clock, Setting::ValidFor, &VALID_FOR)?,
         most_root_distance: seconds(clock, Setting::MostRootDistance, &MOST_ROOT_DISTANCE)? as u32,
         most_reference_age: seconds(clock, Setting::MostReferenceAge, &MOST_REFERENCE_AGE)? as u32,
         most_step: seconds(clock, Setting::MostStep, &MOST_STEP)?,
     })
-}
-
-// Where datagrams are received.
-fn listen(document: &Table) -> Result<Listen, ConfigurationFault>
-    ensures { result ≡ required Setting.Listen (text_as listen_in) (table_view document.now) }
-{
-    let setting = Setting::Listen;
-    listen_of(required(document, setting)?).ok_or(ConfigurationFault::Wanted { setting })
-}
-
-// The table of the clock.
-fn clock_table(document: &Table) -> Result<&Table, ConfigurationFault>
-    ensures { MatchResult result (λ table. required Setting.Clock as_table (table_view document.now) ≡ Ok (table_view table.now))
-        (λ fault. required Setting.Clock as_table (table_view document.now) ≡ Err fault) }
-{
-    let setting = Setting::Clock;
-    required(document, setting)?
-        .as_table()
-        .ok_or(ConfigurationFault::Wanted { setting })
-}
-
-// Where the clock's daemon answers.
-fn source(clock: &Table) -> Result<Endpoint, ConfigurationFault>
-    ensures { result ≡ required Setting.Source (text_as endpoint_in) (table_view clock.now) }
-{
-    let setting = Setting::Source;
-    endpoint_of(required(clock, setting)?).ok_or(ConfigurationFault::Wanted { setting })
-}
-
-// The number of the key that is shared with the clock's daemon.
-fn number(clock: &Table) -> Result<NonZero<u16>, ConfigurationFault>
-    ensures { result ≡ required Setting.Number number_of (table_view clock.now) }
-{
-    let setting = Setting::Number;
-    number_of(required(clock, setting)?).ok_or(ConfigurationFault::Wanted { setting })
-}
-
-// The algorithm of that key.
-fn algorithm(clock: &Table) -> Result<Algorithm, ConfigurationFault>
-    ensures { result ≡ required Setting.Algorithm (text_as algorithm_in) (table_view clock.now) }
-{
-    let setting = Setting::Algorithm;
-    algorithm_of(required(clock, setting)?).ok_or(ConfigurationFault::Wanted { setting })
 }
 
 // The size of a buffer of the socket.
@@ -322,9 +146,7 @@ fn buffer(document: &Table, setting: Setting, default: u32) -> Result<u32, Confi
 {
     match value_at(document, setting) {
         None => Ok(default),
-        Some(value) => whole_of(value, LEAST_BUFFER, MOST_BUFFER).ok_or(ConfigurationFault::Wanted {
-            setting,
-        }),
+        Some(value) => whole_of(value, LEAST_BUFFER, MOST_BUFFER).ok_or(unfit(setting)),
     }
 }
 
@@ -336,45 +158,118 @@ fn seconds(table: &Table, setting: Setting, span: &Span) -> Result<u64, Configur
 {
     match value_at(table, setting) {
         None => Ok(span.default),
-        Some(value) => seconds_of(value, span.units, span.least, span.most).ok_or(
-            ConfigurationFault::Wanted { setting },
-        ),
+        Some(value) => seconds_of(value, span).ok_or(unfit(setting)),
     }
 }
 
 // A path that has to stand there.
-fn path(table: &Table, setting: Setting) -> Result<&str, ConfigurationFault>
-    ensures { MatchResult result (λ path. required setting (text_as path_in) (table_view table.now) ≡ Ok path.now)
-        (λ fault. required setting (text_as path_in) (table_view table.now) ≡ Err fault) }
+fn path(alloc: Global, table: &Table, setting: Setting) -> Result<Text, ConfigurationFault>
+    ensures { Reads (required setting (text_as path_in) (table_view table.now)) result }
 {
-    path_of(required(table, setting)?).ok_or(ConfigurationFault::Wanted { setting })
+    let path = path_of(required(table, setting)?).ok_or(unfit(setting))?;
+    Ok(Text::of(alloc, path)?)
 }
 
 // A path that may be left out.
-fn optional_path(table: &Table, setting: Setting) -> Result<Option<&str>, ConfigurationFault>
-    ensures { MatchResult result (λ path. optional setting (text_as path_in) (table_view table.now) ≡ Ok (option_map (λ text. text.now) path))
-        (λ fault. optional setting (text_as path_in) (table_view table.now) ≡ Err fault) }
+fn optional_path(
+    alloc: Global,
+    table: &Table,
+    setting: Setting,
+) -> Result<Option<Text>, ConfigurationFault>
+    ensures { Reads (optional setting (text_as path_in) (table_view table.now)) result }
 {
     match value_at(table, setting) {
         None => Ok(None),
-        Some(value) => match path_of(value) {
-            Some(path) => Ok(Some(path)),
-            None => Err(ConfigurationFault::Wanted { setting }),
-        },
+        Some(value) => {
+            let path = path_of(value).ok_or(unfit(setting))?;
+            Ok(Some(Text::of(alloc, path)?))
+        }
     }
 }
 
-// The value of a setting that has to stand there.
-fn required(table: &Table, setting: Setting) -> Result<&Value, ConfigurationFault>
+/// The value of a setting that has to stand there.
+pub(crate) fn required(table: &Table, setting: Setting) -> Result<&Value, ConfigurationFault>
     ensures { MatchResult result (λ value. get_member (setting_key setting) (table_view table.now) ≡ Some (view value.now))
         (λ fault. (get_member (setting_key setting) (table_view table.now) ≡ None) × (fault ≡ ConfigurationFault.Missing setting)) }
 {
     value_at(table, setting).ok_or(ConfigurationFault::Missing { setting })
 }
 
-/// The value of a setting.
-pub fn value_at(table: &Table, setting: Setting) -> Option<&Value>
-    ensures { option_map (λ value. view value.now) result ≡ get_member (setting_key setting) (table_view table.now) }
+/// That another value is wanted at a setting.
+pub(crate) fn unfit(setting: Setting) -> ConfigurationFault
+    ensures { result ≡ ConfigurationFault.Wanted setting }
 {
-    table.get(setting.key())
+    ConfigurationFault::Wanted { setting }
+}
+
+/// The path at a setting, where one stands there.
+pub fn path_at(table: &Table, setting: Setting) -> Option<&str>
+    ensures { option_map (λ path. path.now) result ≡ path_at setting (table_view table.now) }
+{
+    path_of(value_at(table, setting)?)
+}
+
+/// What is wrong at a key of a table, whatever is wrong at the others.
+pub(crate) fn wrong_at(table: &Table, setting: Setting) -> Option<KeyFault<'static>>
+    ensures { result ≡ wrong_at setting (table_view table.now) }
+{
+    match value_at(table, setting) {
+        None if is_optional(setting) => None,
+        None => Some(KeyFault::Missing(setting)),
+        Some(value) if is_right(setting, value) => None,
+        Some(_) => Some(KeyFault::Wanted(setting)),
+    }
+}
+
+// Whether a setting may be left out.
+fn is_optional(setting: Setting) -> bool
+    ensures { result ≡ is_optional setting }
+{
+    matches!(
+        setting,
+        Setting::Answers
+            | Setting::Statistics
+            | Setting::Customers
+            | Setting::ReceiveBuffer
+            | Setting::SendBuffer
+            | Setting::LongestWait
+            | Setting::ValidFor
+            | Setting::MostRootDistance
+            | Setting::MostReferenceAge
+            | Setting::MostStep
+            | Setting::Customer
+            | Setting::Name
+            | Setting::Newer
+    )
+}
+
+// Whether a value is what is wanted at a key. The algorithm of a key makes no difference.
+fn is_right(setting: Setting, value: &Value) -> bool
+    ensures { result ≡ is_right setting (view value.now) }
+{
+    match setting {
+        Setting::Listen => listen_of(value).is_some(),
+        Setting::Commands
+        | Setting::Answers
+        | Setting::Statistics
+        | Setting::Customers
+        | Setting::KeyFile => path_of(value).is_some(),
+        Setting::ReceiveBuffer | Setting::SendBuffer => {
+            whole_of(value, LEAST_BUFFER, MOST_BUFFER).is_some()
+        }
+        Setting::LongestWait => seconds_of(value, &LONGEST_WAIT).is_some(),
+        Setting::Clock | Setting::Newer => value.as_table().is_some(),
+        Setting::Source => says_fixed(value) || endpoint_of(value).is_some(),
+        Setting::Reference => reference_of(value).is_some(),
+        Setting::Number | Setting::Budget => number_of(value).is_some(),
+        Setting::Algorithm => algorithm_of(value).is_some(),
+        Setting::ValidFor => seconds_of(value, &VALID_FOR).is_some(),
+        Setting::MostRootDistance => seconds_of(value, &MOST_ROOT_DISTANCE).is_some(),
+        Setting::MostReferenceAge => seconds_of(value, &MOST_REFERENCE_AGE).is_some(),
+        Setting::MostStep => seconds_of(value, &MOST_STEP).is_some(),
+        Setting::Customer => value.as_array().is_some(),
+        Setting::Address => address_of(value).is_some(),
+        Setting::Key => key_of(value, Algorithm::Sha1).is_some(),
+        Setting::Name => name_of(value).is_some(),
+    }
 }

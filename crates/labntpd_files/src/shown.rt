@@ -5,6 +5,7 @@ ghost use Rattle.std.specs.Char.{is_ascii_digit};
 ghost use Rattle.labntpd_files.specs.Shown.{is_of_address, digit_count, dot_count, is_plain};
 
 use crate::key_text::is_hexadecimal;
+use crate::{KeyWrong, Setting, key_wrong};
 use std::fmt;
 use toml::Value;
 
@@ -28,6 +29,8 @@ pub enum Shown<'a> {
     Typed(&'static str),
     /// A whole number.
     Whole(i64),
+    /// Digits that spell no key.
+    Digits(KeyWrong),
 }
 
 /// A word, shown only where it cannot be a key.
@@ -39,18 +42,21 @@ pub fn shown_word(word: &str) -> Shown<'_> {
     }
 }
 
-/// A value, whose text is shown only where it cannot be a key.
-pub fn shown_value(value: &Value) -> Shown<'_> {
+/// A value at a setting, whose text is shown only where it cannot be a key.
+pub(crate) fn shown_at(setting: Setting, value: &Value) -> Shown<'_> {
     match value {
-        Value::String(text) => shown_word(text.as_str()),
+        Value::String(text) => match key_wrong(text.as_str()) {
+            Some(wrong) if setting == Setting::Key => Shown::Digits(wrong),
+            _ => shown_word(text.as_str()),
+        },
         Value::Integer(whole) if *whole > -100_000 && *whole < 100_000 => Shown::Whole(*whole),
         _ => Shown::Typed(value.type_str()),
     }
 }
 
-/// Whether a word may be shown: one of at most 21 octets with three dots, as an address has; and one of at most 40 octets that has fewer
-/// than six hexadecimal digits, and something else or decimal digits alone. So no key of three octets or more is shown.
-pub fn is_plain(word: &str) -> bool
+// Whether a word may be shown: one of at most 21 octets with three dots, as an address has; and one of at most 40 octets that has fewer
+// than six hexadecimal digits, and something else or decimal digits alone. So no key of three octets or more is shown.
+fn is_plain(word: &str) -> bool
     ensures { result ≡ is_plain word.now }
 {
     let octets = word.as_bytes();
@@ -99,6 +105,7 @@ impl<'a> fmt::Display for Shown<'a> {
             Shown::Hidden(count) => write!(f, "a word of {count} octets stands there"),
             Shown::Typed(name) => write!(f, "a value of the type {name} stands there"),
             Shown::Whole(whole) => write!(f, "{whole} stands there"),
+            Shown::Digits(wrong) => write!(f, "{wrong}"),
         }
     }
 }

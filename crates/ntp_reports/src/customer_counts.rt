@@ -79,16 +79,6 @@ impl<A: Allocator + Copy> CustomerCounts<A> {
 }
 
 impl<A: Allocator + Copy> CustomerCounts<A> {
-    /// Reports of the customer that a command enrolled, which was carried out before any line of commands: line 0. Where memory is
-    /// refused, `has_missed` is true from then on.
-    pub fn enrolled_at_start(&mut self, command: &Command)
-        ensures reported { OnFalse self.new.has_missed (CarriedOut self.old self.new command.now 0) }
-        ensures or_missed { CarriedOutOrMissed self.old self.new command.now 0 }
-        ensures missed { OnFalse self.new.has_missed (self.old.has_missed ≡ false) }
-    {
-        self.note(command, 0);
-    }
-
     // Reports that a command was carried out by a line, or notes that memory was refused.
     fn note(&mut self, command: &Command, line: u64)
         ensures reported { OnFalse self.new.has_missed (CarriedOut self.old self.new command.now line) }

@@ -34,7 +34,7 @@ impl CustomerReport {
         &self.counts
     }
 
-    /// The number of the line of commands by which it was enrolled last; 0 for the register file.
+    /// The number of the line of commands by which it was enrolled last.
     pub fn line(&self) -> u64
         ensures { result ≡ self.now.line }
     {

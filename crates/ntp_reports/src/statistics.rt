@@ -15,7 +15,7 @@ const SECOND_NANOS: u64 = 1_000_000_000;
 pub enum Belief {
     /// It is.
     Believed,
-    /// Nobody is asked: the state is that of the register file.
+    /// Nobody is asked: the state is that of the configuration.
     Fixed,
     /// There is no answer.
     NoAnswer,
@@ -88,12 +88,10 @@ pub struct Gauges<'a> {
     pub sweeps: u64,
     /// Lines of the commands file that are applied.
     pub commands_lines: u64,
-    /// How many octets the commands file has. `None` where that is not known.
-    pub commands_octets: Option<u64>,
-    /// The first line of the commands file in whose place another one stands than was applied. `None` where none does.
-    pub commands_other_line: Option<u64>,
-    /// The first six octets of the SHA-256 digest of the register file, as a number whose highest octet is the first.
-    pub register_digest: u64,
+    /// How many octets these lines have.
+    pub commands_octets: u64,
+    /// Whether another commands file stands there, a shorter one, or one that was written anew: no line is carried out until a restart.
+    pub commands_changed: bool,
     /// Customers that are enrolled.
     pub customers: u64,
     /// The state of the clock.
@@ -204,18 +202,16 @@ fn datagram_metrics(counts: &Counts, gauges: &Gauges<'_>) -> [Metric<'static>; 1
 }
 
 // What is told of commands and customers.
-fn command_metrics(gauges: &Gauges<'_>) -> [Metric<'static>; 6] {
+fn command_metrics(gauges: &Gauges<'_>) -> [Metric<'static>; 5] {
     metrics! {
         COUNTER "labntp_commands_total" = Counts(&COMMANDS),
             "Lines of commands.";
         GAUGE "labntp_commands_lines" = Number(Some(gauges.commands_lines)),
             "Lines of the commands file that are applied.";
-        GAUGE "labntp_commands_octets" = Number(gauges.commands_octets),
-            "Octets of the commands file.";
-        GAUGE "labntp_commands_other_line" = Number(Some(gauges.commands_other_line.unwrap_or(0))),
-            "The first line that is not the one that was applied; 0 for none.";
-        GAUGE "labntp_register_digest" = Number(Some(gauges.register_digest)),
-            "The first six octets of the register file's SHA-256 digest.";
+        GAUGE "labntp_commands_octets" = Number(Some(gauges.commands_octets)),
+            "Octets of these lines.";
+        GAUGE "labntp_commands_changed" = Number(Some(u64::from(gauges.commands_changed))),
+            "Whether the commands file is no longer the one that was read: no line is carried out until a restart.";
         GAUGE "labntp_customers" = Number(Some(gauges.customers)),
             "Customers that are enrolled.";
     }

@@ -199,8 +199,12 @@ impl<'a> Write for MemoryFile<'a> {
 }
 
 impl<'a> Seek for MemoryFile<'a> {
-    fn seek(&mut self, _to: SeekFrom) -> io::Result<u64> {
-        Err(io::Error::from(ErrorKind::Unsupported))
+    fn seek(&mut self, to: SeekFrom) -> io::Result<u64> {
+        let SeekFrom::Start(at) = to else {
+            return Err(io::Error::from(ErrorKind::Unsupported));
+        };
+        self.at = at as usize;
+        Ok(at)
     }
 }
 

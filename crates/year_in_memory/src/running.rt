@@ -12,13 +12,10 @@ use labntpd_assembly::{
     ServeFault, observer,
 };
 use labntpd_files::{Configuration, read_configuration};
-use ntp_host::{
-    BoundAt, ClockSource, HeldCommands, HostClocks, Log, LogForm, begin_commands, emptied_file,
-};
+use ntp_host::{BoundAt, ClockSource, CommandsFile, HostClocks, Log, LogForm, emptied_file};
 use ntp_port::{FreshPort, MemoryPort, MemoryQueue, Port, QueueWatch};
 use ntp_reply::Reference;
 use ntp_reports::{AnswerLines, Counts, CustomerCounts};
-use ntp_service::Service;
 use std::alloc::Global;
 use std::cell::Cell;
 use std::fs::Files;
@@ -29,13 +26,13 @@ use std::time::Clock;
 
 /// The configuration of the daemon. What it names of the host beside files is not there.
 const CONFIGURATION: &str = "listen = \"192.0.2.1:123\"\n\
-    register = \"/register.toml\"\n\
     commands = \"/commands\"\n\
     answers = \"/answers\"\n\
     statistics = \"/statistics\"\n\
     customers = \"/customers\"\n\
     [clock]\n\
-    source = \"fixed\"\n";
+    source = \"fixed\"\n\
+    reference = \"0001ec00000000000000104e495354ec00000000000000\"\n";
 
 /// What is found when the script is over.
 #[derive(Drop)]
@@ -53,7 +50,7 @@ pub struct Found {
 // The parts of the daemon.
 type YearParts<'a, 'd> = Parts<
     YearQueue<'a, 'd>,
-    HeldCommands<'a, MemoryHost<'d>>,
+    CommandsFile<'a, MemoryHost<'d>>,
     ClockSource<'a, &'a MemoryHost<'d>>,
     ReportingObserver<'a, MemoryFile<'d>, LineWriter<MemoryFile<'d>>>,
     MemoryFile<'d>,
@@ -124,10 +121,10 @@ fn judged<'a, 'd>(
 // call of parts that each have two lifetimes.
 fn served<'a, P, S, O, R, L>(
     host: Host<'a, R>,
-    parts: Parts<P, HeldCommands<'a, R>, S, O, L>,
+    parts: Parts<P, CommandsFile<'a, R>, S, O, L>,
     begun: Begun,
     turns: u64,
-) -> Result<Assembly<'a, P, HeldCommands<'a, R>, S, O, R, L>, ServeFault>
+) -> Result<Assembly<'a, P, CommandsFile<'a, R>, S, O, R, L>, ServeFault>
 where
     P: DaemonPort + Drop,
     S: DaemonClock + Drop,
@@ -151,10 +148,9 @@ fn year_parts<'a, 'd>(
     let watch = QueueWatch::new(host.configuration.longest_wait);
     Ok(Parts {
         port: FreshPort::new(queue, watch),
-        commands: commands(host.alloc, host.rt, host.configuration)?,
+        commands: commands_at(host.rt, host.configuration)?,
         reference: ClockSource::Fixed(reference),
         observer: year_observer(host.alloc, host.rt, host.clocks)?,
-        service: Service::new(host.alloc),
         log: emptied_file(host.rt, LOG)?,
     })
 }
@@ -167,22 +163,19 @@ fn known_at_start(wanted_buffer: u32) -> Begun {
             buffer: 0,
         },
         wanted_buffer,
-        customers: 0,
-        digests: [[0; 32]; 2],
+        digest: [0; 32],
         form: LogForm::Plain,
     }
 }
 
 // The commands file, which is empty.
-fn commands<'a, 'd>(
-    alloc: Global,
+fn commands_at<'a, 'd>(
     host: &'a MemoryHost<'d>,
     configuration: &'a Configuration,
-) -> Result<HeldCommands<'a, MemoryHost<'d>>, Fail> {
-    let path = configuration.commands.as_str();
-    match begin_commands(host, alloc, path, &mut Vec::new(alloc)) {
+) -> Result<CommandsFile<'a, MemoryHost<'d>>, Fail> {
+    match CommandsFile::open(host, configuration.commands.as_str()) {
         Ok(commands) => Ok(commands),
-        Err(_) => Err(Fail::new("the commands file cannot be read")),
+        Err(_) => Err(Fail::new("the commands file cannot be opened")),
     }
 }
 
@@ -196,5 +189,5 @@ fn year_observer<'a, 'd>(
     let log = Log::new(alloc, emptied_file(host, LOG)?, LogForm::Plain)?;
     let answers = Some(AnswerLines::new(answers));
     let reports = Some(CustomerCounts::new(alloc));
-    Ok(observer(answers, log, clocks, 0, reports))
+    Ok(observer(answers, log, clocks, reports))
 }

@@ -3,8 +3,8 @@
 
 use crate::packets::register_text::EXAMPLE;
 use ntp_admin::{
-    FaultLines, LoadFault, Loaded, MOST_FILE_OCTETS, RegisterFault, apply_commands, commands_step,
-    load_register, parse_command,
+    FaultLines, LoadFault, Loaded, MOST_FILE_OCTETS, MOST_LINE_OCTETS, RegisterFault, apply_lines,
+    commands_step, load_register, parse_command,
 };
 use ntp_reply::Reference;
 use ntp_service::{Command, LineFault, LineOutcome, Observer, Refusal, Service, TurnOutcome};
@@ -53,14 +53,14 @@ fn step<M: Allocator + Copy, F: Write>(
     commands_step(service, octets, applied, faults)
 }
 
-// The same, and who is told of them.
-fn told_step<O: Observer>(
+// Carries out the complete lines of a piece of commands, with `before` lines in front of it. Returns how many are applied then.
+fn take_piece<O: Observer>(
     service: &mut Service,
-    octets: &[u8],
-    applied: u64,
+    piece: &[u8],
+    before: u64,
     observer: &mut O,
 ) -> u64 {
-    apply_commands(service, octets, applied, observer)
+    apply_lines(service, piece, before, observer)
 }
 
 // Just these lines were told of faults.
@@ -209,12 +209,11 @@ impl<M: Allocator> Write for Waking<M> {
 
 // The first line that is told of is noted not to have been written, and neither is tried again.
 fn miss_a_line(rt: &impl Abort, service: &mut Service, faults: &mut Waking<Global>) {
-    let octets = b"revoke 192.0.2.10\nrevoke 192.0.2.20 9\n";
     let mut lines = FaultLines::new(faults);
     assert!(rt; !lines.has_failed());
-    assert!(rt; told_step(service, octets, 0, &mut lines) == 2);
+    assert!(rt; take_piece(service, b"revoke 192.0.2.10\n", 0, &mut lines) == 1);
     assert!(rt; lines.has_failed());
-    assert!(rt; told_step(service, octets, 2, &mut lines) == 2);
+    assert!(rt; take_piece(service, b"revoke 192.0.2.20 9\n", 1, &mut lines) == 2);
 }
 
 #[test]
@@ -244,10 +243,15 @@ impl<M: Allocator> Observer for Heard<M> {
     fn turn(&mut self, _outcome: &TurnOutcome) {}
 }
 
-// A commands file whose first five lines are others.
-const SIXTH: &[u8] = b"\n#\n\n\n\nenrol 192.0.2.20 9 md5 6b6579 10\n";
+// Pieces of a commands file, each with how many lines are applied once it was taken.
+const PIECES: [(&[u8], u64); 4] = [
+    (UNFINISHED, 4),
+    (b"enrol 192.0.2.20 8 sha1 6f74686572 10\n", 5),
+    (b"", 5),
+    (b"enrol 192.0.2.20 9 md5 6b6579 10\n", 6),
+];
 
-// What is told of the lines of those three, one behind another.
+// What an observer hears of their lines.
 const OUTCOMES: [(u64, LineOutcome); 4] = [
     (1, LineOutcome::Done),
     (4, LineOutcome::Faulty(LineFault::Address)),
@@ -261,14 +265,72 @@ fn each_line_is_told_with_its_number(rt: HostRuntime) {
     let mut heard = Heard {
         lines: Vec::new(rt.alloc()),
     };
-    for (octets, applied, lines) in [(UNFINISHED, 0, 4), (FINISHED, 4, 5), (SIXTH, 5, 6)] {
-        assert!(rt; told_step(&mut service, octets, applied, &mut heard) == lines);
+    let mut applied = 0;
+    for (piece, lines) in PIECES {
+        applied = take_piece(&mut service, piece, applied, &mut heard);
+        assert!(rt; applied == lines);
     }
     assert!(rt; heard.lines.as_slice() == OUTCOMES.as_slice());
 }
 
+#[test]
+fn a_number_of_a_line_stays_at_the_most(rt: HostRuntime) {
+    let mut service = Service::new(rt.alloc());
+    let mut heard = Heard {
+        lines: Vec::new(rt.alloc()),
+    };
+    let before = u64::MAX - 1;
+    assert!(rt; take_piece(&mut service, b"1\n2\n", before, &mut heard) == u64::MAX);
+    let word = LineOutcome::Faulty(LineFault::Word);
+    assert!(rt; heard.lines.as_slice() == [(u64::MAX, word), (u64::MAX, word)].as_slice());
+}
+
+// Adds a line of so many octets, whose first one is followed by the other one alone.
+fn add_line(lines: &mut Vec<u8>, first: u8, other: u8, length: usize) -> Result<(), AllocError> {
+    lines.push(first)?;
+    for _ in 1..length {
+        lines.push(other)?;
+    }
+    lines.push(b'\n')?;
+    Ok(())
+}
+
+// Lines of any length with any octets, and then a command.
+fn odd_lines(alloc: Global) -> Result<Vec<u8>, AllocError> {
+    let mut lines = Vec::new(alloc);
+    add_line(&mut lines, b'#', 0xff, MOST_LINE_OCTETS + 1)?;
+    add_line(&mut lines, b'x', b'x', MOST_LINE_OCTETS)?;
+    add_line(&mut lines, b'x', b'x', MOST_LINE_OCTETS + 1)?;
+    add_line(&mut lines, b'x', 0xff, MOST_LINE_OCTETS)?;
+    add_line(&mut lines, b'x', 0xff, MOST_LINE_OCTETS + 1)?;
+    lines.extend_from_slice(A.as_bytes())?;
+    lines.push(b'\n')?;
+    Ok(lines)
+}
+
+// What an observer hears of them.
+const ODD_OUTCOMES: [(u64, LineOutcome); 5] = [
+    (2, LineOutcome::Faulty(LineFault::Word)),
+    (3, LineOutcome::Faulty(LineFault::LineLong)),
+    (4, LineOutcome::Faulty(LineFault::NotUtf8)),
+    (5, LineOutcome::Faulty(LineFault::LineLong)),
+    (6, LineOutcome::Done),
+];
+
+#[test]
+fn a_line_that_is_long_or_no_text_stops_no_other(rt: HostRuntime) -> Result<(), Fail> {
+    let mut service = Service::new(rt.alloc());
+    let mut heard = Heard {
+        lines: Vec::new(rt.alloc()),
+    };
+    let lines = odd_lines(rt.alloc())?;
+    assert!(rt; take_piece(&mut service, &lines, 0, &mut heard) == 6);
+    assert!(rt; heard.lines.as_slice() == ODD_OUTCOMES.as_slice());
+    Ok(())
+}
+
 // Each fault with its word.
-const WORDS: [(LineFault, &str); 12] = [
+const WORDS: [(LineFault, &str); 14] = [
     (LineFault::Word, "word"),
     (LineFault::Count, "count"),
     (LineFault::Address, "address"),
@@ -281,6 +343,8 @@ const WORDS: [(LineFault, &str); 12] = [
     (LineFault::Stamp, "stamp"),
     (LineFault::Reference, "reference"),
     (LineFault::Hex, "hex"),
+    (LineFault::LineLong, "line-long"),
+    (LineFault::NotUtf8, "not-utf8"),
 ];
 
 #[test]

@@ -157,19 +157,13 @@ fn assert_written<A: Allocator + Copy>(
     Ok(())
 }
 
-// Counts that are told of a customer at the start.
-fn start<A: Allocator + Copy>(counts: &mut CustomerCounts<A>) -> Result<(), Fail> {
-    let command = parse_command("enrol 192.0.2.10 7 md5 6b6579 10")?;
-    counts.enrolled_at_start(&command);
-    Ok(())
-}
-
 #[test]
 fn a_report_that_finds_no_memory_is_missed(rt: HostRuntime) -> Result<(), Fail> {
     let memory = Refusing::new(rt.alloc());
     let mut counts = CustomerCounts::new(&memory);
     memory.refuse_all();
-    start(&mut counts)?;
+    counts.command(&parse_command("enrol 192.0.2.10 7 md5 6b6579 10")?);
+    counts.line(1, LineOutcome::Done);
     assert!(rt; counts.has_missed() && counts.report(CUSTOMER).is_none());
     Ok(())
 }

@@ -1,27 +1,27 @@
-//! A commands file in memory.
+//! Commands in memory.
 
 use ntp_server::MemoryCommands;
 use std::alloc::{AllocError, Allocator};
 
-// What is found at a look, where there is something.
-fn found<A: Allocator + Copy>(
+// What a look gives, where there is something.
+fn given<A: Allocator + Copy>(
     alloc: A,
-    file: &Option<&[u8]>,
+    piece: &Option<&[u8]>,
 ) -> Result<Option<Vec<u8, A>>, AllocError> {
-    match file {
+    match piece {
         Some(octets) => Ok(Some(octets.to_vec(alloc)?)),
         None => Ok(None),
     }
 }
 
-/// A commands file that is looked at so often: what it has then, or nothing where it is as it was.
+/// Commands that are looked at so often, with the piece of each look, or nothing.
 pub(crate) fn commands<A: Allocator + Copy>(
     alloc: A,
-    files: &[Option<&[u8]>],
+    pieces: &[Option<&[u8]>],
 ) -> Result<MemoryCommands<A>, AllocError> {
     let mut looks = Vec::new(alloc);
-    for file in files {
-        looks.push(found(alloc, file)?)?;
+    for piece in pieces {
+        looks.push(given(alloc, piece)?)?;
     }
     Ok(MemoryCommands::new(looks))
 }

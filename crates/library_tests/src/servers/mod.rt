@@ -9,7 +9,6 @@ mod failing_streams;
 mod faulty;
 mod first_answers;
 mod freshness;
-mod held_commands;
 mod looks;
 mod refused;
 mod refused_calls;

@@ -64,15 +64,12 @@ const BEHIND_REFUSALS: &str = r#"labntp_commands_total{answer="faulty"} 9
 # HELP labntp_commands_lines Lines of the commands file that are applied.
 # TYPE labntp_commands_lines gauge
 labntp_commands_lines 58
-# HELP labntp_commands_octets Octets of the commands file.
+# HELP labntp_commands_octets Octets of these lines.
 # TYPE labntp_commands_octets gauge
 labntp_commands_octets 59
-# HELP labntp_commands_other_line The first line that is not the one that was applied; 0 for none.
-# TYPE labntp_commands_other_line gauge
-labntp_commands_other_line 60
-# HELP labntp_register_digest The first six octets of the register file's SHA-256 digest.
-# TYPE labntp_register_digest gauge
-labntp_register_digest 205024940494593
+# HELP labntp_commands_changed Whether the commands file is no longer the one that was read: no line is carried out until a restart.
+# TYPE labntp_commands_changed gauge
+labntp_commands_changed 1
 # HELP labntp_customers Customers that are enrolled.
 # TYPE labntp_customers gauge
 labntp_customers 52
@@ -292,9 +289,8 @@ const GAUGES: Gauges<'static> = Gauges {
     send_would_wait: 56,
     sweeps: 57,
     commands_lines: 58,
-    commands_octets: Some(59),
-    commands_other_line: Some(60),
-    register_digest: 0xba78_16bf_8f01,
+    commands_octets: 59,
+    commands_changed: true,
     customers: 52,
     clock: ClockGauges {
         is_synchronised: true,
@@ -360,7 +356,7 @@ fn statistics_are_written_without_memory(rt: HostRuntime) -> Result<(), Fail> {
     assert_statistics(&rt, &memory, &counting.counts, wanted.as_str())
 }
 
-// Where nothing is known of the clock, and little of the files.
+// Where nothing is known of the clock, and the commands file is as it was.
 fn unknown() -> Gauges<'static> {
     let clock = ClockGauges {
         is_synchronised: false,
@@ -371,20 +367,18 @@ fn unknown() -> Gauges<'static> {
     Gauges {
         clock,
         queue_wait: None,
-        commands_octets: None,
-        commands_other_line: None,
+        commands_changed: false,
         ..GAUGES
     }
 }
 
 // Lines of what is written then.
-const UNKNOWN_LINES: [&str; 6] = [
+const UNKNOWN_LINES: [&str; 5] = [
     "\nlabntp_clock_synchronised 0\n",
-    "\nlabntp_commands_other_line 0\n",
+    "\nlabntp_commands_changed 0\n",
     "\nlabntp_clock_age_seconds NaN\n",
     "\nlabntp_clock_offset_seconds NaN\n",
     "\nlabntp_queue_wait_seconds NaN\n",
-    "\nlabntp_commands_octets NaN\n",
 ];
 
 // Whether what is not known can be written.

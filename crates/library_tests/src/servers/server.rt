@@ -19,17 +19,17 @@ use std::process::Abort;
 use std::test::Fail;
 use test_support::{CUSTOMER, Refusing, moment, queries, reference, replies, turn};
 
-/// A commands file, and the same with a line more.
+/// Pieces of commands.
 const ENROLMENT: &[u8] = b"enrol 192.0.2.10 7 md5 6b6579 10\n";
 
-const REVOCATION: &[u8] = b"enrol 192.0.2.10 7 md5 6b6579 10\nrevoke 192.0.2.10\n";
+const REVOCATION: &[u8] = b"revoke 192.0.2.10\n";
 
 /// Their commands.
 const ENROL: &str = "enrol 192.0.2.10 7 md5 6b6579 10";
 
 const REVOKE: &str = "revoke 192.0.2.10";
 
-/// A commands file that gives the customer two keys.
+/// One that gives the customer two keys.
 const TWO_KEYS: &[u8] = b"enrol 192.0.2.10 7 md5 6b6579 10\nrollover 192.0.2.10 9 sha1 6e6577\n";
 
 /// A query that is signed under the newer one, with transmit stamp ec00001280000000.
@@ -223,7 +223,7 @@ fn commands_are_carried_out_before_the_datagram_is_answered(rt: HostRuntime) -> 
     let fixed = FixedReference(reference()?);
     let told = told_of_three_turns()?;
     let port = port_of_three(alloc)?;
-    let commands = commands(alloc, &[None, Some(ENROLMENT), Some(REVOCATION)])?;
+    let commands = commands(alloc, &[None, None, Some(ENROLMENT), Some(REVOCATION)])?;
     let mut server = server(alloc, port, commands, fixed, 7)?;
     let mut shown = Shown(Vec::new(alloc));
     assert!(rt; served(&rt, &mut server, 3, &mut shown) == totals(3, 2, 1));
@@ -264,7 +264,7 @@ fn serving_takes_no_memory_where_no_commands_change(rt: HostRuntime) -> Result<(
     Ok(())
 }
 
-// A server to which nothing comes, whose commands file has a line more at each of two looks.
+// A server to which nothing comes, whose commands have no line at the start and then one at each of two looks.
 fn quiet_server(
     alloc: Global,
 ) -> Result<
@@ -275,7 +275,7 @@ fn quiet_server(
         reference: reference()?,
         times: 0,
     };
-    let commands = commands(alloc, &[Some(ENROLMENT), Some(REVOCATION)])?;
+    let commands = commands(alloc, &[None, Some(ENROLMENT), Some(REVOCATION)])?;
     server(alloc, FailingPort::new(2), commands, tended, 5)
 }
 
@@ -301,6 +301,38 @@ fn commands_are_carried_out_while_nothing_comes(rt: HostRuntime) -> Result<(), F
     assert!(rt; served(&rt, &mut server, 1, &mut shown) == totals(0, 0, 0));
     assert!(rt; server.applied == 2 && server.reference.times == 2);
     assert!(rt; shown.0.as_slice() == SHOWN_QUIET.as_slice());
+    assert!(rt; server.observer.seen() == told.as_slice());
+    Ok(())
+}
+
+// A server that has not begun, with a line of commands at each of two looks, and one behind a look that gives nothing.
+fn unbegun_server(
+    alloc: Global,
+) -> Result<
+    Server<
+        MemoryPort<Global>,
+        MemoryCommands<Global>,
+        FixedReference,
+        MemoryObserver<Global>,
+        Global,
+    >,
+    Fail,
+> {
+    let pieces = [Some(ENROLMENT), Some(REVOCATION), None, Some(ENROLMENT)];
+    let commands = commands(alloc, &pieces)?;
+    let fixed = FixedReference(reference()?);
+    server(alloc, port(alloc, &[])?, commands, fixed, 4)
+}
+
+#[test]
+fn commands_of_the_start_are_carried_out_before_the_first_turn(
+    rt: HostRuntime,
+) -> Result<(), Fail> {
+    let told = [command(ENROL)?, done(1), command(REVOKE)?, done(2)];
+    let mut server = unbegun_server(rt.alloc())?;
+    let mut shown = Shown(Vec::new(rt.alloc()));
+    assert!(rt; served(&rt, &mut server, 0, &mut shown) == totals(0, 0, 0));
+    assert!(rt; server.applied == 2 && shown.0.is_empty());
     assert!(rt; server.observer.seen() == told.as_slice());
     Ok(())
 }

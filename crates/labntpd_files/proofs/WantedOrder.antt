@@ -1,0 +1,29 @@
+-- Wanted customers read one after another, in file order.
+use Rattle.std.proofs.Common.{◌≡◌, ℕ, ◌+◌, ◌<◌, List, [], ◌∷◌, ◌++◌, length, drop, get_or, Result, Ok, Err, refl, sym, ap, append_assoc, add-one}
+use Rattle.toml.specs.Data.{Members, as_table}
+use Rattle.std.proofs.Common.{Some}
+use Rattle.toml.specs.View.{view, items_view}
+use Rattle.toml.proofs.Views.{items_view-drop}
+use Rattle.toml.specs.declared.value.Value.{Value}
+use Rattle.ntp_packet.specs.FirstCase.{◌>>=◌}
+use Rattle.labntpd_files.specs.declared.fault.ConfigurationFault.{ConfigurationFault}
+use Rattle.labntpd_files.specs.declared.wanted.WantedCustomer.{WantedCustomer}
+use Rattle.labntpd_files.specs.Wanted.{customer_in, customers_from}
+
+-- the customers that are left, behind those that were read
+abbrev pub behind : List WantedCustomer → Result (List WantedCustomer) ConfigurationFault → Result (List WantedCustomer) ConfigurationFault
+behind done (Ok rest) = Ok (done ++ rest)
+behind done (Err why) = Err why
+
+-- one more customer was read
+moved : (done : List WantedCustomer) (c : WantedCustomer) (left : Result (List WantedCustomer) ConfigurationFault)
+    → behind done (left >>= (λ rest. Ok (c ∷ rest))) ≡ behind (done ++ c ∷ []) left
+moved done c (Ok rest) = ap Ok (sym (append_assoc done (c ∷ []) rest))
+moved done c (Err why) = refl
+
+pub behind-next : (done : List WantedCustomer) (place : ℕ) (vs : List Value) (v : Value) (table : Members) (c : WantedCustomer)
+    → place < length vs → as_table (view (get_or vs place v)) ≡ Some table → customer_in table ≡ Ok c
+    → behind done (customers_from (items_view (drop place vs)))
+    ≡ behind (done ++ c ∷ []) (customers_from (items_view (drop (place + 1) vs)))
+behind-next done place vs v table c inside is_table read =
+    rw (items_view-drop vs place v inside, is_table, read, add-one) (moved done c _)

@@ -1,0 +1,9 @@
+use Rattle.std.proofs.Common.{◌≡◌, drop}
+use Rattle.toml.specs.View.{items_view}
+use Rattle.labntpd_files.specs.Wanted.{customers_from}
+use Rattle.labntpd_files.proofs.WantedOrder.{behind}
+use Rattle.labntpd_files.proofs.wanted_reader.customers_in.Given as goal
+
+abbrev pub invariant-loop-value : goal.invariant-loop-value
+invariant-loop-value l =
+    customers_from (items_view l.value-items) ≡ behind l.customers.items (customers_from (items_view (drop l.value-index l.value-items)))

@@ -1,0 +1,70 @@
+-- The file of wanted customers.
+use Rattle.std.specs.Prelude.{ℕ, nat_eq, List, [], ◌∷◌, ◌++◌, map, Option, Some, None, Result, Ok}
+use Rattle.std.specs.List.{IsDistinct, filter_map}
+use Rattle.std.specs.Int.{w32, from_be_bytes}
+use Rattle.std.specs.Int.NonZero.{non_zero_u16_get}
+use Rattle.std.specs.Option.{ok_or, option_map, option_map_or}
+use Rattle.std.specs.Result.{result_ok}
+use Rattle.toml.specs.Data.{Items, no_items, item, Members, as_array, as_table}
+use Rattle.ntp_packet.specs.FirstCase.{◌>>=◌}
+use Rattle.ntp_admin.specs.Words.{address_in, algorithm_in}
+use Rattle.labntpd_files.specs.declared.wanted.WantedCustomer.{WantedCustomer}
+use Rattle.labntpd_files.specs.declared.wanted.WantedKey.{WantedKey}
+use Rattle.labntpd_files.specs.declared.fault.ConfigurationFault.{ConfigurationFault}
+use Rattle.labntpd_files.specs.declared.fault.ConfigurationFault.TheVariants as fault
+use Rattle.labntpd_files.specs.declared.setting.Setting.TheVariants as s
+use Rattle.labntpd_files.specs.Settings.{required, optional, with_default}
+use Rattle.labntpd_files.specs.Values.{text_as, number_of, key_for, name_in}
+
+-- a key with its number
+abbrev pub key_in : Members → Result WantedKey ConfigurationFault
+key_in table = do
+  number ← required s.Number number_of table
+  algorithm ← required s.Algorithm (text_as algorithm_in) table
+  key ← required s.Key (text_as (key_for algorithm)) table
+  Ok (record { number = number; key = key })
+
+-- the newer key, where there is one
+abbrev pub newer_in : Members → Result (Option WantedKey) ConfigurationFault
+newer_in table = do
+  newer ← optional s.Newer as_table table
+  option_map_or (λ second. key_in second >>= (λ key. Ok (Some key))) newer (Ok None)
+
+-- a customer; none where something is wrong
+abbrev pub customer_in : Members → Result WantedCustomer ConfigurationFault
+customer_in table = do
+  address ← required s.Address (text_as address_in) table
+  older ← key_in table
+  newer ← newer_in table
+  budget ← required s.Budget number_of table
+  name ← optional s.Name (text_as name_in) table
+  Ok (record { address = address; older = older; newer = newer; budget = budget; name = name })
+
+-- customers in file order
+abbrev pub customers_from : Items → Result (List WantedCustomer) ConfigurationFault
+customers_from no_items = Ok []
+customers_from (item value others) = do
+  table ← ok_or (as_table value) (fault.Wanted s.Customer)
+  first ← customer_in table
+  rest ← customers_from others
+  Ok (first ∷ rest)
+
+-- the customers of a document
+abbrev pub customers_in : Members → Result (List WantedCustomer) ConfigurationFault
+customers_in document = with_default no_items s.Customer as_array document >>= customers_from
+
+-- the customers of a text, if it is a document and nothing is wrong with them
+abbrev pub wanted_in : Option Members → Option (List WantedCustomer)
+wanted_in None = None
+wanted_in (Some document) = result_ok (customers_in document)
+
+-- the numbers of the keys of customers: of each its own, then those of newer keys
+abbrev pub key_numbers : List WantedCustomer → List ℕ
+key_numbers customers =
+    map (λ customer. non_zero_u16_get customer.older.number) customers
+    ++ filter_map (λ customer. option_map (λ key. non_zero_u16_get key.number) customer.newer) customers
+
+-- no two customers have one address, and no two keys one number
+pub record AreDistinct (customers : List WantedCustomer) : Type 0 where
+  pub addresses : IsDistinct nat_eq (map (λ customer. from_be_bytes w32 customer.address.0) customers)
+  pub numbers : IsDistinct nat_eq (key_numbers customers)

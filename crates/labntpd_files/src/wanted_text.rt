@@ -1,0 +1,77 @@
+//! A wanted customer as text.
+
+use crate::{WantedCustomer, WantedKey};
+use ntp_mac::Algorithm;
+use ntp_service::Address;
+use std::fmt;
+use std::io::{self, Write};
+
+/// Whether keys are written, which are secrets.
+#[derive(Clone, Copy, Debug, PartialEq, Eq)]
+pub enum KeyLines {
+    Written,
+    LeftOut,
+}
+
+/// Writes a customer as `read_wanted` reads it, which wants its keys, and an empty line behind it.
+pub fn write_wanted<W: Write>(
+    out: &mut W,
+    customer: &WantedCustomer,
+    keys: KeyLines,
+) -> io::Result<()> {
+    let Address([a, b, c, d]) = customer.address;
+    writeln!(out, "[[customer]]")?;
+    if let Some(name) = &customer.name {
+        writeln!(out, "name = {}", BasicString(name.as_str()))?;
+    }
+    writeln!(out, "address = \"{a}.{b}.{c}.{d}\"")?;
+    write_key(out, &customer.older, keys, "\n")?;
+    writeln!(out, "\nbudget = {}", customer.budget)?;
+    if let Some(newer) = &customer.newer {
+        write!(out, "newer = {{ ")?;
+        write_key(out, newer, keys, ", ")?;
+        writeln!(out, " }}")?;
+    }
+    writeln!(out, "")
+}
+
+// Writes what is said of a key, with this between the parts.
+fn write_key<W: Write>(
+    out: &mut W,
+    wanted: &WantedKey,
+    keys: KeyLines,
+    between: &str,
+) -> io::Result<()> {
+    let WantedKey { number, key } = wanted;
+    let algorithm = match key.algorithm() {
+        Algorithm::Md5 => "md5",
+        Algorithm::Sha1 => "sha1",
+    };
+    write!(out, "number = {number}{between}algorithm = \"{algorithm}\"")?;
+    if keys == KeyLines::LeftOut {
+        return Ok(());
+    }
+    write!(out, "{between}key = \"")?;
+    for octet in key.octets() {
+        write!(out, "{octet:02x}")?;
+    }
+    write!(out, "\"")
+}
+
+// A text as a basic string of TOML.
+#[derive(Clone, Copy)]
+struct BasicString<'a>(&'a str);
+
+impl<'a> fmt::Display for BasicString<'a> {
+    fn fmt<W: fmt::Write>(&self, f: &mut fmt::Formatter<W>) -> fmt::Result {
+        f.write_str("\"")?;
+        for character in self.0.chars() {
+            match character {
+                '"' | '\\' => write!(f, "\\{character}")?,
+                _ if character.is_control() => write!(f, "\\u{:04X}", u32::from(character))?,
+                _ => f.write_char(character)?,
+            }
+        }
+        f.write_str("\"")
+    }
+}

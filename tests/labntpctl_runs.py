@@ -1,7 +1,8 @@
-"""Runs of labntpctl over files of a daemon, and a labntpd that serves by them."""
+"""Runs of labntpctl over files of a daemon, a labntpd that serves by them, and what the files come to by tests/model.py."""
 import contextlib
 import ctypes
 import errno
+import json
 import os
 import platform
 import re
@@ -12,14 +13,17 @@ import struct
 import subprocess
 
 import judging
+import model
 import probe
-from judging import Odd, PassedOver, file_of, register_of, same, until
+from judging import REFERENCE, Odd, PassedOver, enrolments, file_of, same, until
 
 KEY = "c40b7a1d93e65f2288bb01d4e7f3a69c5d20e8f1"
 CUSTOMERS = [("192.0.2.1", 1, "sha1", KEY, 4), ("192.0.2.2", 3, "md5", "6b6579", 9), ("127.0.0.1", 4, "sha1", KEY[::-1], 65535)]
-FILE_LIMIT = 1_048_576
-# Of prctl(2).
+# Most octets of a commands file.
+FILE_LIMIT = 67_108_864
+# Of prctl(2), and of ptrace(2).
 PR_SET_SECCOMP, PR_SET_NO_NEW_PRIVS, SECCOMP_MODE_FILTER = 22, 38, 2
+PTRACE_TRACEME, PTRACE_SYSCALL = 0, 24
 # The daemon that serves where one does.
 LABNTPD = ""
 
@@ -40,8 +44,8 @@ def lines_in(name):
 def keys():
     """The digits of each key that stands in the files of the case."""
     found = {KEY, KEY[::-1]}
-    for name in ("commands", *(it for it in os.listdir(judging.ROOM) if it.endswith(".keys"))):
-        if os.path.isfile(room(name)):
+    for name in os.listdir(judging.ROOM):
+        if name.startswith("commands") | name.endswith((".keys", ".toml")) and os.path.isfile(room(name)):
             found |= {*re.findall(r"\b[0-9a-f]{40}\b", read(name))}
     return found
 
@@ -62,17 +66,6 @@ def run(words, wanted=None, **how):
     return status, out, err
 
 
-def configured(port=20123, customers=CUSTOMERS, commands="", **named):
-    """The files of a daemon, and the words that name its configuration. A file of `named` is named there."""
-    file_of("register.toml", register_of(customers))
-    file_of("commands", commands)
-    names = {"answers": "answers", "customers": "customers", **named}
-    lines = [f'listen = "127.0.0.1:{port}"', f'register = "{room("register.toml")}"', f'commands = "{room("commands")}"']
-    lines += [f'{key} = "{room(name)}"' for key, name in names.items() if name]
-    file_of("labntpd.toml", "\n".join([*lines, "longest_wait = 10", "[clock]", 'source = "fixed"', ""]))
-    return ["--config", room("labntpd.toml")]
-
-
 def fresh():
     """The room, with nothing in it."""
     for name in os.listdir(judging.ROOM):
@@ -80,6 +73,33 @@ def fresh():
             shutil.rmtree(room(name))
         else:
             os.remove(room(name))
+
+
+def configured(port=20123, customers=CUSTOMERS, commands="", **named):
+    """A room with the files of a daemon alone, and the words that name its configuration. The commands file has lines that enrol customers,
+    and these behind them. A file of `named` is named there."""
+    fresh()
+    file_of("commands", enrolments(customers) + commands)
+    names = {"answers": "answers", "customers": "customers", **named}
+    lines = [f'listen = "127.0.0.1:{port}"', f'commands = "{room("commands")}"']
+    lines += [f'{key} = "{room(name)}"' for key, name in names.items() if name]
+    file_of("labntpd.toml", "\n".join([*lines, "longest_wait = 10", "[clock]", 'source = "fixed"', f'reference = "{REFERENCE}"', ""]))
+    return ["--config", room("labntpd.toml")]
+
+
+def next_line():
+    """The number of the line that is appended next."""
+    return read("commands").count("\n") + 1
+
+
+@contextlib.contextmanager
+def patient():
+    """Runs over a file that is full take longer."""
+    usual, judging.WAIT = judging.WAIT, 60 * judging.WAIT
+    try:
+        yield
+    finally:
+        judging.WAIT = usual
 
 
 # The numbers of calls, by machine.
@@ -110,6 +130,28 @@ def limited_to(octets):
     resource.setrlimit(resource.RLIMIT_FSIZE, (octets, octets))
 
 
+def traced():
+    """In a process that begins: it stops at each call of the system, for the one that began it."""
+    if ctypes.CDLL(None).ptrace(PTRACE_TRACEME, 0, None, None):
+        raise OSError("ptrace")
+
+
+def killed_at(words, most):
+    """A run that is killed before its call number `most` of the system: whether it had ended by itself."""
+    try:
+        process = judging.start(words, preexec_fn=traced, stdout=subprocess.DEVNULL, stderr=subprocess.DEVNULL)
+    except subprocess.SubprocessError:
+        raise PassedOver("there is no leave to trace a process")
+    _, status = os.waitpid(process.pid, 0)
+    # It stops before each call and behind it.
+    for _ in range(2 * most - 1):
+        if os.WIFSTOPPED(status):
+            ctypes.CDLL(None).ptrace(PTRACE_SYSCALL, process.pid, None, None)
+            _, status = os.waitpid(process.pid, 0)
+    judging.end(process)
+    return os.WIFEXITED(status)
+
+
 @contextlib.contextmanager
 def begun(words, **how):
     """Another program, which is ended."""
@@ -126,7 +168,6 @@ def serving(**how):
     """A labntpd, its port, and the words that name its configuration."""
     if not os.access(LABNTPD, os.X_OK):
         raise PassedOver("labntpd is not built")
-    fresh()
     port = probe.free_port()
     words = configured(port, **how)
     with served(words):
@@ -142,6 +183,11 @@ def served(words):
         shows_no_key(read("log"), read("answers") if os.path.exists(room("answers")) else "")
 
 
+def append_text(text, name="commands"):
+    with open(room(name), "a") as it:
+        it.write(text)
+
+
 def appended(before):
     """The lines of the commands file behind those that were there before."""
     text = read("commands")
@@ -152,3 +198,65 @@ def appended(before):
 
 
 ENROL = re.compile(r"enrol (\S+) (\d+) (md5|sha1) ([0-9a-f]{40}) (\d+)")
+
+
+# ---- What files come to
+
+def customers_by(commands):
+    """Who is enrolled by a commands file as tests/model.py has it: keys with their octets, and budgets; nothing of a revoked address."""
+    judge = model.Model()
+    for line in commands.splitlines():
+        judge.line(line)
+    return {address: (list(it.keys.items()), it.budget) if it else None for address, it in judge.enrolments.items()}
+
+
+def customers_now():
+    return customers_by(read("commands"))
+
+
+def names_by(commands):
+    """The last name of each address that has one."""
+    return dict(re.findall(r"(?m)^# name (\S+) (.+)$", commands))
+
+
+def told(*words):
+    """Who is enrolled as the program tells it, without counts and lines."""
+    objects = map(json.loads, run(["customers", "--json", *words], 0)[1].splitlines())
+    return {it["address"]: (it["state"], [(key["number"], key["algorithm"], key["octets"]) for key in it["keys"]], it["budget"]) for it in objects}
+
+
+def as_told(customers):
+    """The same of customers of the model."""
+    return {address: ("enrolled", [(number, algorithm, len(key)) for number, (algorithm, key) in it[0]], it[1]) if it else ("revoked", [], None)
+            for address, it in customers.items()}
+
+
+def enrolled(customers):
+    return {address: it for address, it in customers.items() if it}
+
+
+def wanted_text(customers, names={}):
+    """A file of these customers for `apply`."""
+    text = ""
+    for address, (keys, budget) in enrolled(customers).items():
+        (number, (algorithm, key)), *newer = keys
+        text += judging.table(address, number, algorithm, key.hex(), budget)
+        text += "".join(f'newer = {{ number = {number}, algorithm = "{algorithm}", key = "{key.hex()}" }}\n' for number, (algorithm, key) in newer)
+        text += f"name = {json.dumps(names[address], ensure_ascii=False)}\n" if address in names else ""
+    return text
+
+
+NAMES = ("PTB", "Frau Müller, \"77\"", "a\\b", "时间", "#")
+
+
+def history_drawn(draw, lines):
+    """A commands file at random, among few addresses and numbers."""
+    addresses, numbers = [f"192.0.2.{it}" for it in range(1, 13)], range(1, 16)
+    text = []
+    for _ in range(lines):
+        address, number, budget = draw.choice(addresses), draw.choice(numbers), draw.randrange(1, 65536)
+        key = f"{draw.choice(('md5', 'sha1'))} {draw.randbytes(draw.choice((1, 16, 20, 32))).hex()}"
+        text.append(draw.choice((f"enrol {address} {number} {key} {budget}", f"enrol {address} {number} {key} {budget}", f"revoke {address}", f"budget {address} {budget}",
+                                 f"rollover {address} {number} {key}", f"rollover {address} {number} {key}", f"retire {address} {number}",
+                                 f"# name {address} {draw.choice(NAMES)}", "", "nonsense")))
+    return "".join(f"{it}\n" for it in text)

@@ -1,200 +1,147 @@
-//! Every fault of a commands file.
+//! Finds every fault of a commands file.
 
-use crate::checked_register::{Checked, address_warning, budget_warning_of, key_warning_of};
-use crate::checked_text::checked_text;
-use crate::report::{Found, Report, add_found};
-use crate::standing::{is_ended, write_unended};
+use crate::desk::{Desk, Stop};
+use crate::loading::complete_lines;
+use crate::report::Report;
 use labntpd_files::{
-    PlacedWord, fault_meaning, faulty_place, key_wrong, refusal_meaning, shown_word, word_at,
+    address_warning, budget_warning, fault_meaning, faulty_place, key_warning, key_wrong,
+    refusal_meaning, shown_word, word_at,
 };
-use ntp_admin::{Command, Escaped, LineFault, Status, apply_commands, memory_status};
-use ntp_host::{is_nearly_full, write_nearly_full};
-use ntp_reports::Both;
-use ntp_service::{LineOutcome, Observer, Refusal, TurnOutcome};
-use std::alloc::Global;
+use ntp_admin::{Command, Escaped, LineFault, apply_lines};
+use ntp_clerk::customers_of;
+use ntp_host::{MOST_COMMANDS_OCTETS, is_nearly_full, write_nearly_full};
+use ntp_service::{LineOutcome, Observer, Refusal, Service, TurnOutcome};
 use std::fmt::Display;
 use std::io::Write;
 
-/// Tells every fault of the commands file at a path, as its lines are carried out over customers, and gives those that it leaves. The
-/// error is the exit status for want of memory.
-pub fn check_commands(
-    rt: &HostRuntime,
-    path: &str,
-    checked: Checked,
-    report: &mut Report,
-) -> Result<Checked, Status> {
-    match checked_text(rt, path, report) {
-        Some(text) => check_text(rt.alloc(), path, text.as_str(), checked, report),
-        None => Ok(checked),
-    }
-}
-
-// Tells every fault of the text of a commands file, and gives the customers that it leaves.
-fn check_text(
-    alloc: Global,
-    path: &str,
-    text: &str,
-    checked: Checked,
-    report: &mut Report,
-) -> Result<Checked, Status> {
-    if is_nearly_full(text.len()) {
+/// Reports every fault of the commands file at a path, and returns how many customers it leaves enrolled.
+pub fn check_commands(desk: Desk<'_>, path: &str, report: &mut Report) -> Result<usize, Stop> {
+    let Some(octets) = report.octets(desk, path) else {
+        return Ok(0);
+    };
+    let count = octets.len() as u64;
+    if is_nearly_full(count) {
         let _ = write!(report.out, "warning: {}: ", Escaped(path));
-        write_nearly_full(&mut report.out, text.len());
+        write_nearly_full(&mut report.out, count);
         let _ = writeln!(report.out, "");
     }
-    let Carried {
-        checked,
-        finder,
-        lines,
-    } = carried_out(alloc, text, checked);
-    if finder.has_no_memory {
-        return Err(memory_status(&mut report.out));
-    }
-    report.found(path, &finder.found);
-    if !is_ended(text.as_bytes()) {
-        write_unended(&mut report.out, path, lines);
-        report.take(Status::TextFaulty);
-    }
-    Ok(checked)
-}
-
-// The lines of a commands file, carried out.
-#[derive(Drop)]
-struct Carried<'a> {
-    checked: Checked,
-    finder: LineFinder<'a>,
-    lines: u64,
-}
-
-// Carries out the lines of a text over customers, and finds what is wrong with them.
-fn carried_out(alloc: Global, text: &str, checked: Checked) -> Carried<'_> {
-    let Checked {
-        mut service,
-        counts,
-    } = checked;
-    let finder = LineFinder {
-        alloc,
-        rest: text,
+    let whole = complete_lines(&octets);
+    let mut service = Service::new(desk.alloc());
+    let mut finder = LineFinder {
+        path,
+        report,
+        rest: whole,
         passed: 0,
         command: None,
-        found: Vec::new(alloc),
         has_no_memory: false,
     };
-    let mut heard = Both {
-        first: counts,
-        second: finder,
-    };
-    let lines = apply_commands(&mut service, text.as_bytes(), 0, &mut heard);
-    let Both {
-        first: counts,
-        second: finder,
-    } = heard;
-    Carried {
-        checked: Checked { service, counts },
-        finder,
-        lines,
+    let lines = apply_lines(&mut service, whole, 0, &mut finder);
+    let has_no_memory = finder.has_no_memory;
+    if (whole.len() as u64) < count && count <= MOST_COMMANDS_OCTETS {
+        let line = lines.saturating_add(1);
+        report.fault(
+            path,
+            format_args!("line {line}: a line feed at its end is wanted"),
+        );
     }
+    if has_no_memory {
+        return Err(Stop::Memory);
+    }
+    Ok(customers_of(desk.alloc(), &service)?.len())
 }
 
-// Who finds what is wrong with each line of commands, and what is hardly meant in it.
+// Reports what is wrong with each line of commands, and what is hardly meant in it.
 #[derive(Drop)]
 struct LineFinder<'a> {
-    alloc: Global,
-    // What stands behind the lines that were passed, and how many these are.
-    rest: &'a str,
+    path: &'a str,
+    report: &'a mut Report,
+    // The octets behind the lines that were passed, and how many these are.
+    rest: &'a [u8],
     passed: u64,
-    // The command of the line that is told next.
+    // The command of the next line.
     command: Option<Command>,
-    found: Vec<Found>,
     has_no_memory: bool,
 }
 
 impl<'a> LineFinder<'a> {
-    // Passes the lines up to the one with a number, and gives it.
+    // Passes the lines up to the one with a number, and returns it; an empty text where it is not UTF-8.
     fn line_at(&mut self, number: u64) -> &'a str {
-        let mut line = "";
+        let mut line: &[u8] = &[];
         for _ in self.passed..number {
-            match self.rest.split_once('\n') {
-                None => return line,
-                Some((first, rest)) => {
-                    line = first;
-                    self.rest = rest;
-                }
-            }
+            let end = self
+                .rest
+                .iter()
+                .position(|octet| *octet == b'\n')
+                .unwrap_or(self.rest.len());
+            line = self.rest.get(..end).unwrap_or(&[]);
+            self.rest = self.rest.get(end.saturating_add(1)..).unwrap_or(&[]);
         }
         self.passed = self.passed.max(number);
-        line
+        str::from_utf8(line).unwrap_or("")
     }
 
-    // Finds a line that is no command.
+    // Reports a line that is no command.
     fn faulty(&mut self, number: u64, fault: LineFault) {
         let line = self.line_at(number);
         let (word, meaning) = (fault.word(), fault_meaning(fault));
         let first = line.split_once(' ').map_or(line, |(first, _)| first);
-        match faulty_place(first, fault).and_then(|place| word_at(line, place)) {
-            None => {
+        let placed = faulty_place(first, fault).and_then(|place| word_at(line, place));
+        match (placed, fault) {
+            (Some(placed), _) => {
+                let column = placed.column;
+                match key_wrong(placed.word) {
+                    Some(wrong) if fault == LineFault::KeyText => self.fault(
+                        number,
+                        format_args!("column {column}: faulty {word}: {meaning}; {wrong}"),
+                    ),
+                    _ => self.fault(
+                        number,
+                        format_args!(
+                            "column {column}: faulty {word}: {meaning}; {}",
+                            shown_word(placed.word)
+                        ),
+                    ),
+                }
+            }
+            (None, LineFault::LineLong | LineFault::NotUtf8) => {
+                self.fault(number, format_args!("faulty {word}: {meaning}"));
+            }
+            (None, _) => {
                 let count = line.split(' ').count();
-                self.add(
+                self.fault(
                     number,
-                    true,
                     format_args!("faulty {word}: {meaning}; {count} words stand there"),
                 );
             }
-            Some(placed) => self.faulty_word(number, fault, placed),
         }
     }
 
-    // Finds a word that is not what is wanted in its place.
-    fn faulty_word(&mut self, number: u64, fault: LineFault, placed: PlacedWord<'_>) {
-        let PlacedWord {
-            column,
-            word: there,
-        } = placed;
-        let (word, meaning) = (fault.word(), fault_meaning(fault));
-        match key_wrong(there) {
-            Some(wrong) if fault == LineFault::KeyText => self.add(
-                number,
-                true,
-                format_args!("column {column}: faulty {word}: {meaning}; {wrong}"),
-            ),
-            _ => {
-                let shown = shown_word(there);
-                self.add(
-                    number,
-                    true,
-                    format_args!("column {column}: faulty {word}: {meaning}; {shown}"),
-                );
-            }
-        }
+    // Reports a fault of a line.
+    fn fault<D: Display + Drop>(&mut self, number: u64, what: D) {
+        self.report
+            .fault(self.path, format_args!("line {number}: {what}"));
     }
 
-    // Finds a line whose command is refused.
-    fn refused(&mut self, number: u64, refusal: Refusal) {
-        if refusal == Refusal::NoMemory {
-            self.has_no_memory = true;
-            return;
-        }
-        let (word, meaning) = (refusal.word(), refusal_meaning(refusal));
-        self.add(number, true, format_args!("refused {word}: {meaning}"));
-    }
-
-    // Finds what is hardly meant in a line whose command was carried out.
+    // Warns of what is hardly meant in a command that was carried out.
     fn warn(&mut self, number: u64, command: &Command) {
-        for warning in [
-            address_warning(command),
-            key_warning_of(command),
-            budget_warning_of(command),
-        ] {
-            if let Some(warning) = warning {
-                self.add(number, false, format_args!("{warning}"));
-            }
-        }
-    }
-
-    // Adds what was found in a line.
-    fn add<D: Display + Drop>(&mut self, line: u64, is_fault: bool, what: D) {
-        if add_found(self.alloc, &mut self.found, line, is_fault, what).is_err() {
-            self.has_no_memory = true;
+        let (address, key, budget) = match command {
+            Command::Enrol {
+                address,
+                key,
+                budget,
+                ..
+            } => (
+                address_warning(*address),
+                key_warning(key),
+                budget_warning(budget.get()),
+            ),
+            Command::Rollover { key, .. } => (None, key_warning(key), None),
+            Command::Budget { budget, .. } => (None, None, budget_warning(budget.get())),
+            _ => (None, None, None),
+        };
+        for warning in [address, key, budget].into_iter().flatten() {
+            self.report
+                .warning(self.path, format_args!("line {number}: {warning}"));
         }
     }
 }
@@ -207,7 +154,11 @@ impl<'a> Observer for LineFinder<'a> {
     fn line(&mut self, number: u64, outcome: LineOutcome) {
         match (outcome, self.command.take()) {
             (LineOutcome::Faulty(fault), _) => self.faulty(number, fault),
-            (LineOutcome::Refused(refusal), _) => self.refused(number, refusal),
+            (LineOutcome::Refused(Refusal::NoMemory), _) => self.has_no_memory = true,
+            (LineOutcome::Refused(refusal), _) => {
+                let (word, meaning) = (refusal.word(), refusal_meaning(refusal));
+                self.fault(number, format_args!("refused {word}: {meaning}"));
+            }
             (LineOutcome::Done, Some(command)) => self.warn(number, &command),
             (LineOutcome::Done, None) => {}
         }

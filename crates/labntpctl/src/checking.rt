@@ -1,81 +1,85 @@
-//! Every fault of the files that a daemon would serve by.
+//! Finds every fault of the files that labntpd would serve by.
 
 use crate::checked_commands::check_commands;
-use crate::checked_configuration::{Configured, check_configuration};
-use crate::checked_register::{Checked, check_register};
-use crate::places::FilesNamed;
+use crate::checked_configuration::check_configuration;
+use crate::desk::{Desk, Stop};
 use crate::report::Report;
-use labntpd_assembly::start_lines;
-use ntp_admin::{Status, memory_status, write_status};
+use labntpd_files::{WantedFault, read_wanted};
+use ntp_admin::{Escaped, Status, line_without_text};
 use std::io::{BufWriter, Write};
 
-/// Tells every fault of the files that are named, and gives the exit status.
-pub fn check_status(rt: &HostRuntime, files: FilesNamed<'_>) -> Status {
-    let Ok(out) = BufWriter::new(rt.alloc(), rt.stdout()) else {
-        return memory_status(&mut start_lines(rt));
-    };
+/// The files to be checked.
+#[derive(Clone, Copy)]
+pub struct CheckedFiles<'a> {
+    /// The path of the configuration file.
+    pub config: &'a str,
+    /// The path of a commands file to be checked in the place of the configuration and its files.
+    pub commands: Option<&'a str>,
+    /// The path of a file of wanted customers.
+    pub wanted: Option<&'a str>,
+}
+
+/// Reports every fault of the files.
+pub fn check(desk: Desk<'_>, files: &CheckedFiles<'_>) -> Result<(), Stop> {
+    let out = desk.at(
+        "standard output",
+        BufWriter::new(desk.alloc(), desk.rt.stdout()),
+    )?;
     let mut report = Report::new(out);
-    let status = match check(rt, files, &mut report) {
-        Ok(()) => report.status(),
-        Err(status) => status.max(report.status()),
+    let done = check_each(desk, files, &mut report);
+    desk.printed(report.out.flush())?;
+    done?;
+    match report.status() {
+        Status::Done => Ok(()),
+        status => Err(Stop::Printed(status)),
+    }
+}
+
+// Reports every fault of each file.
+fn check_each(desk: Desk<'_>, files: &CheckedFiles<'_>, report: &mut Report) -> Result<(), Stop> {
+    let configured = match files.commands {
+        Some(_) => None,
+        None => check_configuration(desk, files.config, report)?,
     };
-    match report.out.flush() {
-        Ok(()) => status,
-        Err(_) => write_status(&mut start_lines(rt)),
-    }
-}
-
-// Tells every fault of the files that are named. The error is the exit status for want of memory.
-fn check(rt: &HostRuntime, files: FilesNamed<'_>, report: &mut Report) -> Result<(), Status> {
-    match files {
-        FilesNamed::Each { register, commands } => {
-            check_customers(rt, Some(register), commands, report)
-        }
-        FilesNamed::Configured(path) => {
-            let Configured { register, commands } = check_configuration(rt, path, report)?;
-            let register = register.as_ref().map(|path| path.as_str());
-            let commands = commands.as_ref().map(|path| path.as_str());
-            check_customers(rt, register, commands, report)
-        }
-    }
-}
-
-// Tells every fault of a register and of commands, and how many customers they make where nothing is wrong.
-fn check_customers(
-    rt: &HostRuntime,
-    register: Option<&str>,
-    commands: Option<&str>,
-    report: &mut Report,
-) -> Result<(), Status> {
-    let checked = checked_in(rt, register, commands, report)?;
-    tell_well(&checked, report)
-}
-
-// Tells how many customers there are, where nothing is wrong.
-fn tell_well(checked: &Checked, report: &mut Report) -> Result<(), Status> {
-    if checked.counts.has_missed() {
-        return Err(memory_status(&mut report.out));
-    }
+    let commands = files
+        .commands
+        .or(configured.as_ref().map(|path| path.as_str()));
+    let customers = match commands {
+        Some(path) => check_commands(desk, path, report)?,
+        None => 0,
+    };
+    let wanted = match files.wanted {
+        Some(path) => check_wanted(desk, path, report)?,
+        None => 0,
+    };
     if report.status() == Status::Done {
-        let customers = checked.customers();
         let _ = writeln!(report.out, "ok: {customers} customers");
+        if let Some(path) = files.wanted {
+            let _ = writeln!(report.out, "{}: {wanted} customers", Escaped(path));
+        }
     }
     Ok(())
 }
 
-// Tells every fault of a register and of commands, and gives the customers that they make.
-fn checked_in(
-    rt: &HostRuntime,
-    register: Option<&str>,
-    commands: Option<&str>,
-    report: &mut Report,
-) -> Result<Checked, Status> {
-    let checked = match register {
-        None => Checked::new(rt.alloc()),
-        Some(path) => check_register(rt, path, report)?,
+// Reports every fault of a file of wanted customers, and returns how many it has.
+fn check_wanted(desk: Desk<'_>, path: &str, report: &mut Report) -> Result<usize, Stop> {
+    let Some(octets) = report.octets(desk, path) else {
+        return Ok(0);
     };
-    match commands {
-        None => Ok(checked),
-        Some(path) => check_commands(rt, path, checked, report),
+    let Ok(text) = str::from_utf8(&octets) else {
+        let line = line_without_text(&octets);
+        report.fault(path, format_args!("line {line}: this is no UTF-8"));
+        return Ok(0);
+    };
+    match read_wanted(desk.alloc(), text) {
+        Ok(wanted) => {
+            report.warnings(path, &wanted.warnings);
+            Ok(wanted.customers.len())
+        }
+        Err(WantedFault::Faults(found)) => {
+            report.faults(path, &found);
+            Ok(0)
+        }
+        Err(WantedFault::NoMemory) => Err(Stop::Memory),
     }
 }

@@ -1,157 +1,159 @@
-//! The words of the command line.
+//! Reads the words of the command line.
 
+use crate::applying::Application;
+use crate::changing::{Change, ChangeRequest};
+use crate::checking::CheckedFiles;
 use crate::customer_file::ANY;
-use crate::door::{Door, Output, Place};
+use crate::door::{Output, Place};
 use crate::explaining::Explained;
-use crate::folding::FoldAsked;
-use crate::ordered::{Change, Ordered};
-use crate::places::FilesNamed;
-use crate::recovering::RecoverAsked;
+use crate::loading::is_name;
+use crate::waiting::Patience;
 use clap::builder::ValueParser;
 use clap::error::ErrorKind;
-use clap::{Arg, ArgAction, ArgMatches, Command, Error};
+use clap::{ArgMatches, Command, Error, arg, value_parser};
+use labntpd_files::KeyLines;
 use labntpd_files::command_line::VERSION;
 use ntp_admin::words;
 use ntp_mac::Algorithm;
 use ntp_query::{Server, server_in};
-use ntp_service::Address;
 use std::alloc::{AllocError, Global};
 use std::num::{self, NonZero};
 
 /// The configuration file where none is named: that of the Debian package.
 const USUAL_CONFIG: &str = "/etc/labntp/labntpd.toml";
 
-/// How many milliseconds a second has.
+/// The milliseconds of a second.
 const SECOND_MILLIS: f64 = 1_000.0;
 
-/// The budget of a customer for whom none is named: a client that begins with a burst of eight queries needs it.
-const USUAL_BUDGET: u16 = 10;
-
-/// How many milliseconds an answer is waited for where the words do not say it.
-const USUAL_WAIT: u64 = 5_000;
-
-/// What stands at the end of the help.
+/// The end of the help.
 const AFTER_HELP: &str = "\
-Each change is one line that is appended to the commands file, which labntpd carries out shortly after. No key is shown: what a customer gets stands in a \
-file that its owner alone may read.
+The customers stand in the commands file of labntpd. Each change appends lines to it, which labntpd carries out shortly after. \
+No key is shown: keys stand in that file, in files for customers and in files of `export`, which their owners alone may read.
 
 Examples:
   labntpctl customers
-  labntpctl enrol 192.0.2.10 --server 198.51.100.1
+  labntpctl enrol 192.0.2.10 --name 'PTB, clock 2' --server 198.51.100.1
   labntpctl rollover 192.0.2.10
   labntpctl retire 192.0.2.10
-  labntpctl check --config labntpd.toml
+  labntpctl export customers.toml
+  labntpctl apply customers.toml
+  labntpctl check
+  labntpctl fold
   labntpctl explain --pcap queries.pcap
   labntpctl door | nft -f -
-  labntpctl fold
-  labntpctl recover --backup commands.monday --output commands.new
 
-Exit status: 0 done; 1 refused, or a file has a fault, or a key is lost; 2 other words; 3 no answer came in time, or a file failed; 4 want of memory.";
+Exit status: 0 done; 1 refused, or a file has a fault, or customers differ; 2 other words; 3 no answer came in time, or a file \
+failed; 4 want of memory.";
 
-/// What the words of a command line ask for.
+/// What a command line asks for.
 #[derive(Clone, Copy)]
-pub enum Asked<'a> {
-    /// Who is enrolled, in a table or as objects of JSON.
-    Customers {
-        files: FilesNamed<'a>,
-        json: bool,
-    },
-    /// Every fault of the files.
-    Check(FilesNamed<'a>),
-    /// What datagrams would get, by the configuration file at a path.
-    Explain {
-        config: &'a str,
-        explained: Explained<'a>,
-    },
-    /// The rules by which the kernel polices the door.
-    Door(Door<'a>),
-    /// A change.
-    Order(Ordered<'a>),
-    /// A fold of the commands into the register.
-    Fold(FoldAsked<'a>),
-    /// A lost commands file, as far as it can be had back.
-    Recover(RecoverAsked<'a>),
+pub struct Asked<'a> {
+    /// The path of the configuration file.
+    pub config: &'a str,
+    pub task: Task<'a>,
 }
 
-/// What the words ask for; the first is the program's name. Else the error that tells the user why: its kind may be a request for
-/// the help or the version, or memory may have run out.
+/// The work that a command line asks for.
+#[derive(Clone, Copy)]
+pub enum Task<'a> {
+    /// Finds every fault of files.
+    Check(CheckedFiles<'a>),
+    /// Lists the customers of the commands file at a path.
+    ListFile {
+        commands: &'a str,
+        listing: Listing,
+    },
+    /// Lists the customers.
+    List(Listing),
+    /// Prints the differences between labntpd's customers and those of the commands file.
+    Compare,
+    /// Explains what datagrams would get.
+    Explain(Explained<'a>),
+    /// Writes the rules by which the kernel polices the door.
+    Door {
+        place: Option<Place>,
+        output: Output<'a>,
+    },
+    /// Changes one customer.
+    Change(ChangeRequest<'a>),
+    /// Makes the customers those of a file.
+    Apply(Application<'a>),
+    /// Writes the customers into a new file, or to standard output.
+    Export {
+        path: Option<&'a str>,
+        keys: KeyLines,
+    },
+    /// Writes the commands file anew in fewer lines.
+    Fold,
+    /// Only prints how long it would be.
+    ShowFold,
+}
+
+/// The form of a list of customers.
+#[derive(Clone, Copy, PartialEq, Eq)]
+pub enum Listing {
+    /// A table.
+    Table,
+    /// An object of JSON for each customer.
+    Json,
+}
+
+/// Reads words, of which the first is the program's name. The error tells the user why they ask for nothing; its kind may be a
+/// request for the help or the version, or want of memory.
 pub fn parse<'a>(alloc: Global, words: &'a [String]) -> Result<Asked<'a>, Error> {
     let matches = command(alloc)?.try_get_matches_from(words)?;
     match asked_in(&matches) {
         Ok(asked) => Ok(asked),
-        Err(message) => Err(unfit(alloc, message)?),
+        Err(message) => { Err(command(alloc)?.error(ErrorKind::ValueValidation, message)?) }
     }
 }
 
-// The error of words that do not fit together.
-fn unfit(alloc: Global, message: &str) -> Result<Error, AllocError> {
-    command(alloc)?.error(ErrorKind::ValueValidation, message)
-}
-
-// What the matches ask for; else what is wrong with them.
+// Returns what the matches ask for, or what is wrong with them.
 fn asked_in<'a>(matches: &ArgMatches<'a>) -> Result<Asked<'a>, &'static str> {
     let Some((name, matches)) = matches.subcommand() else {
         return Err("a command is wanted");
     };
-    match name {
-        "customers" => Ok(Asked::Customers {
-            files: files_in(matches)?,
-            json: matches.get_flag("json"),
+    let config = matches.get_str("config").unwrap_or(USUAL_CONFIG);
+    let commands = matches.get_str("COMMANDS");
+    let task = match name {
+        "check" => Task::Check(CheckedFiles {
+            config,
+            commands,
+            wanted: matches.get_str("wanted"),
         }),
-        "door" => door_in(matches).map(Asked::Door),
-        "check" => files_in(matches).map(Asked::Check),
-        "explain" => Ok(Asked::Explain {
-            config: config_in(matches),
-            explained: explained_in(matches)?,
-        }),
-        "fold" => Ok(Asked::Fold(fold_in(matches))),
-        "recover" => recover_in(matches).map(Asked::Recover),
-        _ => ordered_in(name, matches).map(Asked::Order),
-    }
-}
-
-// The files that are named: by a configuration, or one by one.
-fn files_in<'a>(matches: &ArgMatches<'a>) -> Result<FilesNamed<'a>, &'static str> {
-    let commands = matches.get_str("commands");
-    match (matches.get_str("config"), matches.get_str("register")) {
-        (_, None) => Ok(FilesNamed::Configured(config_in(matches))),
-        (None, Some(register)) => Ok(FilesNamed::Each { register, commands }),
-        _ => Err("either --config FILE or REGISTER is wanted"),
-    }
-}
-
-// What is asked of the door.
-fn door_in<'a>(matches: &ArgMatches<'a>) -> Result<Door<'a>, &'static str> {
-    Ok(Door {
-        config: config_in(matches),
-        place: place_of(matches)?,
-        output: match (matches.get_str("output"), matches.get_flag("watch")) {
-            (Some(path), true) => Output::Kept(path),
-            (Some(path), false) => Output::Written(path),
-            (None, true) => return Err("--watch wants --output FILE"),
-            (None, false) => Output::Printed,
+        "customers" => listing_in(matches, commands),
+        "explain" => Task::Explain(explained_in(matches)?),
+        "door" => Task::Door {
+            place: place_in(matches)?,
+            output: output_in(matches),
         },
-    })
+        "apply" => Task::Apply(application_in(matches)?),
+        "export" => export_in(matches)?,
+        "fold" if matches.get_flag("dry-run") => Task::ShowFold,
+        "fold" => Task::Fold,
+        _ => Task::Change(change_request_in(name, matches)?),
+    };
+    Ok(Asked { config, task })
 }
 
-// Where the rules apply, if the words say it.
-fn place_of(matches: &ArgMatches<'_>) -> Result<Option<Place>, &'static str> {
-    let Some(word) = matches.get_str("address") else {
-        return Ok(None);
+// Returns how customers are listed.
+fn listing_in<'a>(matches: &ArgMatches<'a>, commands: Option<&'a str>) -> Task<'a> {
+    let listing = if matches.get_flag("json") {
+        Listing::Json
+    } else {
+        Listing::Table
     };
-    match server_in(word) {
-        Some(Server { address, port }) if address != ANY => Ok(Some(Place {
-            address,
-            port: if word.contains(':') { Some(port) } else { None },
-        })),
-        _ => Err("--address: an IPv4 address of this host, with a port or without, is wanted"),
+    match commands {
+        Some(commands) => Task::ListFile { commands, listing },
+        None if matches.get_flag("compare") => Task::Compare,
+        None => Task::List(listing),
     }
 }
 
-// The datagrams that are explained.
+// Returns the datagrams to be explained.
 fn explained_in<'a>(matches: &ArgMatches<'a>) -> Result<Explained<'a>, &'static str> {
     match (
-        matches.get_str("datagram"),
+        matches.get_str("DATAGRAM"),
         matches.get_str("from"),
         matches.get_str("pcap"),
     ) {
@@ -164,112 +166,130 @@ fn explained_in<'a>(matches: &ArgMatches<'a>) -> Result<Explained<'a>, &'static 
     }
 }
 
-// What is asked of a fold.
-fn fold_in<'a>(matches: &ArgMatches<'a>) -> FoldAsked<'a> {
-    FoldAsked {
-        config: config_in(matches),
-        output: matches.get_str("output"),
-        dry_run: matches.get_flag("dry-run"),
+// Returns where the rules apply, if the words say it.
+fn place_in(matches: &ArgMatches<'_>) -> Result<Option<Place>, &'static str> {
+    let Some(word) = matches.get_str("address") else {
+        return Ok(None);
+    };
+    match server_in(word) {
+        Some(Server { address, port }) if address != ANY => Ok(Some(Place {
+            address,
+            port: if word.contains(':') { Some(port) } else { None },
+        })),
+        _ => Err("--address: an IPv4 address of this host, with a port or without, is wanted"),
     }
 }
 
-// The path of the configuration file.
-fn config_in<'a>(matches: &ArgMatches<'a>) -> &'a str {
-    matches.get_str("config").unwrap_or(USUAL_CONFIG)
+// Returns where the rules go.
+fn output_in<'a>(matches: &ArgMatches<'a>) -> Output<'a> {
+    match matches.get_str("output") {
+        None => Output::Printed,
+        Some(path) if matches.get_flag("watch") => Output::Kept(path),
+        Some(path) => Output::Written(path),
+    }
 }
 
-// What is asked of a recovery.
-fn recover_in<'a>(matches: &ArgMatches<'a>) -> Result<RecoverAsked<'a>, &'static str> {
-    Ok(RecoverAsked {
-        config: config_in(matches),
-        backup: matches.get_str("backup"),
-        output: matches.get_str("output").ok_or("--output FILE is missing")?,
+// Returns how a file of customers is applied.
+fn application_in<'a>(matches: &ArgMatches<'a>) -> Result<Application<'a>, &'static str> {
+    Ok(Application {
+        path: matches.get_str("FILE").ok_or("FILE is missing")?,
+        asks: !matches.get_flag("yes"),
+        ends_many: matches.get_flag("end-many"),
+        dry_run: matches.get_flag("dry-run"),
+        patience: patience_in(matches)?,
     })
 }
 
-// The change that is asked for by a name.
-fn ordered_in<'a>(name: &str, matches: &ArgMatches<'a>) -> Result<Ordered<'a>, &'static str> {
-    let address = matches.get_str("address").ok_or("ADDRESS is missing")?;
-    let change = change_in(name, matches)?;
-    let has_key = matches!(change, Change::Enrol { .. } | Change::Rollover(_));
-    Ok(Ordered {
-        config: config_in(matches),
-        address: words::address(address).ok_or(
-            "ADDRESS: an IPv4 address, as 192.0.2.1, is wanted",
-        )?,
-        change,
-        output: if has_key {
-            matches.get_str("output")
-        } else {
-            None
-        },
-        server: if has_key { server_of(matches)? } else { None },
-        answers: matches.get_str("answers"),
-        wait: wait_in(matches)?,
+// Returns where customers are written, and whether with keys.
+fn export_in<'a>(matches: &ArgMatches<'a>) -> Result<Task<'a>, &'static str> {
+    let path = matches.get_str("FILE");
+    let keys = if matches.get_flag("no-keys") {
+        KeyLines::LeftOut
+    } else if path.is_some() {
+        KeyLines::Written
+    } else {
+        return Err("FILE, a new file for the keys, or --no-keys is wanted");
+    };
+    Ok(Task::Export { path, keys })
+}
+
+// Returns the change of a customer that a command's name asks for.
+fn change_request_in<'a>(
+    name: &str,
+    matches: &ArgMatches<'a>,
+) -> Result<ChangeRequest<'a>, &'static str> {
+    let address = matches
+        .get_str("ADDRESS")
+        .and_then(|word| words::address(word));
+    Ok(ChangeRequest {
+        address: address.ok_or("ADDRESS: an IPv4 address, as 192.0.2.1, is wanted")?,
+        change: change_in(name, matches)?,
+        output: matches.get_str("output"),
+        server: server_of(matches)?,
+        patience: patience_in(matches)?,
         dry_run: matches.get_flag("dry-run"),
     })
 }
 
-// What becomes of the customer.
-fn change_in(name: &str, matches: &ArgMatches<'_>) -> Result<Change, &'static str> {
+// Returns what becomes of the customer.
+fn change_in<'a>(name: &str, matches: &ArgMatches<'a>) -> Result<Change<'a>, &'static str> {
+    let algorithm = match matches.get_str("algorithm") {
+        Some("md5") => Algorithm::Md5,
+        _ => Algorithm::Sha1,
+    };
     match name {
         "enrol" => Ok(Change::Enrol {
-            budget: matches
-                .get_one::<u16>("budget")
-                .and_then(NonZero::<u16>::new)
-                .or(NonZero::<u16>::new(USUAL_BUDGET))
-                .ok_or("--budget N is missing")?,
-            algorithm: algorithm_in(matches)?,
+            budget: number_in(matches, "budget").ok_or("--budget N is missing")?,
+            algorithm,
+            name: name_in(matches)?,
         }),
-        "rollover" => Ok(Change::Rollover(algorithm_in(matches)?)),
-        "budget" => Ok(Change::Budget(
-            matches
-                .get_one::<u16>("budget")
-                .and_then(NonZero::<u16>::new)
-                .ok_or("N is missing")?,
-        )),
+        "rollover" => Ok(Change::Rollover(algorithm)),
+        "budget" => Ok(Change::Budget(number_in(matches, "N").ok_or("N is missing")?)),
         "retire" => Ok(Change::Retire {
-            number: matches
-                .get_one::<u16>("number")
-                .and_then(NonZero::<u16>::new),
+            number: number_in(matches, "number"),
             asks: !matches.get_flag("yes"),
         }),
         _ => Ok(Change::Revoke),
     }
 }
 
-// The algorithm of a new key.
-fn algorithm_in(matches: &ArgMatches<'_>) -> Result<Algorithm, &'static str> {
-    match matches.get_str("algorithm") {
-        None => Ok(Algorithm::Sha1),
-        Some(word) => words::algorithm(word).ok_or("--algorithm: md5 or sha1 is wanted"),
+// Returns the name of a new customer, if it gets one.
+fn name_in<'a>(matches: &ArgMatches<'a>) -> Result<Option<&'a str>, &'static str> {
+    match matches.get_str("name") {
+        Some(name) if !is_name(name) => Err("--name TEXT: a line of 1 to 200 octets is wanted"),
+        name => Ok(name),
     }
 }
 
-// Where the customer asks, if the words say it.
+// Returns the key number or the budget under a name.
+fn number_in(matches: &ArgMatches<'_>, name: &str) -> Option<NonZero<u16>> {
+    NonZero::<u16>::new(matches.get_one::<u16>(name)?)
+}
+
+// Returns the server that the customer asks, if the words say it.
 fn server_of(matches: &ArgMatches<'_>) -> Result<Option<Server>, &'static str> {
     match matches.get_str("server") {
         None => Ok(None),
-        Some(word) => {
-            let wanted = "--server: an IPv4 address, with a port or without, is wanted";
-            Ok(Some(server_in(word).ok_or(wanted)?))
-        }
+        Some(word) => match server_in(word) {
+            Some(server) => Ok(Some(server)),
+            None => Err("--server: an IPv4 address, with a port or without, is wanted"),
+        },
     }
 }
 
-// How many milliseconds the answer is waited for.
-fn wait_in(matches: &ArgMatches<'_>) -> Result<u64, &'static str> {
-    let Some(seconds) = matches.get_one::<f64>("wait") else {
-        return Ok(USUAL_WAIT);
-    };
-    if seconds >= 0.0 && seconds <= 60.0 {
-        Ok(num::saturating_f64_to_u64((seconds * SECOND_MILLIS).round()))
-    } else {
-        Err("--wait S: 0 to 60 seconds are wanted")
+// Returns which answers are waited for, and how long.
+fn patience_in<'a>(matches: &ArgMatches<'a>) -> Result<Patience<'a>, &'static str> {
+    let seconds = matches.get_one::<f64>("wait").unwrap_or(0.0);
+    if !(seconds >= 0.0 && seconds <= 60.0) {
+        return Err("--wait S: 0 to 60 seconds are wanted");
     }
+    Ok(Patience {
+        answers: matches.get_str("answers"),
+        millis: num::saturating_f64_to_u64((seconds * SECOND_MILLIS).round()),
+    })
 }
 
-// The command line, with its help.
+// Builds the command line with its help.
 fn command<'a>(alloc: Global) -> Result<Command<'a>, AllocError> {
     let mut command = Command::new(alloc, "labntpctl")
         .version(VERSION)
@@ -278,329 +298,187 @@ fn command<'a>(alloc: Global) -> Result<Command<'a>, AllocError> {
         .subcommand_required(true)
         .disable_help_subcommand(true);
     for below in [
-        customers_command(alloc),
-        door_command(alloc),
-        check_command(alloc),
-        explain_command(alloc),
-        enrol_command(alloc),
-        revoke_command(alloc),
-        budget_command(alloc),
-        rollover_command(alloc),
-        retire_command(alloc),
-        fold_command(alloc),
-        recover_command(alloc),
+        customers(alloc),
+        enrol(alloc),
+        rollover(alloc),
+        retire(alloc),
+        revoke(alloc),
+        budget(alloc),
+        apply(alloc),
+        export(alloc),
+        fold(alloc),
+        check(alloc),
+        explain(alloc),
+        door(alloc),
     ] {
         command = command.subcommand(below?)?;
     }
     Ok(command)
 }
 
-// Who is enrolled.
-fn customers_command<'a>(alloc: Global) -> Result<Command<'a>, AllocError> {
-    let command = Command::new(alloc, "customers").about(
-        "Lists the customers: with counts and last uses where labntpd writes its customers file, else from the register and the commands",
-    );
-    with(
-        alloc,
-        files_of(alloc, command)?,
-        &[flag("json").help("Prints an object of JSON for each customer")],
-    )
+// Lists customers.
+fn customers<'a>(alloc: Global) -> Result<Command<'a>, AllocError> {
+    let compare =
+        arg!(in alloc; --compare "Prints only what differs between labntpd's customers and the file's");
+    with_commands(alloc, "customers")?
+        .about(
+            "Lists the customers; tells what differs between labntpd's customers file and the commands file",
+        )
+        .arg(arg!(in alloc; --json "Prints an object of JSON for each customer"))?
+        .arg(compare.conflicts_with("json")?.conflicts_with("COMMANDS")?)
 }
 
-// The rules of the door.
-fn door_command<'a>(alloc: Global) -> Result<Command<'a>, AllocError> {
-    let command = Command::new(alloc, "door").about(
-        "Prints rules of nftables that let pass from each customer what its budget asks for",
-    );
-    with(
-        alloc,
-        command,
-        &[
-            config(),
-            value("address", "ADDRESS[:PORT]").help(
-                "Where labntpd is asked [default: where it listens]",
-            ),
-            value("output", "FILE").help("Writes the rules into a file, if it has others"),
-            flag("watch").help("Runs on, and writes the file again whenever the rules change"),
-        ],
-    )
+// Finds faults.
+fn check<'a>(alloc: Global) -> Result<Command<'a>, AllocError> {
+    with_commands(alloc, "check")?
+        .about(
+            "Tells every fault of the configuration and its files, a line each, and warns of what is hardly meant",
+        )
+        .arg(
+            arg!(in alloc; --wanted <FILE> "A file of customers for `apply`, which is checked too"),
+        )
 }
 
-// Every fault of the files.
-fn check_command<'a>(alloc: Global) -> Result<Command<'a>, AllocError> {
-    let command = Command::new(alloc, "check").about(
-        "Tells every fault of the configuration and of the files that it names, or of a register and of commands: a line each, with its line in the file. Lines that begin with `warning: ` tell what is hardly meant",
-    );
-    files_of(alloc, command)
+// Explains datagrams.
+fn explain<'a>(alloc: Global) -> Result<Command<'a>, AllocError> {
+    with_config(alloc, "explain")?
+        .about("Tells what a datagram would get, and why, and spends nothing of a budget")
+        .arg(arg!(in alloc; [DATAGRAM] "The octets of the UDP payload, in hexadecimal digits"))?
+        .arg(arg!(in alloc; --from <ADDRESS> "The IPv4 address from which it came"))?
+        .arg(
+            arg!(in alloc; --pcap <FILE> "A capture file in pcap form: each UDP datagram to the port"),
+        )
 }
 
-// What datagrams would get.
-fn explain_command<'a>(alloc: Global) -> Result<Command<'a>, AllocError> {
-    let command = Command::new(alloc, "explain").about(
-        "Tells what a datagram would get by the register and the commands, and why, and spends nothing of a budget",
-    );
-    with(
-        alloc,
-        command,
-        &[
-            word("datagram", "DATAGRAM").help(
-                "The octets of the UDP payload, in hexadecimal digits",
-            ),
-            value("from", "ADDRESS").help("The IPv4 address from which it came"),
-            value("pcap", "FILE").help(
-                "A capture file in pcap form: each UDP datagram to the port is explained",
-            ),
-            config(),
-        ],
-    )
+// Writes the rules of the door.
+fn door<'a>(alloc: Global) -> Result<Command<'a>, AllocError> {
+    let watch =
+        arg!(in alloc; --watch "Runs on, and writes the file again whenever the rules change");
+    with_config(alloc, "door")?
+        .about("Prints rules of nftables that let pass from each customer what its budget asks for")
+        .arg(
+            arg!(in alloc; --address <"ADDRESS[:PORT]"> "Where labntpd is asked [default: where it listens]"),
+        )?
+        .arg(arg!(in alloc; --output <FILE> "Writes the rules into a file, if it has others"))?
+        .arg(watch.requires_arg("output")?)
 }
 
-// A command that reads the files of a configuration, or those that are named one by one.
-fn files_of<'a>(alloc: Global, command: Command<'a>) -> Result<Command<'a>, AllocError> {
-    let config = config().made(alloc).conflicts_with("register")?;
-    with(
-        alloc,
-        command.arg(config)?,
-        &[
-            word("register", "REGISTER").help("The register file, where no configuration is named"),
-            word("commands", "COMMANDS").help("The commands file"),
-        ],
-    )
+// Enrols a customer.
+fn enrol<'a>(alloc: Global) -> Result<Command<'a>, AllocError> {
+    let budget = arg!(in alloc; --budget <N> "Signed queries that get the time in 64 seconds");
+    let command = with_key(alloc, "enrol")?
+        .about("Enrols an address under the lowest free key number with a new key")
+        .arg(budget.value_parser(from_one()).default_value("10"))?;
+    command.arg(arg!(in alloc; --name <TEXT> "Whose address it is: a comment of the commands file"))
 }
 
-// A new customer.
-fn enrol_command<'a>(alloc: Global) -> Result<Command<'a>, AllocError> {
-    let about =
-        "Enrols an address under the lowest free number with a new key, and writes what the customer gets";
-    let budget = number("budget").help(
-        "Signed queries that get the time in 64 seconds [default: 10]",
-    );
-    with_key(
-        alloc,
-        with(alloc, order(alloc, "enrol", about)?, &[budget])?,
-    )
+// Gives a second key.
+fn rollover<'a>(alloc: Global) -> Result<Command<'a>, AllocError> {
+    Ok(with_key(alloc, "rollover")?.about("Gives an address a new key beside the one that it has"))
 }
 
-// An enrolment that ends.
-fn revoke_command<'a>(alloc: Global) -> Result<Command<'a>, AllocError> {
-    let about = "Ends an enrolment: the address is refused from now on";
-    order(alloc, "revoke", about)
+// Takes a key away.
+fn retire<'a>(alloc: Global) -> Result<Command<'a>, AllocError> {
+    let number = arg!(in alloc; --number <N> "The key's number [default: that of the older one]");
+    with_address(alloc, "retire")?
+        .about(
+            "Tells when a key was last used, asks, and takes it from an address that has another",
+        )
+        .arg(number.value_parser(from_one()))?
+        .arg(arg!(in alloc; --yes "Does not ask first"))
 }
 
-// Another budget.
-fn budget_command<'a>(alloc: Global) -> Result<Command<'a>, AllocError> {
-    order(alloc, "budget", "Gives an address another budget")?.arg(
-        Arg::new(alloc, "budget")
-            .value_name("N")
-            .required(true)
-            .action(ArgAction::Set)
-            .value_parser(ValueParser::unsigned(1, 65_535))
-            .help("Signed queries that get the time in 64 seconds"),
-    )
+// Ends an enrolment.
+fn revoke<'a>(alloc: Global) -> Result<Command<'a>, AllocError> {
+    Ok(with_address(alloc, "revoke")?.about(
+        "Ends an enrolment: the address is refused from now on",
+    ))
 }
 
-// A second key.
-fn rollover_command<'a>(alloc: Global) -> Result<Command<'a>, AllocError> {
-    let about =
-        "Gives an address a new key beside the one that it has, and writes what the customer gets";
-    with_key(alloc, order(alloc, "rollover", about)?)
+// Gives another budget.
+fn budget<'a>(alloc: Global) -> Result<Command<'a>, AllocError> {
+    let budget = arg!(in alloc; <N> "Signed queries that get the time in 64 seconds");
+    with_address(alloc, "budget")?
+        .about("Gives an address another budget")
+        .arg(budget.value_parser(from_one()))
 }
 
-// A key that goes.
-fn retire_command<'a>(alloc: Global) -> Result<Command<'a>, AllocError> {
-    let about =
-        "Tells when a key was last used, asks, and takes it from an address that has another";
-    with(
-        alloc,
-        order(alloc, "retire", about)?,
-        &[
-            number("number").help("The key's number [default: that of the older one]"),
-            flag("yes").help("Does not ask first"),
-        ],
-    )
+// Applies a file.
+fn apply<'a>(alloc: Global) -> Result<Command<'a>, AllocError> {
+    with_answers(alloc, "apply")?
+        .about(
+            "Makes the customers those of a file: shows what changes, asks, and appends all commands at once",
+        )
+        .arg(arg!(in alloc; <FILE> "The file of customers in TOML, as `export` writes it"))?
+        .arg(arg!(in alloc; --yes "Does not ask first"))?
+        .arg(arg!(in alloc; --"end-many" "Lets more than a quarter of the enrolments end"))
 }
 
-// A shorter commands file.
-fn fold_command<'a>(alloc: Global) -> Result<Command<'a>, AllocError> {
-    let command = Command::new(alloc, "fold").about(
-        "Folds the commands into the register: both files are written anew, and make the same customers",
-    );
-    with(
-        alloc,
-        command,
-        &[
-            config(),
-            value("output", "DIRECTORY").help(
-                "Where the new files are written, if not in the place of the old ones",
-            ),
-            flag("dry-run").help("Only tells how long the new files would be"),
-        ],
-    )
+// Writes a file of the customers.
+fn export<'a>(alloc: Global) -> Result<Command<'a>, AllocError> {
+    with_config(alloc, "export")?
+        .about("Writes the customers as a file in TOML for `apply`, with their keys")
+        .arg(arg!(in alloc; [FILE] "A new file, which its owner alone may read"))?
+        .arg(
+            arg!(in alloc; --"no-keys" "Leaves the keys out; without FILE it prints the customers"),
+        )
 }
 
-// A lost commands file.
-fn recover_command<'a>(alloc: Global) -> Result<Command<'a>, AllocError> {
-    let command = Command::new(alloc, "recover").about(
-        "Writes a new commands file where that of labntpd is lost or damaged: the lines of a backup, and what labntpd's customers file tells beside them",
-    );
-    with(
-        alloc,
-        command,
-        &[
-            config(),
-            value("backup", "FILE").help(
-                "A backup of the commands file [default: what is left of that file]",
-            ),
-            wanted(value("output", "FILE")).help("Where the new commands file is written"),
-        ],
-    )
+// Shortens the commands file.
+fn fold<'a>(alloc: Global) -> Result<Command<'a>, AllocError> {
+    with_config(alloc, "fold")?
+        .about(
+            "Writes the commands file anew in fewer lines, with the same customers; the old file is kept",
+        )
+        .arg(arg!(in alloc; --"dry-run" "Only tells how long the new file would be"))
 }
 
-// A command that changes a customer.
-fn order<'a>(alloc: Global, name: &'a str, about: &'a str) -> Result<Command<'a>, AllocError> {
-    with(
-        alloc,
-        Command::new(alloc, name).about(about),
-        &[
-            wanted(word("address", "ADDRESS")).help("The customer's IPv4 address"),
-            config(),
-            seconds("wait").help("How many seconds the answer is waited for [default: 5]"),
-            value("answers", "FILE[,FILE..]").help(
-                "The answers files of all processes that serve [default: that of the configuration]",
-            ),
-            flag("dry-run").help("Only shows the line, with KEY in the place of a key"),
-        ],
-    )
+// Begins a command that goes by the configuration.
+fn with_config<'a>(alloc: Global, name: &'a str) -> Result<Command<'a>, AllocError> {
+    let config = arg!(in alloc; --config <FILE> "The configuration file of labntpd");
+    Command::new(alloc, name).arg(config.default_value(USUAL_CONFIG))
 }
 
-// A command that makes a key.
-fn with_key<'a>(alloc: Global, command: Command<'a>) -> Result<Command<'a>, AllocError> {
-    with(
-        alloc,
-        command,
-        &[
-            value("algorithm", "ALGORITHM").help("md5 or sha1 [default: sha1]"),
-            value("output", "FILE").help(
-                "A new file for what the customer gets [default: ADDRESS-NUMBER.keys]",
-            ),
-            value("server", "ADDRESS[:PORT]").help(
-                "Where the customer asks [default: where labntpd listens]",
-            ),
-        ],
-    )
+// Begins a command that goes by the configuration, or by a commands file that is named.
+fn with_commands<'a>(alloc: Global, name: &'a str) -> Result<Command<'a>, AllocError> {
+    let commands = arg!(in alloc; [COMMANDS] "A commands file, in the place of the configuration");
+    with_config(alloc, name)?.arg(commands.conflicts_with("config")?)
 }
 
-// A command with arguments.
-fn with<'a>(
-    alloc: Global,
-    command: Command<'a>,
-    arguments: &[Argument<'a>],
-) -> Result<Command<'a>, AllocError> {
-    let mut command = command;
-    for argument in arguments {
-        command = command.arg(argument.made(alloc))?;
-    }
-    Ok(command)
+// Begins a command that appends lines, and waits for the answers.
+fn with_answers<'a>(alloc: Global, name: &'a str) -> Result<Command<'a>, AllocError> {
+    let wait = arg!(in alloc; --wait <S> "How many seconds answers are waited for, 0 to 60");
+    with_config(alloc, name)?
+        .arg(arg!(in alloc; --"dry-run" "Only shows what would be done, without keys"))?
+        .arg(
+            arg!(in alloc; --answers <"FILE[,FILE..]"> "The answers files of all processes that serve"),
+        )?
+        .arg(wait.value_parser(ValueParser::Float).default_value("5"))
 }
 
-// What a command is given.
-#[derive(Clone, Copy)]
-struct Argument<'a> {
-    name: &'a str,
-    form: Form,
-    // How the help shows its value.
-    shown: &'a str,
-    help: &'a str,
-    is_wanted: bool,
+// Begins a command that changes a customer.
+fn with_address<'a>(alloc: Global, name: &'a str) -> Result<Command<'a>, AllocError> {
+    with_answers(alloc, name)?.arg(arg!(in alloc; <ADDRESS> "The customer's IPv4 address"))
 }
 
-// How an argument is written.
-#[derive(Clone, Copy)]
-enum Form {
-    // A name alone.
-    Flag,
-    // A value alone.
-    Word,
-    // A name with a value: any, a number of a key or a budget, or seconds.
-    Value,
-    Number,
-    Seconds,
+// Begins a command that makes a key.
+fn with_key<'a>(alloc: Global, name: &'a str) -> Result<Command<'a>, AllocError> {
+    let algorithm = arg!(in alloc; --algorithm <ALGORITHM> "What the key is for");
+    with_address(alloc, name)?
+        .arg(
+            algorithm
+                .value_parser(["md5", "sha1"].as_slice())
+                .default_value("sha1"),
+        )?
+        .arg(
+            arg!(in alloc; --output <FILE> "The customer's new file [default: ADDRESS-NUMBER.keys]"),
+        )?
+        .arg(
+            arg!(in alloc; --server <"ADDRESS[:PORT]"> "Where the customer asks [default: where labntpd listens]"),
+        )
 }
 
-impl<'a> Argument<'a> {
-    // The same with a text for the help.
-    fn help(self, help: &'a str) -> Argument<'a> {
-        Argument { help, ..self }
-    }
-
-    // The same for the parser.
-    fn made(self, alloc: Global) -> Arg<'a> {
-        let argument = Arg::new(alloc, self.name).help(self.help);
-        if let Form::Flag = self.form {
-            return argument.long(self.name).action(ArgAction::SetTrue);
-        }
-        let argument = argument
-            .value_name(self.shown)
-            .required(self.is_wanted)
-            .action(ArgAction::Set);
-        match self.form {
-            Form::Flag | Form::Word => argument,
-            Form::Value => argument.long(self.name),
-            Form::Number => argument
-                .long(self.name)
-                .value_parser(ValueParser::unsigned(1, 65_535)),
-            Form::Seconds => argument.long(self.name).value_parser(ValueParser::Float),
-        }
-    }
-}
-
-// The configuration file.
-fn config<'a>() -> Argument<'a> {
-    value("config", "FILE").help(
-        "The configuration file of labntpd [default: /etc/labntp/labntpd.toml]",
-    )
-}
-
-// An argument of a form, whose value the help shows so.
-fn argument_of<'a>(name: &'a str, form: Form, shown: &'a str) -> Argument<'a> {
-    Argument {
-        name,
-        form,
-        shown,
-        help: "",
-        is_wanted: false,
-    }
-}
-
-// A name without a value.
-fn flag<'a>(name: &'a str) -> Argument<'a> {
-    argument_of(name, Form::Flag, "")
-}
-
-// A value without a name.
-fn word<'a>(name: &'a str, shown: &'a str) -> Argument<'a> {
-    argument_of(name, Form::Word, shown)
-}
-
-// A name with a value.
-fn value<'a>(name: &'a str, shown: &'a str) -> Argument<'a> {
-    argument_of(name, Form::Value, shown)
-}
-
-// A name with a number of a key, or a budget.
-fn number<'a>(name: &'a str) -> Argument<'a> {
-    argument_of(name, Form::Number, "N")
-}
-
-// A name with seconds.
-fn seconds<'a>(name: &'a str) -> Argument<'a> {
-    argument_of(name, Form::Seconds, "S")
-}
-
-// An argument without which there is no command.
-fn wanted<'a>(argument: Argument<'a>) -> Argument<'a> {
-    Argument {
-        is_wanted: true,
-        ..argument
-    }
+// Reads a key number or a budget.
+fn from_one<'a>() -> ValueParser<'a> {
+    value_parser!(u16).range(1..)
 }

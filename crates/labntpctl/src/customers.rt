@@ -1,121 +1,92 @@
-//! Who is enrolled.
+//! Lists the customers, and compares them with labntpd's.
 
-use crate::differing::differences;
-use crate::faults::made;
-use crate::places::FilesNamed;
-use crate::reported::{Reported, reported_in, reported_text};
-use crate::standing::{Standing, standing_at};
-use crate::table::write_table;
-use labntpd_assembly::{configuration_at, start_lines};
-use labntpd_files::Configuration;
-use ntp_admin::{Status, memory_status, write_status};
+use crate::command_line::Listing;
+use crate::desk::{Clerk, Desk, MOST_REPORTED_OCTETS, Stop};
+use crate::differing::{Difference, differences};
+use crate::loading::{Loaded, load};
+use crate::reported::{customer_lines, reported_in};
+use crate::table::table;
+use ntp_admin::Status;
 use ntp_reports::customer_line;
 use std::alloc::{AllocError, Global};
-use std::io::Write;
+use std::fmt::Write as _;
+use std::io::Write as _;
 
-/// Tells who is enrolled, and gives the exit status. A fault is told in one line.
-pub fn customers_status(rt: &HostRuntime, files: FilesNamed<'_>, json: bool) -> Status {
-    match listed(rt, files, json) {
-        Ok(()) => Status::Done,
-        Err(status) => status,
-    }
-}
-
-// Tells who is enrolled.
-fn listed(rt: &HostRuntime, files: FilesNamed<'_>, json: bool) -> Result<(), Status> {
-    match files {
-        FilesNamed::Each { register, commands } => listed_by(rt, register, commands, json),
-        FilesNamed::Configured(path) => {
-            let configuration = configuration_at(rt, rt.alloc(), path, &mut start_lines(rt))?;
-            listed_for(rt, &configuration, json)
-        }
-    }
-}
-
-// Tells whom the files alone have.
-fn listed_by(
-    rt: &HostRuntime,
-    register: &str,
-    commands: Option<&str>,
-    json: bool,
-) -> Result<(), Status> {
-    let text = lines_by(rt, register, commands)?;
-    write_lines(rt, text.as_str(), json)
-}
-
-// Tells whom the daemon has, and in which its file and the others differ; where it has no file, whom the others have.
-fn listed_for(rt: &HostRuntime, configuration: &Configuration, json: bool) -> Result<(), Status> {
-    let register = configuration.register.as_str();
-    let commands = configuration.commands.as_str();
-    match reported_by(rt, configuration)? {
-        Some(text) => {
-            write_lines(rt, text.as_str(), json)?;
-            compare(rt, text.as_str(), register, commands)
-        }
-        None => listed_by(rt, register, Some(commands), json),
-    }
-}
-
-// The text of the daemon's customers file, if one is named and there.
-fn reported_by(rt: &HostRuntime, configuration: &Configuration) -> Result<Option<String>, Status> {
-    match &configuration.customers {
-        Some(path) => reported_text(rt, path.as_str()),
-        None => Ok(None),
-    }
-}
-
-// Writes the lines of customers, as they are or as a table.
-fn write_lines(rt: &HostRuntime, text: &str, json: bool) -> Result<(), Status> {
-    let written = if json {
-        rt.stdout().write_all(text.as_bytes())
-    } else {
-        write_table(rt, text)?
+/// Lists labntpd's customers, and reports where the commands file has others. Lists those of the commands file where labntpd has
+/// no customers file.
+pub fn list(clerk: &Clerk<'_>, listing: Listing) -> Result<(), Stop> {
+    let Some(text) = clerk.reported(&clerk.configuration.customers)? else {
+        return list_file(clerk.desk, clerk.commands(), listing);
     };
-    match written {
-        Ok(()) => Ok(()),
-        Err(_) => Err(write_status(&mut start_lines(rt))),
-    }
-}
-
-// Tells in which the daemon's file and the others differ. A fault of one of them is told, and gives the exit status.
-fn compare(rt: &HostRuntime, text: &str, register: &str, commands: &str) -> Result<(), Status> {
-    let mut faults = start_lines(rt);
-    let daemon = reported_in(rt, text)?;
-    let files = standing_at(rt, rt.alloc(), register, Some(commands), &mut faults)?;
-    tell_differences(rt, &daemon, &files)
-}
-
-// Tells each difference between the daemon's customers and those of the files.
-fn tell_differences(rt: &HostRuntime, daemon: &[Reported], files: &Standing) -> Result<(), Status> {
-    let mut faults = start_lines(rt);
-    let lines = made(rt, differences(rt.alloc(), daemon, files))?;
-    for line in lines.as_str().lines() {
-        let _ = writeln!(faults, "{line}");
+    let loaded = clerk.load();
+    write(clerk.desk, text.as_str(), loaded.as_ref().ok(), listing)?;
+    for difference in differing(clerk.desk, text.as_str(), &loaded?)?.iter() {
+        let _ = write!(clerk.desk.faults(), "{difference}");
     }
     Ok(())
 }
 
-// The lines of the customers by their files alone.
-fn lines_by(rt: &HostRuntime, register: &str, commands: Option<&str>) -> Result<String, Status> {
-    let mut faults = start_lines(rt);
-    let standing = standing_at(rt, rt.alloc(), register, commands, &mut faults)?;
-    match customer_lines(rt.alloc(), &standing) {
-        Ok(text) => Ok(text),
-        Err(_) => Err(memory_status(&mut faults)),
+/// Lists the customers of the commands file at a path.
+pub fn list_file(desk: Desk<'_>, path: &str, listing: Listing) -> Result<(), Stop> {
+    let loaded = load(desk, path)?;
+    let lines = lines_of(desk.alloc(), &loaded)?;
+    write(desk, lines.as_str(), Some(&loaded), listing)
+}
+
+/// Prints what differs between labntpd's customers and those of the commands file, and stops the work if anything does.
+pub fn compare(clerk: &Clerk<'_>) -> Result<(), Stop> {
+    let Some(path) = &clerk.configuration.customers else {
+        let why = "customers: missing: there is nothing to compare";
+        return Err(clerk.desk.refusal_at(clerk.config, why));
+    };
+    let text = clerk.desk.text(path.as_str(), MOST_REPORTED_OCTETS)?;
+    let differing = differing(clerk.desk, text.as_str(), &clerk.load()?)?;
+    for difference in differing.iter() {
+        clerk.desk.print(*difference)?;
+    }
+    if differing.is_empty() {
+        Ok(())
+    } else {
+        Err(Stop::Printed(Status::TextFaulty))
     }
 }
 
-// The line of each customer.
-fn customer_lines(alloc: Global, standing: &Standing) -> Result<String, AllocError> {
-    let mut octets = Vec::new(alloc);
-    for (address, report) in standing.counts.iter() {
-        if let Some(customer) = standing.service.customer(*address) {
-            let line = customer_line(alloc, *address, customer, report)?;
-            octets.extend_from_slice(&line)?;
+// Returns what differs between the customers of labntpd's text and those of the commands file.
+fn differing(desk: Desk<'_>, text: &str, loaded: &Loaded) -> Result<Vec<Difference>, Stop> {
+    let reported = reported_in(desk, text)?;
+    Ok(differences(desk.alloc(), &reported, loaded)?)
+}
+
+// Prints lines of customers as they are, or a table of them with names.
+fn write(
+    desk: Desk<'_>,
+    text: &str,
+    loaded: Option<&Loaded>,
+    listing: Listing,
+) -> Result<(), Stop> {
+    if listing == Listing::Json {
+        return desk.print(text);
+    }
+    let customers = customer_lines(desk, text)?;
+    desk.print(table(desk.alloc(), &customers, loaded)?)
+}
+
+// Returns a line for each customer of a commands file as labntpd writes it, with its name, if it has one, as the last member.
+fn lines_of(alloc: Global, loaded: &Loaded) -> Result<String, AllocError> {
+    let mut lines = String::new(alloc);
+    for (address, report) in loaded.counts.iter() {
+        let Some(customer) = loaded.service.customer(*address) else {
+            continue;
+        };
+        let octets = customer_line(alloc, *address, customer, report)?;
+        let line = str::from_utf8(&octets).unwrap_or("");
+        match (loaded.names.get(address), line.strip_suffix("}\n")) {
+            (Some(name), Some(line)) => {
+                let name = serde_json::to_string(alloc, &name.as_str()).map_err(|_| AllocError)?;
+                writeln!(lines, "{line},\"name\":{name}}}")?;
+            }
+            _ => lines.push_str(line)?,
         }
     }
-    match String::from_utf8(octets) {
-        Ok(text) => Ok(text),
-        Err(_) => Ok(String::new(alloc)),
-    }
+    Ok(lines)
 }

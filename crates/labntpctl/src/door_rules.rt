@@ -1,19 +1,21 @@
-//! The rules of nftables for the customers.
+//! Writes rules of nftables for the customers.
 
-use crate::customer_file::address_text;
+use crate::shown::Dotted;
 use ntp_clerk::{Grouping, Limit, group_for, limit_for, limit_statement};
 use ntp_query::Server;
 use ntp_service::Address;
 use std::alloc::{AllocError, Global};
+use std::fmt::Write;
 
-/// How many limits there are at most: where there are more budgets, customers share those of powers of two.
+/// The most limits: where there are more budgets, customers share those of powers of two.
 const MOST_LIMITS: usize = 17;
 
-/// What stands before the rules of each limit.
+/// The text before the rules of each limit.
 const HEAD: &str = "\
 #!/usr/sbin/nft -f
 # Written by `labntpctl door`, for `nft -f`: it takes the place of what was loaded before, and what each source has used is kept.
-# From each customer as many datagrams pass as its budget asks for; `nft list table inet labntpd` shows behind `counter` how many did not.
+# From each customer as many datagrams pass as its budget asks for; behind `counter`, `nft list table inet labntpd` shows how many
+# did not.
 
 table inet labntpd {
     map customers {
@@ -29,7 +31,7 @@ table inet labntpd {
     }
 ";
 
-/// What stands between them and the rules that are written anew.
+/// The text between them and the rules that are written anew.
 const FLUSHED: &str = "\
 }
 
@@ -38,8 +40,8 @@ flush chain inet labntpd queries
 flush map inet labntpd customers
 ";
 
-/// What goes beyond the limit of all strangers together. They get no answer; but who was enrolled since the rules were loaded is one of
-/// them. A hundred datagrams a second cost the server less than a thousandth of a processor.
+/// Matches what goes beyond the limit of all strangers together. They get no answer; but they are also those who were enrolled
+/// since the rules were loaded. A hundred datagrams a second cost the server less than a thousandth of a processor.
 const STRANGERS: &str = "limit rate over 100/second burst 100 packets";
 
 /// An address whose datagrams are limited.
@@ -58,33 +60,28 @@ struct Shared {
     limit: Limit,
 }
 
-/// The rules for the sources of a server's datagrams, in the form that `nft -f` takes. The memory for them is taken from `alloc`.
+/// Returns the rules for the sources of a server's datagrams, as `nft -f` takes them. The memory for them is taken from `alloc`.
 pub fn rules_text(alloc: Global, server: Server, sources: &[Source]) -> Result<String, AllocError> {
     let (grouping, limits) = limits_for(alloc, sources)?;
     let mut text = String::from_str(alloc, HEAD)?;
     for shared in limits.iter() {
-        add(&mut text, used_text(alloc, shared.group))?;
+        add_used(&mut text, shared.group)?;
     }
     text.push_str(FLUSHED)?;
     for shared in limits.iter() {
-        add(&mut text, flushed_text(alloc, shared.group))?;
+        writeln!(text, "flush chain inet labntpd budget_{}", shared.group)?;
     }
     text.push_str("\ntable inet labntpd {\n")?;
-    add(&mut text, customers_text(alloc, sources, grouping))?;
+    add_customers(&mut text, sources, grouping)?;
     for shared in limits.iter() {
-        add(&mut text, limit_text(alloc, shared))?;
+        add_limit(alloc, &mut text, shared)?;
     }
-    add(&mut text, door_text(alloc, server))?;
+    add_door(&mut text, server)?;
     text.push_str("}\n")?;
     Ok(text)
 }
 
-// Adds a text that was made, if it was.
-fn add(text: &mut String, made: Result<String, AllocError>) -> Result<(), AllocError> {
-    text.push_str(made?.as_str())
-}
-
-// The limits that these sources have, and who shares one.
+// Returns the limits of these sources, and who shares one.
 fn limits_for(alloc: Global, sources: &[Source]) -> Result<(Grouping, Vec<Shared>), AllocError> {
     let limits = limits_by(alloc, sources, Grouping::Budgets)?;
     if limits.len() <= MOST_LIMITS {
@@ -96,7 +93,7 @@ fn limits_for(alloc: Global, sources: &[Source]) -> Result<(Grouping, Vec<Shared
     ))
 }
 
-// The limits where they are shared so: all, or one more than the most.
+// Returns the limits that are shared so: all, or one more than the most.
 fn limits_by(
     alloc: Global,
     sources: &[Source],
@@ -115,9 +112,10 @@ fn limits_by(
     Ok(limits)
 }
 
-// What sources of a group have used, and their chain.
-fn used_text(alloc: Global, group: u32) -> Result<String, AllocError> {
-    format!(in alloc;
+// Adds the set of a group's sources, and their chain.
+fn add_used(text: &mut String, group: u32) -> Result<(), AllocError> {
+    write!(
+        text,
         "
     # Who is silent for so long may send the whole burst again, forgotten or not.
     set sources_{group} {{
@@ -133,44 +131,30 @@ fn used_text(alloc: Global, group: u32) -> Result<String, AllocError> {
     )
 }
 
-// That the chain of a group is written anew.
-fn flushed_text(alloc: Global, group: u32) -> Result<String, AllocError> {
-    format!(in alloc; "flush chain inet labntpd budget_{group}\n")
-}
-
-// Who the customers are.
-fn customers_text(
-    alloc: Global,
+// Adds the customers.
+fn add_customers(
+    text: &mut String,
     sources: &[Source],
     grouping: Grouping,
-) -> Result<String, AllocError> {
-    let mut text = String::from_str(
-        alloc,
-        "    map customers {\n        type ipv4_addr : verdict\n",
-    )?;
+) -> Result<(), AllocError> {
+    text.push_str("    map customers {\n        type ipv4_addr : verdict\n")?;
     if !sources.is_empty() {
         text.push_str("        elements = {\n")?;
         for source in sources.iter() {
-            let group = group_for(source.budget, grouping);
-            add(&mut text, customer_text(alloc, source.address, group))?;
+            let (address, group) = (Dotted(source.address), group_for(source.budget, grouping));
+            writeln!(text, "            {address} : goto budget_{group},")?;
         }
         text.push_str("        }\n")?;
     }
-    text.push_str("    }\n")?;
-    Ok(text)
+    text.push_str("    }\n")
 }
 
-// The line of a customer.
-fn customer_text(alloc: Global, address: Address, group: u32) -> Result<String, AllocError> {
-    let address = address_text(alloc, address)?;
-    format!(in alloc; "            {address} : goto budget_{group},\n")
-}
-
-// The rule for the sources of a group.
-fn limit_text(alloc: Global, shared: &Shared) -> Result<String, AllocError> {
+// Adds the rule for the sources of a group.
+fn add_limit(alloc: Global, text: &mut String, shared: &Shared) -> Result<(), AllocError> {
     let group = shared.group;
     let over = limit_statement(alloc, shared.limit)?;
-    format!(in alloc;
+    write!(
+        text,
         "
     chain budget_{group} {{
         update @sources_{group} {{ ip saddr {over} }} counter drop
@@ -179,11 +163,11 @@ fn limit_text(alloc: Global, shared: &Shared) -> Result<String, AllocError> {
     )
 }
 
-// The rules for all that is sent to the server. Its own replies pass here too where both ends are on this host.
-fn door_text(alloc: Global, server: Server) -> Result<String, AllocError> {
-    let address = address_text(alloc, server.address)?;
-    let port = server.port;
-    format!(in alloc;
+// Adds the rules for all that is sent to the server. Its own replies pass here too where both ends are on this host.
+fn add_door(text: &mut String, server: Server) -> Result<(), AllocError> {
+    let (address, port) = (Dotted(server.address), server.port);
+    write!(
+        text,
         "
     chain queries {{
         ip saddr vmap @customers

@@ -1,87 +1,89 @@
 //! The program for clerks: `labntpctl` lists the customers of labntpd, and enrols, revokes and changes them.
 #![tactic(auto)]
 
+mod appending;
+mod applying;
+mod asking;
+mod barring;
+mod changing;
 mod checked_commands;
 mod checked_configuration;
-mod checked_register;
-mod checked_text;
 mod checking;
 mod command_line;
-mod commands_file;
 mod customer_file;
 mod customers;
-mod deciding;
+mod desk;
 mod differing;
 mod door;
 mod door_rules;
 mod explaining;
-mod faults;
-mod folded_pair;
+mod exporting;
 mod folding;
-mod history;
-mod key_octets;
-mod ordered;
-mod ordering;
-mod places;
-mod placing;
-mod recovered_lines;
-mod recovering;
+mod holding;
+mod loading;
+mod plan;
+mod replacing;
 mod report;
 mod reported;
-mod retiring;
-mod standing;
+mod shown;
 mod table;
 mod waiting;
 
-use checking::check_status;
-use command_line::{Asked, parse};
-use customers::customers_status;
-use door::door_status;
-use explaining::explain_status;
-use folding::fold_status;
-use labntpd_assembly::start_lines;
+use applying::apply;
+use changing::make_change;
+use checking::check;
+use command_line::{Asked, Task, parse};
+use customers::{compare, list, list_file};
+use desk::{Clerk, Desk, Stop};
+use door::write_door;
+use explaining::explain;
+use exporting::export;
+use folding::{fold_commands, show_fold};
 use labntpd_files::command_line::refused_status;
 use ntp_admin::{Status, unread_status, write_status};
 use ntp_host::has_standard_streams;
-use ordering::order_status;
-use recovering::recover_status;
 use std::process::ExitCode;
 use std::{env, io};
 
 fn main(rt: HostRuntime) -> ExitCode {
-    ExitCode::from(status(&rt).code())
+    ExitCode::from(status(Desk { rt: &rt }).code())
 }
 
-// Does what the command line asks for, and gives the exit status.
-fn status(rt: &HostRuntime) -> Status {
-    // Where one is closed, a file that is opened takes its place, and would get what is told.
+// Does what the command line asks for, and returns the exit status.
+fn status(desk: Desk<'_>) -> Status {
+    // A file that is opened would take the place of a closed stream, and get what is printed.
     if !has_standard_streams() {
-        return write_status(&mut start_lines(rt));
+        return write_status(&mut desk.faults());
     }
-    let words = match words(rt) {
+    let words = match words(desk.rt) {
         Ok(words) => words,
-        Err(error) => return unread_status(&error, &mut start_lines(rt)),
+        Err(error) => return unread_status(&error, &mut desk.faults()),
     };
-    match parse(rt.alloc(), &words) {
-        Ok(asked) => done(rt, asked),
-        Err(error) => refused_status(rt, &error, &mut start_lines(rt)),
+    match parse(desk.alloc(), &words) {
+        Ok(asked) => desk.status(carry_out(desk, &asked)),
+        Err(error) => refused_status(desk.rt, &error, &mut desk.faults()),
     }
 }
 
-// Does what is asked for, and gives the exit status.
-fn done(rt: &HostRuntime, asked: Asked<'_>) -> Status {
-    match asked {
-        Asked::Customers { files, json } => customers_status(rt, files, json),
-        Asked::Door(door) => door_status(rt, &door),
-        Asked::Check(files) => check_status(rt, files),
-        Asked::Explain { config, explained } => explain_status(rt, config, explained),
-        Asked::Order(order) => order_status(rt, &order),
-        Asked::Fold(fold) => fold_status(rt, &fold),
-        Asked::Recover(recover) => recover_status(rt, &recover),
-    }
-}
-
-// The words of the command line; the first is the program's name.
+// Returns the words of the command line; the first is the program's name.
 fn words(rt: &HostRuntime) -> io::Result<Vec<String>> {
     Ok(env::args(rt)?.collect(rt.alloc())?)
+}
+
+// Does the work that is asked for.
+fn carry_out(desk: Desk<'_>, asked: &Asked<'_>) -> Result<(), Stop> {
+    let config = asked.config;
+    match &asked.task {
+        Task::Check(files) => check(desk, files),
+        Task::ListFile { commands, listing } => list_file(desk, commands, *listing),
+        Task::List(listing) => list(&Clerk::new(desk, config)?, *listing),
+        Task::Compare => compare(&Clerk::new(desk, config)?),
+        Task::Explain(explained) => explain(&Clerk::new(desk, config)?, explained),
+        Task::Door { place, output } => write_door(&Clerk::new(desk, config)?, *place, *output),
+        Task::Change(request) => make_change(&Clerk::new(desk, config)?, request),
+        Task::Apply(application) => apply(&Clerk::new(desk, config)?, application),
+        Task::Export { path, keys } => export(&Clerk::new(desk, config)?, *path, *keys),
+        Task::Fold => fold_commands(&Clerk::new(desk, config)?),
+        Task::ShowFold => show_fold(&Clerk::new(desk, config)?),
+    }
 }

@@ -1,20 +1,24 @@
-//! What `check` tells: a line for each fault and for each warning.
+//! Prints a line for each fault and for each warning that `check` finds.
 
-use ntp_admin::{Escaped, Status};
-use std::alloc::{AllocError, Global};
+use crate::desk::Desk;
+use crate::shown::FoundAt;
+use labntpd_assembly::readers_of;
+use labntpd_files::Found;
+use ntp_admin::{Escaped, Status, failed_status};
+use ntp_host::{MOST_COMMANDS_OCTETS, read_regular_file};
 use std::fmt::Display;
 use std::io::{BufWriter, Stdout, Write};
 
-/// What is told, line by line, and the exit status that it comes to.
+/// What `check` prints, and the exit status that it comes to.
 #[derive(Drop)]
 pub struct Report {
-    /// Where it is told.
+    /// Where it is printed.
     pub out: BufWriter<Stdout>,
     status: Status,
 }
 
 impl Report {
-    /// Tells to `out` from here on, with no fault so far.
+    /// Prints to `out` from here on, with no fault so far.
     pub fn new(out: BufWriter<Stdout>) -> Report {
         Report {
             out,
@@ -22,70 +26,58 @@ impl Report {
         }
     }
 
-    /// The exit status so far: the greatest of what was told.
+    /// Returns the exit status so far: the greatest of what was printed.
     pub fn status(&self) -> Status {
         self.status
     }
 
-    /// Takes an exit status, of a fault that was told.
+    /// Takes the exit status of a fault that was printed.
     pub fn take(&mut self, status: Status) {
         self.status = self.status.max(status);
     }
 
-    /// Tells a fault of a file.
+    /// Prints a fault of a file.
     pub fn fault<D: Display + Drop>(&mut self, path: &str, what: D) {
         let _ = writeln!(self.out, "{}: {what}", Escaped(path));
         self.take(Status::TextFaulty);
     }
 
-    /// Tells what is hardly meant in a file.
+    /// Prints what is hardly meant in a file.
     pub fn warning<D: Display + Drop>(&mut self, path: &str, what: D) {
         let _ = writeln!(self.out, "warning: {}: {what}", Escaped(path));
     }
 
-    /// Tells what was found in a file, in the order of its lines.
-    pub fn found(&mut self, path: &str, found: &[Found]) {
-        for Found {
-            line,
-            is_fault,
-            text,
-        } in found.iter() {
-            if *is_fault {
-                self.fault(path, format_args!("line {line}: {text}"));
-            } else {
-                self.warning(path, format_args!("line {line}: {text}"));
+    /// Reads the regular file at a path, which has keys. Warns if others may read it, or reports why it cannot be read.
+    pub fn octets(&mut self, desk: Desk<'_>, path: &str) -> Option<Vec<u8>> {
+        let most = MOST_COMMANDS_OCTETS as u32;
+        let octets = match read_regular_file(desk.rt, desk.alloc(), path, most) {
+            Ok(octets) => octets,
+            Err(error) => {
+                let status = failed_status(path, &error, &mut self.out);
+                self.take(status);
+                return None;
             }
+        };
+        if let Some(readers) = readers_of(desk.rt, path) {
+            self.warning(path, readers);
+        }
+        if octets.len() as u64 > MOST_COMMANDS_OCTETS {
+            self.fault(path, format_args!("at most {most} octets are wanted"));
+        }
+        Some(octets)
+    }
+
+    /// Prints faults of a file.
+    pub fn faults(&mut self, path: &str, found: &[Found]) {
+        for one in found.iter() {
+            self.fault(path, FoundAt(one));
         }
     }
-}
 
-/// What was found in a line of a file.
-#[derive(Drop)]
-pub struct Found {
-    /// The line, counted from 1.
-    pub line: u64,
-    /// Whether it is a fault, and no warning.
-    pub is_fault: bool,
-    /// What is told behind the line's number.
-    pub text: String,
-}
-
-/// Adds what was found in a line.
-pub fn add_found<D: Display + Drop>(
-    alloc: Global,
-    found: &mut Vec<Found>,
-    line: u64,
-    is_fault: bool,
-    what: D,
-) -> Result<(), AllocError> {
-    let text = format!(in alloc; "{what}")?;
-    let one = Found {
-        line,
-        is_fault,
-        text,
-    };
-    match found.push(one) {
-        Ok(()) => Ok(()),
-        Err(_) => Err(AllocError),
+    /// Prints all that is hardly meant in a file.
+    pub fn warnings(&mut self, path: &str, found: &[Found]) {
+        for one in found.iter() {
+            self.warning(path, FoundAt(one));
+        }
     }
 }

@@ -1,0 +1,156 @@
+//! Gives a clerk the host, the configuration of labntpd, and ways to print.
+
+use crate::loading::{Loaded, load};
+use labntpd_assembly::{configuration_at, start_lines};
+use labntpd_files::{Configuration, Text};
+use ntp_admin::{Escaped, Status, failed_status, memory_status, write_status};
+use ntp_host::{StartLines, read_regular_file};
+use std::alloc::{AllocError, AllocFailed, Global};
+use std::fmt::Display;
+use std::fs;
+use std::io::{self, ErrorKind, Stderr, Write};
+
+/// The most octets of a file in which labntpd reports.
+pub const MOST_REPORTED_OCTETS: u32 = 268_435_456;
+
+/// The reason why the work stops before it is done.
+#[derive(Clone, Copy)]
+pub enum Stop {
+    /// Memory ran out.
+    Memory,
+    /// The reason was printed. The exit status.
+    Printed(Status),
+}
+
+impl From<Status> for Stop {
+    fn from(status: Status) -> Stop {
+        Stop::Printed(status)
+    }
+}
+
+impl From<AllocError> for Stop {
+    fn from(_error: AllocError) -> Stop {
+        Stop::Memory
+    }
+}
+
+impl<T: Drop> From<AllocFailed<T>> for Stop {
+    fn from(_failed: AllocFailed<T>) -> Stop {
+        Stop::Memory
+    }
+}
+
+/// The host. Results go to standard output, and each fault to standard error in a line.
+#[derive(Clone, Copy)]
+pub struct Desk<'a> {
+    pub rt: &'a HostRuntime,
+}
+
+impl<'a> Desk<'a> {
+    /// Returns the allocator.
+    pub fn alloc(self) -> Global {
+        self.rt.alloc()
+    }
+
+    /// Returns where faults are printed.
+    pub fn faults(self) -> StartLines<Stderr> {
+        start_lines(self.rt)
+    }
+
+    /// Returns the exit status of work, and reports want of memory.
+    pub fn status(self, done: Result<(), Stop>) -> Status {
+        match done {
+            Ok(()) => Status::Done,
+            Err(Stop::Memory) => memory_status(&mut self.faults()),
+            Err(Stop::Printed(status)) => status,
+        }
+    }
+
+    /// Prints to standard output.
+    pub fn print<D: Display + Drop>(self, text: D) -> Result<(), Stop> {
+        self.printed(write!(self.rt.stdout(), "{text}"))
+    }
+
+    /// Returns what came of a write to standard output, or reports that it failed.
+    pub fn printed(self, done: io::Result<()>) -> Result<(), Stop> {
+        done.map_err(|_| Stop::Printed(write_status(&mut self.faults())))
+    }
+
+    /// Reports why something is refused.
+    pub fn refusal<D: Display + Drop>(self, why: D) -> Stop {
+        let _ = writeln!(self.faults(), "{why}");
+        Stop::Printed(Status::TextFaulty)
+    }
+
+    /// Reports what is wrong with the file at a path.
+    pub fn refusal_at<D: Display + Drop>(self, path: &str, why: D) -> Stop {
+        let path = Escaped(path);
+        self.refusal(format_args!("{path}: {why}"))
+    }
+
+    /// Returns what the system gave for something with this name, or reports its error.
+    pub fn at<T>(self, name: &str, given: io::Result<T>) -> Result<T, Stop> {
+        given.map_err(|error| Stop::Printed(failed_status(name, &error, &mut self.faults())))
+    }
+
+    /// Reads the regular file at a path, of at most `most` octets.
+    pub fn octets(self, path: &str, most: u32) -> Result<Vec<u8>, Stop> {
+        let octets = self.at(path, read_regular_file(self.rt, self.alloc(), path, most))?;
+        if octets.len() > most as usize {
+            return Err(self.refusal_at(path, format_args!("at most {most} octets are wanted")));
+        }
+        Ok(octets)
+    }
+
+    /// Reads the text file at a path, of at most `most` octets.
+    pub fn text(self, path: &str, most: u32) -> Result<String, Stop> {
+        let octets = self.octets(path, most)?;
+        String::from_utf8(octets).map_err(|_| self.refusal_at(path, "this is no UTF-8"))
+    }
+}
+
+/// A clerk who works by the configuration of labntpd.
+#[derive(Drop)]
+pub struct Clerk<'a> {
+    pub desk: Desk<'a>,
+    /// The path of the configuration file.
+    pub config: &'a str,
+    pub configuration: Configuration,
+}
+
+impl<'a> Clerk<'a> {
+    /// Reads the configuration file at a path.
+    pub fn new(desk: Desk<'a>, config: &'a str) -> Result<Clerk<'a>, Stop> {
+        Ok(Clerk {
+            desk,
+            config,
+            configuration: configuration_at(desk.rt, desk.alloc(), config, &mut desk.faults())?,
+        })
+    }
+
+    /// Returns the path of the commands file.
+    pub fn commands(&self) -> &str {
+        self.configuration.commands.as_str()
+    }
+
+    /// Reads the commands file.
+    pub fn load(&self) -> Result<Loaded, Stop> {
+        load(self.desk, self.commands())
+    }
+
+    /// Reads a file in which labntpd reports, if it is named and there.
+    pub fn reported(&self, path: &Option<Text>) -> Result<Option<String>, Stop> {
+        let Some(path) = path else {
+            return Ok(None);
+        };
+        match fs::metadata(self.desk.rt, path.as_str()) {
+            Err(error) if error.kind() == ErrorKind::NotFound => Ok(None),
+            _ => Ok(Some(self.desk.text(path.as_str(), MOST_REPORTED_OCTETS)?)),
+        }
+    }
+
+    /// Reports why something is refused at the commands file.
+    pub fn refusal<D: Display + Drop>(&self, why: D) -> Stop {
+        self.desk.refusal_at(self.commands(), why)
+    }
+}

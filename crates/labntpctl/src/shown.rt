@@ -1,0 +1,121 @@
+//! Shows addresses, keys, dates and faults.
+
+use jiff::Timestamp;
+use labntpd_files::Found;
+use ntp_clerk::{GivenKey, Seen, SeenKey, SeenTerms, Terms, are_same, terms_of};
+use ntp_mac::Algorithm;
+use ntp_service::{Address, Service};
+use std::alloc::{AllocError, Global};
+use std::fmt::{self, Display};
+
+/// The form of dates in tables.
+const SIGNED_FORM: &str = "%a, %d %b %Y %H:%M:%S GMT";
+
+/// An address as text.
+#[derive(Clone, Copy)]
+pub struct Dotted(pub Address);
+
+impl Display for Dotted {
+    fn fmt<W: fmt::Write>(&self, f: &mut fmt::Formatter<W>) -> fmt::Result {
+        let Address([a, b, c, d]) = self.0;
+        write!(f, "{a}.{b}.{c}.{d}")
+    }
+}
+
+/// The keys of a customer, without their octets: `key 7 (md5, 3 octets)`.
+#[derive(Clone, Copy)]
+pub struct Keys(pub SeenTerms);
+
+impl Display for Keys {
+    fn fmt<W: fmt::Write>(&self, f: &mut fmt::Formatter<W>) -> fmt::Result {
+        let Keys(SeenTerms { older, newer, .. }) = *self;
+        match newer {
+            None => write!(f, "key {}", NumberedKey(older)),
+            Some(newer) => write!(f, "keys {} and {}", NumberedKey(older), NumberedKey(newer)),
+        }
+    }
+}
+
+impl Keys {
+    /// Returns whether both are shown alike.
+    pub fn are_alike(&self, other: &Keys) -> bool {
+        let budget = self.0.budget;
+        let other = SeenTerms { budget, ..other.0 };
+        are_same(&Seen::Enrolled(self.0), &Seen::Enrolled(other))
+    }
+}
+
+// A key, without its octets.
+#[derive(Clone, Copy)]
+struct NumberedKey(SeenKey);
+
+impl Display for NumberedKey {
+    fn fmt<W: fmt::Write>(&self, f: &mut fmt::Formatter<W>) -> fmt::Result {
+        let (number, octets) = (self.0.number, self.0.octets);
+        let algorithm = match self.0.algorithm {
+            Algorithm::Md5 => "md5",
+            Algorithm::Sha1 => "sha1",
+        };
+        write!(f, "{number} ({algorithm}, {octets} octets)")
+    }
+}
+
+/// Returns what is shown of the customer at an address.
+pub fn seen_at(service: &Service, address: Address) -> Seen {
+    match service.customer(address).map(|customer| terms_of(customer)) {
+        None => Seen::Nothing,
+        Some(None) => Seen::Revoked,
+        Some(Some(terms)) => Seen::Enrolled(seen_terms(&terms)),
+    }
+}
+
+/// Returns what is shown of a customer's terms.
+pub fn seen_terms(terms: &Terms) -> SeenTerms {
+    SeenTerms {
+        older: seen_key(terms.older),
+        newer: terms.newer.map(seen_key),
+        budget: terms.budget.get(),
+    }
+}
+
+// Returns what is shown of a key.
+fn seen_key(given: GivenKey) -> SeenKey {
+    SeenKey {
+        number: given.number.get(),
+        algorithm: given.key.algorithm(),
+        octets: given.key.octet_count() as u64,
+    }
+}
+
+/// Returns the date of a time in seconds since 1970, with decimals or without; the seconds where they are no date.
+pub fn signed_date(alloc: Global, seconds: &str) -> Result<String, AllocError> {
+    let whole = seconds.split_once('.').map_or(seconds, |(whole, _)| whole);
+    let date = whole
+        .parse::<u64>()
+        .ok()
+        .and_then(|whole| date(alloc, whole, SIGNED_FORM));
+    match date {
+        Some(date) => Ok(date),
+        None => String::from_str(alloc, seconds),
+    }
+}
+
+/// Returns the date of a time in seconds since 1970, in a form of strftime(3); nothing where it is no date, or memory runs out.
+pub fn date(alloc: Global, seconds: u64, form: &'static str) -> Option<String> {
+    let time = Timestamp::from_second(i64::try_from(seconds).ok()?).ok()?;
+    time.strftime(alloc, form).ok()
+}
+
+/// What was found in a file, with the number of its line, if it has one.
+#[derive(Clone, Copy)]
+pub struct FoundAt<'a>(pub &'a Found);
+
+impl<'a> Display for FoundAt<'a> {
+    fn fmt<W: fmt::Write>(&self, f: &mut fmt::Formatter<W>) -> fmt::Result {
+        let Found { line, text } = self.0;
+        match line {
+            Some(line) => write!(f, "line {line}: {text}"),
+            None => write!(f, "{text}"),
+        }
+    }
+}

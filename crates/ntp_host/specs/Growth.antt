@@ -4,11 +4,11 @@ use Rattle.ntp_packet.specs.declared.stamp.Stamp.{Stamp}
 use Rattle.ntp_packet.specs.declared.moment.Moment.{Moment}
 use Rattle.ntp_host.specs.Pacing.{units_since}
 
--- a tenth of a second, in units of 2^-32 seconds, rounded down
-abbrev pub tenth : ℕ
-tenth = 429496729
+-- five seconds, in units of 2^-32 seconds
+abbrev pub longest_write : ℕ
+longest_write = 21474836480
 
--- a tenth of a second has passed: by a receipt, since an earlier one; at a look with none, behind five others and a wait behind each
+-- five seconds have passed: by a receipt, since an earlier one; at a look with none, behind 250 others and a wait behind each
 abbrev pub HasStayed : Option Stamp → ℕ → Option Moment → Type 0
-HasStayed since idle None = 5 ≤ idle
-HasStayed since idle (Some receipt) = IsSomeAnd since (λ s. tenth ≤ units_since s receipt.stamp)
+HasStayed since idle None = 250 ≤ idle
+HasStayed since idle (Some receipt) = IsSomeAnd since (λ s. longest_write ≤ units_since s receipt.stamp)

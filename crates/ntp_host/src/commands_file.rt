@@ -44,7 +44,7 @@ pub enum CommandsFault {
     Replaced,
     /// It has fewer octets than the lines that were given.
     Shorter,
-    /// It was modified, and did not become longer within a tenth of a second.
+    /// It was modified, and did not become longer within five seconds.
     Rewritten,
 }
 

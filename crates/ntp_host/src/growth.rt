@@ -2,13 +2,17 @@
 ghost use Rattle.std.specs.Prelude.{◌≡◌, ◌≢◌, ◌≤◌, IsTrue, option_map};
 ghost use Rattle.ntp_host.specs.Growth.{HasStayed};
 
-use crate::pacing::{TENTH, is_due};
+use crate::pacing::is_due;
 use ntp_packet::{Moment, Stamp};
 use std::fs::Metadata;
 use std::os::unix::fs::MetadataExt;
 
-/// Looks with no datagram that take a tenth of a second: in front of each stands a wait of `LONGEST_WAIT`.
-const IDLE_LOOKS: u8 = 5;
+/// How long a file that was modified may become no longer, in units of 2^-32 seconds: 5 s. A write changes the time first, and the length
+/// when its octets are stored, for which a busy disk takes a while.
+const LONGEST_WRITE: u64 = 21_474_836_480;
+
+/// Looks with no datagram that take as long: in front of each stands a wait of `LONGEST_WAIT`.
+const IDLE_LOOKS: u8 = 250;
 
 /// The length of a file, in octets, and when it was last modified.
 #[derive(Clone, Copy, PartialEq, Eq)]
@@ -69,8 +73,8 @@ impl Growth {
         }
     }
 
-    /// Returns whether it stayed in another state than the longest for a tenth of a second, at a look with this receipt at which
-    /// nothing is to be read. A write that is under way has changed the time and not yet the length.
+    /// Returns whether it stayed in another state than the longest for `LONGEST_WRITE`, at a look with this receipt at which nothing is
+    /// to be read.
     pub(crate) fn is_rewritten(&mut self, receipt: Option<Moment>) -> bool
         ensures other { IsTrue result → self.old.last ≢ self.old.longest }
         ensures stayed { IsTrue result → HasStayed self.old.since self.old.idle receipt }
@@ -80,7 +84,7 @@ impl Growth {
             return false;
         }
         match (receipt, self.since) {
-            (Some(_), Some(_)) => is_due(self.since, receipt, TENTH),
+            (Some(_), Some(_)) => is_due(self.since, receipt, LONGEST_WRITE),
             (Some(receipt), None) => {
                 self.since = Some(receipt.stamp);
                 false

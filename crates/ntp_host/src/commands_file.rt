@@ -19,6 +19,9 @@ use std::os::unix::fs::MetadataExt;
 /// The octets from which on a commands file is nearly full: 80 in 100 of the most, rounded up.
 const NEARLY_FULL_OCTETS: u64 = 53_687_092;
 
+/// The octets that are read at once where they are not used.
+const READ_OCTETS: usize = 16_384;
+
 /// Returns whether a commands file of `octets` octets is nearly full.
 pub fn is_nearly_full(octets: u64) -> bool {
     octets >= NEARLY_FULL_OCTETS
@@ -114,22 +117,24 @@ pub struct CommandsFile<'a, R: Files> {
 }
 
 impl<'a, R: Files> CommandsFile<'a, R> {
-    /// Opens the regular file at `path`. The error is the system's, or says that a regular file is wanted.
+    /// Opens the regular file at `path`, and reads it once without a use, so that no start carries out a part of one that cannot be read to
+    /// its end. The error is the system's, or says that a regular file is wanted.
     pub fn open(files: &'a R, path: &'a str) -> io::Result<CommandsFile<'a, R>> {
         // To open a pipe might take for ever.
         regular_metadata(files, path)?;
-        let file = fs::open(files, path)?;
+        let mut file = fs::open(files, path)?;
         let metadata = file.metadata()?;
         if !metadata.is_file() {
             return Err(not_regular());
         }
+        read_through(&mut file)?;
         Ok(CommandsFile {
             files,
             path,
             file,
             device: metadata.dev(),
             node: metadata.ino(),
-            position: Some(0),
+            position: None,
             progress: Progress::new(),
             growth: Growth::new(FileState::of(&metadata)),
             was_read: false,
@@ -218,6 +223,17 @@ impl<'a, R: Files> CommandsFile<'a, R> {
         }
         Ok(Some(octets))
     }
+}
+
+// Reads as much of a file as is ever read of a commands file, and forgets it.
+fn read_through<F: Read>(file: &mut F) -> io::Result<()> {
+    let mut octets = [0; READ_OCTETS];
+    for _ in 0..MOST_COMMANDS_OCTETS / READ_OCTETS as u64 {
+        if file.read(&mut octets)? == 0 {
+            break;
+        }
+    }
+    Ok(())
 }
 
 impl<'a, R: Files, A: Allocator> CommandsSource<A> for CommandsFile<'a, R> {

@@ -17,7 +17,7 @@ use Rattle.ntp_service.specs.declared.command.Command.{Command}
 use Rattle.ntp_service.specs.declared.command.Command.TheVariants as command
 use Rattle.ntp_clerk.specs.CommandText.{algorithm_text, budget_named, key_named, key_behind, command_text, key_digits, AreKeyOctets, IsNumber, IsCommand, WritesCommand}
 use Rattle.ntp_clerk.specs.Grants.{number_text}
-use Rattle.ntp_clerk.proofs.Joined.{lacks, AllLack, parts-all, lacks-all, parts-line, lacks-by}
+use Rattle.ntp_clerk.proofs.Joined.{lacks, AllLack, parts-all, lacks-all, parts-first-line, lacks-by}
 use Rattle.ntp_clerk.proofs.Spelled.{reads-address, reads-number, reads-key, lacks-address, lacks-decimal, lacks-digits}
 
 -- an octet that no word of a command has
@@ -113,10 +113,7 @@ key-lacks c out (Some k) are = (lacks-algorithm c out k.algorithm, (lacks-digits
 
 word-lowercase : (c : Command) → list_all is_ascii_lowercase (command_word c) ≡ true
 word-lowercase (command.Enrol address number key budget) = refl
-word-lowercase (command.Revoke address) = refl
-word-lowercase (command.Budget address budget) = refl
-word-lowercase (command.Rollover address number key) = refl
-word-lowercase (command.Retire address number) = refl
+word-lowercase other = refl
 
 words-lack : (c : ℕ) → Outside c → (o : Command) → IsCommand o → HasKeyOctets o → AllLack c (words_of (key_digits o) o)
 words-lack c out o is are =
@@ -148,6 +145,6 @@ line-says o text is are whole =
     let some : 0 < length all = omega arith in (
       line,
       ap (parts 10) (whole ∙ ap (λ words. words ++ (10 ∷ [])) (text-joins (key_digits o) o))
-          ∙ parts-line line (lacks-all 10 32 refl all some (words-lack 10 line_feed o is are)),
+          ∙ parts-first-line line [] (lacks-all 10 32 refl all some (words-lack 10 line_feed o is are)),
       ap command_in (parts-all 32 all some (words-lack 32 space o is are)) ∙ words-say o is are,
     )

@@ -1,14 +1,15 @@
 -- What commands that are done make of a service.
-use Rattle.std.proofs.Common.{◌≡◌, ◌≢◌, Option, Some, None, List, [], ◌∷◌, ◌++◌, map, length, take, get_or, ℕ, zero, suc, ◌+◌, ◌<◌, arith, append-nil, ⊎_elim, refl, sym, ap, ◌∙◌, subst}
-use Rattle.std.specs.Prelude.{option_and_then, option_to_list, fold, All, IsSome}
+use Rattle.std.proofs.Common.{◌≡◌, ◌≢◌, Bool, true, false, Option, Some, None, List, [], ◌∷◌, ◌++◌, map, length, drop, get_or, ℕ, zero, suc, ◌+◌, ◌<◌, ◌==◌, eq-eqb, arith, append-nil, append_assoc, ⊎_elim, refl, sym, ap, ◌∙◌, subst}
+use Rattle.std.specs.Prelude.{option_and_then, fold, find, if◌then◌else◌, is_some, Contains, IfSome, IsSome, Err}
 use Rattle.std.specs.Option.{option_map_or}
 use Rattle.std.specs.FinMap as map
 use Rattle.std.specs.declared.alloc.Global.{Global}
-use Rattle.std.proofs.lemmas.List.{map-append, take_more}
-use Rattle.std.proofs.lemmas.List.Elements.{filter_map-append, All-head, All-tail}
+use Rattle.std.proofs.lemmas.List.{map-append, drop_more}
+use Rattle.std.proofs.lemmas.List.Elements.{All-head, All-tail}
 use Rattle.std.proofs.lemmas.List.Sums.{fold-append}
 use Rattle.ntp_customer.specs.Tally.{tally}
-use Rattle.ntp_customer.specs.Customer.{CustomerState, Account, enrolment_at}
+use Rattle.ntp_customer.specs.declared.numbered_key.NumberedKey.{NumberedKey}
+use Rattle.ntp_customer.specs.Customer.{CustomerState, Account, Enrolment, enrolment_at, numbers_in}
 use Rattle.ntp_service.specs.declared.address.Address.{Address}
 use Rattle.ntp_service.specs.declared.command.Command.{Command}
 use Rattle.ntp_service.specs.declared.command.Command.TheVariants as command
@@ -16,82 +17,121 @@ use Rattle.ntp_service.specs.declared.event.Event.{Event}
 use Rattle.ntp_service.specs.declared.event.Event.TheVariants as event
 use Rattle.ntp_service.specs.declared.outcome.Outcome.{Outcome}
 use Rattle.ntp_service.specs.declared.outcome.Outcome.TheVariants as outcome
-use Rattle.ntp_service.specs.Commands.{address_named, once_done}
-use Rattle.ntp_service.specs.Registry.{Registry, customer_at, terms_at, after_command, holders_after}
+use Rattle.ntp_service.specs.declared.refusal.Refusal.{Refusal}
+use Rattle.ntp_service.specs.declared.refusal.Refusal.TheVariants.{NoMemory}
+use Rattle.ntp_service.specs.Commands.{address_named, number_wanted, once_done, refusal_of}
+use Rattle.ntp_service.specs.Registry.{Registry, Agrees, AnswersCommand, customer_at, terms_at, numbers_at, after_command, holder_in_way, holder_of, holders_after}
 use Rattle.ntp_service.specs.Headline.{StandsFor, TellsOne}
 use Rattle.ntp_service.proofs.PublicLaws.{customer_at-with_customer, customer_at-with_customer-other, same_or_other_address, Tells-nil, Tells-one, Tells-append}
 use Rattle.ntp_clerk.specs.Leading.{LeadsTo}
-use Rattle.ntp_clerk.specs.Steps.{done_in, terms_after, AreDone}
+use Rattle.ntp_clerk.specs.Steps.{done_in, terms_after, AreDone, CanDo, CanDoAll, Holds, IsFree}
 
 -- ---- one command
 
 -- what its address is enrolled with, by what it was enrolled with
 terms-of-some : (x : CustomerState) (a : Option Account) (c : Command)
-    → option_and_then enrolment_at (once_done (tally []) (Some (record x { account = a })) c) ≡ terms_after (enrolment_at (record x { account = a })) c
+    → option_map_or enrolment_at (once_done (tally []) (Some (record x { account = a })) c) None ≡ terms_after (enrolment_at (record x { account = a })) c
 terms-of-some x a (command.Enrol address number key budget) = refl
-terms-of-some x None (command.Revoke address) = refl
-terms-of-some x None (command.Budget address budget) = refl
-terms-of-some x None (command.Rollover address number key) = refl
-terms-of-some x None (command.Retire address number) = refl
-terms-of-some x (Some a) (command.Revoke address) = refl
-terms-of-some x (Some a) (command.Budget address budget) = refl
-terms-of-some x (Some a) (command.Rollover address number key) = refl
-terms-of-some x (Some a) (command.Retire address number) = refl
+terms-of-some x None other = refl
+terms-of-some x (Some a) other = refl
 
 terms-of : (o : Option CustomerState) (c : Command)
-    → option_and_then enrolment_at (once_done (tally []) o c) ≡ terms_after (option_map_or enrolment_at o None) c
+    → option_map_or enrolment_at (once_done (tally []) o c) None ≡ terms_after (option_map_or enrolment_at o None) c
 terms-of (Some x) c = terms-of-some x x.account c
 terms-of None (command.Enrol address number key budget) = refl
-terms-of None (command.Revoke address) = refl
-terms-of None (command.Budget address budget) = refl
-terms-of None (command.Rollover address number key) = refl
-terms-of None (command.Retire address number) = refl
+terms-of None other = refl
 
 -- a command that changes no customer had none to change
 absent : (o : Option CustomerState) (c : Command) → once_done (tally []) o c ≡ None → o ≡ None
 absent None c is = refl
 absent (Some x) (command.Enrol address number key budget) is = absurd cc
-absent (Some x) (command.Revoke address) is = absurd cc
-absent (Some x) (command.Budget address budget) is = absurd cc
-absent (Some x) (command.Rollover address number key) is = absurd cc
-absent (Some x) (command.Retire address number) is = absurd cc
+absent (Some x) other is = absurd cc
+
+-- who is known is known still
+still : (o : Option CustomerState) (c : Command) → IsSome o → IsSome (once_done (tally []) o c)
+still o (command.Enrol address number key budget) is = refl
+still None other is = absurd cc
+still (Some x) other is = refl
 
 abbrev made : Registry → Command → Option CustomerState → Registry
 made r c o = option_map_or (λ x. record { customers = map.insert r.customers (address_named c) x; holders = holders_after r c }) o r
 
-terms-here : (r : Registry) (c : Command) → terms_at (after_command r c) (address_named c) ≡ terms_after (terms_at r (address_named c)) c
-terms-here r c = by-customer (once_done (tally []) (customer_at r (address_named c)) c) refl ∙ terms-of (customer_at r (address_named c)) c
-  where
-    by-customer : (o : Option CustomerState) → once_done (tally []) (customer_at r (address_named c)) c ≡ o
-        → terms_at (made r c o) (address_named c) ≡ option_and_then enrolment_at o
-    by-customer None is = ap (λ x. option_map_or enrolment_at x None) (absent (customer_at r (address_named c)) c is)
-    by-customer (Some x) is = ap (λ y. option_map_or enrolment_at y None) (customer_at-with_customer r (address_named c) x)
+module _ (r : Registry) (c : Command) where
+  customer-here : customer_at (after_command r c) (address_named c) ≡ once_done (tally []) (customer_at r (address_named c)) c
+  customer-here = by-customer (once_done (tally []) (customer_at r (address_named c)) c) refl
+    where
+      by-customer : (o : Option CustomerState) → once_done (tally []) (customer_at r (address_named c)) c ≡ o
+          → customer_at (made r c o) (address_named c) ≡ o
+      by-customer None is = absent (customer_at r (address_named c)) c is
+      by-customer (Some x) is = customer_at-with_customer r (address_named c) x
 
-terms-there : (r : Registry) (c : Command) (other : Address) → other ≢ address_named c → terms_at (after_command r c) other ≡ terms_at r other
-terms-there r c other ne = by-customer (once_done (tally []) (customer_at r (address_named c)) c)
+  customer-there : (other : Address) → other ≢ address_named c → customer_at (after_command r c) other ≡ customer_at r other
+  customer-there other ne = by-customer (once_done (tally []) (customer_at r (address_named c)) c)
+    where
+      by-customer : (o : Option CustomerState) → customer_at (made r c o) other ≡ customer_at r other
+      by-customer None = refl
+      by-customer (Some x) = customer_at-with_customer-other r (address_named c) x other ne
+
+  pub is-done : (s : Registry) → s ≡ after_command r c
+      → ((history : List (Event Global)) → StandsFor r history → TellsOne history (event.Command c) outcome.Done s)
+      → AreDone r (address_named c) (c ∷ []) s
+  is-done s done tells = record {
+    leads = λ history stands. Tells-one history (event.Command c) outcome.Done s (tells history stands);
+    here = ap (λ t. terms_at t (address_named c)) done ∙ ap (λ o. option_map_or enrolment_at o None) customer-here
+        ∙ terms-of (customer_at r (address_named c)) c;
+    others = λ other ne. ap (λ t. terms_at t other) done ∙ ap (λ o. option_map_or enrolment_at o None) (customer-there other ne);
+    known = λ other was. subst (λ t. IsSome (customer_at t other)) (sym done) (⊎_elim
+        (λ same. subst (λ q. IsSome (customer_at (after_command r c) q)) (sym same)
+        (rw customer-here (still (customer_at r (address_named c)) c (subst (λ q. IsSome (customer_at r q)) same was))))
+        (λ ne. rw (customer-there other ne) was) (same_or_other_address other (address_named c)));
+  }
+
+-- ---- nothing but want of memory refuses a command
+
+-- a number that keys have is found among them
+held-found : (keys : List NumberedKey) (n : ℕ) → Contains (map (λ k. k.number) keys) n → is_some (find (λ k. k.number == n) keys) ≡ true
+held-found [] n there = absurd (omega (arith, there.1))
+held-found (k ∷ ks) n (zero, inside, is) = let same = eq-eqb k.number n is in rw same refl
+held-found (k ∷ ks) n (suc i, inside, is) = by-test (k.number == n) (held-found ks n (i, omega (arith, inside), is))
   where
-    by-customer : (o : Option CustomerState) → terms_at (made r c o) other ≡ terms_at r other
+    by-test : (b : Bool) → is_some (find (λ k. k.number == n) ks) ≡ true → is_some (if b then Some k else find (λ k. k.number == n) ks) ≡ true
+    by-test true found = refl
+    by-test false found = found
+
+-- who asks for a number and is not refused did not hold it
+held-not : (held : Option Enrolment) (c : Command) (n : ℕ) → refusal_of held c ≡ None → number_wanted c ≡ Some n → Holds held n → ⊥
+held-not None c n own asks there = omega (arith, there.1)
+held-not (Some e) (command.Rollover address number key) n own asks there =
+    let same : number.value ≡ n = cc in
+    let found = held-found e.keys number.value (subst (Contains (numbers_in e)) (sym same) there) in
+    let none = rw found at own in
+    absurd cc
+held-not (Some e) other n own asks there = absurd cc
+
+holds-at : (r : Registry) (q : Address) → numbers_at r q ≡ option_map_or numbers_in (terms_at r q) []
+holds-at r q = by-customer (customer_at r q)
+  where
+    by-customer : (o : Option CustomerState) → option_map_or (λ c. option_map_or numbers_in (enrolment_at c) []) o []
+        ≡ option_map_or numbers_in (option_map_or enrolment_at o None) []
     by-customer None = refl
-    by-customer (Some x) = ap (λ y. option_map_or enrolment_at y None) (customer_at-with_customer-other r (address_named c) x other ne)
+    by-customer (Some c) = refl
 
-still-known : (r : Registry) (c : Command) (other : Address) → IsSome (customer_at r other) → IsSome (customer_at (after_command r c) other)
-still-known r c other was = by-customer (once_done (tally []) (customer_at r (address_named c)) c)
-  where
-    by-customer : (o : Option CustomerState) → IsSome (customer_at (made r c o) other)
-    by-customer None = was
-    by-customer (Some x) = ⊎_elim
-        (λ same. subst (λ q. IsSome (customer_at (made r c (Some x)) q)) (sym same) (subst IsSome (sym (customer_at-with_customer r (address_named c) x)) refl))
-        (λ ne. subst IsSome (sym (customer_at-with_customer-other r (address_named c) x other ne)) was)
-        (same_or_other_address other (address_named c))
+module _ (r : Registry) (c : Command) (can : CanDo r c) (agrees : Agrees r) where
+  -- nobody holds the number that it asks for
+  none-in-way : (asked : Option ℕ) (q : Address) → number_wanted c ≡ asked → option_and_then (holder_of r) asked ≡ Some q → ⊥
+  none-in-way None q asks held = absurd cc
+  none-in-way (Some n) q asks held =
+      let holds : Holds (terms_at r q) n = subst (λ ns. Contains ns n) (holds-at r q) (agrees.enrolled q n held) in
+      ⊎_elim (λ same. held-not (terms_at r (address_named c)) c n can.own asks (subst (λ q. Holds (terms_at r q) n) same holds))
+      (λ ne. (subst (λ o. IfSome o (λ n. Holds (terms_at r q) n → ⊥)) asks (can.free q ne)) holds)
+      (same_or_other_address q (address_named c))
 
-pub is-done : (r s : Registry) (c : Command) → s ≡ after_command r c
-    → ((history : List (Event Global)) → StandsFor r history → TellsOne history (event.Command c) outcome.Done s) → AreDone r (address_named c) (c ∷ []) s
-is-done r s c done tells = record {
-  leads = λ history stands. Tells-one history (event.Command c) outcome.Done s (tells history stands);
-  here = ap (λ t. terms_at t (address_named c)) done ∙ terms-here r c;
-  others = λ other ne. ap (λ t. terms_at t other) done ∙ terms-there r c other ne;
-  known = λ other was. subst (λ t. IsSome (customer_at t other)) (sym done) (still-known r c other was);
-}
+  pub only-memory : (s : Registry) (refusal : Refusal) → AnswersCommand r s c (Err refusal) → refusal ≡ NoMemory
+  only-memory s refusal answers = by-holder (holder_in_way r c) refl
+    where
+      by-holder : (o : Option Address) → holder_in_way r c ≡ o → refusal ≡ NoMemory
+      by-holder None none = (answers.memory can.own none).0
+      by-holder (Some q) some = absurd (none-in-way (number_wanted c) q refl some)
 
 -- ---- commands one after another
 
@@ -119,31 +159,46 @@ done-append r s t a xs ys first more = record {
   known = λ other was. more.known other (first.known other was);
 }
 
--- one step more
-steps-more : (steps : List (Option Command)) (i : ℕ) (d : Option Command) → i < length steps
-    → done_in (take (i + 1) steps) ≡ done_in (take i steps) ++ option_to_list (get_or steps i d)
-steps-more steps i d lt =
-    ap done_in (take_more steps i d lt) ∙ filter_map-append (λ step. step) (take i steps) (get_or steps i d ∷ [])
-    ∙ ap (λ more. done_in (take i steps) ++ more) (by-step (get_or steps i d))
-  where
-    by-step : (step : Option Command) → done_in (step ∷ []) ≡ option_to_list step
-    by-step None = refl
-    by-step (Some c) = refl
+-- ---- steps one after another
 
-pub steps-some : (steps : List (Option Command)) (i : ℕ) (d : Option Command) (c : Command) → i < length steps → get_or steps i d ≡ Some c
-    → done_in (take (i + 1) steps) ≡ done_in (take i steps) ++ c ∷ []
-steps-some steps i d c lt is = steps-more steps i d lt ∙ ap (λ step. done_in (take i steps) ++ option_to_list step) is
+-- commands for an address are done so far, and those that are left can be done
+pub record Going (from : Registry) (a : Address) (all old commands left : List Command) (now : Registry) : Type 0 where
+  pub noted : commands ++ left ≡ old ++ all
+  pub done : (s : Registry) → AreDone now a left s → AreDone from a all s
+  pub can : CanDoAll now a left
 
-pub steps-none : (steps : List (Option Command)) (i : ℕ) (d : Option Command) → i < length steps → get_or steps i d ≡ None
-    → done_in (take (i + 1) steps) ≡ done_in (take i steps)
-steps-none steps i d lt is =
-    steps-more steps i d lt ∙ ap (λ step. done_in (take i steps) ++ option_to_list step) is ∙ append-nil (done_in (take i steps))
+pub going-none : (from : Registry) (a : Address) (all old : List Command) → CanDoAll from a all → Going from a all old old all from
+going-none from a all old can = record { noted = refl; done = λ s done. done; can = can }
 
--- the step at a place is among those that are done
-pub step-holds : (P : Command → Type 0) (steps : List (Option Command)) (i : ℕ) (c : Command) (d : Option Command) → i < length steps
-    → get_or steps i d ≡ Some c → All P (done_in steps) → P c
-step-holds P [] i c d lt is all = absurd (omega (arith, lt))
-step-holds P (None ∷ steps) zero c d lt is all = absurd cc
-step-holds P (Some e ∷ steps) zero c d lt is all = let same : e ≡ c = cc in subst P same (All-head P e (done_in steps) all)
-step-holds P (None ∷ steps) (suc i) c d lt is all = step-holds P steps i c d (omega (arith, lt)) is all
-step-holds P (Some e ∷ steps) (suc i) c d lt is all = step-holds P steps i c d (omega (arith, lt)) is (All-tail P e (done_in steps) all)
+module _ (from now : Registry) (a : Address) (all old commands : List Command) (c : Command) (left : List Command)
+    (going : Going from a all old commands (c ∷ left) now) where
+  named : address_named c ≡ a
+  named = All-head (λ c. address_named c ≡ a) c left going.can.named
+
+  pub going-can : CanDo now c
+  going-can = record { own = rw named going.can.refused.0; free = All-head (IsFree now) c left going.can.free }
+
+  pub going-more : (s : Registry) (more : List Command) → AreDone now (address_named c) (c ∷ []) s → more ≡ commands ++ c ∷ []
+      → Going from a all old more left s
+  going-more s more one noted =
+      let here : AreDone now a (c ∷ []) s = subst (λ a. AreDone now a (c ∷ []) s) named one in
+      let those = All-tail (λ c. address_named c ≡ a) c left going.can.named in
+      record {
+        noted = ap (λ cs. cs ++ left) noted ∙ append_assoc commands (c ∷ []) left ∙ going.noted;
+        done = λ t rest. going.done t (done-append now s t a (c ∷ []) left here rest);
+        can = record {
+          named = those;
+          refused = rw here.here going.can.refused.1;
+          free = λ k d inside other ne. rw (here.others other (λ same. ne (same ∙ sym (those k d inside))))
+              (All-tail (IsFree now) c left going.can.free k d inside other ne);
+        };
+      }
+
+pub going-all : (from now : Registry) (a : Address) (all old commands : List Command) → Going from a all old commands [] now
+    → (commands ≡ old ++ all) × AreDone from a all now
+going-all from now a all old commands going = (sym (append-nil commands) ∙ going.noted, going.done now (done-none now a))
+
+-- what is left at a step
+pub at-step : (steps : List (Option Command)) (i : ℕ) (d step : Option Command) → i < length steps → get_or steps i d ≡ step
+    → done_in (drop i steps) ≡ done_in (step ∷ drop (i + 1) steps)
+at-step steps i d step inside is = ap done_in (drop_more steps i d inside) ∙ ap (λ step. done_in (step ∷ drop (i + 1) steps)) is

@@ -1,104 +1,66 @@
 -- What is noted of wanted customers.
-use Rattle.std.proofs.Common.{◌≡◌, ◌≢◌, ◌⊎◌, inl, inr, ℕ, ◌<◌, ◌==◌, eqb-true, eq-eqb, length, take, get_or, Option, Some, None, Bool, true, false, true≢false, ⊎_elim, List, [], ◌∷◌, ◌++◌, map, refl, sym, ap, ◌∙◌, subst, arith}
+use Rattle.std.proofs.Common.{◌≡◌, ◌≢◌, ◌⊎◌, inl, inr, ℕ, suc, ◌<◌, length, take, get_or, Option, Some, None, Bool, true, false, true≢false, ⊎_elim, List, [], ◌∷◌, ◌++◌, map, refl, sym, ap, ◌∙◌, subst, arith}
 use Rattle.std.specs.Prelude.{AllPairs, Contains, IfSome, IsSome, is_some, option_map, option_to_list, find, if◌then◌else◌}
 use Rattle.std.specs.Option.{option_or}
 use Rattle.std.proofs.lemmas.List.{get_or_default, get_or-take, length-take}
-use Rattle.std.proofs.lemmas.List.Elements.{All-nil, All-push, Contains-push_cases, Contains-append_left, Contains-push, Contains-get_or}
+use Rattle.std.proofs.lemmas.List.Elements.{All-nil, All-push, All-contains_itself, Contains-push_cases, Contains-append_left, Contains-push, Contains-get_or}
 use Rattle.std.proofs.lemmas.List.Quantifiers.{all_pairs_push}
 use Rattle.std.proofs.lemmas.List.Folds.{find-append}
 use Rattle.ntp_service.specs.declared.address.Address.{Address}
 use Rattle.ntp_service.specs.Address.{address_eq}
 use Rattle.ntp_service.proofs.PublicLaws.{same_or_other_address, address_eq_equiv, other-address}
-use Rattle.ntp_customer.specs.declared.numbered_key.NumberedKey.{NumberedKey}
-use Rattle.ntp_customer.specs.Customer.{Enrolment}
+use Rattle.ntp_customer.specs.Customer.{Enrolment, numbers_in}
 use Rattle.ntp_clerk.specs.declared.wanted.GivenKey.{GivenKey}
 use Rattle.ntp_clerk.specs.declared.wanted.Terms.{Terms}
 use Rattle.ntp_clerk.specs.declared.wanted.Wanted.{Wanted}
 use Rattle.indexmap.specs.IndexMap.{IndexMap, get}
 use Rattle.ntp_clerk.specs.Leading.{enrolment_among, enrolment_with, key_given, AreApart, AreTwo, HasNumber, enrolment_if}
-use Rattle.ntp_clerk.specs.Steps.{AreTerms, Notes, NotesOne}
-use Rattle.ntp_clerk.proofs.Stepping.{Contains-none, Contains-one, Contains-two}
-
-abbrev numbers : NumberedKey → Option GivenKey → List ℕ
-numbers older newer = map (λ k. k.number) (older ∷ option_to_list (option_map key_given newer))
+use Rattle.ntp_clerk.specs.Steps.{AreTerms, Holds, Notes, NotesAll, NotesOne, ShareNone}
+use Rattle.ntp_clerk.proofs.Having.{found}
+use Rattle.std.proofs.lemmas.Bool.{cases_eq, cases_lt, false_from_ne_true}
+use Rattle.ntp_clerk.proofs.Stepping.{Contains-cases, Contains-none}
 
 -- ---- one number after another
 
 module _ (number : ℕ) (old new : ℕ → Bool) (one : NotesOne number old new) where
-  -- a number is this one, or not
-  by-number : (n : ℕ) → (n ≡ number) ⊎ (n ≢ number)
-  by-number n = decided (n == number) refl
-    where
-      decided : (b : Bool) → (n == number) ≡ b → (n ≡ number) ⊎ (n ≢ number)
-      decided true e = inl (eqb-true n number e)
-      decided false e = inr (λ same. true≢false (sym (eq-eqb n number same) ∙ e))
-
   still : (n : ℕ) → old n ≡ true → new n ≡ true
   still n was = one.others n (λ same. true≢false (sym was ∙ ap old same ∙ one.free)) ∙ was
 
   only-one : (n : ℕ) → new n ≡ true → (old n ≡ true) ⊎ (n ≡ number)
-  only-one n is = ⊎_elim (λ same. inr same) (λ ne. inl (sym (one.others n ne) ∙ is)) (by-number n)
+  only-one n is = ⊎_elim (λ same. inr same) (λ ne. inl (sym (one.others n ne) ∙ is)) (cases_eq n number)
 
--- ---- one customer
+noted-kept : (numbers : List ℕ) (old new : ℕ → Bool) → NotesAll numbers old new → (n : ℕ) → old n ≡ true → new n ≡ true
+noted-kept [] old new all n was = all n ∙ was
+noted-kept (m ∷ ms) old new (next, one, all) n was = noted-kept ms next new all n (still m old next one n was)
 
--- a number that terms have is that of a key
-has-one : (terms : Terms) (n : ℕ) → terms.newer ≡ None → HasNumber terms n → (key_given terms.older).number ≡ n
-has-one terms n is has =
-    Contains-one (key_given terms.older).number n (subst (λ newer. Contains (numbers (key_given terms.older) newer) n) is has)
+noted-has : (numbers : List ℕ) (old new : ℕ → Bool) → NotesAll numbers old new → (n : ℕ) → Contains numbers n → new n ≡ true
+noted-has [] old new all n there = absurd (Contains-none n there)
+noted-has (m ∷ ms) old new (next, one, all) n there = ⊎_elim (λ same. noted-kept ms next new all n (ap next (sym same) ∙ one.noted))
+    (noted-has ms next new all n) (Contains-cases m ms n there)
 
-has-two : (terms : Terms) (newer : GivenKey) (n : ℕ) → terms.newer ≡ Some newer → HasNumber terms n
-    → ((key_given terms.older).number ≡ n) ⊎ ((key_given newer).number ≡ n)
-has-two terms newer n is has = Contains-two (key_given terms.older).number (key_given newer).number n
-    (subst (λ newer. Contains (numbers (key_given terms.older) newer) n) is has)
+noted-fresh : (numbers : List ℕ) (old new : ℕ → Bool) → NotesAll numbers old new → (n : ℕ) → Contains numbers n → old n ≡ false
+noted-fresh [] old new all n there = absurd (Contains-none n there)
+noted-fresh (m ∷ ms) old new (next, one, all) n there = ⊎_elim (λ same. ap old (sym same) ∙ one.free)
+    (λ more. let free = noted-fresh ms next new all n more in
+    sym (one.others n (λ same. true≢false (sym one.noted ∙ ap next (sym same) ∙ free))) ∙ free)
+    (Contains-cases m ms n there)
 
-has-older : (terms : Terms) → HasNumber terms (key_given terms.older).number
-has-older terms = (0, omega arith, refl)
+noted-only : (numbers : List ℕ) (old new : ℕ → Bool) → NotesAll numbers old new → (n : ℕ) → new n ≡ true → (old n ≡ true) ⊎ Contains numbers n
+noted-only [] old new all n is = inl (sym (all n) ∙ is)
+noted-only (m ∷ ms) old new (next, one, all) n is = ⊎_elim
+    (λ before. ⊎_elim inl (λ same. inr (0, omega arith, sym same)) (only-one m old next one n before))
+    (λ there. inr (suc there.0, omega (arith, there.1), there.2)) (noted-only ms next new all n is)
 
-has-newer : (terms : Terms) (newer : GivenKey) → terms.newer ≡ Some newer → HasNumber terms (key_given newer).number
-has-newer terms newer is = subst (λ g. Contains (numbers (key_given terms.older) g) (key_given newer).number) (sym is) (1, omega arith, refl)
-
-module _ (a : Address) (terms : Terms) (old new : Address → Option Terms) (free : old a ≡ None) (here : new a ≡ Some terms)
-    (others : (q : Address) → q ≢ a → new q ≡ old q) (first mid last : ℕ → Bool) where
-  pub notes-one : terms.newer ≡ None → NotesOne (key_given terms.older).number first last → Notes a terms old new first last
-  notes-one is one = record {
-    free = free;
-    here = here;
-    others = others;
-    two = rw is tt;
-    fresh = λ n has. ap first (sym (has-one terms n is has)) ∙ one.free;
-    has = λ n has. ap last (sym (has-one terms n is has)) ∙ one.noted;
-    kept = still (key_given terms.older).number first last one;
-    only = λ n noted. ⊎_elim inl (λ same. inr (subst (HasNumber terms) (sym same) (has-older terms)))
-        (only-one (key_given terms.older).number first last one n noted);
-  }
-
-  pub notes-two : (newer : GivenKey) → terms.newer ≡ Some newer → NotesOne (key_given terms.older).number first mid
-      → NotesOne (key_given newer).number mid last → Notes a terms old new first last
-  notes-two newer is one next = record {
-    free = free;
-    here = here;
-    others = others;
-    two = rw is apart;
-    fresh = λ n has. ⊎_elim (λ same. ap first (sym same) ∙ one.free) (λ same. ap first (sym same) ∙ fresh-newer) (has-two terms newer n is has);
-    has = λ n has. ⊎_elim
-        (λ same. still (key_given newer).number mid last next n (ap mid (sym same) ∙ one.noted))
-        (λ same. ap last (sym same) ∙ next.noted)
-        (has-two terms newer n is has);
-    kept = λ n was. still (key_given newer).number mid last next n (still (key_given terms.older).number first mid one n was);
-    only = λ n noted. ⊎_elim
-        (λ before. ⊎_elim inl (λ same. inr (subst (HasNumber terms) (sym same) (has-older terms)))
-        (only-one (key_given terms.older).number first mid one n before))
-        (λ same. inr (subst (HasNumber terms) (sym same) (has-newer terms newer is)))
-        (only-one (key_given newer).number mid last next n noted);
-  }
-    where
-      apart : (key_given terms.older).number ≢ (key_given newer).number
-      apart same = true≢false (sym one.noted ∙ ap mid same ∙ next.free)
-
-      fresh-newer : first (key_given newer).number ≡ false
-      fresh-newer = sym (one.others (key_given newer).number (λ same. apart (sym same))) ∙ next.free
+noted-two : (older : GivenKey) (newer : Option GivenKey) (old new : ℕ → Bool)
+    → NotesAll (map (λ k. k.number) (key_given older ∷ option_to_list (option_map key_given newer))) old new
+    → IfSome newer (λ newer. (key_given older).number ≢ (key_given newer).number)
+noted-two older None old new all = tt
+noted-two older (Some newer) old new (next, one, others) = λ same. true≢false (sym one.noted ∙ ap next same ∙ others.1.free)
 
 -- ---- one customer after another
+
+abbrev own : Wanted → List ℕ
+own w = numbers_in (enrolment_with w.terms)
 
 pub record Judged (taken : List Wanted) (terms : Address → Option Terms) (numbers : ℕ → Bool) : Type 0 where
   pub among : (q : Address) → enrolment_if (terms q) ≡ enrolment_among taken q
@@ -106,7 +68,6 @@ pub record Judged (taken : List Wanted) (terms : Address → Option Terms) (numb
   pub apart : AreApart taken
   pub listed : (v : Wanted) → Contains taken v → IsSome (terms v.address)
   pub noted : (v : Wanted) (n : ℕ) → Contains taken v → HasNumber v.terms n → numbers n ≡ true
-  pub by_address : (q : Address) → IsSome (terms q) → (v : Wanted) × Contains taken v × (v.address ≡ q)
   pub by_number : (n : ℕ) → numbers n ≡ true → (v : Wanted) × Contains taken v × HasNumber v.terms n
 
 pub judged-none : (terms : Address → Option Terms) (numbers : ℕ → Bool) → ((q : Address) → terms q ≡ None) → ((n : ℕ) → numbers n ≡ false)
@@ -121,7 +82,6 @@ judged-none terms numbers none nothing = record {
   };
   listed = λ v there. absurd (Contains-none v there);
   noted = λ v n there has. absurd (Contains-none v there);
-  by_address = λ q is. absurd (true≢false (sym is ∙ ap is_some (none q)));
   by_number = λ n is. absurd (true≢false (sym is ∙ nothing n));
 }
 
@@ -144,8 +104,11 @@ or-none (Some e) = refl
 pub judged-more : (taken : List Wanted) (w : Wanted) (old new : Address → Option Terms) (numbers noted : ℕ → Bool) → Judged taken old numbers
     → Notes w.address w.terms old new numbers noted → Judged (taken ++ w ∷ []) new noted
 judged-more taken w old new numbers now judged notes =
-    record { among = among; two = two; apart = apart; listed = listed; noted = noted; by_address = by-address; by_number = by-noted }
+    record { among = among; two = two; apart = apart; listed = listed; noted = noted; by_number = by-noted }
   where
+    are-two : AreTwo w.terms
+    are-two = noted-two w.terms.older w.terms.newer numbers now notes.all
+
     among-here : (q : Address) → q ≡ w.address → enrolment_if (new q) ≡ enrolment_among (taken ++ w ∷ []) q
     among-here q same =
         let none : None ≡ enrolment_among taken q = ap enrolment_if (sym notes.free ∙ ap old (sym same)) ∙ judged.among q in
@@ -164,7 +127,7 @@ judged-more taken w old new numbers now judged notes =
     among q = ⊎_elim (among-here q) (among-there q) (same_or_other_address q w.address)
 
     two : (q : Address) → IfSome (new q) AreTwo
-    two q = ⊎_elim (λ same. subst (λ o. IfSome o AreTwo) (sym (ap new same ∙ notes.here)) notes.two)
+    two q = ⊎_elim (λ same. subst (λ o. IfSome o AreTwo) (sym (ap new same ∙ notes.here)) are-two)
         (λ ne. subst (λ o. IfSome o AreTwo) (sym (notes.others q ne)) (judged.two q)) (same_or_other_address q w.address)
 
     apart : AreApart (taken ++ w ∷ [])
@@ -174,8 +137,8 @@ judged-more taken w old new numbers now judged notes =
           true≢false (sym there ∙ ap (λ q. is_some (old q)) same ∙ ap is_some notes.free));
       numbers = all_pairs_push (λ one other. (n : ℕ) → HasNumber one.terms n → HasNumber other.terms n → ⊥) taken w judged.apart.numbers
           (λ k d inside n has has_too.
-          true≢false (sym (judged.noted (get_or taken k d) n (Contains-get_or taken k d inside) has) ∙ notes.fresh n has_too));
-      two = All-push (λ w. AreTwo w.terms) taken w judged.apart.two notes.two;
+          true≢false (sym (judged.noted (get_or taken k d) n (Contains-get_or taken k d inside) has) ∙ noted-fresh (own w) numbers now notes.all n has_too));
+      two = All-push (λ w. AreTwo w.terms) taken w judged.apart.two are-two;
     }
 
     still-there : (q : Address) → IsSome (old q) → IsSome (new q)
@@ -186,24 +149,56 @@ judged-more taken w old new numbers now judged notes =
         (λ same. subst (λ v. IsSome (new v.address)) same (ap is_some notes.here)) (Contains-push_cases taken w v there)
 
     noted : (v : Wanted) (n : ℕ) → Contains (taken ++ w ∷ []) v → HasNumber v.terms n → now n ≡ true
-    noted v n there has = ⊎_elim (λ before. notes.kept n (judged.noted v n before has))
-        (λ same. notes.has n (subst (λ v. HasNumber v.terms n) (sym same) has)) (Contains-push_cases taken w v there)
-
-    by-address : (q : Address) → IsSome (new q) → (v : Wanted) × Contains (taken ++ w ∷ []) v × (v.address ≡ q)
-    by-address q is = ⊎_elim (λ same. (w, Contains-push taken w, sym same))
-        (λ ne. let before = judged.by_address q (sym (ap is_some (notes.others q ne)) ∙ is) in
-        (before.0, Contains-append_left taken (w ∷ []) before.0 before.1, before.2))
-        (same_or_other_address q w.address)
+    noted v n there has = ⊎_elim (λ before. noted-kept (own w) numbers now notes.all n (judged.noted v n before has))
+        (λ same. noted-has (own w) numbers now notes.all n (subst (λ v. HasNumber v.terms n) (sym same) has)) (Contains-push_cases taken w v there)
 
     by-noted : (n : ℕ) → now n ≡ true → (v : Wanted) × Contains (taken ++ w ∷ []) v × HasNumber v.terms n
     by-noted n is = ⊎_elim
         (λ was. let before = judged.by_number n was in (before.0, Contains-append_left taken (w ∷ []) before.0 before.1, before.2))
         (λ has. (w, Contains-push taken w, has))
-        (notes.only n is)
+        (noted-only (own w) numbers now notes.all n is)
+
+-- what holds of a pair holds of two members, in whatever order they stand
+of-both : (R : Wanted → Wanted → Type 0) (customers : List Wanted) (v w : Wanted) → AllPairs R customers → ((x y : Wanted) → R x y → R y x)
+    → v ≢ w → Contains customers v → Contains customers w → R v w
+of-both R customers v w all turned ne (i, inside, is) (j, within, at) = ⊎_elim
+    (λ before. ordered i j v w before within is at)
+    (λ behind. ⊎_elim (λ before. turned w v (ordered j i w v before inside at is)) (λ past. absurd (ne (same (omega (arith, behind, past))))) (cases_lt j i))
+    (cases_lt i j)
+  where
+    ordered : (i j : ℕ) (v w : Wanted) → i < j → j < length customers → get_or customers i v ≡ v → get_or customers j w ≡ w → R v w
+    ordered i j v w before within is at =
+        let found = get_or_default customers i w v (omega (arith, before, within)) ∙ is in
+        subst (R v) at (subst (λ u. R u (get_or customers j w)) found (all i j w before within))
+
+    same : i ≡ j → v ≡ w
+    same e = sym is ∙ get_or_default customers i v w inside ∙ ap (λ i. get_or customers i w) e ∙ at
+
+-- an enrolment that customers have at an address, with a number, is that of one of them
+one-among : (customers : List Wanted) (q : Address) (n : ℕ) → Holds (enrolment_among customers q) n
+    → (v : Wanted) × Contains customers v × (q ≡ v.address) × HasNumber v.terms n
+one-among customers q n = by-found (find (λ w. address_eq q w.address) customers) refl
+  where
+    by-found : (o : Option Wanted) → find (λ w. address_eq q w.address) customers ≡ o → Holds (option_map (λ w. enrolment_with w.terms) o) n
+        → (v : Wanted) × Contains customers v × (q ≡ v.address) × HasNumber v.terms n
+    by-found None is has = absurd (Contains-none n has)
+    by-found (Some v) is has = let there = found customers q v (Contains customers) (All-contains_itself customers) is in (v, there.0, there.1, has)
+
+pub share-none : (customers : List Wanted) → AreApart customers → ShareNone (enrolment_among customers)
+share-none customers apart one other n ne has has_too =
+    let v = one-among customers one n has in
+    let w = one-among customers other n has_too in
+    of-both (λ one other. (n : ℕ) → HasNumber one.terms n → HasNumber other.terms n → ⊥) customers v.0 w.0 apart.numbers
+    (λ x y none n has has_too. none n has_too has) (λ same. ne (v.2 ∙ ap (λ v. v.address) same ∙ sym w.2)) v.1 w.1 n v.3 w.3
 
 pub are-terms : {S : Type 0} → (terms : IndexMap Address Terms S) (customers : List Wanted) (numbers : ℕ → Bool)
     → Judged customers (λ q. get address_eq terms q) numbers → AreTerms terms customers
-are-terms terms customers numbers judged = record { among = judged.among; two = judged.two }
+are-terms terms customers numbers judged = record {
+  among = judged.among;
+  two = judged.two;
+  apart = λ one other n ne has has_too.
+      share-none customers judged.apart one other n ne (subst (λ o. Holds o n) (judged.among one) has) (subst (λ o. Holds o n) (judged.among other) has_too);
+}
 
 -- ---- customers that are apart
 
@@ -223,17 +218,15 @@ module _ (customers : List Wanted) (i : ℕ) (w : Wanted) (inside : i < length c
         by-terms : (o : Option Terms) → terms w.address ≡ o → terms w.address ≡ None
         by-terms None none = none
         by-terms (Some t) some =
-            let before = judged.by_address w.address (ap is_some some) in
-            absurd (earlier (λ one other. one.address ≢ other.address) apart.addresses before.0 before.1 before.2)
+            let has : Holds (enrolment_among (take i customers) w.address) (key_given t.older).number =
+            subst (λ o. Holds o (key_given t.older).number) (sym (ap enrolment_if some) ∙ judged.among w.address) (0, omega arith, refl) in
+            let before = one-among (take i customers) w.address (key_given t.older).number has in
+            absurd (earlier (λ one other. one.address ≢ other.address) apart.addresses before.0 before.1 (sym before.2))
 
     pub numbers-free : (n : ℕ) → HasNumber w.terms n → numbers n ≡ false
-    numbers-free n has = by-test (numbers n) refl
-      where
-        by-test : (b : Bool) → numbers n ≡ b → numbers n ≡ false
-        by-test false none = none
-        by-test true noted =
-            let before = judged.by_number n noted in
-            absurd (earlier (λ one other. (n : ℕ) → HasNumber one.terms n → HasNumber other.terms n → ⊥) apart.numbers before.0 before.1 n before.2 has)
+    numbers-free n has = false_from_ne_true (numbers n) (λ noted.
+        let before = judged.by_number n noted in
+        earlier (λ one other. (n : ℕ) → HasNumber one.terms n → HasNumber other.terms n → ⊥) apart.numbers before.0 before.1 n before.2 has)
 
     pub two-numbers : AreTwo w.terms
     two-numbers = subst (λ (v : Wanted). AreTwo v.terms) (sym is) (apart.two i w inside)

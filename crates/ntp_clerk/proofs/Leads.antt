@@ -1,10 +1,9 @@
 -- Commands that lead to wanted customers, address by address.
-use Rattle.std.proofs.Common.{◌≡◌, ◌≢◌, ◌⊎◌, inl, inr, ⊎_elim, ℕ, ◌+◌, ◌<◌, ◌≤◌, true, Option, Some, None, List, [], ◌∷◌, ◌++◌, length, get_or, refl, sym, ap, ◌∙◌, subst, arith}
+use Rattle.std.proofs.Common.{◌≡◌, ◌≢◌, ◌⊎◌, inl, inr, ⊎_elim, true, Option, Some, None, List, [], ◌∷◌, map, refl, sym, ap, ◌∙◌, subst}
 use Rattle.std.specs.Prelude.{All, Contains, IsSome, find, option_map}
 use Rattle.std.specs.Option.{option_map_or}
-use Rattle.std.proofs.lemmas.List.{get_or_default}
-use Rattle.std.proofs.lemmas.List.Elements.{All-nil, All-append, All-push, All-weaker, All-contains_itself}
-use Rattle.std.proofs.lemmas.Bool.{cases_lt}
+use Rattle.std.proofs.lemmas.List.Elements.{All-nil, All-append, All-weaker, All-contains_itself}
+use Rattle.ntp_customer.proofs.PublicLaws.{Contains-map}
 use Rattle.ntp_customer.specs.Customer.{Enrolment, CustomerState, enrolment_at}
 use Rattle.ntp_service.specs.declared.address.Address.{Address}
 use Rattle.ntp_service.specs.declared.command.Command.{Command}
@@ -17,6 +16,7 @@ use Rattle.ntp_service.specs.Address.{address_eq}
 use Rattle.ntp_clerk.specs.Steps.{Kept, Moves, OnlyWanted}
 use Rattle.ntp_clerk.proofs.Having.{found}
 use Rattle.ntp_clerk.proofs.Doing.{leads-none, leads-append}
+use Rattle.ntp_clerk.proofs.Stepping.{Contains-cases, Contains-none}
 
 -- a command is needed by what each address is to have
 abbrev pub Needs : Registry → (Address → Option Enrolment) → Command → Type 0
@@ -77,99 +77,78 @@ module _ (from r s : Registry) (want : Address → Option Enrolment) (a : Addres
 
 -- ---- the first loop: each address is freed
 
--- an address stands at a place or behind it
-pub record Behind (addresses : List Address) (i : ℕ) (q : Address) : Type 0 where
-  pub at : ℕ
-  pub behind : i ≤ at
-  pub inside : at < length addresses
-  pub is : (d : Address) → get_or addresses at d ≡ q
-
-pub record Freeing (from : Registry) (want : Address → Option Enrolment) (addresses : List Address) (i : ℕ) (commands : List Command) (now : Registry) : Type 0 where
+-- all that an address outside `left` has is wanted of it
+pub record Freeing (from : Registry) (want : Address → Option Enrolment) (left : List Address) (commands : List Command) (now : Registry) : Type 0 where
   pub reaches : Reaches from want commands now
-  pub left : (q : Address) → OnlyWanted (terms_at now q) (want q) ⊎ Behind addresses i q
+  pub only : (q : Address) → OnlyWanted (terms_at now q) (want q) ⊎ Contains left q
 
-pub freeing-more : (from r s : Registry) (want : Address → Option Enrolment) (addresses : List Address) (i : ℕ) (a : Address) (old new : List Command)
-    → Freeing from want addresses i old r → a ≡ get_or addresses i a → Moves r a (want a) old new s → OnlyWanted (terms_at s a) (want a)
-    → Freeing from want addresses (i + 1) new s
-freeing-more from r s want addresses i a old new freeing is moves only = record {
+pub freeing-more : (from r s : Registry) (want : Address → Option Enrolment) (a : Address) (left : List Address) (old new : List Command)
+    → Freeing from want (a ∷ left) old r → Moves r a (want a) old new s → OnlyWanted (terms_at s a) (want a) → Freeing from want left new s
+freeing-more from r s want a left old new freeing moves only = record {
   reaches = reaches-more from r s want a old new moves freeing.reaches;
-  left = at-address from r s want a old new moves (λ q now. OnlyWanted now (want q) ⊎ Behind addresses (i + 1) q) (inl only)
-      (λ q ne. ⊎_elim inl (λ there. inr (further q ne there)) (freeing.left q));
+  only = at-address from r s want a old new moves (λ q now. OnlyWanted now (want q) ⊎ Contains left q) (inl only)
+      (λ q ne. ⊎_elim inl (λ there. ⊎_elim (λ same. absurd (ne (sym same))) inr (Contains-cases a left q there)) (freeing.only q));
 }
-  where
-    further : (q : Address) → q ≢ a → Behind addresses i q → Behind addresses (i + 1) q
-    further q ne there = record {
-      at = there.at;
-      behind = ⊎_elim (λ past. omega (arith, past))
-          (λ same. absurd (ne (sym (there.is a) ∙ ap (λ at. get_or addresses at a) (omega (arith, same, there.behind)) ∙ sym is))) (cases_lt i there.at);
-      inside = there.inside;
-      is = there.is;
-    }
 
 pub freeing-none : (from : Registry) (want : Address → Option Enrolment) (addresses : List Address)
-    → ((q : Address) → IsSome (customer_at from q) → Contains addresses q) → Freeing from want addresses 0 [] from
-freeing-none from want addresses all = record { reaches = reaches-none from want; left = λ q. by-customer q (customer_at from q) refl }
+    → ((q : Address) → IsSome (customer_at from q) → Contains addresses q) → Freeing from want addresses [] from
+freeing-none from want addresses all = record { reaches = reaches-none from want; only = λ q. by-customer q (customer_at from q) refl }
   where
-    by-customer : (q : Address) (o : Option CustomerState) → customer_at from q ≡ o → OnlyWanted (terms_at from q) (want q) ⊎ Behind addresses 0 q
+    by-customer : (q : Address) (o : Option CustomerState) → customer_at from q ≡ o → OnlyWanted (terms_at from q) (want q) ⊎ Contains addresses q
     by-customer q None is = inl (subst (λ (o : Option CustomerState). OnlyWanted (option_map_or enrolment_at o None) (want q)) (sym is) tt)
-    by-customer q (Some c) is =
-        let there = all q (subst IsSome (sym is) refl) in
-        inr (record { at = there.0; behind = omega arith; inside = there.1; is = λ d. get_or_default addresses there.0 d q there.1 ∙ there.2 })
-
-pub all-freed : (from now : Registry) (want : Address → Option Enrolment) (addresses : List Address) (i : ℕ) (commands : List Command)
-    → length addresses ≤ i → Freeing from want addresses i commands now → (q : Address) → OnlyWanted (terms_at now q) (want q)
-all-freed from now want addresses i commands end freeing q =
-    ⊎_elim (λ only. only) (λ there. absurd (omega (arith, end, there.behind, there.inside))) (freeing.left q)
+    by-customer q (Some c) is = inr (all q (subst IsSome (sym is) refl))
 
 -- ---- the second loop: each wanted customer is given what is wanted of it
 
-pub record Giving (from : Registry) (want : Address → Option Enrolment) (given : List Wanted) (commands : List Command) (now : Registry) : Type 0 where
+-- all that is wanted of an address outside `left` it has
+pub record Giving (from : Registry) (want : Address → Option Enrolment) (left : List Wanted) (commands : List Command) (now : Registry) : Type 0 where
   pub reaches : Reaches from want commands now
   pub only : (q : Address) → OnlyWanted (terms_at now q) (want q)
-  pub has : All (λ w. terms_at now w.address ≡ want w.address) given
+  pub has : (q : Address) → (terms_at now q ≡ want q) ⊎ Contains (map (λ w. w.address) left) q
 
-pub giving-none : (from now : Registry) (want : Address → Option Enrolment) (commands : List Command) → Reaches from want commands now
-    → ((q : Address) → OnlyWanted (terms_at now q) (want q)) → Giving from want [] commands now
-giving-none from now want commands reaches only =
-    record { reaches = reaches; only = only; has = All-nil (λ w. terms_at now w.address ≡ want w.address) }
+pub giving-none : (from now : Registry) (want : Address → Option Enrolment) (customers : List Wanted) (commands : List Command)
+    → ((q : Address) → want q ≡ enrolment_among customers q) → Freeing from want [] commands now → Giving from want customers commands now
+giving-none from now want customers commands among freed =
+    record { reaches = freed.reaches; only = only; has = λ q. by-found q (find (λ w. address_eq q w.address) customers) refl }
+  where
+    only : (q : Address) → OnlyWanted (terms_at now q) (want q)
+    only q = ⊎_elim (λ only. only) (λ there. absurd (Contains-none q there)) (freed.only q)
+
+    nothing : (o : Option Enrolment) → OnlyWanted o None → o ≡ None
+    nothing None only = refl
+    nothing (Some e) only = absurd only
+
+    by-found : (q : Address) (o : Option Wanted) → find (λ w. address_eq q w.address) customers ≡ o
+        → (terms_at now q ≡ want q) ⊎ Contains (map (λ w. w.address) customers) q
+    by-found q None is =
+        let none : want q ≡ None = among q ∙ ap (option_map (λ w. enrolment_with w.terms)) is in
+        inl (nothing (terms_at now q) (subst (OnlyWanted (terms_at now q)) none (only q)) ∙ sym none)
+    by-found q (Some w) is =
+        let there = found customers q w (Contains customers) (All-contains_itself customers) is in
+        inr (subst (Contains (map (λ w. w.address) customers)) (sym there.1) (Contains-map (λ w. w.address) customers w there.0))
 
 -- what is wanted is only wanted
 only-itself : (wanted : Option Enrolment) → OnlyWanted wanted wanted
 only-itself None = tt
 only-itself (Some e) = All-contains_itself e.keys
 
-pub giving-more : (from r s : Registry) (want : Address → Option Enrolment) (given : List Wanted) (w : Wanted) (old new : List Command)
-    → Giving from want given old r → Moves r w.address (want w.address) old new s → terms_at s w.address ≡ want w.address
-    → Giving from want (given ++ w ∷ []) new s
-giving-more from r s want given w old new giving moves here = record {
+pub giving-more : (from r s : Registry) (want : Address → Option Enrolment) (w : Wanted) (left : List Wanted) (old new : List Command)
+    → Giving from want (w ∷ left) old r → Moves r w.address (want w.address) old new s → terms_at s w.address ≡ want w.address
+    → Giving from want left new s
+giving-more from r s want w left old new giving moves here = record {
   reaches = reaches-more from r s want w.address old new moves giving.reaches;
   only = at-address from r s want w.address old new moves (λ q now. OnlyWanted now (want q))
       (subst (λ o. OnlyWanted o (want w.address)) (sym here) (only-itself (want w.address))) (λ q ne. giving.only q);
-  has = All-push (λ v. terms_at s v.address ≡ want v.address) given w
-      (All-weaker (λ v. terms_at r v.address ≡ want v.address) (λ v. terms_at s v.address ≡ want v.address) still given giving.has) here;
+  has = at-address from r s want w.address old new moves (λ q now. (now ≡ want q) ⊎ Contains (map (λ w. w.address) left) q) (inl here)
+      (λ q ne. ⊎_elim inl (λ there. ⊎_elim (λ same. absurd (ne (sym same))) inr (Contains-cases w.address (map (λ w. w.address) left) q there))
+      (giving.has q));
 }
-  where
-    still : (v : Wanted) → terms_at r v.address ≡ want v.address → terms_at s v.address ≡ want v.address
-    still v had = ⊎_elim (λ same. subst (λ q. terms_at s q ≡ want q) (sym same) here) (λ ne. moves.done.others v.address ne ∙ had)
-        (same_or_other_address v.address w.address)
 
 -- ---- what they have led to
 
 pub have-exactly : (from now : Registry) (want : Address → Option Enrolment) (customers : List Wanted) (commands : List Command)
-    → ((q : Address) → want q ≡ enrolment_among customers q) → Giving from want customers commands now → HasExactly now customers
-have-exactly from now want customers commands among giving q = by-found (find (λ w. address_eq q w.address) customers) refl
-  where
-    none : (o : Option Enrolment) → OnlyWanted o None → o ≡ None
-    none None only = refl
-    none (Some e) only = absurd only
-
-    by-found : (o : Option Wanted) → find (λ w. address_eq q w.address) customers ≡ o → terms_at now q ≡ enrolment_among customers q
-    by-found None is =
-        let nothing : enrolment_among customers q ≡ None = ap (option_map (λ w. enrolment_with w.terms)) is in
-        none (terms_at now q) (subst (OnlyWanted (terms_at now q)) (among q ∙ nothing) (giving.only q)) ∙ sym nothing
-    by-found (Some w) is =
-        let there = found customers q w (λ w. terms_at now w.address ≡ want w.address) giving.has is in
-        subst (λ a. terms_at now a ≡ want a) (sym there.1) there.0 ∙ among q
+    → ((q : Address) → want q ≡ enrolment_among customers q) → Giving from want [] commands now → HasExactly now customers
+have-exactly from now want customers commands among given q = ⊎_elim (λ has. has) (λ there. absurd (Contains-none q there)) (given.has q) ∙ among q
 
 pub needed-among : (from now : Registry) (want : Address → Option Enrolment) (customers : List Wanted) (commands : List Command)
     → ((q : Address) → want q ≡ enrolment_among customers q) → Reaches from want commands now → All (IsNeeded from customers) commands

@@ -1,4 +1,3 @@
-mod AnswerLines
 mod Held
 mod Joined
 mod Spelled

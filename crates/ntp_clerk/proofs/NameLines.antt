@@ -2,14 +2,13 @@
 use Rattle.std.proofs.Common.{◌≡◌, ℕ, ◌+◌, ◌==◌, Bool, true, List, [], ◌∷◌, ◌++◌, length, drop, take, Option, Some, None, refl, sym, ap, ◌∙◌, arith, append_assoc}
 use Rattle.std.specs.Prelude.{codes, option_map, if◌then◌else◌}
 use Rattle.std.specs.List.{position_or_len, before_first, after_first}
-use Rattle.std.proofs.lemmas.Bool.{and_parts}
+use Rattle.std.proofs.lemmas.Bool.{and_parts, ne_eqb, not-true}
 use Rattle.std.proofs.Math.Seq.{take-append_seam, drop-append-add}
 use Rattle.ntp_service.specs.declared.address.Address.{Address}
 use Rattle.ntp_admin.specs.Words.{address_in, address_text, parts}
 use Rattle.ntp_clerk.specs.CommandText.{IsAddress}
 use Rattle.ntp_clerk.specs.Names.{name_behind, name_in, IsName}
-use Rattle.ntp_clerk.proofs.Joined.{lacks, lacks-both, parts-line, not-true}
-use Rattle.ntp_clerk.proofs.Stepping.{other-test}
+use Rattle.ntp_clerk.proofs.Joined.{lacks, lacks-both, parts-first-line}
 use Rattle.ntp_clerk.proofs.Spelled.{reads-address, lacks-address}
 
 abbrev is_space : ℕ → Bool
@@ -36,7 +35,7 @@ behind-address a name address is =
     parts-say : (before after : List ℕ) → before ≡ address_text a → after ≡ name
         → said (length after == 0) after (address_in before) ≡ Some (a, name)
     parts-say before after is_word is_name =
-        rw (is_word, is_name, other-test (length name) 0 (λ none. omega (arith, is.0, none)), reads-address a address) refl
+        rw (is_word, is_name, ne_eqb (length name) 0 (λ none. omega (arith, is.0, none)), reads-address a address) refl
 
 pub name-says : (a : Address) (name text : List ℕ) → IsAddress a → IsName name → text ≡ codes "# name " ++ (address_text a ++ (codes " " ++ (name ++ 10 ∷ [])))
     → (line : List ℕ) × (parts 10 text ≡ line ∷ [] ∷ []) × (name_in line ≡ Some (a, name))
@@ -45,4 +44,4 @@ name-says a name text address is whole =
     let lack = lacks-both 10 (codes "# name ") (address_text a ++ (32 ∷ name)) refl
     (lacks-both 10 (address_text a) (32 ∷ name) (lacks-address 10 refl refl a address) (lacks-both 10 (32 ∷ []) name refl is.1)) in
     let ended : address_text a ++ (codes " " ++ (name ++ 10 ∷ [])) ≡ (address_text a ++ (32 ∷ name)) ++ 10 ∷ [] = sym (append_assoc (address_text a) (32 ∷ name) (10 ∷ [])) in
-    (line, ap (parts 10) (whole ∙ ap (λ end. codes "# name " ++ end) ended) ∙ parts-line line lack, behind-address a name address is)
+    (line, ap (parts 10) (whole ∙ ap (λ end. codes "# name " ++ end) ended) ∙ parts-first-line line [] lack, behind-address a name address is)

@@ -8,25 +8,20 @@ use Rattle.ntp_clerk.specs.Bucket.{passing, InOrder}
 use Rattle.ntp_clerk.specs.Door.{LetsEachPass}
 use Rattle.ntp_clerk.proofs.Windows.{rest-same, rest-later, window-order}
 
--- Tokens after one more packet of a window: `short` is what a window's packets cost, `spent` what those before it in the window cost, `rest`
--- how far the window has come.
-filled-same : (most tokens short spent cost gone rest later : ℕ) → later ≡ rest + gone → most ≤ tokens + spent + (short - rest)
-    → spent + cost ≤ short → short + short ≤ most → cost ≤ min most (tokens + gone)
-filled-same most tokens short spent cost gone rest later e enough fits room = omega arith
+-- The tokens that a packet finds, in the window of the one before it and in a later one: `short` is what a window's packets cost, `spent` what
+-- those cost that came in that window, `rest` how far it had come.
+fill-same : (most tokens short spent gone rest later : ℕ) → later ≡ rest + gone → most ≤ tokens + spent + (short - rest)
+    → most ≤ min most (tokens + gone) + spent + (short - later)
+fill-same most tokens short spent gone rest later e enough = omega arith
 
-left-same : (most tokens short spent cost gone rest later : ℕ) → later ≡ rest + gone → most ≤ tokens + spent + (short - rest)
-    → spent + cost ≤ short → short + short ≤ most → most ≤ (min most (tokens + gone) - cost) + (spent + cost) + (short - later)
-left-same most tokens short spent cost gone rest later e enough fits room = omega arith
+fill-later : (most tokens short spent gone rest later span : ℕ) → span + later ≤ gone + rest → most ≤ tokens + spent + (short - rest) → rest < span
+    → spent ≤ short → short ≤ span → most ≤ min most (tokens + gone) + (short - later)
+fill-later most tokens short spent gone rest later span e enough inside fits slow = omega arith
 
--- the same of the first packet of a later window
-filled-later : (most tokens short spent cost gone rest later span : ℕ) → span + later ≤ gone + rest → most ≤ tokens + spent + (short - rest)
-    → spent ≤ short → cost ≤ short → short ≤ span → short + short ≤ most → cost ≤ min most (tokens + gone)
-filled-later most tokens short spent cost gone rest later span e enough fits one slow room = omega arith
-
-left-later : (most tokens short spent cost gone rest later span : ℕ) → span + later ≤ gone + rest → most ≤ tokens + spent + (short - rest)
-    → rest < span → spent ≤ short → cost ≤ short → short ≤ span → short + short ≤ most
-    → most ≤ (min most (tokens + gone) - cost) + cost + (short - later)
-left-later most tokens short spent cost gone rest later span e enough inside fits one slow room = omega arith
+-- they are enough, and enough are left
+taken : (most filled short spent cost rest : ℕ) → most ≤ filled + spent + (short - rest) → spent + cost ≤ short → short + short ≤ most
+    → (cost ≤ filled) × (most ≤ (filled - cost) + (spent + cost) + (short - rest))
+taken most filled short spent cost rest enough fits room = (omega arith, omega arith)
 
 -- how many of these moments lie in a window
 abbrev count : ℕ → ℕ → ℕ → List ℕ → ℕ
@@ -46,75 +41,38 @@ count-here span before now later =
 count-more : (span before window now : ℕ) (later : List ℕ) → count span before window later ≤ count span before window (now ∷ later)
 count-more span before window now later = omega (arith, count-first span before window now later)
 
--- a packet passes; how many of its window came up to it; and the tokens that are left
-record Passes (cost most n span before tokens last now : ℕ) (later : List ℕ) : Type 0 where
+-- a packet comes: how many of its window came before it, and the tokens that it finds
+record Comes (cost most n span before filled now : ℕ) (later : List ℕ) : Type 0 where
   came : ℕ
-  passes : cost ≤ min most (tokens + (now - last))
-  few : count span before ((now + before) / span) later + came ≤ n
-  left : most ≤ (min most (tokens + (now - last)) - cost) + cost * came + (cost * n - (now + before) % span)
+  few : count span before ((now + before) / span) later + (came + 1) ≤ n
+  enough : most ≤ filled + cost * came + (cost * n - (now + before) % span)
 
--- a packet in the window of the one before it
-passes-same : (cost most n span before tokens last came now : ℕ) (later : List ℕ)
-    → cost * n + cost * n ≤ most → last ≤ now → (now + before) / span ≡ (last + before) / span
-    → count span before ((last + before) / span) (now ∷ later) + came ≤ n
-    → most ≤ tokens + cost * came + (cost * n - (last + before) % span)
-    → Passes cost most n span before tokens last now later
-passes-same cost most n span before tokens last came now later room order same here enough =
-    let here' : count span before ((now + before) / span) (now ∷ later) + came ≤ n =
-    subst (λ (window : ℕ). count span before window (now ∷ later) + came ≤ n) (sym same) here in
-    let counted = count-here span before now later in
-    let few : came + 1 ≤ n = omega arith in
-    let gone : (now + before) % span ≡ (last + before) % span + (now - last) =
-    rest-same span (last + before) (now + before) (omega arith) same ∙ ap (λ d. (last + before) % span + d) (omega arith) in
-    let spent : cost * (came + 1) ≡ cost * came + cost = mul-add cost came 1 ∙ ap (λ c. cost * came + c) (mul-one cost) in
-    let fits : cost * (came + 1) ≤ cost * n = mul-le-mul_left cost few in
-    let fits' : cost * came + cost ≤ cost * n = omega arith in
-    let left : most ≤ (min most (tokens + (now - last)) - cost) + (cost * came + cost) + (cost * n - (now + before) % span) =
-    left-same most tokens (cost * n) (cost * came) cost (now - last) ((last + before) % span) ((now + before) % span) gone enough fits' room in
-    record {
-      came = came + 1;
-      passes = filled-same most tokens (cost * n) (cost * came) cost (now - last) ((last + before) % span) ((now + before) % span) gone enough fits' room;
-      few = omega arith;
-      left = rw spent left;
-    }
-
--- a packet in a later window
-passes-later : (cost most n span before tokens last came now : ℕ) (later : List ℕ)
-    → 0 < span → cost * n ≤ span → cost * n + cost * n ≤ most → last ≤ now → (last + before) / span < (now + before) / span
-    → count span before ((now + before) / span) (now ∷ later) ≤ n → came ≤ n
-    → most ≤ tokens + cost * came + (cost * n - (last + before) % span)
-    → Passes cost most n span before tokens last now later
-passes-later cost most n span before tokens last came now later some slow room order next here spent enough =
-    let counted = count-here span before now later in
-    let gone : span + (now + before) % span ≤ (now - last) + (last + before) % span =
-    let it = rest-later span (last + before) (now + before) (omega arith) next in omega arith in
-    let inside : (last + before) % span < span = mod-lt (last + before) some in
-    let fits : cost * came ≤ cost * n = mul-le-mul_left cost spent in
-    let one : cost * 1 ≤ cost * n = mul-le-mul_left cost (omega arith) in
-    let cost-once : cost * 1 ≡ cost = mul-one cost in
-    let one' : cost ≤ cost * n = omega arith in
-    let left : most ≤ (min most (tokens + (now - last)) - cost) + cost + (cost * n - (now + before) % span) =
-    left-later most tokens (cost * n) (cost * came) cost (now - last) ((last + before) % span) ((now + before) % span) span gone enough inside fits one' slow room in
-    record {
-      came = 1;
-      passes = filled-later most tokens (cost * n) (cost * came) cost (now - last) ((last + before) % span) ((now + before) % span) span gone enough fits one' slow room;
-      few = omega arith;
-      left = rw cost-once left;
-    }
-
--- either
-passes-next : (cost most n span before tokens last came now : ℕ) (later : List ℕ)
-    → 0 < span → cost * n ≤ span → cost * n + cost * n ≤ most → last ≤ now
+comes : (cost most n span before tokens last came now : ℕ) (later : List ℕ) → 0 < span → cost * n ≤ span → last ≤ now
     → ((window : ℕ) → count span before window (now ∷ later) ≤ n)
     → count span before ((last + before) / span) (now ∷ later) + came ≤ n
     → most ≤ tokens + cost * came + (cost * n - (last + before) % span)
-    → Passes cost most n span before tokens last now later
-passes-next cost most n span before tokens last came now later some slow room order each here enough =
+    → Comes cost most n span before (min most (tokens + (now - last))) now later
+comes cost most n span before tokens last came now later some slow order each here enough =
+    let counted = count-here span before now later in
     elim (cases_lt ((last + before) / span) ((now + before) / span)) [
-      | inl next ↦ passes-later cost most n span before tokens last came now later some slow room order next (each ((now + before) / span)) (omega arith) enough
+      | inl next ↦
+          let ahead = rest-later span (last + before) (now + before) (omega arith) next in
+          let spent : cost * came ≤ cost * n = mul-le-mul_left cost (omega arith) in
+          let fill = fill-later most tokens (cost * n) (cost * came) (now - last) ((last + before) % span) ((now + before) % span) span
+          (omega (arith, ahead)) enough (mod-lt (last + before) some) spent slow in
+          record { came = 0; few = omega (arith, each ((now + before) / span)); enough = omega (arith, fill) }
       | inr back ↦
           let ahead : (last + before) / span ≤ (now + before) / span = window-order span (last + before) (now + before) some (omega arith) in
-          passes-same cost most n span before tokens last came now later room order (omega arith) here enough
+          let same : (now + before) / span ≡ (last + before) / span = omega arith in
+          let here' : count span before ((now + before) / span) (now ∷ later) + came ≤ n =
+          subst (λ (window : ℕ). count span before window (now ∷ later) + came ≤ n) (sym same) here in
+          let gone : (now + before) % span ≡ (last + before) % span + (now - last) =
+          rest-same span (last + before) (now + before) (omega arith) same ∙ ap (λ d. (last + before) % span + d) (omega arith) in
+          record {
+            came = came;
+            few = omega arith;
+            enough = fill-same most tokens (cost * n) (cost * came) (now - last) ((last + before) % span) ((now + before) % span) gone enough;
+          }
     ]
 
 -- a packet that finds enough tokens passes, and takes some
@@ -135,12 +93,15 @@ pub passing-all : (cost most n span before : ℕ) → 0 < span → cost * n ≤ 
 unfolding InOrder passing
 passing-all cost most n span before some slow room tokens last came [] order each here enough = All-nil (λ passed. passed ≡ true)
 passing-all cost most n span before some slow room tokens last came (now ∷ later) order each here enough =
-    let next = passes-next cost most n span before tokens last came now later some slow room order.0 each here enough in
+    let next = comes cost most n span before tokens last came now later some slow order.0 each here enough in
     let filled = min most (tokens + (now - last)) in
-    subst (All (λ passed. passed ≡ true)) (sym (passing-first cost most tokens last now later next.passes))
+    let spent : cost * (next.came + 1) ≡ cost * next.came + cost = mul-add cost next.came 1 ∙ ap (λ c. cost * next.came + c) (mul-one cost) in
+    let fits : cost * (next.came + 1) ≤ cost * n = mul-le-mul_left cost (omega (arith, next.few)) in
+    let left = taken most filled (cost * n) (cost * next.came) cost ((now + before) % span) next.enough (omega (arith, fits, spent)) room in
+    subst (All (λ passed. passed ≡ true)) (sym (passing-first cost most tokens last now later left.0))
     (All-cons (λ passed. passed ≡ true) true (passing cost most (filled - cost) now later) refl
-    (passing-all cost most n span before some slow room (filled - cost) now next.came later order.1
-    (λ window. le_trans (count-more span before window now later) (each window)) next.few next.left))
+    (passing-all cost most n span before some slow room (filled - cost) now (next.came + 1) later order.1
+    (λ window. le_trans (count-more span before window now later) (each window)) next.few (rw spent left.1)))
 
 -- so the limit of a budget lets each budget pass up to this one
 pub lets-each-pass : (budget : ℕ) → LetsEachPass (record { rate = budget + 5; burst = 2 * (budget + 5) }) budget

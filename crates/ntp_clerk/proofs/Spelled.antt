@@ -3,12 +3,13 @@ use Rattle.std.proofs.Common.{◌≡◌, ℕ, zero, suc, ◌*◌, ◌^◌, ◌<�
 use Rattle.std.specs.Prelude.{map, not, slice_index, nat_le, if◌then◌else◌}
 use Rattle.std.specs.Option.{option_and_then}
 use Rattle.std.specs.Result.{result_ok}
-use Rattle.std.specs.List.{join_with_byte, list_all}
+use Rattle.std.specs.List.{list_all}
 use Rattle.std.specs.Char.{is_ascii_digit}
 use Rattle.std.specs.Fmt.{decimal}
 use Rattle.std.specs.Str.Parse.{digits_value}
 use Rattle.std.specs.declared.num.NonZeroU16.{NonZeroU16}
 use Rattle.std.proofs.lemmas.Bool.Decides.{nat_tests}
+use Rattle.std.proofs.lemmas.List.{length-map}
 use Rattle.std.proofs.lemmas.Fmt.{digits_decimal, digits_value-decimal, decimal_nonempty, first_decimal, decimal_digit}
 use Rattle.std.proofs.lemmas.Str.Parse.{IsNumeralModel, numerals_by_value}
 use Rattle.std.proofs.lemmas.List.Sums.{list_all-from_AllPass}
@@ -20,7 +21,7 @@ use Rattle.ntp_admin.proofs.PublicLaws.{new-non_zero}
 use Rattle.ntp_clerk.specs.declared.new_key.NewKey.{NewKey}
 use Rattle.ntp_clerk.specs.CommandText.{AreKeyOctets, IsAddress, IsNewKey, IsNumber}
 use Rattle.ntp_clerk.specs.Grants.{number_text}
-use Rattle.ntp_clerk.proofs.Joined.{lacks, lacks-by, lacks-joined, parts-joined}
+use Rattle.ntp_clerk.proofs.Joined.{lacks, lacks-all, lacks-by, parts-all, AllLack}
 
 own : IsNumeralModel (λ ds. list_all is_ascii_digit ds ≡ true) (digits_value 10)
 own = numerals_by_value _ (search rules)
@@ -54,63 +55,31 @@ reads-number number fits =
     ∙ sym (new-non_zero number.value (Some number) refl)
 
 -- an address
-reads-octets : (octets : List ℕ) → length octets ≡ 4 → IsBytes octets → address_in (join_with_byte 46 (map decimal octets)) ≡ Some (record { 0 = octets })
-reads-octets [] four bytes = absurd (omega arith)
-reads-octets (a ∷ []) four bytes = absurd (omega arith)
-reads-octets (a ∷ b ∷ []) four bytes = absurd (omega arith)
-reads-octets (a ∷ b ∷ c ∷ []) four bytes = absurd (omega arith)
-reads-octets (a ∷ b ∷ c ∷ d ∷ e ∷ others) four bytes = absurd (omega arith)
+octets-lack : (c : ℕ) → is_ascii_digit c ≡ false → (octets : List ℕ) → IsBytes octets → AllLack c (map decimal octets)
+octets-lack c other [] bytes = tt
+octets-lack c other (a ∷ octets) bytes = (lacks-decimal c a other (omega (arith, bytes 0)), octets-lack c other octets (λ i. bytes (suc i)))
+
+reads-octets : (octets : List ℕ) → length octets ≡ 4 → IsBytes octets → address_from (map (decimal_in 0 255) (map decimal octets)) ≡ Some (record { 0 = octets })
 reads-octets (a ∷ b ∷ c ∷ d ∷ []) four bytes =
     let ra = reads-decimal 0 255 a (omega arith) (omega (arith, bytes 0)) (omega (arith, bytes 0)) in
     let rb = reads-decimal 0 255 b (omega arith) (omega (arith, bytes 1)) (omega (arith, bytes 1)) in
     let rc = reads-decimal 0 255 c (omega arith) (omega (arith, bytes 2)) (omega (arith, bytes 2)) in
     let rd = reads-decimal 0 255 d (omega arith) (omega (arith, bytes 3)) (omega (arith, bytes 3)) in
-    ap (λ words. address_from (map (decimal_in 0 255) words))
-    (parts-joined 46 (decimal a) (decimal b ∷ decimal c ∷ decimal d ∷ []) (
-      lacks-decimal 46 a refl (omega (arith, bytes 0)),
-      (
-        lacks-decimal 46 b refl (omega (arith, bytes 1)),
-        (
-          lacks-decimal 46 c refl (omega (arith, bytes 2)),
-          (
-            lacks-decimal 46 d refl (omega (arith, bytes 3)),
-            tt,
-          ),
-        ),
-      ),
-    ))
-    ∙ rw (ra, rb, rc, rd) refl
+    rw (ra, rb, rc, rd) refl
+reads-octets others four bytes = absurd (omega arith)
 
 pub reads-address : (address : Address) → IsAddress address → address_in (address_text address) ≡ Some address
 unfolding address_text
-reads-address address is = reads-octets address.0 is.0 is.1
-
-lacks-octets : (x : ℕ) → is_ascii_digit x ≡ false → not (46 == x) ≡ true → (octets : List ℕ) → length octets ≡ 4 → IsBytes octets
-    → lacks x (join_with_byte 46 (map decimal octets)) ≡ true
-lacks-octets x other dot [] four bytes = absurd (omega arith)
-lacks-octets x other dot (a ∷ []) four bytes = absurd (omega arith)
-lacks-octets x other dot (a ∷ b ∷ []) four bytes = absurd (omega arith)
-lacks-octets x other dot (a ∷ b ∷ c ∷ []) four bytes = absurd (omega arith)
-lacks-octets x other dot (a ∷ b ∷ c ∷ d ∷ e ∷ others) four bytes = absurd (omega arith)
-lacks-octets x other dot (a ∷ b ∷ c ∷ d ∷ []) four bytes =
-    lacks-joined x 46 dot (decimal a) (decimal b ∷ decimal c ∷ decimal d ∷ []) (
-      lacks-decimal x a other (omega (arith, bytes 0)),
-      (
-        lacks-decimal x b other (omega (arith, bytes 1)),
-        (
-          lacks-decimal x c other (omega (arith, bytes 2)),
-          (
-            lacks-decimal x d other (omega (arith, bytes 3)),
-            tt,
-          ),
-        ),
-      ),
-    )
+reads-address address is =
+    ap (λ words. address_from (map (decimal_in 0 255) words))
+    (parts-all 46 (map decimal address.0) (omega (arith, is.0, length-map address.0 decimal)) (octets-lack 46 refl address.0 is.1))
+    ∙ reads-octets address.0 is.0 is.1
 
 pub lacks-address : (x : ℕ) → is_ascii_digit x ≡ false → not (46 == x) ≡ true → (address : Address) → IsAddress address
     → lacks x (address_text address) ≡ true
 unfolding address_text
-lacks-address x other dot address is = lacks-octets x other dot address.0 is.0 is.1
+lacks-address x other dot address is =
+    lacks-all x 46 dot (map decimal address.0) (omega (arith, is.0, length-map address.0 decimal)) (octets-lack x other address.0 is.1)
 
 -- a key
 pub lacks-digits : (c : ℕ) (octets : List ℕ) → is_hex_digit c ≡ false → IsBytes octets → lacks c (encode_lower octets) ≡ true

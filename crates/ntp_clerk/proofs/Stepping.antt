@@ -1,19 +1,23 @@
 -- Steps from keys that an address holds to those that are wanted of it.
-use Rattle.std.proofs.Common.{◌≡◌, ◌≢◌, ◌⊎◌, ℕ, zero, suc, ◌==◌, Bool, true, false, Option, Some, None, inl, inr, eqb-true, eq-eqb, true≢false, List, [], ◌∷◌, ◌++◌, refl, sym, ap, ◌∙◌, subst, arith, ⊎_elim}
-use Rattle.std.specs.Prelude.{if◌then◌else◌, Contains, All, fold, IfSome, is_some, option_map, option_to_list, IsTrue, ◌↔◌}
+use Rattle.std.proofs.Common.{◌≡◌, ◌≢◌, ◌⊎◌, ℕ, zero, suc, ◌==◌, Bool, true, false, Option, Some, None, inl, inr, eqb-true, eq-eqb, true≢false, List, [], ◌∷◌, ◌++◌, map, get_or, refl, sym, ap, ◌∙◌, subst, arith, ⊎_elim}
+use Rattle.std.specs.Prelude.{if◌then◌else◌, Contains, All, fold, IfSome, not, ◌&&◌, ◌||◌, option_map, option_to_list, IsTrue, ◌↔◌}
+use Rattle.std.specs.Bool.{then_some}
+use Rattle.std.specs.Option.{is_some, option_flatten}
 use Rattle.std.specs.declared.num.NonZeroU16.{NonZeroU16}
-use Rattle.std.proofs.lemmas.List.Elements.{All-nil, All-cons, All-head, All-tail}
+use Rattle.std.proofs.lemmas.Bool.{ne_eqb}
+use Rattle.std.proofs.lemmas.List.Elements.{All-nil, All-cons, All-head, All-tail, All-weaker}
 use Rattle.ntp_customer.specs.declared.numbered_key.NumberedKey.{NumberedKey}
-use Rattle.ntp_customer.specs.Customer.{Enrolment}
+use Rattle.ntp_customer.specs.Customer.{Enrolment, numbers_in}
+use Rattle.ntp_customer.proofs.PublicLaws.{Contains-map}
 use Rattle.ntp_service.specs.declared.address.Address.{Address}
-use Rattle.ntp_service.specs.Commands.{address_named}
+use Rattle.ntp_service.specs.Commands.{address_named, number_wanted, refusal_of}
 use Rattle.ntp_service.specs.Registry.{Registry, terms_at}
 use Rattle.ntp_service.specs.declared.command.Command.{Command}
 use Rattle.ntp_service.specs.declared.command.Command.TheVariants as command
 use Rattle.ntp_clerk.specs.declared.wanted.GivenKey.{GivenKey}
 use Rattle.ntp_clerk.specs.declared.wanted.Terms.{Terms}
 use Rattle.ntp_clerk.specs.Leading.{ends, enrolment_with, key_given, AreTwo, IsNeededAt, KeepsNoKey}
-use Rattle.ntp_clerk.specs.Steps.{done_in, rebudgeting, terms_after, AreDone, Frees, Goes, Moves, OnlyWanted}
+use Rattle.ntp_clerk.specs.Steps.{done_in, rebudgeting, terms_after, AreDone, AsksOf, Frees, Goes, Holds, IsFree, Moves, OnlyWanted, ShareNone}
 
 -- ---- members
 
@@ -36,29 +40,40 @@ first-of keys k ks all = All-head (Contains keys) k ks all
 second-of : (keys : List NumberedKey) (k l : NumberedKey) → All (Contains keys) (k ∷ l ∷ []) → Contains keys l
 second-of keys k l all = All-head (Contains keys) l [] (All-tail (Contains keys) k (l ∷ []) all)
 
-pub other-test : (m n : ℕ) → m ≢ n → (m == n) ≡ false
-other-test m n ne = decided (m == n) refl
-  where
-    decided : (b : Bool) → (m == n) ≡ b → (m == n) ≡ false
-    decided false e = e
-    decided true e = absurd (ne (eqb-true m n e))
-
 -- ---- commands that are done one after another
 
 abbrev enrolled : List NumberedKey → ℕ → Option Enrolment
 enrolled keys budget = Some (record { keys = keys; budget = budget })
 
+goes-enrol : {a : Address} {cs : List Command} {new : Option Enrolment} → (g : GivenKey) (budget : NonZeroU16) → Holds new (key_given g).number
+    → Goes (enrolled (key_given g ∷ []) budget.value) cs new → Goes None (command.Enrol a g.number g.key budget ∷ cs) new
+goes-enrol {a} {cs} {new} g budget wanted more = record {
+  leads = more.leads;
+  refused = (refl, more.refused);
+  asks = All-cons (AsksOf new) (command.Enrol a g.number g.key budget) cs wanted more.asks;
+}
+
 module _ {a : Address} {budget : ℕ} {cs : List Command} {new : Option Enrolment} where
-  goes-rollover : (k : NumberedKey) (g : GivenKey) → Goes (enrolled (k ∷ key_given g ∷ []) budget) cs new
-      → Goes (enrolled (k ∷ []) budget) (command.Rollover a g.number g.key ∷ cs) new
-  goes-rollover k g more = record { leads = more.leads }
+  goes-rollover : (k : NumberedKey) (g : GivenKey) → k.number ≢ (key_given g).number → Holds new (key_given g).number
+      → Goes (enrolled (k ∷ key_given g ∷ []) budget) cs new → Goes (enrolled (k ∷ []) budget) (command.Rollover a g.number g.key ∷ cs) new
+  goes-rollover k g apart wanted more =
+      let there = ne_eqb k.number (key_given g).number apart in
+      record {
+        leads = more.leads;
+        refused = (rw there refl, more.refused);
+        asks = All-cons (AsksOf new) (command.Rollover a g.number g.key) cs wanted more.asks;
+      }
 
   goes-retire : (g : GivenKey) (k : NumberedKey) → k.number ≢ (key_given g).number → Goes (enrolled (k ∷ []) budget) cs new
       → Goes (enrolled (key_given g ∷ k ∷ []) budget) (command.Retire a g.number ∷ cs) new
   goes-retire g k apart more =
       let here = eq-eqb (key_given g).number (key_given g).number refl in
-      let there = other-test k.number (key_given g).number apart in
-      record { leads = rw (here, there) more.leads }
+      let there = ne_eqb k.number (key_given g).number apart in
+      record {
+        leads = rw (here, there) more.leads;
+        refused = rw (here, there) (refl, more.refused);
+        asks = All-cons (AsksOf new) (command.Retire a g.number) cs tt more.asks;
+      }
 
 goes-end : (a : Address) (keys : List NumberedKey) (held wanted : Terms) → keys ≡ (enrolment_with wanted).keys
     → Goes (enrolled keys held.budget.value) (done_in (rebudgeting a held wanted ∷ [])) (Some (enrolment_with wanted))
@@ -69,73 +84,83 @@ goes-end a keys held wanted same = decided (held.budget.value == wanted.budget.v
     decided true e = record {
       leads = ap (λ keys. enrolled keys held.budget.value) same
           ∙ ap (λ budget. enrolled (enrolment_with wanted).keys budget) (eqb-true held.budget.value wanted.budget.value e);
+      refused = tt;
+      asks = All-nil (AsksOf (Some (enrolment_with wanted)));
     }
-    decided false e = record { leads = ap (λ keys. enrolled keys wanted.budget.value) same }
+    decided false e = record {
+      leads = ap (λ keys. enrolled keys wanted.budget.value) same;
+      refused = (refl, tt);
+      asks = All-cons (AsksOf (Some (enrolment_with wanted))) (command.Budget a wanted.budget) [] tt (All-nil (AsksOf (Some (enrolment_with wanted))));
+    }
 
 abbrev pub roll : Address → Option GivenKey → Option Command
 roll a newer = option_map (λ key. command.Rollover a key.number key.key) newer
 
--- what makes of keys the wanted ones, in their order: by whether the older one is the wanted one, and whether it is alone
-abbrev pub arranging : Address → GivenKey → GivenKey → Option GivenKey → Option Command → Bool → Bool → List (Option Command)
-arranging a held older newer budget true true = None ∷ None ∷ None ∷ budget ∷ []
-arranging a held older newer budget true false = None ∷ None ∷ roll a newer ∷ budget ∷ []
-arranging a held older newer budget false true = None ∷ Some (command.Retire a held.number) ∷ roll a newer ∷ budget ∷ []
-arranging a held older newer budget false false =
-    Some (command.Rollover a older.number older.key) ∷ Some (command.Retire a held.number) ∷ roll a newer ∷ budget ∷ []
+-- what makes of keys the wanted ones, in their order: by whether the older one is the wanted one, and whether there are two
+abbrev pub arranging : Address → Terms → Terms → Bool → Bool → List (Option Command)
+arranging a held wanted first two =
+    then_some (not first && not two) (command.Rollover a wanted.older.number wanted.older.key) ∷ then_some (not first) (command.Retire a held.older.number)
+    ∷ option_flatten (then_some (not first || not two) (roll a wanted.newer)) ∷ rebudgeting a held wanted ∷ []
 
 abbrev pub IsKeeping : Address → Command → Type 0
 IsKeeping a c = (address_named c ≡ a) × (ends c ≡ false)
 
-step-more : (P : Command → Type 0) (step : Option Command) (steps : List (Option Command)) → IfSome step P → All P (done_in steps)
-    → All P (done_in (step ∷ steps))
-step-more P None steps is more = more
-step-more P (Some c) steps is more = All-cons P c (done_in steps) is more
-
-pub arranging-keeps : (a : Address) (held wanted : Terms) (first more : Bool) (steps : List (Option Command))
-    → steps ≡ arranging a held.older wanted.older wanted.newer (rebudgeting a held wanted) first more → All (IsKeeping a) (done_in steps)
-arranging-keeps a held wanted first more steps are = rw are (by-cases first more)
+-- what holds of each of four steps holds of those that are done
+all-done : (P : Command → Type 0) (s t u v : Option Command) → IfSome s P → IfSome t P → IfSome u P → IfSome v P
+    → All P (done_in (s ∷ t ∷ u ∷ v ∷ []))
+all-done P s t u v p q r z = more s (t ∷ u ∷ v ∷ []) p (more t (u ∷ v ∷ []) q (more u (v ∷ []) r (more v [] z (All-nil P))))
   where
-    rolled : (newer : Option GivenKey) → IfSome (roll a newer) (IsKeeping a)
-    rolled None = tt
-    rolled (Some g) = (refl, refl)
+    more : (step : Option Command) (steps : List (Option Command)) → IfSome step P → All P (done_in steps) → All P (done_in (step ∷ steps))
+    more None steps is all = all
+    more (Some c) steps is all = All-cons P c (done_in steps) is all
+
+pub arranging-keeps : (a : Address) (held wanted : Terms) (first two : Bool) → All (IsKeeping a) (done_in (arranging a held wanted first two))
+arranging-keeps a held wanted first two =
+    all-done (IsKeeping a) (then_some (not first && not two) (command.Rollover a wanted.older.number wanted.older.key))
+    (then_some (not first) (command.Retire a held.older.number)) (option_flatten (then_some (not first || not two) (roll a wanted.newer)))
+    (rebudgeting a held wanted) (if-done (not first && not two) _ (refl, refl)) (if-done (not first) _ (refl, refl))
+    (rolled (not first || not two) wanted.newer) (budget (held.budget.value == wanted.budget.value))
+  where
+    if-done : (b : Bool) (c : Command) → IsKeeping a c → IfSome (then_some b c) (IsKeeping a)
+    if-done true c is = is
+    if-done false c is = tt
+
+    rolled : (b : Bool) (newer : Option GivenKey) → IfSome (option_flatten (then_some b (roll a newer))) (IsKeeping a)
+    rolled false newer = tt
+    rolled true None = tt
+    rolled true (Some g) = (refl, refl)
 
     budget : (b : Bool) → IfSome (if b then None else Some (command.Budget a wanted.budget)) (IsKeeping a)
     budget true = tt
     budget false = (refl, refl)
 
-    end : All (IsKeeping a) (done_in (rebudgeting a held wanted ∷ []))
-    end = step-more (IsKeeping a) (rebudgeting a held wanted) [] (budget (held.budget.value == wanted.budget.value)) (All-nil (IsKeeping a))
+abbrev made : GivenKey → Option GivenKey → NonZeroU16 → Terms
+made older newer budget = record { older = older; newer = newer; budget = budget }
 
-    newer : All (IsKeeping a) (done_in (roll a wanted.newer ∷ rebudgeting a held wanted ∷ []))
-    newer = step-more (IsKeeping a) (roll a wanted.newer) (rebudgeting a held wanted ∷ []) (rolled wanted.newer) end
-
-    retired : All (IsKeeping a) (done_in (Some (command.Retire a held.older.number) ∷ roll a wanted.newer ∷ rebudgeting a held wanted ∷ []))
-    retired = step-more (IsKeeping a) (Some (command.Retire a held.older.number)) (roll a wanted.newer ∷ rebudgeting a held wanted ∷ []) (refl, refl) newer
-
-    by-cases : (first more : Bool)
-        → All (IsKeeping a) (done_in (arranging a held.older wanted.older wanted.newer (rebudgeting a held wanted) first more))
-    by-cases true true = end
-    by-cases true false = newer
-    by-cases false true = retired
-    by-cases false false = step-more (IsKeeping a) (Some (command.Rollover a wanted.older.number wanted.older.key))
-        (Some (command.Retire a held.older.number) ∷ roll a wanted.newer ∷ rebudgeting a held wanted ∷ []) (refl, refl) retired
+-- what enrols an address, and gives it its newer key
+pub enrolled-goes : (a : Address) (terms : Terms) (newer : Option Command) → AreTwo terms → newer ≡ roll a terms.newer
+    → Goes None (command.Enrol a terms.older.number terms.older.key terms.budget ∷ done_in (newer ∷ [])) (Some (enrolment_with terms))
+enrolled-goes a terms newer two is = rw is (by-newer terms.older terms.newer terms.budget two)
+  where
+    by-newer : (older : GivenKey) (newer : Option GivenKey) (budget : NonZeroU16) → AreTwo (made older newer budget)
+        → Goes None (command.Enrol a older.number older.key budget ∷ done_in (roll a newer ∷ [])) (Some (enrolment_with (made older newer budget)))
+    by-newer older None budget two = goes-enrol older budget (0, omega arith, refl) (record { leads = refl; refused = tt; asks = All-nil _ })
+    by-newer older (Some newer) budget two = goes-enrol older budget (0, omega arith, refl)
+        (goes-rollover (key_given older) newer two (1, omega arith, refl) (record { leads = refl; refused = tt; asks = All-nil _ }))
 
 abbrev pub Arranged : Address → Terms → Terms → Bool → Type 0
 Arranged a held wanted first =
     OnlyWanted (Some (enrolment_with held)) (Some (enrolment_with wanted)) → AreTwo held → AreTwo wanted
     → IsTrue first ↔ (key_given held.older ≡ key_given wanted.older)
-    → Goes (Some (enrolment_with held)) (done_in (arranging a held.older wanted.older wanted.newer (rebudgeting a held wanted) first (is_some held.newer)))
-    (Some (enrolment_with wanted))
-
-abbrev made : GivenKey → Option GivenKey → NonZeroU16 → Terms
-made older newer budget = record { older = older; newer = newer; budget = budget }
+    → Goes (Some (enrolment_with held)) (done_in (arranging a held wanted first (is_some held.newer))) (Some (enrolment_with wanted))
 
 arranged-newer : (a : Address) (ho : GivenKey) (hn : Option GivenKey) (hb : NonZeroU16) (wo : GivenKey) (wn : Option GivenKey) (wb : NonZeroU16) (first : Bool)
     → Arranged a (made ho hn hb) (made wo wn wb) first
 arranged-newer a ho None hb wo None wb true only two_h two_w first =
     goes-end a (key_given ho ∷ []) (made ho None hb) (made wo None wb) (ap (λ k. k ∷ []) (first.0 refl))
 arranged-newer a ho None hb wo (Some w) wb true only two_h two_w first =
-    goes-rollover (key_given ho) w (goes-end a (key_given ho ∷ key_given w ∷ []) (made ho None hb) (made wo (Some w) wb) (ap (λ k. k ∷ key_given w ∷ []) (first.0 refl)))
+    goes-rollover (key_given ho) w (subst (λ k. k.number ≢ (key_given w).number) (sym (first.0 refl)) two_w) (1, omega arith, refl)
+    (goes-end a (key_given ho ∷ key_given w ∷ []) (made ho None hb) (made wo (Some w) wb) (ap (λ k. k ∷ key_given w ∷ []) (first.0 refl)))
 arranged-newer a ho (Some h) hb wo None wb true only two_h two_w first =
     absurd (two_h (ap (λ k. k.number) (first.0 refl ∙ Contains-one (key_given wo) (key_given h) (second-of (key_given wo ∷ []) (key_given ho) (key_given h) only))))
 arranged-newer a ho (Some h) hb wo (Some w) wb true only two_h two_w first = ⊎_elim
@@ -143,34 +168,28 @@ arranged-newer a ho (Some h) hb wo (Some w) wb true only two_h two_w first = ⊎
     (λ there. goes-end a (key_given ho ∷ key_given h ∷ []) (made ho (Some h) hb) (made wo (Some w) wb)
     (ap (λ k. k ∷ key_given h ∷ []) (first.0 refl) ∙ ap (λ k. key_given wo ∷ k ∷ []) (sym there)))
     (Contains-two (key_given wo) (key_given w) (key_given h) (second-of (key_given wo ∷ key_given w ∷ []) (key_given ho) (key_given h) only))
-arranged-newer a ho None hb wo None wb false only two_h two_w first =
-    absurd (true≢false (sym (first.1 (sym (Contains-one (key_given wo) (key_given ho) (first-of (key_given wo ∷ []) (key_given ho) [] only))))))
-arranged-newer a ho (Some h) hb wo None wb false only two_h two_w first =
-    absurd (true≢false (sym (first.1 (sym (Contains-one (key_given wo) (key_given ho) (first-of (key_given wo ∷ []) (key_given ho) (key_given h ∷ []) only))))))
+arranged-newer a ho hn hb wo None wb false only two_h two_w first =
+    absurd (true≢false (sym (first.1 (sym (Contains-one (key_given wo) (key_given ho)
+    (first-of (key_given wo ∷ []) (key_given ho) (option_to_list (option_map key_given hn)) only))))))
 arranged-newer a ho None hb wo (Some w) wb false only two_h two_w first = ⊎_elim
     (λ there. absurd (true≢false (sym (first.1 (sym there)))))
     (λ there.
     let apart : (key_given wo).number ≢ (key_given ho).number = subst (λ k. (key_given wo).number ≢ k.number) there two_w in
-    goes-rollover (key_given ho) wo (goes-retire ho (key_given wo) apart
-    (goes-rollover (key_given wo) w (goes-end a (key_given wo ∷ key_given w ∷ []) (made ho None hb) (made wo (Some w) wb) refl))))
+    goes-rollover (key_given ho) wo (λ e. apart (sym e)) (0, omega arith, refl) (goes-retire ho (key_given wo) apart
+    (goes-rollover (key_given wo) w two_w (1, omega arith, refl) (goes-end a (key_given wo ∷ key_given w ∷ []) (made ho None hb) (made wo (Some w) wb) refl))))
     (Contains-two (key_given wo) (key_given w) (key_given ho) (first-of (key_given wo ∷ key_given w ∷ []) (key_given ho) [] only))
 arranged-newer a ho (Some h) hb wo (Some w) wb false only two_h two_w first = ⊎_elim
     (λ there. absurd (true≢false (sym (first.1 (sym there)))))
     (λ there. ⊎_elim
     (λ next.
     goes-retire ho (key_given h) (λ e. two_h (sym e))
-    (goes-rollover (key_given h) w (goes-end a (key_given h ∷ key_given w ∷ []) (made ho (Some h) hb) (made wo (Some w) wb) (ap (λ k. k ∷ key_given w ∷ []) (sym next)))))
+    (goes-rollover (key_given h) w (subst (λ k. k.number ≢ (key_given w).number) next two_w) (1, omega arith, refl) (goes-end a (key_given h ∷ key_given w ∷ []) (made ho (Some h) hb) (made wo (Some w) wb) (ap (λ k. k ∷ key_given w ∷ []) (sym next)))))
     (λ next. absurd (two_h (ap (λ k. k.number) (sym there ∙ next))))
     (Contains-two (key_given wo) (key_given w) (key_given h) (second-of (key_given wo ∷ key_given w ∷ []) (key_given ho) (key_given h) only)))
     (Contains-two (key_given wo) (key_given w) (key_given ho) (first-of (key_given wo ∷ key_given w ∷ []) (key_given ho) (key_given h ∷ []) only))
 
-pub arranged : (a : Address) (held wanted : Terms) (first more : Bool) (steps : List (Option Command))
-    → steps ≡ arranging a held.older wanted.older wanted.newer (rebudgeting a held wanted) first more
-    → OnlyWanted (Some (enrolment_with held)) (Some (enrolment_with wanted)) → AreTwo held × AreTwo wanted
-    → IsTrue first ↔ (key_given held.older ≡ key_given wanted.older) → more ≡ is_some held.newer
-    → Goes (Some (enrolment_with held)) (done_in steps) (Some (enrolment_with wanted))
-arranged a held wanted first more steps are only two is_first is_more =
-    rw (are, is_more) (arranged-newer a held.older held.newer held.budget wanted.older wanted.newer wanted.budget first only two.0 two.1 is_first)
+pub arranged : (a : Address) (held wanted : Terms) (first : Bool) → Arranged a held wanted first
+arranged a held wanted first = arranged-newer a held.older held.newer held.budget wanted.older wanted.newer wanted.budget first
 
 -- ---- keys that are not wanted are taken
 
@@ -180,11 +199,13 @@ keys-differ e f k has not_wanted same = let alike : e ≡ f = cc in not_wanted (
 
 -- what has been left of keys is wanted, where one of two is taken
 frees-one : (a : Address) (e f : Enrolment) (left other : NumberedKey) (c : Command) → (address_named c ≡ a) × (ends c ≡ false)
-    → terms_after (Some e) c ≡ enrolled (left ∷ []) e.budget → Contains e.keys left → Contains f.keys left
+    → refusal_of (Some e) c ≡ None → number_wanted c ≡ None → terms_after (Some e) c ≡ enrolled (left ∷ []) e.budget → Contains e.keys left → Contains f.keys left
     → Contains e.keys other → (Contains f.keys other → ⊥) → Frees a (Some e) (Some f) (c ∷ [])
-frees-one a e f left other c keeping after held wanted has not_wanted =
+frees-one a e f left other c keeping refused asks after held wanted has not_wanted =
     let differs = keys-differ e f other has not_wanted in
     record {
+      refused = (refused, tt);
+      asks = All-cons (λ c. number_wanted c ≡ None) c [] asks (All-nil (λ c. number_wanted c ≡ None));
       needed = All-cons (IsNeededAt a (Some e) (Some f)) c []
           (record { named = keeping.0; differs = differs; ends_none = λ ends. absurd (true≢false (sym ends ∙ keeping.1)) })
           (All-nil (IsNeededAt a (Some e) (Some f)));
@@ -192,48 +213,41 @@ frees-one a e f left other c keeping after held wanted has not_wanted =
       only = rw after (All-cons (Contains f.keys) left [] wanted (All-nil (Contains f.keys)));
     }
 
-module _ (a : Address) (held wanted : Terms) (newer : GivenKey) (is : held.newer ≡ Some newer) where
+module _ (a : Address) (older newer : GivenKey) (budget : ℕ) (f : Enrolment) where
   abbrev keys : List NumberedKey
-  keys = key_given held.older ∷ key_given newer ∷ []
+  keys = key_given older ∷ key_given newer ∷ []
 
-  with-newer : (cs : List Command) → Frees a (enrolled keys held.budget.value) (Some (enrolment_with wanted)) cs
-      → Frees a (Some (enrolment_with held)) (Some (enrolment_with wanted)) cs
-  with-newer cs frees = subst (λ n. Frees a (enrolled (key_given held.older ∷ option_to_list (option_map key_given n)) held.budget.value)
-      (Some (enrolment_with wanted)) cs) (sym is) frees
-
-  older-there : Contains keys (key_given held.older)
+  older-there : Contains keys (key_given older)
   older-there = (0, omega arith, refl)
 
   newer-there : Contains keys (key_given newer)
   newer-there = (1, omega arith, refl)
 
-  pub frees-none : Contains (enrolment_with wanted).keys (key_given held.older) → Contains (enrolment_with wanted).keys (key_given newer)
-      → Frees a (Some (enrolment_with held)) (Some (enrolment_with wanted)) []
-  frees-none one other =
-      let all = Contains (enrolment_with wanted).keys in
-      with-newer [] record {
-        needed = All-nil (IsNeededAt a (enrolled keys held.budget.value) (Some (enrolment_with wanted)));
-        kept = record { same = λ e. refl; keeps = λ none. none };
-        only = All-cons all (key_given held.older) (key_given newer ∷ []) one (All-cons all (key_given newer) [] other (All-nil all));
-      }
+  pub frees-none : Contains f.keys (key_given older) → Contains f.keys (key_given newer) → Frees a (enrolled keys budget) (Some f) []
+  frees-none one other = record {
+    refused = tt;
+    asks = All-nil (λ c. number_wanted c ≡ None);
+    needed = All-nil (IsNeededAt a (enrolled keys budget) (Some f));
+    kept = record { same = λ e. refl; keeps = λ none. none };
+    only = All-cons (Contains f.keys) (key_given older) (key_given newer ∷ []) one
+        (All-cons (Contains f.keys) (key_given newer) [] other (All-nil (Contains f.keys)));
+  }
 
-  pub frees-newer : AreTwo held → Contains (enrolment_with wanted).keys (key_given held.older) → (Contains (enrolment_with wanted).keys (key_given newer) → ⊥)
-      → Frees a (Some (enrolment_with held)) (Some (enrolment_with wanted)) (command.Retire a newer.number ∷ [])
+  pub frees-newer : (key_given older).number ≢ (key_given newer).number → Contains f.keys (key_given older) → (Contains f.keys (key_given newer) → ⊥)
+      → Frees a (enrolled keys budget) (Some f) (command.Retire a newer.number ∷ [])
   frees-newer two one not_other =
-      let apart = other-test (key_given held.older).number (key_given newer).number (rw is at two) in
+      let apart = ne_eqb (key_given older).number (key_given newer).number two in
       let here = eq-eqb (key_given newer).number (key_given newer).number refl in
-      with-newer (command.Retire a newer.number ∷ [])
-      (frees-one a _ (enrolment_with wanted) (key_given held.older) (key_given newer) (command.Retire a newer.number) (refl, refl)
-      (rw (apart, here) refl) older-there one newer-there not_other)
+      frees-one a _ f (key_given older) (key_given newer) (command.Retire a newer.number) (refl, refl)
+      (rw (apart, here) refl) refl (rw (apart, here) refl) older-there one newer-there not_other
 
-  pub frees-older : AreTwo held → (Contains (enrolment_with wanted).keys (key_given held.older) → ⊥) → Contains (enrolment_with wanted).keys (key_given newer)
-      → Frees a (Some (enrolment_with held)) (Some (enrolment_with wanted)) (command.Retire a held.older.number ∷ [])
+  pub frees-older : (key_given older).number ≢ (key_given newer).number → (Contains f.keys (key_given older) → ⊥) → Contains f.keys (key_given newer)
+      → Frees a (enrolled keys budget) (Some f) (command.Retire a older.number ∷ [])
   frees-older two not_one other =
-      let apart = other-test (key_given newer).number (key_given held.older).number (λ e. (rw is at two) (sym e)) in
-      let here = eq-eqb (key_given held.older).number (key_given held.older).number refl in
-      with-newer (command.Retire a held.older.number ∷ [])
-      (frees-one a _ (enrolment_with wanted) (key_given newer) (key_given held.older) (command.Retire a held.older.number) (refl, refl)
-      (rw (apart, here) refl) newer-there other older-there not_one)
+      let apart = ne_eqb (key_given newer).number (key_given older).number (λ e. two (sym e)) in
+      let here = eq-eqb (key_given older).number (key_given older).number refl in
+      frees-one a _ f (key_given newer) (key_given older) (command.Retire a older.number) (refl, refl)
+      (rw here refl) refl (rw (apart, here) refl) newer-there other older-there not_one
 
 -- ---- one address moves
 
@@ -265,3 +279,33 @@ module _ (r s : Registry) (a : Address) (wanted : Option Enrolment) (old new cs 
         },
         has,
       )
+
+-- ---- numbers that others do not hold
+
+pub free-of-none : (r : Registry) (cs : List Command) → All (λ c. number_wanted c ≡ None) cs → All (IsFree r) cs
+free-of-none r cs all = All-weaker (λ c. number_wanted c ≡ None) (IsFree r) (λ c none other ne. rw none tt) cs all
+
+-- a number of keys that are wanted is wanted
+only-holds : (held wanted : Option Enrolment) (n : ℕ) → OnlyWanted held wanted → Holds held n → Holds wanted n
+only-holds None wanted n only there = absurd (Contains-none n there)
+only-holds (Some e) None n only there = absurd only
+only-holds (Some e) (Some f) n only there = by-keys e.keys only there
+  where
+    by-keys : (keys : List NumberedKey) → All (Contains f.keys) keys → Contains (map (λ k. k.number) keys) n → Contains (numbers_in f) n
+    by-keys [] all there = absurd (Contains-none n there)
+    by-keys (k ∷ ks) all there = ⊎_elim
+        (λ same. subst (Contains (numbers_in f)) same (Contains-map (λ k. k.number) f.keys k (All-head (Contains f.keys) k ks all)))
+        (λ more. by-keys ks (All-tail (Contains f.keys) k ks all) more)
+        (Contains-cases k.number (map (λ k. k.number) ks) n there)
+
+-- where no address has what is not wanted of it, others do not hold a number that is wanted of one
+pub free-to-give : (r : Registry) (want : Address → Option Enrolment) (a : Address) (cs : List Command) → ShareNone want
+    → ((q : Address) → OnlyWanted (terms_at r q) (want q)) → All (λ c. address_named c ≡ a) cs → All (AsksOf (want a)) cs → All (IsFree r) cs
+free-to-give r want a cs apart only named asks = λ i d inside. one (get_or cs i d) (named i d inside) (asks i d inside)
+  where
+    one : (c : Command) → address_named c ≡ a → AsksOf (want a) c → IsFree r c
+    one c here asks = λ other ne. by-number other (λ same. ne (same ∙ sym here)) (number_wanted c) asks
+      where
+        by-number : (other : Address) → other ≢ a → (o : Option ℕ) → IfSome o (Holds (want a)) → IfSome o (λ n. Holds (terms_at r other) n → ⊥)
+        by-number other ne None asks = tt
+        by-number other ne (Some n) asks = λ held. apart other a n ne (only-holds (terms_at r other) (want other) n (only other) held) asks

@@ -1,5 +1,5 @@
 -- Customers that are wanted, and the commands that lead to them.
-use Rattle.std.specs.Prelude.{◌≡◌, ◌≢◌, ◌⊎◌, ℕ, Bool, true, false, Option, Some, option_map, option_to_list, IfSome, IsSome, List, [], ◌∷◌, All, map, find, Contains, AllPairs}
+use Rattle.std.specs.Prelude.{◌≡◌, ◌≢◌, ℕ, Bool, true, false, Option, Some, option_map, option_to_list, IfSome, IsSome, List, [], ◌∷◌, All, map, find, Contains, AllPairs}
 use Rattle.std.specs.declared.alloc.Global.{Global}
 use Rattle.std.specs.Int.NonZero.{non_zero_u16_get}
 use Rattle.ntp_customer.specs.declared.numbered_key.NumberedKey.{NumberedKey}
@@ -14,8 +14,6 @@ use Rattle.ntp_service.specs.declared.event.Event.{Event}
 use Rattle.ntp_service.specs.declared.event.Event.TheVariants as event
 use Rattle.ntp_service.specs.declared.outcome.Outcome.TheVariants as outcome
 use Rattle.ntp_service.specs.Headline.{StandsFor, Tells}
-use Rattle.ntp_clerk.specs.declared.leading.LeadFault.{LeadFault}
-use Rattle.ntp_clerk.specs.declared.leading.LeadFault.TheVariants.{NoMemory, Other}
 use Rattle.ntp_clerk.specs.declared.wanted.GivenKey.{GivenKey}
 use Rattle.ntp_clerk.specs.declared.wanted.Terms.{Terms}
 use Rattle.ntp_clerk.specs.declared.wanted.Wanted.{Wanted}
@@ -55,10 +53,6 @@ pub record AreApart (customers : List Wanted) : Type 0 where
   pub addresses : AllPairs (λ one other. one.address ≢ other.address) customers
   pub numbers : AllPairs (λ one other. (number : ℕ) → HasNumber one.terms number → HasNumber other.terms number → ⊥) customers
   pub two : All (λ w. AreTwo w.terms) customers
-
--- a fault is one of the service: it had no memory, or refused a command
-abbrev pub IsOfService : LeadFault → Type 0
-IsOfService fault = (fault ≡ NoMemory) ⊎ (fault ≡ Other)
 
 -- a command ends what its address had: by a revocation, or by an enrolment, which begins anew
 abbrev pub ends : Command → Bool

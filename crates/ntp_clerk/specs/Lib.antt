@@ -1,7 +1,6 @@
 pub mod Numbers
 pub mod CommandText
 pub mod Grants
-pub mod AnswersFile
 pub mod Leading
 pub mod Steps
 pub mod Names

@@ -1,18 +1,19 @@
 -- Not to be believed: for proofs. The steps from what an address has to what it is to have.
-use Rattle.std.specs.Prelude.{ℕ, ◌≡◌, ◌≢◌, ◌⊎◌, ◌==◌, if◌then◌else◌, ◌++◌, [], Bool, true, false, Option, None, Some, option_map, option_and_then, List, All, IfSome, IsSome, Contains, fold, filter_map}
+use Rattle.std.specs.Prelude.{ℕ, ◌≡◌, ◌≢◌, ◌==◌, if◌then◌else◌, ◌++◌, [], ◌∷◌, Bool, true, false, Option, None, Some, option_map, option_and_then, List, All, IfSome, IsSome, Contains, fold, filter_map}
+use Rattle.std.specs.Option.{option_map_or}
 use Rattle.std.specs.Int.NonZero.{non_zero_u16_get}
 use Rattle.indexmap.specs.IndexMap.{IndexMap, get}
 use Rattle.ntp_customer.specs.Tally.{tally}
-use Rattle.ntp_customer.specs.Customer.{Enrolment, enrolment_at, new_customer}
+use Rattle.ntp_customer.specs.Customer.{Enrolment, enrolment_at, new_customer, numbers_in}
 use Rattle.ntp_service.specs.declared.address.Address.{Address}
 use Rattle.ntp_service.specs.Address.{address_eq}
-use Rattle.ntp_service.specs.Commands.{once_done}
+use Rattle.ntp_service.specs.Commands.{address_named, number_wanted, once_done, refusal_of}
 use Rattle.ntp_service.specs.Registry.{Registry, customer_at, terms_at}
 use Rattle.ntp_service.specs.declared.command.Command.{Command}
 use Rattle.ntp_service.specs.declared.command.Command.TheVariants.{Budget}
 use Rattle.ntp_clerk.specs.declared.wanted.Terms.{Terms}
 use Rattle.ntp_clerk.specs.declared.wanted.Wanted.{Wanted}
-use Rattle.ntp_clerk.specs.Leading.{enrolment_if, enrolment_with, enrolment_among, AreTwo, HasNumber, IsNeededAt, KeepsNoKey, LeadsTo, NobodyIsForgotten}
+use Rattle.ntp_clerk.specs.Leading.{enrolment_if, enrolment_with, enrolment_among, AreTwo, IsNeededAt, KeepsNoKey, LeadsTo, NobodyIsForgotten}
 
 -- the commands of steps
 abbrev pub done_in : List (Option Command) → List Command
@@ -22,10 +23,19 @@ done_in steps = filter_map (λ step. step) steps
 abbrev pub wanted_in : {S : Type 0} → IndexMap Address Terms S → Address → Option Enrolment
 wanted_in terms address = enrolment_if (get address_eq terms address)
 
--- these are the terms of customers by their addresses, and none has one number twice
+-- an enrolment, where there is one, has a number
+abbrev pub Holds : Option Enrolment → ℕ → Type 0
+Holds held number = Contains (option_map_or numbers_in held []) number
+
+-- no two addresses are to have one number
+abbrev pub ShareNone : (Address → Option Enrolment) → Type 0
+ShareNone want = (one other : Address) (number : ℕ) → one ≢ other → Holds (want one) number → Holds (want other) number → ⊥
+
+-- these are the terms of customers by their addresses, and no number stands twice
 pub record AreTerms {S : Type 0} (terms : IndexMap Address Terms S) (customers : List Wanted) : Type 0 where
   pub among : (address : Address) → wanted_in terms address ≡ enrolment_among customers address
   pub two : (address : Address) → IfSome (get address_eq terms address) AreTwo
+  pub apart : ShareNone (wanted_in terms)
 
 -- a number is noted that was not
 pub record NotesOne (number : ℕ) (old new : ℕ → Bool) : Type 0 where
@@ -33,16 +43,17 @@ pub record NotesOne (number : ℕ) (old new : ℕ → Bool) : Type 0 where
   pub noted : new number ≡ true
   pub others : (n : ℕ) → n ≢ number → new n ≡ old n
 
+-- numbers are noted, one after another
+abbrev pub NotesAll : List ℕ → (ℕ → Bool) → (ℕ → Bool) → Type 0
+NotesAll [] old new = (n : ℕ) → new n ≡ old n
+NotesAll (number ∷ numbers) old new = (next : ℕ → Bool) × NotesOne number old next × NotesAll numbers next new
+
 -- the terms of an address are noted, and its numbers, where none of them was
 pub record Notes (address : Address) (terms : Terms) (old new : Address → Option Terms) (numbers noted : ℕ → Bool) : Type 0 where
   pub free : old address ≡ None
   pub here : new address ≡ Some terms
   pub others : (q : Address) → q ≢ address → new q ≡ old q
-  pub two : AreTwo terms
-  pub fresh : (n : ℕ) → HasNumber terms n → numbers n ≡ false
-  pub has : (n : ℕ) → HasNumber terms n → noted n ≡ true
-  pub kept : (n : ℕ) → numbers n ≡ true → noted n ≡ true
-  pub only : (n : ℕ) → noted n ≡ true → (numbers n ≡ true) ⊎ HasNumber terms n
+  pub all : NotesAll (numbers_in (enrolment_with terms)) numbers noted
 
 -- what an address is enrolled with after its command is done
 abbrev pub terms_after : Option Enrolment → Command → Option Enrolment
@@ -53,9 +64,35 @@ abbrev pub rebudgeting : Address → Terms → Terms → Option Command
 rebudgeting address held wanted =
     if non_zero_u16_get held.budget == non_zero_u16_get wanted.budget then None else Some (Budget address wanted.budget)
 
--- commands lead from what an address has to this
+-- what an address has refuses none of these commands, one after another
+abbrev pub RefusesNone : Option Enrolment → List Command → Type 0
+RefusesNone held [] = Unit {0}
+RefusesNone held (c ∷ cs) = (refusal_of held c ≡ None) × RefusesNone (terms_after held c) cs
+
+-- the number that a command asks for, if it asks for one, is in an enrolment
+abbrev pub AsksOf : Option Enrolment → Command → Type 0
+AsksOf wanted c = IfSome (number_wanted c) (Holds wanted)
+
+-- no other address has the number that a command asks for
+abbrev pub IsFree : Registry → Command → Type 0
+IsFree r c = (other : Address) → other ≢ address_named c → IfSome (number_wanted c) (λ number. Holds (terms_at r other) number → ⊥)
+
+-- nothing but want of memory refuses a command
+pub record CanDo (r : Registry) (c : Command) : Type 0 where
+  pub own : refusal_of (terms_at r (address_named c)) c ≡ None
+  pub free : IsFree r c
+
+-- nothing but want of memory refuses commands for an address, one after another
+pub record CanDoAll (r : Registry) (address : Address) (cs : List Command) : Type 0 where
+  pub named : All (λ c. address_named c ≡ address) cs
+  pub refused : RefusesNone (terms_at r address) cs
+  pub free : All (IsFree r) cs
+
+-- commands lead from what an address has to this, ask for no other number, and none of them is refused by what it has
 pub record Goes (held : Option Enrolment) (cs : List Command) (new : Option Enrolment) : Type 0 where
   pub leads : fold terms_after held cs ≡ new
+  pub refused : RefusesNone held cs
+  pub asks : All (AsksOf new) cs
 
 -- commands for an address are done: they change what it is enrolled with, and no other
 pub record AreDone (r : Registry) (address : Address) (cs : List Command) (s : Registry) : Type 0 where
@@ -75,8 +112,10 @@ pub record Kept (held wanted now : Option Enrolment) : Type 0 where
   pub same : held ≡ wanted → now ≡ held
   pub keeps : KeepsNoKey now wanted → KeepsNoKey held wanted
 
--- commands take from an address what is not wanted of it
+-- commands, none of which is refused, take from an address what is not wanted of it
 pub record Frees (address : Address) (held wanted : Option Enrolment) (cs : List Command) : Type 0 where
+  pub refused : RefusesNone held cs
+  pub asks : All (λ c. number_wanted c ≡ None) cs
   pub needed : All (IsNeededAt address held wanted) cs
   pub kept : Kept held wanted (fold terms_after held cs)
   pub only : OnlyWanted (fold terms_after held cs) wanted
@@ -89,10 +128,15 @@ pub record Moves (r : Registry) (address : Address) (wanted : Option Enrolment) 
   pub needed : All (IsNeededAt address (terms_at r address) wanted) more
   pub kept : Kept (terms_at r address) wanted (terms_at s address)
 
--- two commands make an address a revoked one, and nobody is forgotten
+-- no address is enrolled
+abbrev pub NobodyIsEnrolled : Registry → Type 0
+NobodyIsEnrolled r = (address : Address) → terms_at r address ≡ None
+
+-- two commands make an address a revoked one; nobody is enrolled then, and nobody is forgotten
 pub record Revokes (r : Registry) (address : Address) (old new : List Command) (s : Registry) : Type 0 where
   pub more : List Command
   pub noted : new ≡ old ++ more
   pub leads : LeadsTo r more s
   pub is_known : IsSome (customer_at s address)
+  pub nobody : NobodyIsEnrolled s
   pub known : NobodyIsForgotten r s

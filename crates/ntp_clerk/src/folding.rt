@@ -2,13 +2,13 @@
 ghost use Rattle.std.specs.Prelude.{◌++◌, ◌∷◌, None, All, IfOk, IfSome, IsSome, OnOk};
 ghost use Rattle.ntp_service.specs.Registry.{customer_at, terms_at};
 ghost use Rattle.ntp_clerk.specs.Leading.{LeadsTo, Makes, NobodyIsForgotten};
-ghost use Rattle.ntp_clerk.specs.Steps.{Revokes};
+ghost use Rattle.ntp_clerk.specs.Steps.{NobodyIsEnrolled, Revokes};
 
 use crate::leading::{LeadFault, carry_out, commands_to};
 use crate::wanted::customers_of;
 use ntp_mac::Key;
 use ntp_service::{Address, Command, Service};
-use std::alloc::Global;
+use std::alloc::{AllocError, Global};
 use std::num::NonZero;
 
 /// Few commands that make the customers of a service out of none: each of these addresses is enrolled under number 1, with a
@@ -33,13 +33,14 @@ pub fn fold(
     Ok(commands)
 }
 
-// Makes an address a revoked one, where nobody holds number 1.
+// Makes an address a revoked one, where nobody is enrolled, and so nobody holds number 1.
 fn revoke(
     service: &mut Service,
     commands: &mut Vec<Command>,
     address: Address,
     spare: Key,
-) -> Result<(), LeadFault>
+) -> Result<(), AllocError>
+    requires { NobodyIsEnrolled service.old }
     ensures { OnOk result (Revokes service.old address commands.old.items commands.new.items service.new) }
 {
     let enrol = Command::Enrol {

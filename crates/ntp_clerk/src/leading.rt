@@ -7,8 +7,8 @@ ghost use Rattle.ntp_service.specs.Commands.{address_named};
 ghost use Rattle.ntp_service.specs.Registry.{terms_at};
 ghost use Rattle.ntp_service.specs.declared.address.Address.{Address};
 ghost use Rattle.ntp_service.specs.declared.command.Command.TheVariants as command;
-ghost use Rattle.ntp_clerk.specs.Leading.{ends, enrolment_if, enrolment_with, key_given, AreApart, AreTwo, HasExactly, HasNumber, IsOfService, IsNeeded, IsNeededAt, LeadsTo, NobodyIsForgotten};
-ghost use Rattle.ntp_clerk.specs.Steps.{done_in, rebudgeting, terms_after, wanted_in, AreDone, AreTerms, Frees, Goes, Notes, NotesOne, Moves, OnlyWanted};
+ghost use Rattle.ntp_clerk.specs.Leading.{ends, enrolment_if, enrolment_with, key_given, AreApart, AreTwo, HasExactly, HasNumber, IsNeeded, IsNeededAt, LeadsTo, NobodyIsForgotten};
+ghost use Rattle.ntp_clerk.specs.Steps.{done_in, rebudgeting, terms_after, wanted_in, AreDone, AreTerms, CanDo, CanDoAll, Frees, Goes, Notes, NotesOne, Moves, OnlyWanted, ShareNone};
 
 use crate::wanted::{GivenKey, Terms, Wanted, are_same_key, terms_at};
 use indexmap::{IndexMap, IndexSet};
@@ -34,8 +34,6 @@ pub enum LeadFault {
     SameNumber(u16),
     /// Memory ran out.
     NoMemory,
-    /// A command was refused.
-    Other,
 }
 
 impl From<AllocError> for LeadFault {
@@ -51,8 +49,9 @@ impl From<AllocError> for LeadFault {
 /// The commands that lead from the customers of a service to the wanted ones. They are given to the service, which does each;
 /// then it has exactly these customers. Who is as wanted already is named by no command; who keeps a key is neither revoked nor
 /// enrolled anew. First each customer loses the keys that are not wanted of it, or is revoked where it keeps none; so the numbers
-/// are free that others get then. The wanted customers are judged before any command. After another fault the service has done
-/// some commands, and is of no use. The memory is taken from `alloc`.
+/// are free that others get then. The wanted customers are judged before any command: where no address and no number is wanted
+/// twice, nothing but want of memory stops it. After that the service has done some commands, and is of no use. The memory is
+/// taken from `alloc`.
 pub fn commands_to(
     alloc: Global,
     service: &mut Service,
@@ -63,7 +62,7 @@ pub fn commands_to(
     ensures needed { IfOk result (λ commands. All (IsNeeded service.old wanted.now) commands.items) }
     ensures known { OnOk result (NobodyIsForgotten service.old service.new) }
     ensures apart { OnOk result (AreApart wanted.now) }
-    ensures fault { AreApart wanted.now → IfErr result IsOfService }
+    ensures fault { AreApart wanted.now → IfErr result (λ fault. fault ≡ LeadFault.NoMemory) }
 {
     let terms = &judged(alloc, wanted)?;
     let mut commands = Vec::new(alloc);
@@ -133,11 +132,10 @@ fn free(
     commands: &mut Vec<Command>,
     address: Address,
     wanted: &ByAddress,
-) -> Result<(), LeadFault>
+) -> Result<(), AllocError>
     ensures moves { OnOk result
         (Moves service.old address (wanted_in wanted.now address) commands.old.items commands.new.items service.new) }
     ensures only { OnOk result (OnlyWanted (terms_at service.new address) (wanted_in wanted.now address)) }
-    ensures fault { IfErr result IsOfService }
 {
     let held = terms_at(service, address);
     let step = freeing(address, &held, &wanted.get(&address).copied());
@@ -145,19 +143,19 @@ fn free(
     Ok(())
 }
 
-// Gives an address what is wanted of it, where it has nothing else.
+// Gives an address what is wanted of it, where no address has anything else: so the numbers are free.
 fn give(
     service: &mut Service,
     commands: &mut Vec<Command>,
     address: Address,
     wanted: &ByAddress,
-) -> Result<(), LeadFault>
-    requires only { OnlyWanted (terms_at service.old address) (wanted_in wanted.now address) }
+) -> Result<(), AllocError>
+    requires only { (q : Address) → OnlyWanted (terms_at service.old q) (wanted_in wanted.now q) }
     requires two { IfSome (get address_eq wanted.now address) AreTwo }
+    requires apart { ShareNone (wanted_in wanted.now) }
     ensures moves { OnOk result
         (Moves service.old address (wanted_in wanted.now address) commands.old.items commands.new.items service.new) }
     ensures has { OnOk result (terms_at service.new address ≡ wanted_in wanted.now address) }
-    ensures fault { IfErr result IsOfService }
 {
     let held = terms_at(service, address);
     let steps = giving(address, &held, &wanted.get(&address).copied());
@@ -171,11 +169,10 @@ fn order(
     commands: &mut Vec<Command>,
     address: Address,
     steps: [Option<Command>; 4],
-) -> Result<(), LeadFault>
-    requires { All (λ c. address_named c ≡ address) (done_in steps) }
+) -> Result<(), AllocError>
+    requires { CanDoAll service.old address (done_in steps) }
     ensures noted { OnOk result (commands.new.items ≡ commands.old.items ++ done_in steps) }
     ensures done { OnOk result (AreDone service.old address (done_in steps) service.new) }
-    ensures fault { IfErr result IsOfService }
 {
     for step in steps {
         if let Some(command) = step {
@@ -185,25 +182,25 @@ fn order(
     Ok(())
 }
 
-// Gives a service a command that it does, and notes it; else the fault says why not.
+// Gives a service a command, which nothing but want of memory refuses, and notes it.
 pub(crate) fn carry_out(
     service: &mut Service,
     commands: &mut Vec<Command>,
     command: Command,
-) -> Result<(), LeadFault>
+) -> Result<(), AllocError>
+    requires { CanDo service.old command }
     ensures noted { OnOk result (commands.new.items ≡ commands.old.items ++ command ∷ []) }
     ensures done { OnOk result (AreDone service.old (address_named command) (command ∷ []) service.new) }
-    ensures fault { IfErr result IsOfService }
 {
     match service.command(&command) {
         Ok(()) => {}
-        Err(Refusal::NoMemory) => return Err(LeadFault::NoMemory),
-        Err(_) => return Err(LeadFault::Other),
+        Err(refusal) => {
+            prove!(matches!(refusal, Refusal::NoMemory));
+            return Err(AllocError);
+        }
     }
-    match commands.push(command) {
-        Ok(()) => Ok(()),
-        Err(_) => Err(LeadFault::NoMemory),
-    }
+    commands.push(command)?;
+    Ok(())
 }
 
 // What takes from an address what is not wanted of it.
@@ -276,7 +273,8 @@ fn enrolling(address: Address, terms: &Terms) -> [Option<Command>; 4]
     ]
 }
 
-// What makes of terms, of which each key is wanted, the wanted ones.
+// What makes of terms, of which each key is wanted, the wanted ones: a key is given only where there is room, and only then is the
+// older one taken.
 fn arranging(address: Address, held: &Terms, wanted: &Terms) -> [Option<Command>; 4]
     requires only { OnlyWanted (Some (enrolment_with held.now)) (Some (enrolment_with wanted.now)) }
     requires two { AreTwo held.now × AreTwo wanted.now }
@@ -284,19 +282,17 @@ fn arranging(address: Address, held: &Terms, wanted: &Terms) -> [Option<Command>
     ensures goes { Goes (Some (enrolment_with held.now)) (done_in result) (Some (enrolment_with wanted.now)) }
     ensures none { enrolment_with held.now ≡ enrolment_with wanted.now → done_in result ≡ [] }
 {
+    let is_first = are_same_key(&held.older, &wanted.older);
+    let has_two = held.newer.is_some();
     let first = rollover(address, &wanted.older);
     let retire = retirement(address, &held.older);
     let newer = rollover_if_any(address, &wanted.newer);
-    let budget = rebudgeting(address, held, wanted);
-    match (
-        are_same_key(&held.older, &wanted.older),
-        held.newer.is_some(),
-    ) {
-        (true, true) => [None, None, None, budget],
-        (true, false) => [None, None, newer, budget],
-        (false, true) => [None, Some(retire), newer, budget],
-        (false, false) => [Some(first), Some(retire), newer, budget],
-    }
+    [
+        (!is_first & !has_two).then_some(first),
+        (!is_first).then_some(retire),
+        (!is_first | !has_two).then_some(newer).flatten(),
+        rebudgeting(address, held, wanted),
+    ]
 }
 
 // What gives an address the wanted budget, where it has another.

@@ -1,11 +1,9 @@
 //! What is decided for a clerk who keeps customers: which commands lead from the customers of a service to others, and which make
-//! them out of none; which key number is the lowest that is free; how a command and a customer's name are written; what a
-//! customer is told of its key; and what an answers file answers. And what comes to the door of the server: the datagrams of a
-//! capture file in pcap form; and, where the kernel polices the door, which limit a budget gets and which customers share one. It
-//! reads no file, and writes none.
+//! them out of none; which key number is the lowest that is free; how a command and a customer's name are written; and what a
+//! customer is told of its key. And what comes to the door of the server: the datagrams of a capture file in pcap form; and, where
+//! the kernel polices the door, which limit a budget gets and which customers share one. It reads no file, and writes none.
 #![tactic(auto)]
 
-mod answers;
 mod capture;
 mod command_text;
 mod datagram;
@@ -23,7 +21,6 @@ mod statement;
 mod wanted;
 mod wide;
 
-pub use answers::answer_behind;
 pub use capture::{Capture, CaptureFault, Order, Record, capture_in, next_record};
 pub use command_text::{command_line, command_shown};
 pub use datagram::{Datagram, datagram_in};

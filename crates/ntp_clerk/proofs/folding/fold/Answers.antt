@@ -2,15 +2,15 @@ use Rattle.std.proofs.Common.{List, ◌++◌, ◌∙◌, ap, subst, arith}
 use Rattle.std.proofs.lemmas.List.{take_all}
 use Rattle.ntp_service.specs.declared.address.Address.{Address}
 use Rattle.ntp_clerk.specs.Leading.{HasExactly}
-use Rattle.ntp_clerk.proofs.Revoking.{folded-none, folded-more-at, makes, Folded}
+use Rattle.ntp_clerk.proofs.Revoking.{folded-none, folded-more, makes, Folded}
 use Rattle.ntp_clerk.proofs.folding.fold.Goals as goal
 
 pub loop-address-init : goal.loop-address-init
-loop-address-init c = rw c.new-commands.ensures.items (folded-none c.new-made.result)
+loop-address-init c = rw c.new-commands.ensures.items (folded-none c.new-made.result c.new-made.ensures)
 
 pub loop-address-preserved : goal.loop-address-preserved
 loop-address-preserved c =
-    folded-more-at c.new-made.result c.loop-address.made c.revoke.new.service c.args.revoked.now c.loop-address.address-index _ c.loop-address.commands.items
+    folded-more c.new-made.result c.loop-address.made c.revoke.new.service c.args.revoked.now c.loop-address.address-index _ c.loop-address.commands.items
     c.revoke.new.commands.items c.loop-address-test.true c.loop-address.invariant c.in_ok-revoke.ensures
 
 pub returns : goal.returns

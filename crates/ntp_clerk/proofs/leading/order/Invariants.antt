@@ -1,9 +1,8 @@
-use Rattle.std.proofs.Common.{take, ◌≡◌, ◌++◌}
-use Rattle.ntp_clerk.specs.Steps.{done_in, AreDone}
+use Rattle.std.proofs.Common.{drop}
+use Rattle.ntp_clerk.specs.Steps.{done_in}
+use Rattle.ntp_clerk.proofs.Doing.{Going}
 use Rattle.ntp_clerk.proofs.leading.order.Given as goal
 
 abbrev pub invariant-loop-step : goal.invariant-loop-step
-invariant-loop-step l = record {
-  noted : l.commands.items ≡ l.initial.commands.items ++ done_in (take l.step-index l.step-items);
-  done : AreDone l.initial.service l.fn.address (done_in (take l.step-index l.step-items)) l.service;
-}
+invariant-loop-step l = Going l.initial.service l.fn.address (done_in l.step-items) l.initial.commands.items l.commands.items
+    (done_in (drop l.step-index l.step-items)) l.service

@@ -1,6 +1,6 @@
-use Rattle.std.proofs.Common.{take}
+use Rattle.std.proofs.Common.{drop}
 use Rattle.ntp_clerk.proofs.Having.{Having}
 use Rattle.ntp_clerk.proofs.wanted.customers_of.Given as goal
 
 abbrev pub invariant-loop-address : goal.invariant-loop-address
-invariant-loop-address l = Having l.service (take l.address-index l.address-items) l.customers.items
+invariant-loop-address l = Having l.service (drop l.address-index l.address-items) l.customers.items

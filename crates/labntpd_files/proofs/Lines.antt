@@ -1,7 +1,7 @@
 -- A line with a line feed behind it, and without.
 use Rattle.std.proofs.Common.{◌≡◌, ◌≢◌, ℕ, List, [], ◌∷◌, ◌++◌, refl, ap, arith}
 use Rattle.std.proofs.lemmas.Bool.Decides.{nat_tests}
-use Rattle.labntpd_files.specs.KeyFile.{first_line}
+use Rattle.labntpd_files.specs.KeyText.{first_line}
 
 pub first_line-with : (line : List ℕ) → first_line (line ++ 10 ∷ []) ≡ line
 first_line-with [] = refl

@@ -1,13 +1,23 @@
--- What is wrong with the digits of a key.
-use Rattle.std.specs.Prelude.{ℕ, suc, ◌==◌, ◌||◌, ◌%◌, Bool, not, nat_lt, if◌then◌else◌, List, length, Option, None, Some}
+-- The digits of a key, and what is wrong with them.
+use Rattle.std.specs.Prelude.{ℕ, suc, ◌==◌, ◌||◌, ◌%◌, Bool, not, nat_lt, if◌then◌else◌, List, [], ◌∷◌, length, Option, None, Some}
 use Rattle.std.specs.Char.{is_ascii_hexdigit}
 use Rattle.std.specs.List.{position_from}
+use Rattle.std.specs.Option.{option_map}
+use Rattle.ntp_admin.specs.Words.{key_in}
+use Rattle.ntp_mac.specs.Key.{SymmetricKey}
+use Rattle.ntp_mac.specs.declared.key.Algorithm.{Algorithm}
 use Rattle.labntpd_files.specs.declared.key_text.KeyWrong.{KeyWrong}
 use Rattle.labntpd_files.specs.declared.key_text.KeyWrong.TheVariants as wrong
 
--- a hexadecimal digit, of either case
-abbrev pub is_hexadecimal : ℕ → Bool
-is_hexadecimal octet = is_ascii_hexdigit octet
+-- the text without the line feed at its end, where it has one there
+abbrev pub first_line : List ℕ → List ℕ
+first_line [] = []
+first_line (octet ∷ []) = if octet == 10 then [] else octet ∷ []
+first_line (octet ∷ next ∷ others) = octet ∷ first_line (next ∷ others)
+
+-- a key for an algorithm: one line with its octets in hexadecimal digits
+abbrev pub key_in_file : List ℕ → Algorithm → Option SymmetricKey
+key_in_file text algorithm = option_map (λ octets. record { algorithm = algorithm; octets = octets }) (key_in (first_line text))
 
 -- whether `count` digits spell no key: an even number from 2 to 64 spells one
 abbrev pub is_wrong_count : ℕ → Bool
@@ -20,4 +30,4 @@ wrong_behind None count = if is_wrong_count count then Some (wrong.Digits count)
 
 -- what is wrong with the word of a key: its first octet that is no digit, else how many there are
 abbrev pub key_wrong : List ℕ → Option KeyWrong
-key_wrong word = wrong_behind (position_from (λ octet. not (is_hexadecimal octet)) 0 word) (length word)
+key_wrong word = wrong_behind (position_from (λ octet. not (is_ascii_hexdigit octet)) 0 word) (length word)

@@ -1,9 +1,6 @@
 pub mod Keys
 pub mod Values
 pub mod Settings
-pub mod Document
-pub mod KeyFile
-pub mod Faults
 pub mod KeyText
 pub mod Shown
 pub mod HardlyMeant

@@ -1,9 +1,11 @@
--- The settings of a configuration file, or the first fault in them: each step gives a part of them, or the file's fault.
-use Rattle.std.specs.Prelude.{◌≡◌, ◌⊎◌, ◌*◌, ◌^◌, ◌≤◌, if◌then◌else◌, Option, Some, None, Result, Ok, Err}
-use Rattle.std.specs.Option.{ok_or, option_map, option_map_or}
-use Rattle.toml.specs.Data.{Data, Members, get_member, as_table}
+-- What a configuration file says, or its first fault: each step gives a part, or the file's fault.
+use Rattle.std.specs.Prelude.{◌≡◌, ◌⊎◌, ◌*◌, ◌^◌, ◌≤◌, if◌then◌else◌, ℕ, List, Option, Some, None, Result, Ok, Err}
+use Rattle.std.specs.Option.{ok_or, option_map, option_map_or, option_or}
+use Rattle.std.specs.Result.{result_ok, result_err}
+use Rattle.toml.specs.Data.{Data, Members, no_items, get_member, as_array, as_table}
 use Rattle.ntp_packet.specs.FirstCase.{◌>>=◌}
-use Rattle.ntp_admin.specs.Words.{algorithm_in, reference_in}
+use Rattle.ntp_admin.specs.Words.{address_in, algorithm_in, reference_in}
+use Rattle.ntp_mac.specs.declared.key.Algorithm.TheVariants.{Sha1}
 use Rattle.labntpd_files.specs.declared.configuration.Clock.{Clock}
 use Rattle.labntpd_files.specs.declared.configuration.Clock.TheVariants.{Fixed, Followed}
 use Rattle.labntpd_files.specs.declared.configuration.ClockDaemon.{ClockDaemon}
@@ -12,8 +14,8 @@ use Rattle.labntpd_files.specs.declared.fault.ConfigurationFault.{ConfigurationF
 use Rattle.labntpd_files.specs.declared.fault.ConfigurationFault.TheVariants as fault
 use Rattle.labntpd_files.specs.declared.setting.Setting.{Setting}
 use Rattle.labntpd_files.specs.declared.setting.Setting.TheVariants as setting
-use Rattle.labntpd_files.specs.Keys.{setting_key, is_fixed}
-use Rattle.labntpd_files.specs.Values.{listen_in, endpoint_in, path_in, text_as, number_of, buffer_of, wait_of, validity_of, distance_of, age_of, step_of}
+use Rattle.labntpd_files.specs.Keys.{setting_key, is_fixed, top_keys, clock_keys, unknown_in}
+use Rattle.labntpd_files.specs.Values.{listen_in, endpoint_in, path_in, name_in, key_for, text_as, number_of, buffer_of, wait_of, validity_of, distance_of, age_of, step_of}
 
 -- a setting that has to stand there
 abbrev pub required : {X : Type 0} → Setting → (Data → Option X) → Members → Result X ConfigurationFault
@@ -83,6 +85,11 @@ settings_in document = do
     clock = clock;
   })
 
+-- what is read, whose texts are references, is said
+abbrev pub IsSaid : {X V : Type 0} → (X → V) → Result V ConfigurationFault → Result X ConfigurationFault → Type 0
+IsSaid seen said (Ok value) = said ≡ Ok (seen value)
+IsSaid seen said (Err why) = said ≡ Err why
+
 -- what is read is said, or memory ran out
 abbrev pub Reads : {X : Type 0} → Result X ConfigurationFault → Result X ConfigurationFault → Type 0
 Reads said (Ok value) = said ≡ Ok value
@@ -106,3 +113,54 @@ pub record HasRanges (configuration : Configuration) : Type 0 where
   pub send_buffer : (65536 ≤ configuration.send_buffer) × (configuration.send_buffer ≤ 1073741823)
   pub longest_wait : (150 * 10 ^ 6 ≤ configuration.longest_wait) × (configuration.longest_wait ≤ 60 * 10 ^ 9)
   pub clock : HasClockRanges configuration.clock
+
+-- the table of the clock, where there is one
+abbrev pub clock_of : Members → Option Members
+clock_of document = result_ok (required setting.Clock as_table document)
+
+-- the first key that is none, of the top level before those of the table `[clock]`
+abbrev pub unknown_key : Members → Option ConfigurationFault
+unknown_key document =
+    option_or
+    (option_map fault.Unknown (unknown_in top_keys document))
+    (option_map fault.UnknownOfClock (option_map_or (λ clock. unknown_in (clock_keys clock) clock) (clock_of document) None))
+
+-- what a document says, or its first fault: a key that is none, else that of the settings
+abbrev pub configuration_in : Members → Result Configuration ConfigurationFault
+configuration_in document = option_map_or Err (unknown_key document) (settings_in document)
+
+-- what a text is read as: what its document says; or that it is none, in whichever line that shows (TOML 1.1)
+abbrev pub IsReadAs : Option Members → Result Configuration ConfigurationFault → Type 0
+IsReadAs None said = (line : ℕ) × (said ≡ Err (fault.Toml line))
+IsReadAs (Some document) said = said ≡ configuration_in document
+
+-- the path at a setting, if one stands there
+abbrev pub path_at : Setting → Members → Option (List ℕ)
+path_at here table = result_ok (required here (text_as path_in) table)
+
+-- what is wrong at a key, whatever is wrong at the others: the fault that is read there
+abbrev pub wrong_at : Setting → Members → Option ConfigurationFault
+wrong_at setting.Listen table = result_err (required setting.Listen (text_as listen_in) table)
+wrong_at setting.Commands table = result_err (required setting.Commands (text_as path_in) table)
+wrong_at setting.Answers table = result_err (optional setting.Answers (text_as path_in) table)
+wrong_at setting.Statistics table = result_err (optional setting.Statistics (text_as path_in) table)
+wrong_at setting.Customers table = result_err (optional setting.Customers (text_as path_in) table)
+wrong_at setting.ReceiveBuffer table = result_err (with_default 524288 setting.ReceiveBuffer buffer_of table)
+wrong_at setting.SendBuffer table = result_err (with_default 1048576 setting.SendBuffer buffer_of table)
+wrong_at setting.LongestWait table = result_err (with_default (250 * 10 ^ 6) setting.LongestWait wait_of table)
+wrong_at setting.Clock table = result_err (required setting.Clock as_table table)
+wrong_at setting.Source table = if is_fixed table then None else result_err (required setting.Source (text_as endpoint_in) table)
+wrong_at setting.Reference table = result_err (required setting.Reference (text_as reference_in) table)
+wrong_at setting.Number table = result_err (required setting.Number number_of table)
+wrong_at setting.Algorithm table = result_err (required setting.Algorithm (text_as algorithm_in) table)
+wrong_at setting.KeyFile table = result_err (required setting.KeyFile (text_as path_in) table)
+wrong_at setting.ValidFor table = result_err (with_default (16 * 10 ^ 9) setting.ValidFor validity_of table)
+wrong_at setting.MostRootDistance table = result_err (with_default (2 ^ 16) setting.MostRootDistance distance_of table)
+wrong_at setting.MostReferenceAge table = result_err (with_default 4096 setting.MostReferenceAge age_of table)
+wrong_at setting.MostStep table = result_err (with_default (500 * 10 ^ 6) setting.MostStep step_of table)
+wrong_at setting.Customer table = result_err (with_default no_items setting.Customer as_array table)
+wrong_at setting.Address table = result_err (required setting.Address (text_as address_in) table)
+wrong_at setting.Key table = result_err (required setting.Key (text_as (key_for Sha1)) table)
+wrong_at setting.Budget table = result_err (required setting.Budget number_of table)
+wrong_at setting.Name table = result_err (optional setting.Name (text_as name_in) table)
+wrong_at setting.Newer table = result_err (optional setting.Newer as_table table)

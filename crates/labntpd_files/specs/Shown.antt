@@ -1,12 +1,11 @@
 -- Not to be believed: for proofs. Which words are shown: no key of three octets or more.
 use Rattle.std.specs.Prelude.{ℕ, ◌==◌, ◌&&◌, ◌||◌, Bool, nat_le, nat_lt, List, length}
 use Rattle.std.specs.List.{list_all, filter}
-use Rattle.std.specs.Char.{is_ascii_digit}
-use Rattle.labntpd_files.specs.KeyText.{is_hexadecimal}
+use Rattle.std.specs.Char.{is_ascii_digit, is_ascii_hexdigit}
 
 -- how many octets are hexadecimal digits, and how many are dots
 abbrev pub digit_count : List ℕ → ℕ
-digit_count octets = length (filter is_hexadecimal octets)
+digit_count octets = length (filter is_ascii_hexdigit octets)
 
 abbrev pub dot_count : List ℕ → ℕ
 dot_count octets = length (filter (λ octet. octet == 46) octets)

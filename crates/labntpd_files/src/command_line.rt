@@ -18,16 +18,8 @@ pub struct Asked<'a> {
     pub config: &'a str,
 }
 
-/// What the words ask for (the first is the program's name), else the error that tells the user why. Its kind may
-/// be a request for the help or the version, which go to standard output with status 0; a mistake goes to standard error
-/// with status 2; and memory may have run out.
-///
-/// ```text
-/// labntpd --config FILE
-/// labntpd --check --config FILE
-/// labntpd --help
-/// labntpd --version
-/// ```
+/// What the words `labntpd [--check] --config FILE` ask for (the first is the program's name), else the error that tells the user why: a
+/// mistake, a request for the help or the version, or want of memory.
 pub fn parse<'a>(alloc: Global, words: &'a [String]) -> Result<Asked<'a>, Error> {
     let matches = command(alloc)?.try_get_matches_from(words)?;
     // Words without `--config` are refused above already.
@@ -41,9 +33,8 @@ pub fn parse<'a>(alloc: Global, words: &'a [String]) -> Result<Asked<'a>, Error>
     })
 }
 
-/// Tells why words of a command line ask for nothing that is to be done, and gives the exit status. The help and the version go to
-/// standard output, a mistake to standard error, want of memory and a failed write to standard output to `faults`. Other failed writes are
-/// passed over.
+/// Tells why words ask for nothing that is to be done, and gives the exit status. The help and the version go to standard output, a mistake
+/// to standard error, want of memory and a failed write to standard output to `faults`. Other failed writes are passed over.
 pub fn refused_status<F: Write>(rt: &HostRuntime, error: &Error, faults: &mut F) -> Status {
     if error.kind() == ErrorKind::OutOfMemory {
         return memory_status(faults);

@@ -1,27 +1,35 @@
 //! What is wrong with a configuration file, and at a key of a table.
 
 use crate::{Setting, Text};
+use ConfigurationFault::*;
 use ntp_admin::Escaped;
 use std::alloc::AllocError;
 use std::fmt;
 
-/// The first thing that is wrong with a configuration file: with its text, with the keys of its top level and
-/// then of `[clock]`, each in the order of their octets, then with a setting, in their order; or want of memory.
+/// What is told of a key that a configuration had once.
+const NO_REGISTER: &str =
+    "customers stand in the commands file alone: `examples/from_register` puts those of a register there, or \
+    `labntpctl apply FILE` if it is empty";
+
+/// The first fault of a configuration file: its text, a key that is none, or a setting, in the order of `Setting`; or want of memory.
 #[derive(Drop)]
 pub enum ConfigurationFault {
     /// The text is no TOML document, which shows in this line, counted from 1.
-    Toml { line: u64 },
-    /// There is no such key at the top level.
-    Unknown { key: Text },
+    Toml(u64),
+    /// There is no such key at the top level: the first in the order of octets.
+    Unknown(Text),
     /// There is no such key in the table `[clock]`, with the source that stands there.
-    UnknownOfClock { key: Text },
+    UnknownOfClock(Text),
     /// The setting is missing.
-    Missing { setting: Setting },
-    /// The setting has a value that is not wanted.
-    Wanted { setting: Setting },
+    Missing(Setting),
+    /// Another value is wanted at the setting.
+    Wanted(Setting),
     /// Memory ran out.
     NoMemory,
 }
+
+/// What was read, or the fault.
+pub(crate) type Reading<T> = Result<T, ConfigurationFault>;
 
 impl From<AllocError> for ConfigurationFault {
     ghost use Rattle.std.specs.Prelude.{◌≡◌};
@@ -37,57 +45,36 @@ impl From<AllocError> for ConfigurationFault {
 /// The fault in one line, without a line feed.
 impl fmt::Display for ConfigurationFault {
     fn fmt<W: fmt::Write>(&self, f: &mut fmt::Formatter<W>) -> fmt::Result {
-        let (table, fault) = match self {
-            ConfigurationFault::Toml { line } => return write!(f, "line {line}: this is no TOML"),
-            ConfigurationFault::NoMemory => return f.write_str("memory ran out"),
-            ConfigurationFault::Unknown { key } => ("", KeyFault::Unknown(key.as_str())),
-            ConfigurationFault::UnknownOfClock { key } => {
-                ("clock.", KeyFault::Unknown(key.as_str()))
-            }
-            ConfigurationFault::Missing { setting } => {
-                (table_of(*setting), KeyFault::Missing(*setting))
-            }
-            ConfigurationFault::Wanted { setting } => {
-                (table_of(*setting), KeyFault::Wanted(*setting))
-            }
+        let prefix = match self {
+            UnknownOfClock(_) => "clock.",
+            Missing(setting) | Wanted(setting) if setting.is_of_clock() => "clock.",
+            _ => "",
         };
-        write!(f, "{table}{fault}")
+        write!(f, "{}", Behind(prefix, self))
     }
 }
 
-// What stands in front of a key of a configuration file, by its table.
-fn table_of(setting: Setting) -> &'static str {
-    if setting as u8 >= Setting::Source as u8 {
-        "clock."
-    } else {
-        ""
-    }
-}
-
-/// What is wrong at a key of a table.
+/// A fault, told with the key behind a prefix.
 #[derive(Clone, Copy)]
-pub(crate) enum KeyFault<'a> {
-    /// There is no such key.
-    Unknown(&'a str),
-    /// The key is missing.
-    Missing(Setting),
-    /// Another value is wanted there.
-    Wanted(Setting),
-}
+pub(crate) struct Behind<'a>(pub(crate) &'a str, pub(crate) &'a ConfigurationFault);
 
-impl<'a> fmt::Display for KeyFault<'a> {
+impl<'a> fmt::Display for Behind<'a> {
     fn fmt<W: fmt::Write>(&self, f: &mut fmt::Formatter<W>) -> fmt::Result {
-        match self {
-            // A configuration had this key once.
-            KeyFault::Unknown("register") => f.write_str(
-                "register: customers stand in the commands file alone: `labntpctl apply FILE` makes its lines of a register",
-            ),
-            KeyFault::Unknown(key) => write!(f, "{}: there is no such key", Escaped(key)),
-            KeyFault::Missing(setting) => {
-                let (key, wanted) = (setting.key(), setting.wanted());
-                write!(f, "{key}: this key is missing: {wanted}")
+        let Behind(prefix, fault) = self;
+        match fault {
+            Toml(line) => write!(f, "line {line}: this is no TOML"),
+            Unknown(key) | UnknownOfClock(key) if key.as_str() == "register" => {
+                write!(f, "{prefix}register: {NO_REGISTER}")
             }
-            KeyFault::Wanted(setting) => write!(f, "{}: {}", setting.key(), setting.wanted()),
+            Unknown(key) | UnknownOfClock(key) => {
+                write!(f, "{prefix}{}: there is no such key", Escaped(key.as_str()))
+            }
+            Missing(setting) => {
+                let (key, wanted) = (setting.key(), setting.wanted());
+                write!(f, "{prefix}{key}: this key is missing: {wanted}")
+            }
+            Wanted(setting) => write!(f, "{prefix}{}: {}", setting.key(), setting.wanted()),
+            NoMemory => f.write_str("memory ran out"),
         }
     }
 }

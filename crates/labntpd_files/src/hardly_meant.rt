@@ -2,6 +2,7 @@
 ghost use Rattle.std.specs.Prelude.{◌≡◌};
 ghost use Rattle.labntpd_files.specs.HardlyMeant.{address_warning, key_warning, budget_warning};
 
+use HardlyMeant::*;
 use ntp_mac::{Algorithm, Key};
 use ntp_service::Address;
 use std::fmt;
@@ -37,17 +38,12 @@ pub enum HardlyMeant {
 pub fn address_warning(address: Address) -> Option<HardlyMeant>
     ensures { result ≡ address_warning address }
 {
-    let Address([first, second, third, fourth]) = address;
-    if first == 0 {
-        Some(HardlyMeant::ThisNetwork)
-    } else if first < 224 {
-        None
-    } else if first < 240 {
-        Some(HardlyMeant::Multicast)
-    } else if first == 255 && second == 255 && third == 255 && fourth == 255 {
-        Some(HardlyMeant::Broadcast)
-    } else {
-        Some(HardlyMeant::Reserved)
+    match address.0 {
+        [0, _, _, _] => Some(ThisNetwork),
+        [first, _, _, _] if first < 224 => None,
+        [first, _, _, _] if first < 240 => Some(Multicast),
+        [255, 255, 255, 255] => Some(Broadcast),
+        _ => Some(Reserved),
     }
 }
 
@@ -57,9 +53,9 @@ pub fn key_warning(key: &Key) -> Option<HardlyMeant>
 {
     let count = key.octet_count();
     if count < FEW_OCTETS {
-        Some(HardlyMeant::ShortKey(count))
+        Some(ShortKey(count))
     } else if key.algorithm() == Algorithm::Md5 {
-        Some(HardlyMeant::Md5)
+        Some(Md5)
     } else {
         None
     }
@@ -70,9 +66,9 @@ pub fn budget_warning(budget: u16) -> Option<HardlyMeant>
     ensures { result ≡ budget_warning budget }
 {
     if budget <= 1 {
-        Some(HardlyMeant::SmallBudget)
+        Some(SmallBudget)
     } else if budget > DOOR_BUDGET {
-        Some(HardlyMeant::LargeBudget(budget))
+        Some(LargeBudget(budget))
     } else {
         None
     }
@@ -81,18 +77,16 @@ pub fn budget_warning(budget: u16) -> Option<HardlyMeant>
 impl fmt::Display for HardlyMeant {
     fn fmt<W: fmt::Write>(&self, f: &mut fmt::Formatter<W>) -> fmt::Result {
         match self {
-            HardlyMeant::ThisNetwork => { f.write_str("no host sends from network 0") }
-            HardlyMeant::Multicast => { f.write_str("no host sends from a multicast address") }
-            HardlyMeant::Reserved => {
-                f.write_str("no host sends from network 240/4, which is reserved")
-            }
-            HardlyMeant::Broadcast => { f.write_str("no host sends from the broadcast address") }
-            HardlyMeant::ShortKey(count) => write!(f, "the key has fewer than 16 octets: {count}"),
-            HardlyMeant::Md5 => f.write_str("the key is for MD5, the weaker algorithm"),
-            HardlyMeant::SmallBudget => f.write_str(
+            ThisNetwork => f.write_str("no host sends from network 0"),
+            Multicast => f.write_str("no host sends from a multicast address"),
+            Reserved => f.write_str("no host sends from network 240/4, which is reserved"),
+            Broadcast => f.write_str("no host sends from the broadcast address"),
+            ShortKey(count) => write!(f, "the key has fewer than 16 octets: {count}"),
+            Md5 => f.write_str("the key is for MD5, the weaker algorithm"),
+            SmallBudget => f.write_str(
                 "budget 1: of a client that asks each 64 seconds two queries may fall into one window",
             ),
-            HardlyMeant::LargeBudget(budget) => write!(
+            LargeBudget(budget) => write!(
                 f,
                 "budget {budget}: the rule of examples/labntpd.nft lets 12800 queries pass in 64 seconds"
             ),

@@ -1,6 +1,5 @@
-//! The files of the daemon `labntpd`: its configuration, in TOML, with the words of its command line; the file of its clock's key; and
-//! every fault of these, of a file of wanted customers and of a commands file: in which line it stands, what was wanted there and what
-//! stands there, never the digits of a key; what the words of faults mean; and what is no fault, but hardly meant.
+//! The files of the daemon `labntpd`: its configuration, the file of its clock's key, and a file of customers; every fault of these and of
+//! commands, in words that show no key; and what is no fault, but hardly meant.
 #![tactic(auto)]
 
 pub mod command_line;
@@ -10,31 +9,23 @@ mod configuration_reader;
 mod fault;
 mod found;
 mod hardly_meant;
-mod key_file;
 mod key_text;
-mod line_numbers;
-mod meanings;
 mod setting;
-mod settings;
 mod shown;
 mod text;
 mod values;
 mod wanted;
-mod wanted_reader;
 mod wanted_text;
 
-pub use command_words::{PlacedWord, faulty_place, word_at};
+pub use command_words::{PlacedWord, fault_meaning, faulty_place, refusal_meaning, word_at};
 pub use configuration::{Clock, ClockDaemon, Configuration, Endpoint, Listen};
-pub use configuration_reader::{configuration_faults, read_configuration};
+pub use configuration_reader::{configuration_faults, path_at, read_configuration};
 pub use fault::ConfigurationFault;
 pub use found::Found;
 pub use hardly_meant::{HardlyMeant, address_warning, budget_warning, key_warning};
-pub use key_file::key_in_file;
-pub use key_text::{KeyWrong, key_wrong};
-pub use meanings::{fault_meaning, refusal_meaning};
+pub use key_text::{KeyWrong, key_in_file, key_wrong};
 pub use setting::{Setting, is_fixed, value_at};
-pub use settings::path_at;
-pub use shown::{Shown, shown_word};
+pub use shown::{ShownWord, shown_word};
 pub use text::Text;
 pub use values::is_name;
 pub use wanted::{Wanted, WantedCustomer, WantedFault, WantedKey, read_wanted};

@@ -1,15 +1,13 @@
-//! The keys of a configuration file and of a wanted customer.
+//! The keys of a configuration file and of a file of customers.
 ghost use Rattle.std.specs.Prelude.{◌≡◌, option_map};
 ghost use Rattle.toml.specs.Data.{get_member};
 ghost use Rattle.toml.specs.View.{view, table_view};
 ghost use Rattle.labntpd_files.specs.Keys.{setting_key, is_fixed, clock_keys, is_known, unknown_in};
 
-use crate::values::says_fixed;
+use Setting::*;
 use toml::{Table, Value};
 
-/// A key of a table, in the order in which they are documented and looked at: those of the top level of a configuration file, up to
-/// `Clock`; those of its table `[clock]`, up to `MostStep`; that of all wanted customers; and those of one of these, which has a `Number`
-/// and an `Algorithm` too.
+/// A key: of a configuration file up to `Clock`, of its table `[clock]` up to `MostStep`, then of a file of customers and of a customer.
 #[derive(Clone, Copy, PartialEq, Eq)]
 pub enum Setting {
     Listen,
@@ -38,66 +36,54 @@ pub enum Setting {
     Newer,
 }
 
-/// The keys of the top level of a configuration file.
+/// The keys of the top level of a configuration file, in the order in which they are looked at.
 pub(crate) const TOP_KEYS: [Setting; 9] = [
-    Setting::Listen,
-    Setting::Commands,
-    Setting::Answers,
-    Setting::Statistics,
-    Setting::Customers,
-    Setting::ReceiveBuffer,
-    Setting::SendBuffer,
-    Setting::LongestWait,
-    Setting::Clock,
+    Listen,
+    Commands,
+    Answers,
+    Statistics,
+    Customers,
+    ReceiveBuffer,
+    SendBuffer,
+    LongestWait,
+    Clock,
 ];
 
-/// The keys of a clock whose source is fixed.
-const FIXED_KEYS: [Setting; 2] = [Setting::Source, Setting::Reference];
+/// The keys of a clock whose source is fixed, and of one that a daemon keeps.
+const FIXED: [Setting; 2] = [Source, Reference];
 
-/// The keys of a clock that a daemon keeps.
-const DAEMON_KEYS: [Setting; 8] = [
-    Setting::Source,
-    Setting::Number,
-    Setting::Algorithm,
-    Setting::KeyFile,
-    Setting::ValidFor,
-    Setting::MostRootDistance,
-    Setting::MostReferenceAge,
-    Setting::MostStep,
+const DAEMON: [Setting; 8] = [
+    Source,
+    Number,
+    Algorithm,
+    KeyFile,
+    ValidFor,
+    MostRootDistance,
+    MostReferenceAge,
+    MostStep,
 ];
 
-/// The keys of a wanted customer.
+/// The keys of a customer, and of its newer key.
 pub(crate) const CUSTOMER_KEYS: [Setting; 7] = [
-    Setting::Address,
-    Setting::Number,
-    Setting::Algorithm,
-    Setting::Key,
-    Setting::Budget,
-    Setting::Name,
-    Setting::Newer,
+    Address, Number, Algorithm, Key, Budget, Name, Newer,
 ];
 
-/// The keys of its newer key.
-pub(crate) const NEWER_KEYS: [Setting; 3] = [Setting::Number, Setting::Algorithm, Setting::Key];
+pub(crate) const NEWER_KEYS: [Setting; 3] = [Number, Algorithm, Key];
 
 /// The keys of the table of a clock, by its source.
 pub(crate) fn clock_keys(clock: &Table) -> &'static [Setting]
     ensures { result.now ≡ clock_keys (table_view clock.now) }
 {
-    if is_fixed(clock) {
-        &FIXED_KEYS
-    } else {
-        &DAEMON_KEYS
-    }
+    if is_fixed(clock) { &FIXED } else { &DAEMON }
 }
 
 /// Whether the source of a clock is fixed.
 pub fn is_fixed(clock: &Table) -> bool
     ensures { result ≡ is_fixed (table_view clock.now) }
 {
-    match value_at(clock, Setting::Source) {
+    match value_at(clock, Source) {
         None => false,
-        Some(source) => says_fixed(source),
+        Some(source) => matches!(source.as_str(), Some("fixed")),
     }
 }
 
@@ -133,64 +119,61 @@ impl Setting {
         ensures { result.now ≡ setting_key self }
     {
         match self {
-            Setting::Listen => "listen",
-            Setting::Commands => "commands",
-            Setting::Answers => "answers",
-            Setting::Statistics => "statistics",
-            Setting::Customers => "customers",
-            Setting::ReceiveBuffer => "receive_buffer",
-            Setting::SendBuffer => "send_buffer",
-            Setting::LongestWait => "longest_wait",
-            Setting::Clock => "clock",
-            Setting::Source => "source",
-            Setting::Reference => "reference",
-            Setting::Number => "number",
-            Setting::Algorithm => "algorithm",
-            Setting::KeyFile => "key_file",
-            Setting::ValidFor => "valid_for",
-            Setting::MostRootDistance => "most_root_distance",
-            Setting::MostReferenceAge => "most_reference_age",
-            Setting::MostStep => "most_step",
-            Setting::Customer => "customer",
-            Setting::Address => "address",
-            Setting::Key => "key",
-            Setting::Budget => "budget",
-            Setting::Name => "name",
-            Setting::Newer => "newer",
+            Listen => "listen",
+            Commands => "commands",
+            Answers => "answers",
+            Statistics => "statistics",
+            Customers => "customers",
+            ReceiveBuffer => "receive_buffer",
+            SendBuffer => "send_buffer",
+            LongestWait => "longest_wait",
+            Clock => "clock",
+            Source => "source",
+            Reference => "reference",
+            Number => "number",
+            Algorithm => "algorithm",
+            KeyFile => "key_file",
+            ValidFor => "valid_for",
+            MostRootDistance => "most_root_distance",
+            MostReferenceAge => "most_reference_age",
+            MostStep => "most_step",
+            Customer => "customer",
+            Address => "address",
+            Key => "key",
+            Budget => "budget",
+            Name => "name",
+            Newer => "newer",
         }
     }
 
-    /// What is wanted at the key, in words.
+    /// Whether it is a key of the table `[clock]`, in a configuration file.
+    pub(crate) fn is_of_clock(self) -> bool {
+        self as u8 >= Source as u8
+    }
+
+    /// What is wanted there, in words.
     pub fn wanted(self) -> &'static str {
         match self {
-            Setting::Listen => {
-                "an IPv4 address with a port, as \"192.0.2.1:123\", or \"inherited\" is wanted"
-            }
-            Setting::Commands
-            | Setting::Answers
-            | Setting::Statistics
-            | Setting::Customers
-            | Setting::KeyFile => "the path of a file is wanted",
-            Setting::ReceiveBuffer | Setting::SendBuffer => {
-                "a whole number of octets from 65536 to 1073741823 is wanted"
-            }
-            Setting::LongestWait => "a number of seconds from 0.15 to 60 is wanted",
-            Setting::Clock => "a table is wanted",
-            Setting::Source => {
-                "an IPv4 address with a port, as \"127.0.0.1:123\", or \"fixed\" is wanted"
-            }
-            Setting::Reference => "the 46 hexadecimal digits of a reference state are wanted",
-            Setting::Number | Setting::Budget => "a whole number from 1 to 65535 is wanted",
-            Setting::Algorithm => "\"md5\" or \"sha1\" is wanted",
-            Setting::ValidFor => "a number of seconds from 2 to 3600 is wanted",
-            Setting::MostRootDistance => "a number of seconds above 0 and up to 16 is wanted",
-            Setting::MostReferenceAge => "a number of seconds from 1 to 1000000 is wanted",
-            Setting::MostStep => "a number of seconds above 0 and up to 3600 is wanted",
-            Setting::Customer => "an array of tables is wanted",
-            Setting::Address => "an IPv4 address, as \"192.0.2.1\", is wanted",
-            Setting::Key => "2 to 64 hexadecimal digits, an even number, are wanted",
-            Setting::Name => "a text of 1 to 200 octets without control characters is wanted",
-            Setting::Newer => "a table with number, algorithm and key is wanted",
+            Listen =>
+                "an IPv4 address with a port, as \"192.0.2.1:123\", or \"inherited\" is wanted",
+            Commands | Answers | Statistics | Customers | KeyFile => "the path of a file is wanted",
+            ReceiveBuffer | SendBuffer =>
+                "a whole number of octets from 65536 to 1073741823 is wanted",
+            LongestWait => "a number of seconds from 0.15 to 60 is wanted",
+            Clock => "a table is wanted",
+            Source => "an IPv4 address with a port, as \"127.0.0.1:123\", or \"fixed\" is wanted",
+            Reference => "the 46 hexadecimal digits of a reference state are wanted",
+            Number | Budget => "a whole number from 1 to 65535 is wanted",
+            Algorithm => "\"md5\" or \"sha1\" is wanted",
+            ValidFor => "a number of seconds from 2 to 3600 is wanted",
+            MostRootDistance => "a number of seconds above 0 and up to 16 is wanted",
+            MostReferenceAge => "a number of seconds from 1 to 1000000 is wanted",
+            MostStep => "a number of seconds above 0 and up to 3600 is wanted",
+            Customer => "an array of tables is wanted",
+            Address => "an IPv4 address, as \"192.0.2.1\", is wanted",
+            Key => "2 to 64 hexadecimal digits, an even number, are wanted",
+            Name => "a text of 1 to 200 octets without control characters is wanted",
+            Newer => "a table with number, algorithm and key is wanted",
         }
     }
 }

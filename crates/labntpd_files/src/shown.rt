@@ -2,10 +2,9 @@
 ghost use Rattle.std.specs.Prelude.{◌≡◌};
 ghost use Rattle.std.specs.List.{list_all};
 ghost use Rattle.std.specs.Char.{is_ascii_digit};
-ghost use Rattle.labntpd_files.specs.Shown.{is_of_address, digit_count, dot_count, is_plain};
+ghost use Rattle.labntpd_files.specs.Shown.{digit_count, dot_count, is_plain};
 
-use crate::key_text::is_hexadecimal;
-use crate::{KeyWrong, Setting, key_wrong};
+use crate::{Setting, key_wrong};
 use std::fmt;
 use toml::Value;
 
@@ -18,53 +17,57 @@ const MOST_ADDRESS_OCTETS: usize = 21;
 /// From how many hexadecimal digits on a word might be a key.
 const FEWEST_DIGITS: usize = 6;
 
-/// What stands at a place.
+/// A word, shown only where it cannot be a key.
 #[derive(Clone, Copy)]
-pub enum Shown<'a> {
-    /// A word that is shown.
-    Word(&'a str),
-    /// A word that may have the digits of a key: its number of octets.
-    Hidden(usize),
-    /// A value of this type.
-    Typed(&'static str),
-    /// A whole number.
-    Whole(i64),
-    /// Digits that spell no key.
-    Digits(KeyWrong),
+pub struct ShownWord<'a>(&'a str);
+
+/// Shows a word.
+pub fn shown_word(word: &str) -> ShownWord<'_> {
+    ShownWord(word)
 }
 
-/// A word, shown only where it cannot be a key.
-pub fn shown_word(word: &str) -> Shown<'_> {
-    if is_plain(word) {
-        Shown::Word(word)
-    } else {
-        Shown::Hidden(word.len())
+impl<'a> fmt::Display for ShownWord<'a> {
+    fn fmt<W: fmt::Write>(&self, f: &mut fmt::Formatter<W>) -> fmt::Result {
+        let ShownWord(word) = *self;
+        if is_plain(word) {
+            write!(f, "{word:?} stands there")
+        } else {
+            write!(f, "a word of {} octets stands there", word.len())
+        }
     }
 }
 
 /// A value at a setting, whose text is shown only where it cannot be a key.
-pub(crate) fn shown_at(setting: Setting, value: &Value) -> Shown<'_> {
-    match value {
-        Value::String(text) => match key_wrong(text.as_str()) {
-            Some(wrong) if setting == Setting::Key => Shown::Digits(wrong),
-            _ => shown_word(text.as_str()),
-        },
-        Value::Integer(whole) if *whole > -100_000 && *whole < 100_000 => Shown::Whole(*whole),
-        _ => Shown::Typed(value.type_str()),
+#[derive(Clone, Copy)]
+pub(crate) struct ShownValue<'a>(pub(crate) Setting, pub(crate) &'a Value);
+
+impl<'a> fmt::Display for ShownValue<'a> {
+    fn fmt<W: fmt::Write>(&self, f: &mut fmt::Formatter<W>) -> fmt::Result {
+        let ShownValue(setting, value) = *self;
+        match value {
+            Value::String(text) => match key_wrong(text.as_str()) {
+                Some(wrong) if setting == Setting::Key => write!(f, "{wrong}"),
+                _ => write!(f, "{}", ShownWord(text.as_str())),
+            },
+            Value::Integer(whole) if *whole > -100_000 && *whole < 100_000 => {
+                write!(f, "{whole} stands there")
+            }
+            _ => write!(f, "a value of the type {} stands there", value.type_str()),
+        }
     }
 }
 
-// Whether a word may be shown: one of at most 21 octets with three dots, as an address has; and one of at most 40 octets that has fewer
-// than six hexadecimal digits, and something else or decimal digits alone. So no key of three octets or more is shown.
+// Whether a word may be shown: an address has three dots and few octets, and other words few hexadecimal digits, beside something else or
+// as decimal digits alone. So no key of three octets or more is shown.
 fn is_plain(word: &str) -> bool
     ensures { result ≡ is_plain word.now }
 {
     let octets = word.as_bytes();
-    let count = digit_count(octets);
-    is_of_address(octets)
+    let digits = digit_count(octets);
+    octets.len() <= MOST_ADDRESS_OCTETS && dot_count(octets) >= 3
         || octets.len() <= MOST_OCTETS
-            && count < FEWEST_DIGITS
-            && (count < octets.len() || are_decimal(octets))
+            && digits < FEWEST_DIGITS
+            && (digits < octets.len() || are_decimal(octets))
 }
 
 // How many octets are hexadecimal digits.
@@ -73,22 +76,8 @@ fn digit_count(octets: &[u8]) -> usize
 {
     octets
         .iter()
-        .filter(|octet| is_hexadecimal(**octet))
+        .filter(|octet| octet.is_ascii_hexdigit())
         .count()
-}
-
-// Whether octets are decimal digits alone.
-fn are_decimal(octets: &[u8]) -> bool
-    ensures { result ≡ list_all is_ascii_digit octets.now }
-{
-    octets.iter().all(|octet| octet.is_ascii_digit())
-}
-
-// Whether octets have three dots, as those of an address, and are few.
-fn is_of_address(octets: &[u8]) -> bool
-    ensures { result ≡ is_of_address octets.now }
-{
-    octets.len() <= MOST_ADDRESS_OCTETS && dot_count(octets) >= 3
 }
 
 // How many octets are dots.
@@ -98,14 +87,9 @@ fn dot_count(octets: &[u8]) -> usize
     octets.iter().filter(|octet| **octet == b'.').count()
 }
 
-impl<'a> fmt::Display for Shown<'a> {
-    fn fmt<W: fmt::Write>(&self, f: &mut fmt::Formatter<W>) -> fmt::Result {
-        match self {
-            Shown::Word(word) => write!(f, "{word:?} stands there"),
-            Shown::Hidden(count) => write!(f, "a word of {count} octets stands there"),
-            Shown::Typed(name) => write!(f, "a value of the type {name} stands there"),
-            Shown::Whole(whole) => write!(f, "{whole} stands there"),
-            Shown::Digits(wrong) => write!(f, "{wrong}"),
-        }
-    }
+// Whether octets are decimal digits alone.
+fn are_decimal(octets: &[u8]) -> bool
+    ensures { result ≡ list_all is_ascii_digit octets.now }
+{
+    octets.iter().all(|octet| octet.is_ascii_digit())
 }

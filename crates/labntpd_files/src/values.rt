@@ -1,28 +1,105 @@
-//! What the values of a configuration file and of a wanted customer say.
-ghost use Rattle.std.specs.Prelude.{◌≡◌, ◌≤◌, ◌<◌, ◌^◌, option_map, IfSome};
-ghost use Rattle.toml.specs.View.{view};
-ghost use Rattle.ntp_admin.specs.Words.{address_in, algorithm_in, reference_in};
+//! What stands at a key of a table: a value that is wanted there, or a fault.
+ghost use Rattle.std.specs.Prelude.{◌≡◌, ◌≤◌, ◌<◌, ◌^◌, None, Ok, Err, option_map, IfOk, IfSome, MatchResult};
 ghost use Rattle.std.specs.Char.{is_control};
 ghost use Rattle.std.specs.List.{list_any};
+ghost use Rattle.std.specs.Option.{ok_or};
 ghost use Rattle.std.specs.Str.{chars};
-ghost use Rattle.labntpd_files.specs.Values.{endpoint_in, listen_in, says_fixed, path_in, text_as, key_for, is_name, name_in, whole_of, number_of, rounded, units_of, seconds_of};
+ghost use Rattle.toml.specs.Data.{no_items, get_member, as_str, as_table, as_array};
+ghost use Rattle.toml.specs.View.{view, table_view, items_view};
+ghost use Rattle.ntp_admin.specs.Words.{address_in, algorithm_in, reference_in};
+ghost use Rattle.labntpd_files.specs.Keys.{setting_key};
+ghost use Rattle.labntpd_files.specs.declared.fault.ConfigurationFault.TheVariants.{Missing};
+ghost use Rattle.labntpd_files.specs.Settings.{required, with_default, optional, IsSaid};
+ghost use Rattle.labntpd_files.specs.Values.{endpoint_in, listen_in, path_in, text_as, key_for, is_name, name_in, whole_of, number_of, units_of, seconds_of};
 
-use crate::{Endpoint, Listen};
+use crate::ConfigurationFault::{Missing, Wanted};
+use crate::fault::Reading;
+use crate::setting::value_at;
+use crate::{Endpoint, Listen, Setting};
 use ntp_admin::words;
 use ntp_mac::{Algorithm, Key};
 use ntp_reply::Reference;
 use ntp_service::Address;
 use std::num::{self, NonZero};
-use toml::Value;
+use toml::{Table, Value};
 
 /// How many octets the name of a customer has at most.
 const MOST_NAME_OCTETS: usize = 200;
 
-/// An address with a port: `ADDRESS:PORT`.
-pub(crate) fn endpoint_of(value: &Value) -> Option<Endpoint>
-    ensures { result ≡ text_as endpoint_in (view value.now) }
+/// The least that a buffer may be, in octets.
+const LEAST_BUFFER: u32 = 65_536;
+
+/// The most that a buffer may be, in octets: the kernel doubles what it is asked for, and counts in 31 bits.
+const MOST_BUFFER: u32 = 1_073_741_823;
+
+/// A span of seconds: how many units a second has, and in these units the default, the least and the most.
+pub(crate) struct Span(u32, u64, u64, u64);
+
+/// How many nanoseconds a second has.
+const NANOSECONDS: u32 = 1_000_000_000;
+
+/// How many units of the short format a second has (RFC 5905, 6).
+const SHORT_UNITS: u32 = 65_536;
+
+/// How long a datagram may have waited: 0.15 to 60 s, else 0.25 s.
+pub(crate) const LONGEST_WAIT: Span = Span(NANOSECONDS, 250_000_000, 150_000_000, 60_000_000_000);
+
+/// For how long an answer of the clock's daemon is believed: 2 to 3,600 s, else 16 s.
+pub(crate) const VALID_FOR: Span = Span(
+    NANOSECONDS,
+    16_000_000_000,
+    2_000_000_000,
+    3_600_000_000_000,
+);
+
+/// The root distance up to which it is believed: 1 unit to 16 s, else 1 s.
+pub(crate) const MOST_ROOT_DISTANCE: Span = Span(SHORT_UNITS, 65_536, 1, 1_048_576);
+
+/// The age of its reference time up to which it is believed: 1 to 1,000,000 s, else 4,096 s.
+pub(crate) const MOST_REFERENCE_AGE: Span = Span(1, 4_096, 1, 1_000_000);
+
+/// How far the host's clock may have been set since its answer: 1 ns to 3,600 s, else 0.5 s.
+pub(crate) const MOST_STEP: Span = Span(NANOSECONDS, 500_000_000, 1, 3_600_000_000_000);
+
+// The value of a setting that has to stand there.
+fn required(table: &Table, setting: Setting) -> Reading<&Value>
+    ensures { IsSaid (λ value. view value.now) (ok_or (get_member (setting_key setting) (table_view table.now)) (Missing setting)) result }
 {
-    endpoint_in(value.as_str()?)
+    value_at(table, setting).ok_or(Missing(setting))
+}
+
+// A text.
+fn text_at(table: &Table, setting: Setting) -> Reading<&str>
+    ensures { IsSaid (λ text. text.now) (required setting as_str (table_view table.now)) result }
+{
+    required(table, setting)?.as_str().ok_or(Wanted(setting))
+}
+
+/// A table.
+pub(crate) fn table_at(table: &Table, setting: Setting) -> Reading<&Table>
+    ensures { IsSaid (λ inner. table_view inner.now) (required setting as_table (table_view table.now)) result }
+{
+    required(table, setting)?.as_table().ok_or(Wanted(setting))
+}
+
+/// Where datagrams are received: `inherited`, or an address with a port.
+pub(crate) fn listen_at(table: &Table) -> Reading<Listen>
+    ensures { result ≡ required Setting.Listen (text_as listen_in) (table_view table.now) }
+{
+    match text_at(table, Setting::Listen)? {
+        "inherited" => Ok(Listen::Inherited),
+        text => {
+            let endpoint = endpoint_in(text).ok_or(Wanted(Setting::Listen))?;
+            Ok(Listen::Bound(endpoint))
+        }
+    }
+}
+
+/// Where the clock's daemon answers: an address with a port.
+pub(crate) fn source_at(clock: &Table) -> Reading<Endpoint>
+    ensures { result ≡ required Setting.Source (text_as endpoint_in) (table_view clock.now) }
+{
+    endpoint_in(text_at(clock, Setting::Source)?).ok_or(Wanted(Setting::Source))
 }
 
 // The address with a port that a text writes.
@@ -36,90 +113,116 @@ fn endpoint_in(text: &str) -> Option<Endpoint>
     })
 }
 
-/// Where datagrams are received: `inherited`, or an address with a port.
-pub(crate) fn listen_of(value: &Value) -> Option<Listen>
-    ensures { result ≡ text_as listen_in (view value.now) }
-{
-    let text = value.as_str()?;
-    if text == "inherited" {
-        return Some(Listen::Inherited);
-    }
-    Some(Listen::Bound(endpoint_in(text)?))
-}
-
-/// Whether a clock's source is fixed.
-pub(crate) fn says_fixed(value: &Value) -> bool
-    ensures { result ≡ says_fixed (view value.now) }
-{
-    matches!(value.as_str(), Some("fixed"))
-}
-
 /// The path of a file: a text that is not empty.
-pub(crate) fn path_of(value: &Value) -> Option<&str>
-    ensures { option_map (λ path. path.now) result ≡ text_as path_in (view value.now) }
+pub(crate) fn path_text(table: &Table, setting: Setting) -> Reading<&str>
+    ensures { IsSaid (λ path. path.now) (required setting (text_as path_in) (table_view table.now)) result }
 {
-    let path = value.as_str()?;
-    if path.is_empty() { None } else { Some(path) }
+    match required(table, setting)?.as_str() {
+        Some(path) if !path.is_empty() => Ok(path),
+        _ => Err(Wanted(setting)),
+    }
 }
 
-/// A whole number from `least` to `most`.
-pub(crate) fn whole_of(value: &Value, least: u32, most: u32) -> Option<u32>
-    ensures value { result ≡ whole_of least most (view value.now) }
-    ensures range { IfSome result (λ whole. (least ≤ whole) × (whole ≤ most)) }
+/// The path of a file that may be left out.
+pub(crate) fn optional_path(table: &Table, setting: Setting) -> Reading<Option<&str>>
+    ensures { IsSaid (λ path. option_map (λ text. text.now) path) (optional setting (text_as path_in) (table_view table.now)) result }
 {
-    let Value::Integer(whole) = value else {
-        return None;
+    match value_at(table, setting) {
+        None => Ok(None),
+        Some(value) => match value.as_str() {
+            Some(path) if !path.is_empty() => Ok(Some(path)),
+            _ => Err(Wanted(setting)),
+        },
+    }
+}
+
+/// The size of a buffer of the socket.
+pub(crate) fn buffer_at(table: &Table, setting: Setting, default: u32) -> Reading<u32>
+    requires { (65536 ≤ default) × (default ≤ 1073741823) }
+    ensures range { IfOk result (λ octets. (65536 ≤ octets) × (octets ≤ 1073741823)) }
+    ensures value { result ≡ with_default default setting (whole_of 65536 1073741823) (table_view table.now) }
+{
+    match value_at(table, setting) {
+        None => Ok(default),
+        Some(value) => whole_of(value, LEAST_BUFFER, MOST_BUFFER).ok_or(Wanted(setting)),
+    }
+}
+
+/// A number of seconds, in the units of its span.
+pub(crate) fn seconds_at(table: &Table, setting: Setting, span: &Span) -> Reading<u64>
+    requires { (span.now.2 ≤ span.now.1) × (span.now.1 ≤ span.now.3) }
+    ensures range { IfOk result (λ count. (span.now.2 ≤ count) × (count ≤ span.now.3)) }
+    ensures value { result ≡ with_default span.now.1 setting (seconds_of span.now.0 span.now.2 span.now.3) (table_view table.now) }
+{
+    let Span(units, default, least, most) = *span;
+    let Some(value) = value_at(table, setting) else {
+        return Ok(default);
     };
-    let whole = u32::try_from(*whole).ok()?;
-    if least <= whole && whole <= most {
-        Some(whole)
-    } else {
-        None
+    match units_of(value, units) {
+        Some(count) if u128::from(least) <= count && count <= u128::from(most) => Ok(count as u64),
+        _ => Err(Wanted(setting)),
     }
 }
 
 /// A key number or a budget, from 1 to 65,535.
-pub(crate) fn number_of(value: &Value) -> Option<NonZero<u16>>
-    ensures { result ≡ number_of (view value.now) }
+pub(crate) fn number_at(table: &Table, setting: Setting) -> Reading<NonZero<u16>>
+    ensures { result ≡ required setting number_of (table_view table.now) }
 {
-    let whole = whole_of(value, 1, 65_535)?;
-    NonZero::<u16>::new(whole as u16)
+    number_of(required(table, setting)?).ok_or(Wanted(setting))
 }
 
 /// A digest algorithm: `md5` or `sha1`.
-pub(crate) fn algorithm_of(value: &Value) -> Option<Algorithm>
-    ensures { result ≡ text_as algorithm_in (view value.now) }
+pub(crate) fn algorithm_at(table: &Table) -> Reading<Algorithm>
+    ensures { result ≡ required Setting.Algorithm (text_as algorithm_in) (table_view table.now) }
 {
-    words::algorithm(value.as_str()?)
+    words::algorithm(text_at(table, Setting::Algorithm)?).ok_or(Wanted(Setting::Algorithm))
 }
 
 /// A reference state: 46 hexadecimal digits.
-pub(crate) fn reference_of(value: &Value) -> Option<Reference>
-    ensures { result ≡ text_as reference_in (view value.now) }
+pub(crate) fn reference_at(clock: &Table) -> Reading<Reference>
+    ensures { result ≡ required Setting.Reference (text_as reference_in) (table_view clock.now) }
 {
-    words::reference(value.as_str()?)
+    words::reference(text_at(clock, Setting::Reference)?).ok_or(Wanted(Setting::Reference))
 }
 
 /// An address: four numbers with dots between them.
-pub(crate) fn address_of(value: &Value) -> Option<Address>
-    ensures { result ≡ text_as address_in (view value.now) }
+pub(crate) fn address_at(customer: &Table) -> Reading<Address>
+    ensures { result ≡ required Setting.Address (text_as address_in) (table_view customer.now) }
 {
-    words::address(value.as_str()?)
+    words::address(text_at(customer, Setting::Address)?).ok_or(Wanted(Setting::Address))
 }
 
 /// A key for an algorithm: 2 to 64 hexadecimal digits, an even number.
-pub(crate) fn key_of(value: &Value, algorithm: Algorithm) -> Option<Key>
-    ensures { result ≡ text_as (key_for algorithm) (view value.now) }
+pub(crate) fn key_at(table: &Table, algorithm: Algorithm) -> Reading<Key>
+    ensures { result ≡ required Setting.Key (text_as (key_for algorithm)) (table_view table.now) }
 {
-    words::key(algorithm, value.as_str()?)
+    words::key(algorithm, text_at(table, Setting::Key)?).ok_or(Wanted(Setting::Key))
 }
 
-/// The name of a customer.
-pub(crate) fn name_of(value: &Value) -> Option<&str>
-    ensures { option_map (λ name. name.now) result ≡ text_as name_in (view value.now) }
+/// The name of a customer, which may be left out.
+pub(crate) fn name_at(customer: &Table) -> Reading<Option<&str>>
+    ensures { IsSaid (λ name. option_map (λ text. text.now) name) (optional Setting.Name (text_as name_in) (table_view customer.now)) result }
 {
-    let name = value.as_str()?;
-    if is_name(name) { Some(name) } else { None }
+    match value_at(customer, Setting::Name) {
+        None => Ok(None),
+        Some(value) => match value.as_str() {
+            Some(name) if is_name(name) => Ok(Some(name)),
+            _ => Err(Wanted(Setting::Name)),
+        },
+    }
+}
+
+/// The customers of a document, as they stand there.
+pub(crate) fn customers_at(document: &Table) -> Reading<&[Value]>
+    ensures { IsSaid (λ values. items_view values.now) (with_default no_items Setting.Customer as_array (table_view document.now)) result }
+{
+    match value_at(document, Setting::Customer) {
+        None => Ok(&[]),
+        Some(value) => match value.as_array() {
+            None => Err(Wanted(Setting::Customer)),
+            Some(values) => Ok(values.as_slice()),
+        },
+    }
 }
 
 /// Whether a text may be the name of a customer: 1 to 200 octets without control characters.
@@ -136,30 +239,32 @@ fn has_control(text: &str) -> bool
     text.chars().any(|character| character.is_control())
 }
 
-/// A span of seconds: how many of its units a second has, and, in these units, what stands for a setting that is left out, and the least
-/// and the most that it may be.
-pub(crate) struct Span {
-    pub(crate) units: u32,
-    pub(crate) default: u64,
-    pub(crate) least: u64,
-    pub(crate) most: u64,
-}
-
-/// A number of seconds that is in a span, in its units.
-pub(crate) fn seconds_of(value: &Value, span: &Span) -> Option<u64>
-    ensures value { result ≡ seconds_of span.now.units span.now.least span.now.most (view value.now) }
-    ensures range { IfSome result (λ count. (span.now.least ≤ count) × (count ≤ span.now.most)) }
+// A whole number from `least` to `most`.
+fn whole_of(value: &Value, least: u32, most: u32) -> Option<u32>
+    ensures value { result ≡ whole_of least most (view value.now) }
+    ensures range { IfSome result (λ whole. (least ≤ whole) × (whole ≤ most)) }
 {
-    let count = units_of(value, span.units)?;
-    if u128::from(span.least) <= count && count <= u128::from(span.most) {
-        Some(count as u64)
+    let Value::Integer(whole) = value else {
+        return None;
+    };
+    let whole = u32::try_from(*whole).ok()?;
+    if least <= whole && whole <= most {
+        Some(whole)
     } else {
         None
     }
 }
 
-// The units of a number of seconds. A second has `units` units. A float is rounded to a whole number of them; one that is no number, or is
-// below 0, gives 0, and one above 2^64 - 1 gives that: neither is in the range of a setting.
+// A whole number from 1 to 65,535.
+fn number_of(value: &Value) -> Option<NonZero<u16>>
+    ensures { result ≡ number_of (view value.now) }
+{
+    let whole = whole_of(value, 1, 65_535)?;
+    NonZero::<u16>::new(whole as u16)
+}
+
+// The units of a number of seconds. A float is rounded; one that is no number, or is below 0, gives 0, and one above 2^64 - 1 gives that:
+// neither is in a span.
 fn units_of(value: &Value, units: u32) -> Option<u128>
     ensures { result ≡ units_of units (view value.now) }
 {

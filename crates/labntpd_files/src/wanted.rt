@@ -1,16 +1,16 @@
 //! What a file of wanted customers says.
-ghost use Rattle.std.specs.Prelude.{◌≡◌, Some, IfOk};
+ghost use Rattle.std.specs.Prelude.{◌≡◌, Some, Ok, nat_eq, IfOk, IsTrue};
+ghost use Rattle.std.specs.List.{IsDistinct};
 ghost use Rattle.toml.specs.Parse.{parse_document};
-ghost use Rattle.labntpd_files.specs.Wanted.{wanted_in, AreDistinct};
+ghost use Rattle.toml.specs.View.{table_view};
+ghost use Rattle.labntpd_files.specs.Settings.{Reads};
+ghost use Rattle.labntpd_files.specs.Wanted.{key_in, newer_in, customer_in, customers_in, key_numbers, wanted_in, AreDistinct};
 
-use crate::found::{add, add_faults, add_no_toml};
-use crate::line_numbers::{customer_lines, key_line};
+use crate::fault::Reading;
+use crate::found::{Found, add, add_faults, add_no_toml, key_lines};
 use crate::setting::{CUSTOMER_KEYS, NEWER_KEYS, value_at};
-use crate::values::{address_of, number_of};
-use crate::wanted_reader::{are_distinct, customers_in, customers_of};
-use crate::{
-    ConfigurationFault, Found, Setting, Text, address_warning, budget_warning, key_warning,
-};
+use crate::values::{address_at, algorithm_at, customers_at, key_at, name_at, number_at, table_at};
+use crate::{ConfigurationFault, Setting, Text, address_warning, budget_warning, key_warning};
 use ntp_mac::Key;
 use ntp_service::Address;
 use std::alloc::{AllocError, Global};
@@ -96,19 +96,23 @@ pub fn read_wanted(alloc: Global, text: &str) -> Result<Wanted, WantedFault>
             return Err(WantedFault::Faults(found));
         }
     };
-    let customers = match customers_in(alloc, &document) {
-        Ok(customers) => Some(customers),
-        Err(ConfigurationFault::NoMemory) => return Err(WantedFault::NoMemory),
-        Err(_fault) => None,
-    };
-    let lines = customer_lines(alloc, text)?;
+    let customers = customers_in(alloc, &document);
     let _ = document.remove(Setting::Reference.key());
-    let line_of = |key: &str| key_line(text, "", key);
-    add_faults(&mut found, "", line_of, &document, &[Setting::Customer])?;
+    let (keys, lines) = (key_lines(alloc, text, "")?, customer_lines(alloc, text)?);
+    add_faults(
+        &mut found,
+        "",
+        Some(&keys),
+        None,
+        &document,
+        &[Setting::Customer],
+    )?;
     add_customers(&mut found, &document, &lines)?;
     found.sort_by_key(|found| found.line)?;
-    let Some(customers) = customers else {
-        return Err(WantedFault::Faults(found));
+    let customers = match customers {
+        Ok(customers) => customers,
+        Err(ConfigurationFault::NoMemory) => return Err(WantedFault::NoMemory),
+        Err(_fault) => return Err(WantedFault::Faults(found)),
     };
     if !found.is_empty() || !are_distinct(alloc, &customers)? {
         return Err(WantedFault::Faults(found));
@@ -117,6 +121,17 @@ pub fn read_wanted(alloc: Global, text: &str) -> Result<Wanted, WantedFault>
         warnings: warnings_of(alloc, &customers, &lines)?,
         customers,
     })
+}
+
+// The lines, counted from 1, that begin with the header of a customer.
+fn customer_lines(alloc: Global, text: &str) -> Result<Vec<u64>, AllocError> {
+    let mut lines = Vec::new(alloc);
+    for (place, line) in text.lines().enumerate() {
+        if line.trim_start().starts_with("[[customer]]") {
+            lines.push(place as u64 + 1)?;
+        }
+    }
+    Ok(lines)
 }
 
 // Adds what is wrong with the customers of a document, which begin in these lines.
@@ -128,7 +143,7 @@ fn add_customers(
     let alloc = *found.allocator();
     let mut addresses = BTreeSet::new(alloc);
     let mut numbers = BTreeSet::new(alloc);
-    let customers = customers_of(document).unwrap_or(&[]);
+    let customers = customers_at(document).unwrap_or(&[]);
     for (index, customer) in customers.iter().enumerate() {
         let line = lines.get(index).copied();
         let Some(table) = customer.as_table() else {
@@ -136,10 +151,10 @@ fn add_customers(
             add(found, line, format_args!("{who}a table is wanted"))?;
             continue;
         };
-        let address = value_at(table, Setting::Address).and_then(|value| address_of(value));
+        let address = address_at(table).ok();
         let who = who_at(alloc, index, address)?;
         add_table(found, &mut numbers, &who, line, table, &CUSTOMER_KEYS)?;
-        if let Some(newer) = value_at(table, Setting::Newer).and_then(|newer| newer.as_table()) {
+        if let Ok(newer) = table_at(table, Setting::Newer) {
             let prefix = format!(in alloc; "{who}newer.")?;
             add_table(found, &mut numbers, &prefix, line, newer, &NEWER_KEYS)?;
         }
@@ -161,9 +176,9 @@ fn add_table(
     table: &Table,
     keys: &[Setting],
 ) -> Result<(), AllocError> {
-    add_faults(found, prefix, |_| line, table, keys)?;
-    match value_at(table, Setting::Number).and_then(|value| number_of(value)) {
-        Some(number) if !numbers.insert(number.get())? => {
+    add_faults(found, prefix, None, line, table, keys)?;
+    match number_at(table, Setting::Number) {
+        Ok(number) if !numbers.insert(number.get())? => {
             add(found, line, format_args!("{prefix}number: {TWICE}"))
         }
         _ => Ok(()),
@@ -202,4 +217,89 @@ fn warnings_of(
         }
     }
     Ok(found)
+}
+
+// The customers of a document, or a fault in one of them.
+fn customers_in(alloc: Global, document: &Table) -> Reading<Vec<WantedCustomer>>
+    ensures only { IfOk result (λ customers. customers_in (table_view document.now) ≡ Ok customers.items) }
+{
+    let mut customers = Vec::new(alloc);
+    for value in customers_at(document)? {
+        let table = value
+            .as_table()
+            .ok_or(ConfigurationFault::Wanted(Setting::Customer))?;
+        let customer = customer_in(alloc, table)?;
+        customers.push(customer).map_err(AllocError::from)?;
+    }
+    Ok(customers)
+}
+
+// The customer that a table tells of.
+fn customer_in(alloc: Global, table: &Table) -> Reading<WantedCustomer>
+    ensures { Reads (customer_in (table_view table.now)) result }
+{
+    Ok(WantedCustomer {
+        address: address_at(table)?,
+        older: key_in(table)?,
+        newer: newer_in(table)?,
+        budget: number_at(table, Setting::Budget)?,
+        name: Text::of_some(alloc, name_at(table)?)?,
+    })
+}
+
+// The key that a table tells of.
+fn key_in(table: &Table) -> Reading<WantedKey>
+    ensures { result ≡ key_in (table_view table.now) }
+{
+    let number = number_at(table, Setting::Number)?;
+    let key = key_at(table, algorithm_at(table)?)?;
+    Ok(WantedKey { number, key })
+}
+
+// The newer key, where there is one.
+fn newer_in(table: &Table) -> Reading<Option<WantedKey>>
+    ensures { result ≡ newer_in (table_view table.now) }
+{
+    match value_at(table, Setting::Newer) {
+        None => Ok(None),
+        Some(_) => Ok(Some(key_in(table_at(table, Setting::Newer)?)?)),
+    }
+}
+
+// Whether no two customers have one address, and no two keys one number.
+fn are_distinct(alloc: Global, customers: &[WantedCustomer]) -> Result<bool, AllocError>
+    ensures { IfOk result (λ are. IsTrue are → AreDistinct customers.now) }
+{
+    let addresses = customers
+        .iter()
+        .map(|customer| u32::from_be_bytes(customer.address.0))
+        .collect(alloc)?;
+    Ok(no_two_alike(addresses)? && no_two_alike(key_numbers(alloc, customers)?)?)
+}
+
+// The numbers of the keys of customers.
+fn key_numbers(alloc: Global, customers: &[WantedCustomer]) -> Result<Vec<u32>, AllocError>
+    ensures { IfOk result (λ numbers. numbers.items ≡ key_numbers customers.now) }
+{
+    let newers = customers.iter().filter_map(|customer| customer
+        .newer
+        .map(|key| u32::from(key.number.get())));
+    customers
+        .iter()
+        .map(|customer| u32::from(customer.older.number.get()))
+        .chain(newers)
+        .collect(alloc)
+}
+
+// Whether no number stands there twice.
+fn no_two_alike(mut numbers: Vec<u32>) -> Result<bool, AllocError>
+    ensures { IfOk result (λ are. IsTrue are → IsDistinct nat_eq numbers.items) }
+{
+    numbers.sort()?;
+    for place in 1..numbers.len() {
+        if numbers[place - 1] >= numbers[place] {
+            return Ok(false);
+        }
+    }
+    Ok(true)
 }

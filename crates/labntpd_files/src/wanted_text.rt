@@ -3,7 +3,6 @@
 use crate::{WantedCustomer, WantedKey};
 use ntp_mac::Algorithm;
 use ntp_service::Address;
-use std::fmt;
 use std::io::{self, Write};
 
 /// Whether keys are written, which are secrets.
@@ -22,7 +21,16 @@ pub fn write_wanted<W: Write>(
     let Address([a, b, c, d]) = customer.address;
     writeln!(out, "[[customer]]")?;
     if let Some(name) = &customer.name {
-        writeln!(out, "name = {}", BasicString(name.as_str()))?;
+        write!(out, "name = \"")?;
+        for character in name.as_str().chars() {
+            let escape = if matches!(character, '"' | '\\') {
+                "\\"
+            } else {
+                ""
+            };
+            write!(out, "{escape}{character}")?;
+        }
+        writeln!(out, "\"")?;
     }
     writeln!(out, "address = \"{a}.{b}.{c}.{d}\"")?;
     write_key(out, &customer.older, keys, "\n")?;
@@ -56,22 +64,4 @@ fn write_key<W: Write>(
         write!(out, "{octet:02x}")?;
     }
     write!(out, "\"")
-}
-
-// A text as a basic string of TOML.
-#[derive(Clone, Copy)]
-struct BasicString<'a>(&'a str);
-
-impl<'a> fmt::Display for BasicString<'a> {
-    fn fmt<W: fmt::Write>(&self, f: &mut fmt::Formatter<W>) -> fmt::Result {
-        f.write_str("\"")?;
-        for character in self.0.chars() {
-            match character {
-                '"' | '\\' => write!(f, "\\{character}")?,
-                _ if character.is_control() => write!(f, "\\u{:04X}", u32::from(character))?,
-                _ => f.write_char(character)?,
-            }
-        }
-        f.write_str("\"")
-    }
 }

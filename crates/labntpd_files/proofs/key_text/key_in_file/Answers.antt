@@ -1,9 +1,9 @@
 use Rattle.std.proofs.Common.{◌≡◌, Some, None, sym, ap, ◌∙◌, arith}
 use Rattle.std.proofs.lemmas.Str.Pattern.{strip_suffix_char}
-use Rattle.labntpd_files.specs.KeyFile.{first_line}
+use Rattle.labntpd_files.specs.KeyText.{first_line}
 use Rattle.labntpd_files.proofs.Lines.{first_line-with, first_line-without}
-use Rattle.labntpd_files.proofs.key_file.key_in_file.Goals.{in-Some, in-None}
-use Rattle.labntpd_files.proofs.key_file.key_in_file.Goals as goal
+use Rattle.labntpd_files.proofs.key_text.key_in_file.Goals.{in-Some, in-None}
+use Rattle.labntpd_files.proofs.key_text.key_in_file.Goals as goal
 
 pub returns : goal.returns
 returns c =

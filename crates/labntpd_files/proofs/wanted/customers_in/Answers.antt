@@ -2,7 +2,7 @@ use Rattle.std.proofs.Common.{◌≡◌, Some, ◌∷◌, [], ◌++◌, ◌∙�
 use Rattle.toml.specs.Data.{as_table}
 use Rattle.toml.specs.View.{view, table_view}
 use Rattle.labntpd_files.proofs.WantedOrder.{behind-next}
-use Rattle.labntpd_files.proofs.wanted_reader.customers_in.Goals as goal
+use Rattle.labntpd_files.proofs.wanted.customers_in.Goals as goal
 
 pub loop-value-preserved : goal.loop-value-preserved
 loop-value-preserved c =

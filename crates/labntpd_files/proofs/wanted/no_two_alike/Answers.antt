@@ -3,7 +3,7 @@ use Rattle.std.specs.List.Sorted.{IsStrictlyIncreasing}
 use Rattle.std.proofs.lemmas.Bool.Decides.{nat_tests}
 use Rattle.std.proofs.lemmas.List.Sorted.{IsPermutation-sym}
 use Rattle.std.proofs.lemmas.Map.Keys.{IsDistinct-IsPermutation, IsDistinct-from_apart, below_from_sorted, sorted_from_strictly_increasing}
-use Rattle.labntpd_files.proofs.wanted_reader.no_two_alike.Goals as goal
+use Rattle.labntpd_files.proofs.wanted.no_two_alike.Goals as goal
 
 flips : (x y : ℕ) → nat_eq x y ≡ nat_eq y x
 flips x y = grind (arith, nat_tests)

@@ -2,7 +2,7 @@ use Rattle.std.proofs.Common.{◌≡◌, drop}
 use Rattle.toml.specs.View.{items_view}
 use Rattle.labntpd_files.specs.Wanted.{customers_from}
 use Rattle.labntpd_files.proofs.WantedOrder.{behind}
-use Rattle.labntpd_files.proofs.wanted_reader.customers_in.Given as goal
+use Rattle.labntpd_files.proofs.wanted.customers_in.Given as goal
 
 abbrev pub invariant-loop-value : goal.invariant-loop-value
 invariant-loop-value l =

@@ -3,8 +3,9 @@
 use ntp_host::{CommandsFault, CommandsFile};
 use ntp_port::CommandsSource;
 use std::alloc::Global;
+use std::fmt;
 use std::fs::Files;
-use std::{fmt, io};
+use std::io::{self, ErrorKind};
 
 /// The commands of a daemon, and what its log and its statistics tell of their file.
 pub trait DaemonCommands: CommandsSource<Global> {
@@ -36,42 +37,29 @@ pub enum FileFault {
     Incomplete,
 }
 
-/// Whether two faults of a file are told in the same words.
-pub(crate) fn are_told_alike(one: &Option<FileFault>, other: &Option<FileFault>) -> bool {
+/// Returns whether the log has the same words for two faults of a file.
+pub(crate) fn have_same_words(one: &Option<FileFault>, other: &Option<FileFault>) -> bool {
     match (one, other) {
-        (Some(one), Some(other)) => one.is_told_as(other),
+        (Some(one), Some(other)) => one.words() == other.words(),
         (None, None) => true,
         _ => false,
     }
 }
 
 impl FileFault {
-    // Whether another fault is told alike.
-    fn is_told_as(&self, other: &FileFault) -> bool {
-        match (self, other) {
-            (FileFault::Commands(one), FileFault::Commands(other)) => is_commands_fault(one, other),
-            (FileFault::Unwritten(one), FileFault::Unwritten(other)) => is_error(one, other),
-            (FileFault::Incomplete, FileFault::Incomplete) => true,
-            _ => false,
+    // Returns a number for the words that the log has for it, and what the system says in them.
+    fn words(&self) -> (u8, Option<(ErrorKind, Option<i32>)>) {
+        let said = |error: &io::Error| Some((error.kind(), error.raw_os_error()));
+        match self {
+            FileFault::Commands(CommandsFault::Unreadable(error)) => (0, said(error)),
+            FileFault::Commands(CommandsFault::Full) => (1, None),
+            FileFault::Commands(CommandsFault::Replaced) => (2, None),
+            FileFault::Commands(CommandsFault::Shorter) => (3, None),
+            FileFault::Commands(CommandsFault::Rewritten) => (4, None),
+            FileFault::Unwritten(error) => (5, said(error)),
+            FileFault::Incomplete => (6, None),
         }
     }
-}
-
-// Whether two faults of the commands file are one.
-fn is_commands_fault(one: &CommandsFault, other: &CommandsFault) -> bool {
-    match (one, other) {
-        (CommandsFault::Unreadable(one), CommandsFault::Unreadable(other)) => is_error(one, other),
-        (CommandsFault::Full, CommandsFault::Full)
-        | (CommandsFault::Replaced, CommandsFault::Replaced)
-        | (CommandsFault::Shorter, CommandsFault::Shorter)
-        | (CommandsFault::Rewritten, CommandsFault::Rewritten) => true,
-        _ => false,
-    }
-}
-
-// Whether two errors of the system are one.
-fn is_error(one: &io::Error, other: &io::Error) -> bool {
-    one.kind() == other.kind() && one.raw_os_error() == other.raw_os_error()
 }
 
 /// What the log tells of it.

@@ -15,8 +15,9 @@ use labntpd_files::command_line::VERSION;
 use ntp_client::Reading;
 use ntp_host::{SOCKETS_ROOM, moment_now, queue_state, replace_file};
 use ntp_packet::Moment;
-use ntp_reports::{ClockGauges, Counts, Gauges, Kind, write_statistics};
+use ntp_reports::{ClockGauges, Counts, CustomerCounts, Gauges, Kind, write_statistics};
 use ntp_server::Reporter;
+use ntp_service::Service;
 use std::alloc::AllocError;
 use std::fs::Files;
 use std::io::{self, Write};
@@ -186,8 +187,10 @@ impl<'a, R: Files + Clock, L: Write + Drop> Housekeeping<'a, R, L> {
         O: DaemonObserver,
     {
         let ticks = self.host.clocks.ticks.get();
-        self.see_wait(server, receipt);
-        self.write_customers(server, ticks, receipt);
+        self.see_wait(server.port.stale(), server.port.waited(), receipt);
+        if let Some(reports) = server.observer.reports() {
+            self.write_customers(reports, &server.service, ticks, receipt);
+        }
         if self.times.has_come(ticks) {
             self.news.at(self.times.seconds);
             self.each_second(server);
@@ -220,8 +223,8 @@ impl<'a, R: Files + Clock, L: Write + Drop> Housekeeping<'a, R, L> {
         }
         self.news.tell_stale(server.port.stale());
         self.news.tell_receiving(self.seen.receives.is_receiving());
-        self.begin_customers(server);
-        self.see_files(server);
+        self.begin_customers(server.observer.counts().count(Kind::Done));
+        self.see_files(server.commands.inner(), server.observer.answers_fault());
         self.tell_files();
         if seconds >= self.times.statistics {
             self.times.statistics = seconds.saturating_add(STATISTICS_PERIOD);
@@ -229,19 +232,12 @@ impl<'a, R: Files + Clock, L: Write + Drop> Housekeeping<'a, R, L> {
         }
         if seconds >= self.times.totals {
             self.times.totals = seconds.saturating_add(TOTALS_PERIOD);
-            self.tell_totals(server);
+            self.tell_totals(server.observer.counts(), server.port.stale());
         }
     }
 
-    // Looks at the files of commands and of answers.
-    fn see_files<P, C, S, O>(&mut self, server: &Daemon<P, C, S, O>)
-    where
-        P: DaemonPort,
-        C: DaemonCommands,
-        S: DaemonClock,
-        O: DaemonObserver,
-    {
-        let commands = server.commands.inner();
+    // Looks at the commands file, and at why answers are not written, if they are not.
+    fn see_files<C: DaemonCommands>(&mut self, commands: &C, unwritten: Option<io::Error>) {
         let fault = commands.fault();
         self.seen
             .files
@@ -250,7 +246,6 @@ impl<'a, R: Files + Clock, L: Write + Drop> Housekeeping<'a, R, L> {
             let path = self.host.configuration.commands.as_str();
             self.news.tell_nearly_full(path, commands.octets());
         }
-        let unwritten = server.observer.answers_fault();
         self.seen
             .files
             .see(Watched::Answers, unwritten.map(FileFault::Unwritten));
@@ -269,15 +264,8 @@ impl<'a, R: Files + Clock, L: Write + Drop> Housekeeping<'a, R, L> {
         }
     }
 
-    // Begins to write the customers, where it is time to, and sees whether that goes well.
-    fn begin_customers<P, C, S, O>(&mut self, server: &Daemon<P, C, S, O>)
-    where
-        P: DaemonPort,
-        C: DaemonCommands,
-        S: DaemonClock,
-        O: DaemonObserver,
-    {
-        let done = server.observer.counts().count(Kind::Done);
+    // Begins to write the customers, where it is time to, and sees whether that goes well. `done` commands were carried out.
+    fn begin_customers(&mut self, done: u64) {
         if let Some(customers) = &mut self.written.customers {
             let fault = customers.begin_in_time(self.times.seconds, done);
             self.seen.files.see(Watched::Customers, fault);
@@ -285,41 +273,27 @@ impl<'a, R: Files + Clock, L: Write + Drop> Housekeeping<'a, R, L> {
     }
 
     // Goes on to write the customers, where that was begun: few of them beside datagrams, and more while none comes.
-    fn write_customers<P, C, S, O>(
+    fn write_customers(
         &mut self,
-        server: &Daemon<P, C, S, O>,
+        reports: &CustomerCounts,
+        service: &Service,
         ticks: u64,
         receipt: Option<Moment>,
-    )
-    where
-        P: DaemonPort,
-        C: DaemonCommands,
-        S: DaemonClock,
-        O: DaemonObserver,
-    {
+    ) {
         if receipt.is_some() && ticks < self.times.piece {
             return;
         }
         self.times.piece = ticks.saturating_add(PIECE_PERIOD);
         let piece = if receipt.is_none() { IDLE_PIECE } else { PIECE };
-        let Some(reports) = server.observer.reports() else {
-            return;
-        };
         if let Some(file) = &mut self.written.customers {
-            file.go_on(reports, &server.service, piece);
+            file.go_on(reports, service, piece);
         }
     }
 
     // Keeps how long a datagram can have waited, where one was taken and that is longer than what is kept.
-    fn see_wait<P, C, S, O>(&mut self, server: &Daemon<P, C, S, O>, receipt: Option<Moment>)
-    where
-        P: DaemonPort,
-        C: DaemonCommands,
-        S: DaemonClock,
-        O: DaemonObserver,
-    {
-        if receipt.is_some() || server.port.stale() != self.seen.stale {
-            self.seen.queue_wait = match (self.seen.queue_wait, server.port.waited()) {
+    fn see_wait(&mut self, stale: u64, waited: Option<u64>, receipt: Option<Moment>) {
+        if receipt.is_some() || stale != self.seen.stale {
+            self.seen.queue_wait = match (self.seen.queue_wait, waited) {
                 (Some(longest), Some(waited)) => Some(longest.max(waited)),
                 _ => None,
             };
@@ -379,21 +353,14 @@ impl<'a, R: Files + Clock, L: Write + Drop> Housekeeping<'a, R, L> {
     }
 
     // Logs what was done so far.
-    fn tell_totals<P, C, S, O>(&mut self, server: &Daemon<P, C, S, O>)
-    where
-        P: DaemonPort,
-        C: DaemonCommands,
-        S: DaemonClock,
-        O: DaemonObserver,
-    {
-        let counts = server.observer.counts();
+    fn tell_totals(&mut self, counts: &Counts, stale: u64) {
         self.news.tell_totals(&HourTotals {
             hours: self.times.seconds / TOTALS_PERIOD,
             time: counts
                 .count(Kind::Basic)
                 .saturating_add(counts.count(Kind::Interleaved)),
             rate: counts.count(Kind::Rate),
-            stale: server.port.stale(),
+            stale,
             drops: self.seen.drops,
         });
     }

@@ -2,7 +2,7 @@
 //! kind a minute.
 
 use crate::clock_told::is_synchronised;
-use crate::files::{FileFault, are_told_alike};
+use crate::files::{FileFault, have_same_words};
 use crate::parts::Begun;
 use crate::watched::Watched;
 use labntpd_files::Configuration;
@@ -13,6 +13,7 @@ use ntp_host::{BoundAt, Log, LogForm, Priority, is_nearly_full, write_nearly_ful
 use ntp_reply::Reference;
 use ntp_reports::{Ask, LineAllowance};
 use std::alloc::{AllocError, Global};
+use std::fmt::Display;
 use std::io::Write;
 
 /// A minute's seconds.
@@ -113,21 +114,30 @@ impl<L: Write + Drop> News<L> {
         } = *begun;
         let line = self.log.begin(Priority::Information);
         let _ = write!(line, "labntpd {VERSION}: at {local}, configuration ");
-        write_digest(line, &digest);
+        for octet in digest {
+            let _ = write!(line, "{octet:02x}");
+        }
         self.log.end();
-        let line = self.log.begin(Priority::Information);
-        let _ = write!(
-            line,
-            "receive buffer: {wanted_buffer} octets wanted, {buffer} given, as the kernel counts"
+        self.say(
+            Priority::Information,
+            format_args!(
+                "receive buffer: {wanted_buffer} octets wanted, {buffer} given, as the kernel counts"
+            ),
         );
+    }
+
+    // Writes a line.
+    fn say<D: Display + Drop>(&mut self, priority: Priority, words: D) {
+        let _ = write!(self.log.begin(priority), "{words}");
         self.log.end();
     }
 
     /// Logs which customers the daemon serves, once it has carried out the lines that stood in its commands file.
     pub(crate) fn tell_customers(&mut self, lines: u64, customers: u64) {
-        let line = self.log.begin(Priority::Information);
-        let _ = write!(line, "commands: {lines} lines read, {customers} customers");
-        self.log.end();
+        self.say(
+            Priority::Information,
+            format_args!("commands: {lines} lines read, {customers} customers"),
+        );
     }
 
     /// Logs that the clock is synchronised, or is not, where that was not told last; and of one that is, its stratum, its reference, and
@@ -157,9 +167,7 @@ impl<L: Write + Drop> News<L> {
         self.told.clock = *state;
         self.told.has_clock = true;
         self.told.leap = NO_LEAP;
-        let line = self.log.begin(Priority::Warning);
-        let _ = write!(line, "clock: not synchronised");
-        self.log.end();
+        self.say(Priority::Warning, "clock: not synchronised");
     }
 
     // Logs which clock the host's follows.
@@ -172,12 +180,12 @@ impl<L: Write + Drop> News<L> {
         self.told.has_clock = true;
         let [a, b, c, d] = state.id();
         let stratum = state.stratum();
-        let line = self.log.begin(Priority::Notice);
-        let _ = write!(
-            line,
-            "clock: synchronised, stratum {stratum}, reference {a:02x}{b:02x}{c:02x}{d:02x}"
+        self.say(
+            Priority::Notice,
+            format_args!(
+                "clock: synchronised, stratum {stratum}, reference {a:02x}{b:02x}{c:02x}{d:02x}"
+            ),
         );
-        self.log.end();
     }
 
     // Logs which leap second is announced.
@@ -187,9 +195,7 @@ impl<L: Write + Drop> News<L> {
             return;
         }
         self.told.leap = leap;
-        let line = self.log.begin(Priority::Notice);
-        let _ = write!(line, "clock: {}", leap_word(leap));
-        self.log.end();
+        self.say(Priority::Notice, format_args!("clock: {}", leap_word(leap)));
     }
 
     /// Logs that many receives have failed one after another, or that this has ended, where that was not told last.
@@ -201,17 +207,14 @@ impl<L: Write + Drop> News<L> {
             return;
         }
         self.told.is_receiving = is_receiving;
-        let _ = if is_receiving {
-            let line = self.log.begin(Priority::Notice);
-            write!(line, "receive: no call fails any longer")
+        if is_receiving {
+            self.say(Priority::Notice, "receive: no call fails any longer");
         } else {
-            let line = self.log.begin(Priority::Error);
-            write!(
-                line,
-                "receive: a hundred calls failed one after another; a pause follows each"
-            )
-        };
-        self.log.end();
+            self.say(
+                Priority::Error,
+                "receive: a hundred calls failed one after another; a pause follows each",
+            );
+        }
     }
 
     /// Logs how many stale datagrams were dropped since it was last told.
@@ -222,9 +225,10 @@ impl<L: Write + Drop> News<L> {
             return;
         }
         self.told.stale = stale;
-        let line = self.log.begin(Priority::Warning);
-        let _ = write!(line, "stale: {dropped} datagrams dropped");
-        self.log.end();
+        self.say(
+            Priority::Warning,
+            format_args!("stale: {dropped} datagrams dropped"),
+        );
     }
 
     /// Logs that the commands file at `path`, which has `octets` octets, is nearly full, where that was not told last.
@@ -254,7 +258,7 @@ impl<L: Write + Drop> News<L> {
     ) {
         let place = which as usize;
         let seconds = self.seconds;
-        if are_told_alike(&fault, &self.told.files[place])
+        if have_same_words(&fault, &self.told.files[place])
             || !may_say(&mut self.allowances.files, seconds)
         {
             return;
@@ -262,17 +266,15 @@ impl<L: Write + Drop> News<L> {
         self.told.files[place] = fault;
         let path = Escaped(which.path_in(configuration));
         let (name, again) = which.words();
-        let _ = match fault {
-            Some(fault) => write!(
-                self.log.begin(Priority::Error),
-                "{name} file {path}: {fault}"
+        match fault {
+            Some(fault) => {
+                self.say(Priority::Error, format_args!("{name} file {path}: {fault}"));
+            }
+            None => self.say(
+                Priority::Notice,
+                format_args!("{name} file {path}: {again}"),
             ),
-            None => write!(
-                self.log.begin(Priority::Notice),
-                "{name} file {path}: {again}"
-            ),
-        };
-        self.log.end();
+        }
     }
 
     /// Logs the totals of some hours.
@@ -284,12 +286,12 @@ impl<L: Write + Drop> News<L> {
             stale,
             drops,
         } = *totals;
-        let line = self.log.begin(Priority::Information);
-        let _ = write!(
-            line,
-            "totals of {hours} hours: time {time}, rate {rate}, stale {stale}, dropped by the kernel {drops}"
+        self.say(
+            Priority::Information,
+            format_args!(
+                "totals of {hours} hours: time {time}, rate {rate}, stale {stale}, dropped by the kernel {drops}"
+            ),
         );
-        self.log.end();
     }
 }
 
@@ -310,12 +312,5 @@ fn leap_word(leap: u8) -> &'static str {
         NO_LEAP => "no leap second is announced",
         1 => "a leap second is announced: the last minute of the day has 61 seconds",
         _ => "a leap second is announced: the last minute of the day has 59 seconds",
-    }
-}
-
-// Writes a digest in hexadecimal digits.
-fn write_digest(line: &mut Vec<u8>, digest: &[u8; 32]) {
-    for octet in digest {
-        let _ = write!(line, "{octet:02x}");
     }
 }

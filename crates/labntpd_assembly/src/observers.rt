@@ -31,32 +31,12 @@ pub trait DaemonObserver: Observer {
     fn log_lines_dropped(&self) -> u64;
 }
 
-/// Who logs lines of commands, and counts the customers.
-pub trait LogObserver: Observer {
-    /// How many customers are enrolled.
-    fn customers(&self) -> u64;
-
-    /// How many lines of the log were dropped.
-    fn dropped(&self) -> u64;
-}
-
-impl<'a, W: Write + Drop> LogObserver for CommandLog<'a, W> {
-    fn customers(&self) -> u64 {
-        self.customers()
-    }
-
-    fn dropped(&self) -> u64 {
-        self.dropped()
-    }
-}
-
 /// It counts, answers lines of commands, logs them, and reports of customers.
 pub type ReportingObserver<'a, L, W> = Counting<
     Both<Option<AnswerLines<W>>, Both<CommandLog<'a, L>, Option<CustomerCounts>>>,
 >;
 
-impl<W: Write, G: LogObserver> DaemonObserver
-    for Counting<Both<Option<AnswerLines<W>>, Both<G, Option<CustomerCounts>>>> {
+impl<'a, L: Write + Drop, W: Write + Drop> DaemonObserver for ReportingObserver<'a, L, W> {
     ghost counted = { λ o. o.counts };
 
     fn counts(&self) -> &Counts {

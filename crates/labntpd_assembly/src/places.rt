@@ -1,6 +1,6 @@
 //! Where the files of a configuration stand: no two of them at one place, and those that are written in directories that are there.
 
-use labntpd_files::{Clock, Configuration, Text};
+use labntpd_files::{Clock, Configuration};
 use ntp_admin::{Escaped, Status, memory_status};
 use ntp_host::{StartLines, not_regular};
 use std::alloc::Global;
@@ -66,9 +66,9 @@ impl<'a> NamedFiles<'a> {
                 Clock::Fixed(_) => None,
                 Clock::Followed(daemon) => Some(daemon.key_file.as_str()),
             },
-            answers: path_of(&configuration.answers),
-            statistics: path_of(&configuration.statistics),
-            customers: path_of(&configuration.customers),
+            answers: configuration.answers.as_ref().map(|path| path.as_str()),
+            statistics: configuration.statistics.as_ref().map(|path| path.as_str()),
+            customers: configuration.customers.as_ref().map(|path| path.as_str()),
         }
     }
 }
@@ -171,11 +171,8 @@ impl fmt::Display for Readers {
 /// Whether others than the owner and the group of the file at a path may use it.
 pub fn readers_of<R: Files>(files: &R, path: &str) -> Option<Readers> {
     let metadata = fs::metadata(files, path).ok()?;
-    if metadata.is_file() && metadata.mode() & OTHERS != 0 {
-        Some(Readers(metadata.mode()))
-    } else {
-        None
-    }
+    let is_theirs = metadata.is_file() && metadata.mode() & OTHERS != 0;
+    is_theirs.then_some(Readers(metadata.mode()))
 }
 
 // The path at which a file is written before it gets its name; the empty text where there is none.
@@ -212,20 +209,9 @@ fn all_named<'a>(
     ]
 }
 
-// The path of a file that may be left out.
-fn path_of(path: &Option<Text>) -> Option<&str> {
-    match path {
-        None => None,
-        Some(path) => Some(path.as_str()),
-    }
-}
-
 // A file, where there is a path for it.
 fn file_at<'a>(key: &'static str, path: Option<&'a str>, usage: Use) -> Option<Named<'a>> {
-    match path {
-        None => None,
-        Some(path) => Some(Named { key, path, usage }),
-    }
+    path.map(|path| Named { key, path, usage })
 }
 
 // Whether a file that is written may stand where it is to: in a directory, and in the place of a regular file or of none. What is made

@@ -1,7 +1,7 @@
 //! The files that can fail while a daemon serves, and what was seen of them.
 
-use crate::files::{FileFault, are_told_alike};
-use labntpd_files::{Configuration, Text};
+use crate::files::{FileFault, have_same_words};
+use labntpd_files::Configuration;
 use ntp_reports::FileGauges;
 
 /// The files that can fail.
@@ -26,12 +26,13 @@ impl Watched {
 
     /// The path of a file; empty where the configuration has none.
     pub(crate) fn path_in<'a>(self, configuration: &'a Configuration) -> &'a str {
-        match self {
-            Watched::Commands => configuration.commands.as_str(),
-            Watched::Answers => written_path(&configuration.answers),
-            Watched::Statistics => written_path(&configuration.statistics),
-            Watched::Customers => written_path(&configuration.customers),
-        }
+        let written = match self {
+            Watched::Commands => return configuration.commands.as_str(),
+            Watched::Answers => &configuration.answers,
+            Watched::Statistics => &configuration.statistics,
+            Watched::Customers => &configuration.customers,
+        };
+        written.as_ref().map_or("", |path| path.as_str())
     }
 }
 
@@ -54,7 +55,7 @@ impl WatchedFiles {
     /// What is wrong with a file was looked for. It is counted where something is wrong that was not before.
     pub(crate) fn see(&mut self, which: Watched, fault: Option<FileFault>) {
         let place = which as usize;
-        if fault.is_some() && !are_told_alike(&fault, &self.seen[place]) {
+        if fault.is_some() && !have_same_words(&fault, &self.seen[place]) {
             self.failures = self.failures.saturating_add(1);
         }
         self.seen[place] = fault;
@@ -86,13 +87,5 @@ impl WatchedFiles {
             Some(FileFault::Commands(fault)) => fault.is_final(),
             _ => false,
         }
-    }
-}
-
-// The path of a file that is written, if it is; else nothing.
-fn written_path<'a>(path: &'a Option<Text>) -> &'a str {
-    match path {
-        Some(path) => path.as_str(),
-        None => "",
     }
 }

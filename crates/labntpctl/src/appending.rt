@@ -1,15 +1,46 @@
-//! Appends lines to the commands file, and follows what comes of them.
+//! Appends lines to the commands file, waits for the answers of labntpd to them, and follows what comes of them.
 
-use crate::customer_file::take_back;
-use crate::desk::{Clerk, Desk, Stop};
-use crate::holding::HeldFile;
-use crate::loading::Loaded;
-use crate::waiting::{Answers, BadAnswer, LineNumbers};
+use crate::commands_file::{HeldFile, Loaded};
+use crate::desk::{Clerk, Desk, MOST_REPORTED_OCTETS, Stop};
 use ntp_admin::{Command, Status};
 use ntp_clerk::{command_line, command_shown};
-use ntp_host::MOST_COMMANDS_OCTETS;
+use ntp_host::{not_regular, pause};
 use std::alloc::{AllocError, Global};
-use std::io::Write;
+use std::fmt::{self, Display};
+use std::fs;
+use std::io::{self, ErrorKind, Read, Seek, SeekFrom, Write};
+
+/// The answer to a line that was carried out.
+const GOOD: &str = "done";
+
+/// The milliseconds between two looks at the answers.
+const LOOKED_EACH: u64 = 20;
+
+/// Which answers are waited for, and how long.
+#[derive(Clone, Copy)]
+pub struct Patience<'a> {
+    /// The paths of the answers files, with commas between them; else that of the configuration.
+    pub answers: Option<&'a str>,
+    pub millis: u64,
+}
+
+/// The numbers of the first and of the last of consecutive lines of a commands file.
+#[derive(Clone, Copy)]
+pub struct LineNumbers {
+    pub first: u64,
+    pub last: u64,
+}
+
+impl Display for LineNumbers {
+    fn fmt<W: fmt::Write>(&self, f: &mut fmt::Formatter<W>) -> fmt::Result {
+        let LineNumbers { first, last } = *self;
+        if first == last {
+            write!(f, "line {first}")
+        } else {
+            write!(f, "lines {first} to {last}")
+        }
+    }
+}
 
 /// Lines that are appended in one write.
 #[derive(Drop)]
@@ -18,30 +49,31 @@ pub struct Addition {
     pub text: String,
     /// How many lines of names there are.
     pub names: usize,
-    /// The commands.
     pub commands: Vec<Command>,
     /// The numbers of the commands' lines.
     pub numbers: LineNumbers,
-    /// The command if there is one, else how many there are; without keys.
+    /// The command if there is one, else how many there are; without keys and without a line feed.
     pub shown: String,
     /// The path of the new file for a customer who gets a key.
     pub given: Option<String>,
 }
 
 impl Addition {
-    /// Writes these commands as lines that follow those of a file and these lines of names.
+    /// Writes these commands as lines that follow those of the commands file and these lines of names, once it has room for them.
     pub fn new(
-        alloc: Global,
+        clerk: &Clerk<'_>,
         loaded: &Loaded,
         name_lines: String,
         commands: Vec<Command>,
-    ) -> Result<Addition, AllocError> {
+    ) -> Result<Addition, Stop> {
+        let alloc = clerk.desk.alloc();
         let (names, count) = (name_lines.lines().count(), commands.len());
         let before = loaded.lines.saturating_add(names as u64);
         let mut text = name_lines;
         for command in commands.iter() {
             text.push_str(command_line(alloc, command)?.as_str())?;
         }
+        loaded.judge_room(clerk, text.len())?;
         Ok(Addition {
             text,
             names,
@@ -51,32 +83,19 @@ impl Addition {
             },
             shown: match commands.as_slice() {
                 [] => format!(in alloc; "names: {names}")?,
-                [command] => command_shown(alloc, command)?,
+                [command] => shown(alloc, command)?,
                 _ => format!(in alloc; "{count} commands")?,
             },
             commands,
             given: None,
         })
     }
-
-    // Returns what is appended, without a line feed.
-    fn shown(&self) -> &str {
-        self.shown.trim_end()
-    }
 }
 
-/// Checks that a line feed ends the commands file, and that so many octets more fit into it.
-pub fn judge_room(clerk: &Clerk<'_>, loaded: &Loaded, more: usize) -> Result<(), Stop> {
-    if loaded.octets.saturating_add(more as u64) > MOST_COMMANDS_OCTETS {
-        return Err(clerk.refusal(format_args!(
-            "at most {MOST_COMMANDS_OCTETS} octets are wanted: labntpctl fold shortens it"
-        )));
-    }
-    if !loaded.is_ended {
-        let line = loaded.lines.saturating_add(1);
-        return Err(clerk.refusal(format_args!("line {line}: a line feed at its end is wanted")));
-    }
-    Ok(())
+// Returns a command as it is shown, without a key and without a line feed.
+fn shown(alloc: Global, command: &Command) -> Result<String, AllocError> {
+    let line = command_shown(alloc, command)?;
+    String::from_str(alloc, line.as_str().trim_end())
 }
 
 /// Appends lines, prints them, waits for their answers, and prints these. Removes the customer's new file where its command is
@@ -97,7 +116,7 @@ pub fn append(
     let stored = held.store();
     // Others may append while the answers are waited for.
     drop(held);
-    let (numbers, shown) = (addition.numbers, addition.shown());
+    let (numbers, shown) = (addition.numbers, addition.shown.as_str());
     if addition.commands.is_empty() {
         desk.print(format_args!("{shown}\n"))?;
     } else if is_sure {
@@ -117,16 +136,12 @@ pub fn append(
 
 // Waits for the answers to lines that were appended, and prints them.
 fn follow(desk: Desk<'_>, addition: &Addition, answers: &Answers<'_>) -> Result<(), Stop> {
-    let numbers = addition.numbers;
-    if addition.commands.is_empty() {
+    let (numbers, count) = (addition.numbers, addition.commands.len());
+    if count == 0 {
         return Ok(());
     }
     let Some(bad) = answers.wait()? else {
-        let lines = if addition.commands.len() == 1 {
-            "line"
-        } else {
-            "lines"
-        };
+        let lines = if count == 1 { "line" } else { "lines" };
         let _ = writeln!(
             desk.faults(),
             "{numbers}: no answer; where labntpd does not run, it carries the {lines} out at its next start"
@@ -136,25 +151,19 @@ fn follow(desk: Desk<'_>, addition: &Addition, answers: &Answers<'_>) -> Result<
     if bad.is_empty() {
         return desk.print(format_args!("{numbers}: done\n"));
     }
-    for answer in bad.iter() {
-        print_bad(desk, addition, answer)?;
+    for BadAnswer { number, answer } in bad.iter() {
+        let place = number.saturating_sub(numbers.first) as usize;
+        match addition.commands.get(place) {
+            // A command alone was printed before.
+            Some(command) if count > 1 => {
+                let shown = shown(desk.alloc(), command)?;
+                desk.print(format_args!("line {number}: {shown}: {answer}\n"))?;
+            }
+            _ => desk.print(format_args!("line {number}: {answer}\n"))?,
+        }
     }
     take_back(desk, &addition.given)?;
     Err(Stop::Printed(Status::TextFaulty))
-}
-
-// Prints an answer that is not `done`; with the command where that was not printed before.
-fn print_bad(desk: Desk<'_>, addition: &Addition, bad: &BadAnswer) -> Result<(), Stop> {
-    let (number, answer) = (bad.number, bad.answer.as_str());
-    let place = number.saturating_sub(addition.numbers.first) as usize;
-    match addition.commands.get(place) {
-        Some(command) if addition.commands.len() > 1 => {
-            let shown = command_shown(desk.alloc(), command)?;
-            let shown = shown.trim_end();
-            desk.print(format_args!("line {number}: {shown}: {answer}\n"))
-        }
-        _ => desk.print(format_args!("line {number}: {answer}\n")),
-    }
 }
 
 // Reports that lines were appended at numbers that are not known, or to a file that labntpd may never read.
@@ -169,4 +178,155 @@ fn lost(clerk: &Clerk<'_>, shown: &str, is_alone: bool) -> Stop {
     };
     let _ = clerk.refusal(format_args!("{why} at the same time: {shown}: {what}"));
     Stop::Printed(Status::IoFailed)
+}
+
+// Removes the customer's new file, if there is one, or reports why it stays.
+fn take_back(desk: Desk<'_>, path: &Option<String>) -> Result<(), Stop> {
+    let Some(path) = path else {
+        return Ok(());
+    };
+    match fs::remove_file(desk.rt, path.as_str()) {
+        Err(error) if error.kind() == ErrorKind::NotFound => Ok(()),
+        removed => desk.at(path.as_str(), removed),
+    }
+}
+
+// An answer that is not `done`, with the number of its line.
+#[derive(Drop)]
+struct BadAnswer {
+    number: u64,
+    answer: String,
+}
+
+/// The answers to lines that are not written yet, in the files of all processes that serve.
+#[derive(Drop)]
+pub struct Answers<'a> {
+    desk: Desk<'a>,
+    numbers: LineNumbers,
+    // The paths of the files, and how many octets of old answers each has.
+    files: Vec<(&'a str, u64)>,
+    // The milliseconds for which they are waited for.
+    millis: u64,
+    // Whether a file has older answers to lines of these numbers, which nobody can know from the new ones.
+    are_old: bool,
+}
+
+// What an answers file answers behind its old answers.
+#[derive(Drop)]
+struct Answered {
+    // The count of answers to the lines that are waited for.
+    count: u64,
+    // Those that are not `done`.
+    bad: Vec<BadAnswer>,
+    // The octets up to the end of the last answer.
+    end: u64,
+}
+
+impl<'a> Answers<'a> {
+    /// Reads the answers files before the lines with these numbers are written. A file that is not there has no answer yet.
+    pub fn new(
+        clerk: &'a Clerk<'_>,
+        patience: Patience<'a>,
+        numbers: LineNumbers,
+    ) -> Result<Answers<'a>, Stop> {
+        let desk = clerk.desk;
+        let configured = clerk.configuration.answers.as_ref();
+        let paths = patience.answers.or(configured.map(|path| path.as_str()));
+        let mut answers = Answers {
+            desk,
+            numbers,
+            files: Vec::new(desk.alloc()),
+            millis: patience.millis,
+            are_old: false,
+        };
+        for path in paths.into_iter().flat_map(|paths| paths.split(',')) {
+            let answered = answers.answered(path, 0)?;
+            answers.files.push((path, answered.end))?;
+            answers.are_old = answers.are_old || answered.count > 0;
+        }
+        Ok(answers)
+    }
+
+    // Waits until each file answers each line, and returns what is not `done`, each line once. Returns nothing where it takes
+    // too long, where no file is named, and where one has older answers to these lines.
+    fn wait(&self) -> Result<Option<Vec<BadAnswer>>, Stop> {
+        if self.are_old || self.files.is_empty() {
+            return Ok(None);
+        }
+        for _ in 0..self.millis / LOOKED_EACH {
+            let bad = self.bad_of_all()?;
+            if bad.is_some() {
+                return Ok(bad);
+            }
+            pause(LOOKED_EACH as i32);
+        }
+        self.bad_of_all()
+    }
+
+    // Returns what is not `done`, if each file answers each line now.
+    fn bad_of_all(&self) -> Result<Option<Vec<BadAnswer>>, Stop> {
+        let mut all: Vec<BadAnswer> = Vec::new(self.desk.alloc());
+        for (path, old) in self.files.iter() {
+            let Answered { count, mut bad, .. } = self.answered(path, *old)?;
+            if count <= self.numbers.last.saturating_sub(self.numbers.first) {
+                return Ok(None);
+            }
+            for bad in bad.drain(..) {
+                if !all.iter().any(|other| other.number == bad.number) {
+                    all.push(bad)?;
+                }
+            }
+        }
+        Ok(Some(all))
+    }
+
+    // Reads what a file answers behind so many octets of old answers.
+    fn answered(&self, path: &str, old: u64) -> Result<Answered, Stop> {
+        let desk = self.desk;
+        let mut answered = Answered {
+            count: 0,
+            bad: Vec::new(desk.alloc()),
+            end: old,
+        };
+        let octets = match octets_behind(desk, path, old) {
+            Err(error) if error.kind() == ErrorKind::NotFound => return Ok(answered),
+            octets => desk.at(path, octets)?,
+        };
+        let Some(end) = octets.iter().rposition(|octet| *octet == b'\n') else {
+            return Ok(answered);
+        };
+        let whole = octets.get(..=end).unwrap_or(&[]);
+        answered.end = answered.end.saturating_add(whole.len() as u64);
+        let Ok(text) = str::from_utf8(whole) else {
+            return Err(desk.refusal_at(path, "this is no UTF-8"));
+        };
+        for line in text.lines() {
+            let (number, answer) = line.split_once(' ').unwrap_or((line, ""));
+            let number = number.parse::<u64>().unwrap_or(0);
+            if number < self.numbers.first || self.numbers.last < number {
+                continue;
+            }
+            answered.count = answered.count.saturating_add(1);
+            if answer != GOOD {
+                let answer = String::from_str(desk.alloc(), answer)?;
+                answered.bad.push(BadAnswer { number, answer })?;
+            }
+        }
+        Ok(answered)
+    }
+}
+
+// Reads the octets of an answers file behind its old ones; all where it has fewer, since it was emptied.
+fn octets_behind(desk: Desk<'_>, path: &str, old: u64) -> io::Result<Vec<u8>> {
+    let metadata = fs::metadata(desk.rt, path)?;
+    if !metadata.is_file() {
+        return Err(not_regular());
+    }
+    let is_emptied = metadata.len() < old;
+    let mut opened = fs::open(desk.rt, path)?;
+    opened.seek(SeekFrom::Start(if is_emptied { 0 } else { old }))?;
+    let mut octets = Vec::new(desk.alloc());
+    let most = u64::from(MOST_REPORTED_OCTETS);
+    opened.take(most).read_to_end(&mut octets)?;
+    Ok(octets)
 }

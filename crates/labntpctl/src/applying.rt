@@ -1,23 +1,25 @@
-//! Makes the customers those of a file.
+//! Changes the customers into those of a file, and writes such a file.
 
-use crate::appending::{Addition, append, judge_room};
-use crate::asking::ask;
-use crate::barring::judge_daemon;
+use crate::appending::{Addition, Answers, Patience, append};
+use crate::commands_file::{ByAddress, HeldFile, Loaded};
 use crate::desk::{Clerk, Desk, Stop};
-use crate::holding::HeldFile;
-use crate::loading::Loaded;
-use crate::plan::{Changes, changes_for, commands_for};
-use crate::shown::FoundAt;
-use crate::waiting::{Answers, Patience};
-use labntpd_files::{WantedCustomer, WantedFault, read_wanted};
-use ntp_admin::Status;
-use ntp_clerk::LeadFault;
+use crate::differing::judge_daemon;
+use crate::replacing::write_new;
+use crate::shown::{Dotted, FoundAt, Keys, seen_terms};
+use indexmap::IndexMap;
+use labntpd_files::{
+    KeyLines, Text, WantedCustomer, WantedFault, WantedKey, read_wanted, write_wanted,
+};
+use ntp_admin::{Command, Status};
+use ntp_clerk::{GivenKey, LeadFault, Terms, Wanted, commands_to, customers_of, name_line};
 use ntp_host::MOST_COMMANDS_OCTETS;
+use std::alloc::{AllocError, Global};
+use std::fmt::Write as _;
+use std::io::Write as _;
 
 /// How a file of customers is applied.
 #[derive(Clone, Copy)]
 pub struct Application<'a> {
-    /// The path of the file.
     pub path: &'a str,
     /// Whether the clerk is asked first.
     pub asks: bool,
@@ -25,11 +27,10 @@ pub struct Application<'a> {
     pub ends_many: bool,
     /// Whether the changes are only shown.
     pub dry_run: bool,
-    /// Which answers it waits for, and how long.
     pub patience: Patience<'a>,
 }
 
-/// Makes the customers those of a file, and prints what came of it.
+/// Changes the customers into those of a file, and prints what came of it.
 pub fn apply(clerk: &Clerk<'_>, application: &Application<'_>) -> Result<(), Stop> {
     let desk = clerk.desk;
     let wanted = wanted_at(desk, application.path)?;
@@ -37,8 +38,7 @@ pub fn apply(clerk: &Clerk<'_>, application: &Application<'_>) -> Result<(), Sto
         show_changes(clerk, &clerk.load()?, &wanted)?;
         return Ok(());
     }
-    let mut held = HeldFile::hold(desk, clerk.commands())?;
-    let mut loaded = held.load()?;
+    let (held, mut loaded) = HeldFile::hold(desk, clerk.commands())?;
     let changes = show_changes(clerk, &loaded, &wanted)?;
     if changes.shown.is_empty() {
         return Ok(());
@@ -50,10 +50,17 @@ pub fn apply(clerk: &Clerk<'_>, application: &Application<'_>) -> Result<(), Sto
         )));
     }
     judge_daemon(clerk, &loaded)?;
-    let addition = addition_for(clerk, &mut loaded, changes, &wanted)?;
+    let commands = commands_for(desk, &mut loaded, &wanted)?;
+    let addition = Addition::new(clerk, &loaded, changes.names, commands)?;
     let answers = Answers::new(clerk, application.patience, addition.numbers)?;
     if application.asks {
-        ask_whether(desk, &addition)?;
+        match (addition.commands.len(), addition.names) {
+            (commands, 0) => desk.ask(format_args!("apply {commands} commands? [y/N] "))?,
+            (0, names) => desk.ask(format_args!("apply {names} names? [y/N] "))?,
+            (commands, names) => desk.ask(format_args!(
+                "apply {commands} commands and {names} names? [y/N] "
+            ))?,
+        }
     }
     append(clerk, held, &addition, &answers)
 }
@@ -79,28 +86,13 @@ fn show_changes(
     loaded: &Loaded,
     wanted: &[WantedCustomer],
 ) -> Result<Changes, Stop> {
-    judge_room(clerk, loaded, 0)?;
+    loaded.judge_room(clerk, 0)?;
     let changes = changes_for(clerk.desk.alloc(), loaded, wanted)?;
     match changes.shown.as_str() {
         "" => clerk.desk.print("nothing to change\n")?,
         shown => clerk.desk.print(shown)?,
     }
     Ok(changes)
-}
-
-// Returns the lines that make the changes, once the commands file has room for them.
-fn addition_for(
-    clerk: &Clerk<'_>,
-    loaded: &mut Loaded,
-    changes: Changes,
-    wanted: &[WantedCustomer],
-) -> Result<Addition, Stop> {
-    let desk = clerk.desk;
-    let commands = commands_for(desk.alloc(), &mut loaded.service, wanted);
-    let commands = or_unled(desk, commands)?;
-    let addition = Addition::new(desk.alloc(), loaded, changes.names, commands)?;
-    judge_room(clerk, loaded, addition.text.len())?;
-    Ok(addition)
 }
 
 /// Returns what leads to wanted customers, or reports that nothing does.
@@ -111,14 +103,146 @@ pub fn or_unled<T>(desk: Desk<'_>, led: Result<T, LeadFault>) -> Result<T, Stop>
     })
 }
 
-// Asks whether to append lines.
-fn ask_whether(desk: Desk<'_>, addition: &Addition) -> Result<(), Stop> {
-    match (addition.commands.len(), addition.names) {
-        (commands, 0) => ask(desk, format_args!("apply {commands} commands? [y/N] ")),
-        (0, names) => ask(desk, format_args!("apply {names} names? [y/N] ")),
-        (commands, names) => ask(
-            desk,
-            format_args!("apply {commands} commands and {names} names? [y/N] "),
-        ),
+// Returns the commands that make the customers of a commands file the wanted ones, and gives them to its service.
+fn commands_for(
+    desk: Desk<'_>,
+    loaded: &mut Loaded,
+    wanted: &[WantedCustomer],
+) -> Result<Vec<Command>, Stop> {
+    let mut targets = Vec::new(desk.alloc());
+    for customer in wanted {
+        targets.push(Wanted {
+            address: customer.address,
+            terms: terms_for(customer),
+        })?;
     }
+    let commands = commands_to(desk.alloc(), &mut loaded.service, &targets);
+    or_unled(desk, commands)
+}
+
+// Returns what a wanted customer is enrolled with.
+fn terms_for(customer: &WantedCustomer) -> Terms {
+    let given = |WantedKey { number, key }| GivenKey { number, key };
+    Terms {
+        older: given(customer.older),
+        newer: customer.newer.map(given),
+        budget: customer.budget,
+    }
+}
+
+// The changes that make the customers of a commands file the wanted ones.
+#[derive(Drop)]
+struct Changes {
+    // A line for each change, without keys.
+    shown: String,
+    // The lines of the names that change.
+    names: String,
+    // How many are enrolled now.
+    enrolled: usize,
+    // How many of these are not wanted.
+    ending: usize,
+}
+
+// Finds the changes: of wanted customers in their order, then the enrolments that end.
+fn changes_for(
+    alloc: Global,
+    loaded: &Loaded,
+    wanted: &[WantedCustomer],
+) -> Result<Changes, AllocError> {
+    let mut there: ByAddress<Terms> = IndexMap::new(alloc);
+    for customer in customers_of(alloc, &loaded.service)?.iter() {
+        there.insert(customer.address, customer.terms)?;
+    }
+    let mut changes = Changes {
+        shown: String::new(alloc),
+        names: String::new(alloc),
+        enrolled: there.len(),
+        ending: 0,
+    };
+    for customer in wanted {
+        let before = there.swap_remove(&customer.address);
+        changes.add(alloc, customer, before, loaded.name(customer.address))?;
+    }
+    changes.ending = there.len();
+    for address in there.keys() {
+        writeln!(changes.shown, "- {}", Dotted(*address))?;
+    }
+    Ok(changes)
+}
+
+impl Changes {
+    // Adds the changes of a wanted customer, who has these terms before, if it is enrolled, and this name. Without another name it
+    // keeps that one.
+    fn add(
+        &mut self,
+        alloc: Global,
+        customer: &WantedCustomer,
+        before: Option<Terms>,
+        old_name: &str,
+    ) -> Result<(), AllocError> {
+        let address = Dotted(customer.address);
+        let name = customer
+            .name
+            .as_ref()
+            .map_or(old_name, |name| name.as_str());
+        let after = terms_for(customer);
+        let (keys, budget) = (Keys(seen_terms(&after)), after.budget);
+        if let Some(before) = before {
+            let (old_keys, old_budget) = (Keys(seen_terms(&before)), before.budget);
+            if old_budget != budget {
+                writeln!(self.shown, "~ {address} budget {old_budget} -> {budget}")?;
+            }
+            if !have_same_keys(&before, &after) {
+                let is_shown = !old_keys.are_alike(&keys);
+                let how = if is_shown { "" } else { ", with other octets" };
+                writeln!(self.shown, "~ {address} {old_keys} -> {keys}{how}")?;
+            }
+            if name != old_name {
+                writeln!(self.shown, "~ {address} name \"{old_name}\" -> \"{name}\"")?;
+            }
+        } else {
+            write!(self.shown, "+ {address} {keys}, budget {budget}")?;
+            if !name.is_empty() {
+                write!(self.shown, ", name \"{name}\"")?;
+            }
+            writeln!(self.shown, "")?;
+        }
+        if name != old_name {
+            let line = name_line(alloc, customer.address, name)?;
+            self.names.push_str(line.as_str())?;
+        }
+        Ok(())
+    }
+}
+
+// Returns whether two enrolments have one set of keys under one set of numbers.
+fn have_same_keys(one: &Terms, other: &Terms) -> bool {
+    let parts = |given: GivenKey| (given.number, given.key);
+    parts(one.older) == parts(other.older) && one.newer.map(parts) == other.newer.map(parts)
+}
+
+/// Writes the customers of the commands file with their names into a new file, or to standard output where none is named.
+pub fn export(clerk: &Clerk<'_>, path: Option<&str>, keys: KeyLines) -> Result<(), Stop> {
+    let (desk, loaded) = (clerk.desk, clerk.load()?);
+    let wanted = |GivenKey { number, key }| WantedKey { number, key };
+    let customers = customers_of(desk.alloc(), &loaded.service)?;
+    let mut text = Vec::new(desk.alloc());
+    for Wanted { address, terms } in customers.iter() {
+        let customer = WantedCustomer {
+            address: *address,
+            older: wanted(terms.older),
+            newer: terms.newer.map(wanted),
+            budget: terms.budget,
+            name: match loaded.name(*address) {
+                "" => None,
+                name => Some(Text::of(desk.alloc(), name)?),
+            },
+        };
+        desk.at("customers", write_wanted(&mut text, &customer, keys))?;
+    }
+    let Some(path) = path else {
+        return desk.printed(desk.rt.stdout().write_all(&text));
+    };
+    desk.at(path, write_new(desk.rt, path, &text))?;
+    desk.print(format_args!("{} customers\n", customers.len()))
 }

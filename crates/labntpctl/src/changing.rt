@@ -1,15 +1,17 @@
-//! Changes one customer.
+//! Changes one customer, and writes the file for one who gets a key.
 
-use crate::appending::{Addition, append, judge_room};
-use crate::asking::{ask, last_use};
-use crate::barring::judge_daemon;
-use crate::customer_file::give;
-use crate::desk::{Clerk, Stop};
-use crate::holding::HeldFile;
-use crate::loading::Loaded;
-use crate::waiting::{Answers, Patience};
+use crate::appending::{Addition, Answers, Patience, append};
+use crate::commands_file::{HeldFile, Loaded};
+use crate::customers::customer_lines;
+use crate::desk::{Clerk, NTP_PORT, Stop};
+use crate::differing::judge_daemon;
+use crate::replacing::write_new;
+use crate::shown::{Dotted, signed_date};
 use ntp_admin::Command;
-use ntp_clerk::{NEW_KEY_OCTETS, NewKey, Terms, customers_of, lowest_free, name_line, terms_of};
+use ntp_clerk::{
+    Grant, NEW_KEY_OCTETS, NewKey, Terms, customer_text, customers_of, lowest_free, name_line,
+    terms_of,
+};
 use ntp_mac::Algorithm;
 use ntp_query::Server;
 use ntp_service::{Address, Refusal};
@@ -20,15 +22,14 @@ use std::random::RandomSource;
 /// A change that is asked for.
 #[derive(Clone, Copy)]
 pub struct ChangeRequest<'a> {
-    /// The customer's address.
     pub address: Address,
-    /// What becomes of it.
     pub change: Change<'a>,
+    /// The algorithm of the key that the customer gets, if it gets one.
+    pub algorithm: Algorithm,
     /// The path of the customer's new file, if it is named.
     pub output: Option<&'a str>,
     /// The server that the customer asks, if it is named.
     pub server: Option<Server>,
-    /// Which answers it waits for, and how long.
     pub patience: Patience<'a>,
     /// Whether it only shows the line.
     pub dry_run: bool,
@@ -41,8 +42,6 @@ pub enum Change<'a> {
     Enrol {
         /// The signed queries that get the time in a window.
         budget: NonZero<u16>,
-        /// The algorithm of its key.
-        algorithm: Algorithm,
         /// Its name, if it gets one.
         name: Option<&'a str>,
     },
@@ -51,7 +50,7 @@ pub enum Change<'a> {
     /// Gives it this budget.
     Budget(NonZero<u16>),
     /// Gives it a new key beside the one that it has.
-    Rollover(Algorithm),
+    Rollover,
     /// Takes the key of this number away; the older one where no number is named.
     Retire {
         number: Option<NonZero<u16>>,
@@ -63,23 +62,23 @@ pub enum Change<'a> {
 /// Makes a change, and prints what came of it.
 pub fn make_change(clerk: &Clerk<'_>, request: &ChangeRequest<'_>) -> Result<(), Stop> {
     let desk = clerk.desk;
-    let mut new = no_key(request.change);
+    // A key of zeros, until it is written.
+    let mut new = NewKey {
+        algorithm: request.algorithm,
+        octets: [0; NEW_KEY_OCTETS],
+    };
     if request.dry_run {
         let addition = addition_for(clerk, request, &mut clerk.load()?, &new)?;
-        return desk.print(format_args!("{}: {}", addition.numbers, addition.shown));
+        return desk.print(format_args!("{}: {}\n", addition.numbers, addition.shown));
     }
-    let request = confirmed(clerk, request)?;
-    let mut held = HeldFile::hold(desk, clerk.commands())?;
-    let mut loaded = held.load()?;
+    let request = confirmed(clerk, request, &new)?;
+    let (held, mut loaded) = HeldFile::hold(desk, clerk.commands())?;
     judge_daemon(clerk, &loaded)?;
     desk.at("random octets", desk.rt.fill_bytes(&mut new.octets))?;
     let mut addition = addition_for(clerk, &request, &mut loaded, &new)?;
     let answers = Answers::new(clerk, request.patience, addition.numbers)?;
-    if let Some(number) = addition
-        .commands
-        .first()
-        .and_then(|command| command.number_wanted())
-    {
+    let command = addition.commands.first();
+    if let Some(number) = command.and_then(|command| command.number_wanted()) {
         addition.given = Some(give(clerk, &request, number, new)?);
     }
     append(clerk, held, &addition, &answers)
@@ -89,24 +88,39 @@ pub fn make_change(clerk: &Clerk<'_>, request: &ChangeRequest<'_>) -> Result<(),
 fn confirmed<'a>(
     clerk: &Clerk<'_>,
     request: &ChangeRequest<'a>,
+    new: &NewKey,
 ) -> Result<ChangeRequest<'a>, Stop> {
     let Change::Retire { asks: true, .. } = request.change else {
         return Ok(*request);
     };
-    let addition = addition_for(clerk, request, &mut clerk.load()?, &no_key(request.change))?;
+    let addition = addition_for(clerk, request, &mut clerk.load()?, new)?;
     let Some(Command::Retire { number, .. }) = addition.commands.first() else {
         return Ok(*request);
     };
     let used = last_use(clerk, request.address, *number)?;
-    ask(
-        clerk.desk,
-        format_args!("key {number}: {used}; retire it? [y/N] "),
-    )?;
+    clerk
+        .desk
+        .ask(format_args!("key {number}: {used}; retire it? [y/N] "))?;
     let change = Change::Retire {
         number: Some(*number),
         asks: false,
     };
     Ok(ChangeRequest { change, ..*request })
+}
+
+// Says when a key of an address was last used, by labntpd's customers file.
+fn last_use(clerk: &Clerk<'_>, address: Address, number: NonZero<u16>) -> Result<String, Stop> {
+    let (desk, alloc) = (clerk.desk, clerk.desk.alloc());
+    let text = clerk.reported(&clerk.configuration.customers)?;
+    let lines = customer_lines(desk, text.as_ref().map_or("", |text| text.as_str()))?;
+    let address = format!(in alloc; "{}", Dotted(address))?;
+    let customer = lines.iter().find(|line| line.address == address.as_str());
+    let key = customer.and_then(|it| it.keys.iter().find(|key| key.number == number.get()));
+    Ok(match key.map(|key| key.last_signed) {
+        None => String::from_str(alloc, "its last use is not known")?,
+        Some(None) => String::from_str(alloc, "not used since labntpd has it")?,
+        Some(Some(seconds)) => format!(in alloc; "last used {}", signed_date(alloc, seconds)?)?,
+    })
 }
 
 // Returns the lines for a change, once labntpd will do it and the commands file has room. It changes the customers in `loaded`.
@@ -116,9 +130,9 @@ fn addition_for(
     loaded: &mut Loaded,
     new: &NewKey,
 ) -> Result<Addition, Stop> {
-    let desk = clerk.desk;
-    judge_room(clerk, loaded, 0)?;
-    let number = number_for(desk.alloc(), request, loaded)?;
+    let (desk, alloc) = (clerk.desk, clerk.desk.alloc());
+    loaded.judge_room(clerk, 0)?;
+    let number = number_for(alloc, request, loaded)?;
     let Some(command) = command_for(request, number, new) else {
         return Err(desk.refusal(match request.change {
             Change::Retire { .. } => "refused not-enrolled",
@@ -134,12 +148,10 @@ fn addition_for(
         Change::Enrol {
             name: Some(name),
             ..
-        } => name_line(desk.alloc(), request.address, name)?,
-        _ => String::new(desk.alloc()),
+        } => name_line(alloc, request.address, name)?,
+        _ => String::new(alloc),
     };
-    let addition = Addition::new(desk.alloc(), loaded, names, vec![in desk.alloc(); command]?)?;
-    judge_room(clerk, loaded, addition.text.len())?;
-    Ok(addition)
+    Addition::new(clerk, loaded, names, vec![in alloc; command]?)
 }
 
 // Returns the command for a change, or nothing where it wants a key number and there is none.
@@ -156,7 +168,7 @@ fn command_for(
             key,
             budget,
         },
-        Change::Rollover(_) => Command::Rollover {
+        Change::Rollover => Command::Rollover {
             address,
             number: number?,
             key,
@@ -177,10 +189,8 @@ fn number_for(
     loaded: &Loaded,
 ) -> Result<Option<NonZero<u16>>, AllocError> {
     if let Change::Retire { number, .. } = request.change {
-        let terms = loaded
-            .service
-            .customer(request.address)
-            .and_then(|customer| terms_of(customer));
+        let customer = loaded.service.customer(request.address);
+        let terms = customer.and_then(|customer| terms_of(customer));
         return Ok(number.or(terms.map(|terms| terms.older.number)));
     }
     let mut held = Vec::new(alloc);
@@ -193,13 +203,33 @@ fn number_for(
     Ok(lowest_free(&held))
 }
 
-// Returns a key of zeros for a change, as it is shown.
-fn no_key(change: Change<'_>) -> NewKey {
-    NewKey {
-        algorithm: match change {
-            Change::Enrol { algorithm, .. } | Change::Rollover(algorithm) => algorithm,
-            _ => Algorithm::Sha1,
-        },
-        octets: [0; NEW_KEY_OCTETS],
-    }
+// Writes the new file for a customer who gets a key by a change, and returns its path.
+fn give(
+    clerk: &Clerk<'_>,
+    request: &ChangeRequest<'_>,
+    number: NonZero<u16>,
+    key: NewKey,
+) -> Result<String, Stop> {
+    let (desk, alloc) = (clerk.desk, clerk.desk.alloc());
+    let customer = format!(in alloc; "{}", Dotted(request.address))?;
+    let path = match request.output {
+        Some(path) => String::from_str(alloc, path)?,
+        None => format!(in alloc; "{customer}-{number}.keys")?,
+    };
+    let server = request.server.or(clerk.listening());
+    let server_word = match server {
+        Some(server) => format!(in alloc; "{}", Dotted(server.address))?,
+        None => String::from_str(alloc, "SERVER")?,
+    };
+    let grant = Grant {
+        customer: customer.as_str(),
+        server: server_word.as_str(),
+        port: server.map_or(NTP_PORT, |server| server.port),
+        number,
+        key,
+    };
+    let text = customer_text(alloc, &grant)?;
+    let written = write_new(desk.rt, path.as_str(), text.as_bytes());
+    desk.at(path.as_str(), written)?;
+    Ok(path)
 }

@@ -1,85 +1,341 @@
-//! Finds every fault of the files that labntpd would serve by.
+//! Finds every fault of the files that labntpd would serve by, and prints a line for each.
 
-use crate::checked_commands::check_commands;
-use crate::checked_configuration::check_configuration;
+use crate::commands_file::{HeardLine, Loaded, complete_lines};
 use crate::desk::{Desk, Stop};
-use crate::report::Report;
-use labntpd_files::{WantedFault, read_wanted};
-use ntp_admin::{Escaped, Status, line_without_text};
-use std::io::{BufWriter, Write};
+use crate::shown::FoundAt;
+use labntpd_assembly::{KEY_LINE_WANTED, NamedFiles, readers_of, small_text, tell_places};
+use labntpd_files::{
+    ConfigurationFault, Setting, WantedFault, address_warning, budget_warning,
+    configuration_faults, fault_meaning, faulty_place, is_fixed, key_in_file, key_warning,
+    key_wrong, path_at, read_configuration, read_wanted, refusal_meaning, shown_word, value_at,
+    word_at,
+};
+use ntp_admin::{Command, Escaped, LineFault, Status, failed_status, line_without_text};
+use ntp_clerk::customers_of;
+use ntp_host::{MOST_COMMANDS_OCTETS, is_nearly_full, read_regular_file, write_nearly_full};
+use ntp_mac::Algorithm;
+use ntp_service::LineOutcome;
+use std::fmt::Display;
+use std::io::{BufWriter, Stdout, Write};
+use toml::Table;
 
-/// The files to be checked.
-#[derive(Clone, Copy)]
-pub struct CheckedFiles<'a> {
-    /// The path of the configuration file.
-    pub config: &'a str,
-    /// The path of a commands file to be checked in the place of the configuration and its files.
-    pub commands: Option<&'a str>,
-    /// The path of a file of wanted customers.
-    pub wanted: Option<&'a str>,
-}
-
-/// Reports every fault of the files.
-pub fn check(desk: Desk<'_>, files: &CheckedFiles<'_>) -> Result<(), Stop> {
-    let out = desk.at(
-        "standard output",
-        BufWriter::new(desk.alloc(), desk.rt.stdout()),
-    )?;
-    let mut report = Report::new(out);
-    let done = check_each(desk, files, &mut report);
+/// Reports every fault of the configuration file at a path and of its files, or of a commands file in their place, and every fault of
+/// a file of wanted customers.
+pub fn check(
+    desk: Desk<'_>,
+    config: &str,
+    commands: Option<&str>,
+    wanted: Option<&str>,
+) -> Result<(), Stop> {
+    let mut report = Report {
+        desk,
+        out: desk.buffered_output()?,
+        status: Status::Done,
+    };
+    let done = report.check_each(config, commands, wanted);
     desk.printed(report.out.flush())?;
     done?;
-    match report.status() {
+    match report.status {
         Status::Done => Ok(()),
         status => Err(Stop::Printed(status)),
     }
 }
 
-// Reports every fault of each file.
-fn check_each(desk: Desk<'_>, files: &CheckedFiles<'_>, report: &mut Report) -> Result<(), Stop> {
-    let configured = match files.commands {
-        Some(_) => None,
-        None => check_configuration(desk, files.config, report)?,
-    };
-    let commands = files
-        .commands
-        .or(configured.as_ref().map(|path| path.as_str()));
-    let customers = match commands {
-        Some(path) => check_commands(desk, path, report)?,
-        None => 0,
-    };
-    let wanted = match files.wanted {
-        Some(path) => check_wanted(desk, path, report)?,
-        None => 0,
-    };
-    if report.status() == Status::Done {
-        let _ = writeln!(report.out, "ok: {customers} customers");
-        if let Some(path) = files.wanted {
-            let _ = writeln!(report.out, "{}: {wanted} customers", Escaped(path));
-        }
-    }
-    Ok(())
+// What is printed, and the exit status that it comes to.
+#[derive(Drop)]
+struct Report<'a> {
+    desk: Desk<'a>,
+    out: BufWriter<Stdout>,
+    // The greatest exit status of what was printed.
+    status: Status,
 }
 
-// Reports every fault of a file of wanted customers, and returns how many it has.
-fn check_wanted(desk: Desk<'_>, path: &str, report: &mut Report) -> Result<usize, Stop> {
-    let Some(octets) = report.octets(desk, path) else {
+impl<'a> Report<'a> {
+    // Takes the exit status of a fault that was printed.
+    fn take(&mut self, status: Status) {
+        self.status = self.status.max(status);
+    }
+
+    // Prints a fault of a file.
+    fn fault<D: Display + Drop>(&mut self, path: &str, what: D) {
+        let _ = writeln!(self.out, "{}: {what}", Escaped(path));
+        self.take(Status::TextFaulty);
+    }
+
+    // Prints what is hardly meant in a file.
+    fn warning<D: Display + Drop>(&mut self, path: &str, what: D) {
+        let _ = writeln!(self.out, "warning: {}: {what}", Escaped(path));
+    }
+
+    // Reads the regular file at a path, which has keys. Warns if others may read it, or reports why it cannot be read.
+    fn octets(&mut self, path: &str) -> Option<Vec<u8>> {
+        let (desk, most) = (self.desk, MOST_COMMANDS_OCTETS as u32);
+        let octets = match read_regular_file(desk.rt, desk.alloc(), path, most) {
+            Ok(octets) => octets,
+            Err(error) => {
+                let status = failed_status(path, &error, &mut self.out);
+                self.take(status);
+                return None;
+            }
+        };
+        self.warn_of_readers(path);
+        if octets.len() as u64 > MOST_COMMANDS_OCTETS {
+            self.fault(path, format_args!("at most {most} octets are wanted"));
+        }
+        Some(octets)
+    }
+
+    // Reads the text of a small file at a path, or reports why it cannot be read.
+    fn small_text(&mut self, path: &str) -> Option<String> {
+        match small_text(self.desk.rt, self.desk.alloc(), path, &mut self.out) {
+            Ok(text) => Some(text),
+            Err(status) => {
+                self.take(status);
+                None
+            }
+        }
+    }
+
+    // Warns if others may read the file at a path.
+    fn warn_of_readers(&mut self, path: &str) {
+        if let Some(readers) = readers_of(self.desk.rt, path) {
+            self.warning(path, readers);
+        }
+    }
+
+    // Reports every fault of each file.
+    fn check_each(
+        &mut self,
+        config: &str,
+        commands: Option<&str>,
+        wanted: Option<&str>,
+    ) -> Result<(), Stop> {
+        let configured = match commands {
+            Some(_) => None,
+            None => self.check_configuration(config)?,
+        };
+        let commands = commands.or(configured.as_ref().map(|path| path.as_str()));
+        let customers = match commands {
+            Some(path) => check_commands(self, path)?,
+            None => 0,
+        };
+        let wanted_customers = match wanted {
+            Some(path) => self.check_wanted(path)?,
+            None => 0,
+        };
+        if self.status == Status::Done {
+            let _ = writeln!(self.out, "ok: {customers} customers");
+            if let Some(path) = wanted {
+                let _ = writeln!(self.out, "{}: {wanted_customers} customers", Escaped(path));
+            }
+        }
+        Ok(())
+    }
+
+    // Reports every fault of a file of wanted customers, and returns how many it has.
+    fn check_wanted(&mut self, path: &str) -> Result<usize, Stop> {
+        let Some(octets) = self.octets(path) else {
+            return Ok(0);
+        };
+        let Ok(text) = str::from_utf8(&octets) else {
+            let line = line_without_text(&octets);
+            self.fault(path, format_args!("line {line}: this is no UTF-8"));
+            return Ok(0);
+        };
+        match read_wanted(self.desk.alloc(), text) {
+            Ok(wanted) => {
+                for warning in wanted.warnings.iter() {
+                    self.warning(path, FoundAt(warning));
+                }
+                Ok(wanted.customers.len())
+            }
+            Err(WantedFault::Faults(found)) => {
+                for fault in found.iter() {
+                    self.fault(path, FoundAt(fault));
+                }
+                Ok(0)
+            }
+            Err(WantedFault::NoMemory) => Err(Stop::Memory),
+        }
+    }
+
+    // Reports every fault of the configuration file at a path, and of the places of the files that it names. Returns the path of the
+    // commands file, if it is named.
+    fn check_configuration(&mut self, path: &str) -> Result<Option<String>, Stop> {
+        let (rt, alloc) = (self.desk.rt, self.desk.alloc());
+        let Some(text) = self.small_text(path) else {
+            return Ok(None);
+        };
+        match read_configuration(alloc, text.as_str()) {
+            Ok(_) => {}
+            Err(ConfigurationFault::NoMemory) => return Err(Stop::Memory),
+            Err(_) => {
+                self.take(Status::TextFaulty);
+                for fault in configuration_faults(alloc, text.as_str())?.iter() {
+                    self.fault(path, FoundAt(fault));
+                }
+            }
+        }
+        let Ok(document) = toml::table_from_str(alloc, text.as_str()) else {
+            return Ok(None);
+        };
+        let named = named_files(path, &document);
+        if tell_places(rt, alloc, named, usize::MAX, &mut self.out)? > 0 {
+            self.take(Status::TextFaulty);
+        }
+        if let Some(key_file) = named.key_file {
+            self.check_clock_key(key_file);
+        }
+        let commands = named.commands.map(|path| String::from_str(alloc, path));
+        Ok(commands.transpose()?)
+    }
+
+    // Reports what is wrong with the file of the clock's key.
+    fn check_clock_key(&mut self, path: &str) {
+        let Some(text) = self.small_text(path) else {
+            return;
+        };
+        let text = text.as_str();
+        // The algorithm says nothing about the digits.
+        if key_in_file(text, Algorithm::Sha1).is_none() {
+            let (line, others) = text.split_once('\n').unwrap_or((text, ""));
+            let octets = others.len();
+            match key_wrong(line) {
+                Some(wrong) => self.fault(path, format_args!("line 1: {KEY_LINE_WANTED}; {wrong}")),
+                None => self.fault(
+                    path,
+                    format_args!("line 2: {KEY_LINE_WANTED}; {octets} octets stand behind it"),
+                ),
+            }
+        }
+        self.warn_of_readers(path);
+    }
+}
+
+// Returns the files that a document names.
+fn named_files<'a>(path: &'a str, document: &'a Table) -> NamedFiles<'a> {
+    let clock = value_at(document, Setting::Clock).and_then(|clock| clock.as_table());
+    NamedFiles {
+        configuration: path,
+        commands: path_at(document, Setting::Commands),
+        key_file: match clock {
+            Some(clock) if !is_fixed(clock) => path_at(clock, Setting::KeyFile),
+            _ => None,
+        },
+        answers: path_at(document, Setting::Answers),
+        statistics: path_at(document, Setting::Statistics),
+        customers: path_at(document, Setting::Customers),
+    }
+}
+
+// Reports every fault of the commands file at a path, and returns how many customers it leaves enrolled.
+fn check_commands(report: &mut Report<'_>, path: &str) -> Result<usize, Stop> {
+    let alloc = report.desk.alloc();
+    let Some(octets) = report.octets(path) else {
         return Ok(0);
     };
-    let Ok(text) = str::from_utf8(&octets) else {
-        let line = line_without_text(&octets);
-        report.fault(path, format_args!("line {line}: this is no UTF-8"));
-        return Ok(0);
+    let count = octets.len() as u64;
+    if is_nearly_full(count) {
+        let _ = write!(report.out, "warning: {}: ", Escaped(path));
+        write_nearly_full(&mut report.out, count);
+        let _ = writeln!(report.out, "");
+    }
+    let loaded = Loaded::of(alloc, &octets)?;
+    let mut lines = complete_lines(&octets).split(|octet| *octet == b'\n');
+    let mut checker = LineChecker {
+        report,
+        path,
+        number: 0,
     };
-    match read_wanted(desk.alloc(), text) {
-        Ok(wanted) => {
-            report.warnings(path, &wanted.warnings);
-            Ok(wanted.customers.len())
+    for heard in loaded.heard.lines.iter() {
+        // Lines that are passed over are not heard of.
+        let (last, number) = (checker.number, heard.number);
+        let passed_over = number.saturating_sub(last).saturating_sub(1);
+        let line = lines.nth(passed_over as usize).unwrap_or(&[]);
+        checker.number = number;
+        checker.check(heard, str::from_utf8(line).unwrap_or(""));
+    }
+    if !loaded.is_ended && count <= MOST_COMMANDS_OCTETS {
+        checker.number = loaded.lines.saturating_add(1);
+        checker.fault("a line feed at its end is wanted");
+    }
+    Ok(customers_of(alloc, &loaded.service)?.len())
+}
+
+// Reports what is wrong with a line of commands, and what is hardly meant in it.
+#[derive(Drop)]
+struct LineChecker<'a, 'b, 'p> {
+    report: &'a mut Report<'b>,
+    path: &'p str,
+    number: u64,
+}
+
+impl<'a, 'b, 'p> LineChecker<'a, 'b, 'p> {
+    // Reports what became of a line with this text; an empty one where it is not UTF-8.
+    fn check(&mut self, heard: &HeardLine, line: &str) {
+        match (heard.outcome, &heard.command) {
+            (LineOutcome::Faulty(fault), _) => self.faulty(line, fault),
+            (LineOutcome::Refused(refusal), _) => {
+                let (word, meaning) = (refusal.word(), refusal_meaning(refusal));
+                self.fault(format_args!("refused {word}: {meaning}"));
+            }
+            (LineOutcome::Done, Some(command)) => self.warn(command),
+            (LineOutcome::Done, None) => {}
         }
-        Err(WantedFault::Faults(found)) => {
-            report.faults(path, &found);
-            Ok(0)
+    }
+
+    // Reports a line that is no command.
+    fn faulty(&mut self, line: &str, fault: LineFault) {
+        let (word, meaning) = (fault.word(), fault_meaning(fault));
+        let first = line.split_once(' ').map_or(line, |(first, _)| first);
+        let placed = faulty_place(first, fault).and_then(|place| word_at(line, place));
+        if let Some(placed) = placed {
+            let (column, there) = (placed.column, placed.word);
+            match key_wrong(there) {
+                Some(wrong) if fault == LineFault::KeyText => self.fault(format_args!(
+                    "column {column}: faulty {word}: {meaning}; {wrong}"
+                )),
+                _ => self.fault(format_args!(
+                    "column {column}: faulty {word}: {meaning}; {}",
+                    shown_word(there)
+                )),
+            }
+        } else if matches!(fault, LineFault::LineLong | LineFault::NotUtf8) {
+            self.fault(format_args!("faulty {word}: {meaning}"));
+        } else {
+            let count = line.split(' ').count();
+            self.fault(format_args!("faulty {word}: {meaning}; {count} words stand there"));
         }
-        Err(WantedFault::NoMemory) => Err(Stop::Memory),
+    }
+
+    // Reports a fault of the line.
+    fn fault<D: Display + Drop>(&mut self, what: D) {
+        let number = self.number;
+        self.report
+            .fault(self.path, format_args!("line {number}: {what}"));
+    }
+
+    // Warns of what is hardly meant in a command that was carried out.
+    fn warn(&mut self, command: &Command) {
+        let warnings = match command {
+            Command::Enrol {
+                address,
+                key,
+                budget,
+                ..
+            } => [
+                address_warning(*address),
+                key_warning(key),
+                budget_warning(budget.get()),
+            ],
+            Command::Rollover { key, .. } => [None, key_warning(key), None],
+            Command::Budget { budget, .. } => [None, None, budget_warning(budget.get())],
+            _ => [None, None, None],
+        };
+        let number = self.number;
+        for warning in warnings.into_iter().flatten() {
+            self.report
+                .warning(self.path, format_args!("line {number}: {warning}"));
+        }
     }
 }

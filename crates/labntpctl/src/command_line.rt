@@ -1,18 +1,16 @@
 //! Reads the words of the command line.
 
+use crate::appending::Patience;
 use crate::applying::Application;
 use crate::changing::{Change, ChangeRequest};
-use crate::checking::CheckedFiles;
-use crate::customer_file::ANY;
-use crate::door::{Output, Place};
+use crate::desk::ANY;
+use crate::door::Place;
 use crate::explaining::Explained;
-use crate::loading::is_name;
-use crate::waiting::Patience;
 use clap::builder::ValueParser;
 use clap::error::ErrorKind;
 use clap::{ArgMatches, Command, Error, arg, value_parser};
-use labntpd_files::KeyLines;
 use labntpd_files::command_line::VERSION;
+use labntpd_files::{KeyLines, is_name};
 use ntp_admin::words;
 use ntp_mac::Algorithm;
 use ntp_query::{Server, server_in};
@@ -21,9 +19,6 @@ use std::num::{self, NonZero};
 
 /// The configuration file where none is named: that of the Debian package.
 const USUAL_CONFIG: &str = "/etc/labntp/labntpd.toml";
-
-/// The milliseconds of a second.
-const SECOND_MILLIS: f64 = 1_000.0;
 
 /// The end of the help.
 const AFTER_HELP: &str = "\
@@ -45,62 +40,47 @@ Examples:
 Exit status: 0 done; 1 refused, or a file has a fault, or customers differ; 2 other words; 3 no answer came in time, or a file \
 failed; 4 want of memory.";
 
-/// What a command line asks for.
-#[derive(Clone, Copy)]
-pub struct Asked<'a> {
-    /// The path of the configuration file.
-    pub config: &'a str,
-    pub task: Task<'a>,
-}
-
 /// The work that a command line asks for.
 #[derive(Clone, Copy)]
 pub enum Task<'a> {
-    /// Finds every fault of files.
-    Check(CheckedFiles<'a>),
-    /// Lists the customers of the commands file at a path.
-    ListFile {
-        commands: &'a str,
-        listing: Listing,
+    /// Finds every fault of the configuration and its files, or of the commands file at a path, and of a file of wanted customers.
+    Check {
+        commands: Option<&'a str>,
+        wanted: Option<&'a str>,
     },
-    /// Lists the customers.
-    List(Listing),
+    /// Lists the customers, or those of the commands file at a path: as a table or as objects of JSON.
+    List {
+        commands: Option<&'a str>,
+        json: bool,
+    },
     /// Prints the differences between labntpd's customers and those of the commands file.
     Compare,
     /// Explains what datagrams would get.
     Explain(Explained<'a>),
-    /// Writes the rules by which the kernel polices the door.
+    /// Writes the rules by which the kernel polices the door, into the file at a path if one is named.
     Door {
         place: Option<Place>,
-        output: Output<'a>,
+        output: Option<&'a str>,
+        watch: bool,
     },
     /// Changes one customer.
     Change(ChangeRequest<'a>),
-    /// Makes the customers those of a file.
+    /// Changes the customers into those of a file.
     Apply(Application<'a>),
     /// Writes the customers into a new file, or to standard output.
     Export {
         path: Option<&'a str>,
         keys: KeyLines,
     },
-    /// Writes the commands file anew in fewer lines.
-    Fold,
-    /// Only prints how long it would be.
-    ShowFold,
+    /// Writes the commands file anew in fewer lines, or only prints how long it would be.
+    Fold {
+        dry_run: bool,
+    },
 }
 
-/// The form of a list of customers.
-#[derive(Clone, Copy, PartialEq, Eq)]
-pub enum Listing {
-    /// A table.
-    Table,
-    /// An object of JSON for each customer.
-    Json,
-}
-
-/// Reads words, of which the first is the program's name. The error tells the user why they ask for nothing; its kind may be a
-/// request for the help or the version, or want of memory.
-pub fn parse<'a>(alloc: Global, words: &'a [String]) -> Result<Asked<'a>, Error> {
+/// Reads words, of which the first is the program's name: the path of the configuration file, and the work. The error tells the
+/// user why they ask for nothing; its kind may be a request for the help or the version, or want of memory.
+pub fn parse<'a>(alloc: Global, words: &'a [String]) -> Result<(&'a str, Task<'a>), Error> {
     let matches = command(alloc)?.try_get_matches_from(words)?;
     match asked_in(&matches) {
         Ok(asked) => Ok(asked),
@@ -109,54 +89,49 @@ pub fn parse<'a>(alloc: Global, words: &'a [String]) -> Result<Asked<'a>, Error>
 }
 
 // Returns what the matches ask for, or what is wrong with them.
-fn asked_in<'a>(matches: &ArgMatches<'a>) -> Result<Asked<'a>, &'static str> {
+fn asked_in<'a>(matches: &ArgMatches<'a>) -> Result<(&'a str, Task<'a>), &'static str> {
     let Some((name, matches)) = matches.subcommand() else {
         return Err("a command is wanted");
     };
-    let config = matches.get_str("config").unwrap_or(USUAL_CONFIG);
-    let commands = matches.get_str("COMMANDS");
     let task = match name {
-        "check" => Task::Check(CheckedFiles {
-            config,
-            commands,
+        "check" => Task::Check {
+            commands: matches.get_str("COMMANDS"),
             wanted: matches.get_str("wanted"),
-        }),
-        "customers" => listing_in(matches, commands),
+        },
+        "customers" if matches.get_flag("compare") => Task::Compare,
+        "customers" => Task::List {
+            commands: matches.get_str("COMMANDS"),
+            json: matches.get_flag("json"),
+        },
         "explain" => Task::Explain(explained_in(matches)?),
         "door" => Task::Door {
             place: place_in(matches)?,
-            output: output_in(matches),
+            output: matches.get_str("output"),
+            watch: matches.get_flag("watch"),
         },
-        "apply" => Task::Apply(application_in(matches)?),
-        "export" => export_in(matches)?,
-        "fold" if matches.get_flag("dry-run") => Task::ShowFold,
-        "fold" => Task::Fold,
+        "apply" => Task::Apply(Application {
+            path: matches.get_str("FILE").ok_or("FILE is missing")?,
+            asks: !matches.get_flag("yes"),
+            ends_many: matches.get_flag("end-many"),
+            dry_run: matches.get_flag("dry-run"),
+            patience: patience_in(matches)?,
+        }),
+        "export" => Task::Export {
+            path: matches.get_str("FILE"),
+            keys: keys_in(matches)?,
+        },
+        "fold" => Task::Fold {
+            dry_run: matches.get_flag("dry-run"),
+        },
         _ => Task::Change(change_request_in(name, matches)?),
     };
-    Ok(Asked { config, task })
-}
-
-// Returns how customers are listed.
-fn listing_in<'a>(matches: &ArgMatches<'a>, commands: Option<&'a str>) -> Task<'a> {
-    let listing = if matches.get_flag("json") {
-        Listing::Json
-    } else {
-        Listing::Table
-    };
-    match commands {
-        Some(commands) => Task::ListFile { commands, listing },
-        None if matches.get_flag("compare") => Task::Compare,
-        None => Task::List(listing),
-    }
+    Ok((matches.get_str("config").unwrap_or(USUAL_CONFIG), task))
 }
 
 // Returns the datagrams to be explained.
 fn explained_in<'a>(matches: &ArgMatches<'a>) -> Result<Explained<'a>, &'static str> {
-    match (
-        matches.get_str("DATAGRAM"),
-        matches.get_str("from"),
-        matches.get_str("pcap"),
-    ) {
+    let (octets, from) = (matches.get_str("DATAGRAM"), matches.get_str("from"));
+    match (octets, from, matches.get_str("pcap")) {
         (Some(octets), Some(from), None) => Ok(Explained::Datagram {
             octets,
             from: words::address(from).ok_or("--from: an IPv4 address, as 192.0.2.1, is wanted")?,
@@ -174,43 +149,19 @@ fn place_in(matches: &ArgMatches<'_>) -> Result<Option<Place>, &'static str> {
     match server_in(word) {
         Some(Server { address, port }) if address != ANY => Ok(Some(Place {
             address,
-            port: if word.contains(':') { Some(port) } else { None },
+            port: word.contains(':').then_some(port),
         })),
         _ => Err("--address: an IPv4 address of this host, with a port or without, is wanted"),
     }
 }
 
-// Returns where the rules go.
-fn output_in<'a>(matches: &ArgMatches<'a>) -> Output<'a> {
-    match matches.get_str("output") {
-        None => Output::Printed,
-        Some(path) if matches.get_flag("watch") => Output::Kept(path),
-        Some(path) => Output::Written(path),
+// Returns whether keys are written.
+fn keys_in(matches: &ArgMatches<'_>) -> Result<KeyLines, &'static str> {
+    match matches.get_str("FILE") {
+        _ if matches.get_flag("no-keys") => Ok(KeyLines::LeftOut),
+        Some(_) => Ok(KeyLines::Written),
+        None => Err("FILE, a new file for the keys, or --no-keys is wanted"),
     }
-}
-
-// Returns how a file of customers is applied.
-fn application_in<'a>(matches: &ArgMatches<'a>) -> Result<Application<'a>, &'static str> {
-    Ok(Application {
-        path: matches.get_str("FILE").ok_or("FILE is missing")?,
-        asks: !matches.get_flag("yes"),
-        ends_many: matches.get_flag("end-many"),
-        dry_run: matches.get_flag("dry-run"),
-        patience: patience_in(matches)?,
-    })
-}
-
-// Returns where customers are written, and whether with keys.
-fn export_in<'a>(matches: &ArgMatches<'a>) -> Result<Task<'a>, &'static str> {
-    let path = matches.get_str("FILE");
-    let keys = if matches.get_flag("no-keys") {
-        KeyLines::LeftOut
-    } else if path.is_some() {
-        KeyLines::Written
-    } else {
-        return Err("FILE, a new file for the keys, or --no-keys is wanted");
-    };
-    Ok(Task::Export { path, keys })
 }
 
 // Returns the change of a customer that a command's name asks for.
@@ -218,14 +169,19 @@ fn change_request_in<'a>(
     name: &str,
     matches: &ArgMatches<'a>,
 ) -> Result<ChangeRequest<'a>, &'static str> {
-    let address = matches
-        .get_str("ADDRESS")
-        .and_then(|word| words::address(word));
+    let (address, server) = (matches.get_str("ADDRESS"), matches.get_str("server"));
+    let address = address.and_then(|word| words::address(word));
+    let wanted = "--server: an IPv4 address, with a port or without, is wanted";
+    let server = server.map(|word| server_in(word).ok_or(wanted));
     Ok(ChangeRequest {
         address: address.ok_or("ADDRESS: an IPv4 address, as 192.0.2.1, is wanted")?,
         change: change_in(name, matches)?,
+        algorithm: match matches.get_str("algorithm") {
+            Some("md5") => Algorithm::Md5,
+            _ => Algorithm::Sha1,
+        },
         output: matches.get_str("output"),
-        server: server_of(matches)?,
+        server: server.transpose()?,
         patience: patience_in(matches)?,
         dry_run: matches.get_flag("dry-run"),
     })
@@ -233,17 +189,17 @@ fn change_request_in<'a>(
 
 // Returns what becomes of the customer.
 fn change_in<'a>(name: &str, matches: &ArgMatches<'a>) -> Result<Change<'a>, &'static str> {
-    let algorithm = match matches.get_str("algorithm") {
-        Some("md5") => Algorithm::Md5,
-        _ => Algorithm::Sha1,
-    };
     match name {
         "enrol" => Ok(Change::Enrol {
             budget: number_in(matches, "budget").ok_or("--budget N is missing")?,
-            algorithm,
-            name: name_in(matches)?,
+            name: match matches.get_str("name") {
+                Some(name) if !is_name(name) => {
+                    return Err("--name TEXT: a line of 1 to 200 octets is wanted");
+                }
+                name => name,
+            },
         }),
-        "rollover" => Ok(Change::Rollover(algorithm)),
+        "rollover" => Ok(Change::Rollover),
         "budget" => Ok(Change::Budget(number_in(matches, "N").ok_or("N is missing")?)),
         "retire" => Ok(Change::Retire {
             number: number_in(matches, "number"),
@@ -253,28 +209,9 @@ fn change_in<'a>(name: &str, matches: &ArgMatches<'a>) -> Result<Change<'a>, &'s
     }
 }
 
-// Returns the name of a new customer, if it gets one.
-fn name_in<'a>(matches: &ArgMatches<'a>) -> Result<Option<&'a str>, &'static str> {
-    match matches.get_str("name") {
-        Some(name) if !is_name(name) => Err("--name TEXT: a line of 1 to 200 octets is wanted"),
-        name => Ok(name),
-    }
-}
-
 // Returns the key number or the budget under a name.
 fn number_in(matches: &ArgMatches<'_>, name: &str) -> Option<NonZero<u16>> {
     NonZero::<u16>::new(matches.get_one::<u16>(name)?)
-}
-
-// Returns the server that the customer asks, if the words say it.
-fn server_of(matches: &ArgMatches<'_>) -> Result<Option<Server>, &'static str> {
-    match matches.get_str("server") {
-        None => Ok(None),
-        Some(word) => match server_in(word) {
-            Some(server) => Ok(Some(server)),
-            None => Err("--server: an IPv4 address, with a port or without, is wanted"),
-        },
-    }
 }
 
 // Returns which answers are waited for, and how long.
@@ -285,38 +222,38 @@ fn patience_in<'a>(matches: &ArgMatches<'a>) -> Result<Patience<'a>, &'static st
     }
     Ok(Patience {
         answers: matches.get_str("answers"),
-        millis: num::saturating_f64_to_u64((seconds * SECOND_MILLIS).round()),
+        millis: num::saturating_f64_to_u64((seconds * 1_000.0).round()),
     })
 }
 
 // Builds the command line with its help.
 fn command<'a>(alloc: Global) -> Result<Command<'a>, AllocError> {
-    let mut command = Command::new(alloc, "labntpctl")
+    let rollover = with_key(alloc, "rollover")?;
+    let revoke = with_address(alloc, "revoke")?;
+    let fold = with_config(alloc, "fold")?.about(
+        "Writes the commands file anew in fewer lines, with the same customers; the old file is kept",
+    );
+    let dry_run = arg!(in alloc; --"dry-run" "Only tells how long the new file would be");
+    Command::new(alloc, "labntpctl")
         .version(VERSION)
         .about("Keeps the customers of labntpd")
         .after_help(AFTER_HELP)
         .subcommand_required(true)
-        .disable_help_subcommand(true);
-    for below in [
-        customers(alloc),
-        enrol(alloc),
-        rollover(alloc),
-        retire(alloc),
-        revoke(alloc),
-        budget(alloc),
-        apply(alloc),
-        export(alloc),
-        fold(alloc),
-        check(alloc),
-        explain(alloc),
-        door(alloc),
-    ] {
-        command = command.subcommand(below?)?;
-    }
-    Ok(command)
+        .disable_help_subcommand(true)
+        .subcommand(customers(alloc)?)?
+        .subcommand(enrol(alloc)?)?
+        .subcommand(rollover.about("Gives an address a new key beside the one that it has"))?
+        .subcommand(retire(alloc)?)?
+        .subcommand(revoke.about("Ends an enrolment: the address is refused from now on"))?
+        .subcommand(budget(alloc)?)?
+        .subcommand(apply(alloc)?)?
+        .subcommand(export(alloc)?)?
+        .subcommand(fold.arg(dry_run)?)?
+        .subcommand(check(alloc)?)?
+        .subcommand(explain(alloc)?)?
+        .subcommand(door(alloc)?)
 }
 
-// Lists customers.
 fn customers<'a>(alloc: Global) -> Result<Command<'a>, AllocError> {
     let compare =
         arg!(in alloc; --compare "Prints only what differs between labntpd's customers and the file's");
@@ -328,7 +265,6 @@ fn customers<'a>(alloc: Global) -> Result<Command<'a>, AllocError> {
         .arg(compare.conflicts_with("json")?.conflicts_with("COMMANDS")?)
 }
 
-// Finds faults.
 fn check<'a>(alloc: Global) -> Result<Command<'a>, AllocError> {
     with_commands(alloc, "check")?
         .about(
@@ -339,7 +275,6 @@ fn check<'a>(alloc: Global) -> Result<Command<'a>, AllocError> {
         )
 }
 
-// Explains datagrams.
 fn explain<'a>(alloc: Global) -> Result<Command<'a>, AllocError> {
     with_config(alloc, "explain")?
         .about("Tells what a datagram would get, and why, and spends nothing of a budget")
@@ -350,7 +285,6 @@ fn explain<'a>(alloc: Global) -> Result<Command<'a>, AllocError> {
         )
 }
 
-// Writes the rules of the door.
 fn door<'a>(alloc: Global) -> Result<Command<'a>, AllocError> {
     let watch =
         arg!(in alloc; --watch "Runs on, and writes the file again whenever the rules change");
@@ -363,47 +297,35 @@ fn door<'a>(alloc: Global) -> Result<Command<'a>, AllocError> {
         .arg(watch.requires_arg("output")?)
 }
 
-// Enrols a customer.
 fn enrol<'a>(alloc: Global) -> Result<Command<'a>, AllocError> {
     let budget = arg!(in alloc; --budget <N> "Signed queries that get the time in 64 seconds");
-    let command = with_key(alloc, "enrol")?
+    with_key(alloc, "enrol")?
         .about("Enrols an address under the lowest free key number with a new key")
-        .arg(budget.value_parser(from_one()).default_value("10"))?;
-    command.arg(arg!(in alloc; --name <TEXT> "Whose address it is: a comment of the commands file"))
+        .arg(
+            budget
+                .value_parser(value_parser!(u16).range(1..))
+                .default_value("10"),
+        )?
+        .arg(arg!(in alloc; --name <TEXT> "Whose address it is: a comment of the commands file"))
 }
 
-// Gives a second key.
-fn rollover<'a>(alloc: Global) -> Result<Command<'a>, AllocError> {
-    Ok(with_key(alloc, "rollover")?.about("Gives an address a new key beside the one that it has"))
-}
-
-// Takes a key away.
 fn retire<'a>(alloc: Global) -> Result<Command<'a>, AllocError> {
     let number = arg!(in alloc; --number <N> "The key's number [default: that of the older one]");
     with_address(alloc, "retire")?
         .about(
             "Tells when a key was last used, asks, and takes it from an address that has another",
         )
-        .arg(number.value_parser(from_one()))?
+        .arg(number.value_parser(value_parser!(u16).range(1..)))?
         .arg(arg!(in alloc; --yes "Does not ask first"))
 }
 
-// Ends an enrolment.
-fn revoke<'a>(alloc: Global) -> Result<Command<'a>, AllocError> {
-    Ok(with_address(alloc, "revoke")?.about(
-        "Ends an enrolment: the address is refused from now on",
-    ))
-}
-
-// Gives another budget.
 fn budget<'a>(alloc: Global) -> Result<Command<'a>, AllocError> {
     let budget = arg!(in alloc; <N> "Signed queries that get the time in 64 seconds");
     with_address(alloc, "budget")?
         .about("Gives an address another budget")
-        .arg(budget.value_parser(from_one()))
+        .arg(budget.value_parser(value_parser!(u16).range(1..)))
 }
 
-// Applies a file.
 fn apply<'a>(alloc: Global) -> Result<Command<'a>, AllocError> {
     with_answers(alloc, "apply")?
         .about(
@@ -414,7 +336,6 @@ fn apply<'a>(alloc: Global) -> Result<Command<'a>, AllocError> {
         .arg(arg!(in alloc; --"end-many" "Lets more than a quarter of the enrolments end"))
 }
 
-// Writes a file of the customers.
 fn export<'a>(alloc: Global) -> Result<Command<'a>, AllocError> {
     with_config(alloc, "export")?
         .about("Writes the customers as a file in TOML for `apply`, with their keys")
@@ -422,15 +343,6 @@ fn export<'a>(alloc: Global) -> Result<Command<'a>, AllocError> {
         .arg(
             arg!(in alloc; --"no-keys" "Leaves the keys out; without FILE it prints the customers"),
         )
-}
-
-// Shortens the commands file.
-fn fold<'a>(alloc: Global) -> Result<Command<'a>, AllocError> {
-    with_config(alloc, "fold")?
-        .about(
-            "Writes the commands file anew in fewer lines, with the same customers; the old file is kept",
-        )
-        .arg(arg!(in alloc; --"dry-run" "Only tells how long the new file would be"))
 }
 
 // Begins a command that goes by the configuration.
@@ -464,21 +376,13 @@ fn with_address<'a>(alloc: Global, name: &'a str) -> Result<Command<'a>, AllocEr
 // Begins a command that makes a key.
 fn with_key<'a>(alloc: Global, name: &'a str) -> Result<Command<'a>, AllocError> {
     let algorithm = arg!(in alloc; --algorithm <ALGORITHM> "What the key is for");
+    let algorithm = algorithm.value_parser(["md5", "sha1"].as_slice());
     with_address(alloc, name)?
-        .arg(
-            algorithm
-                .value_parser(["md5", "sha1"].as_slice())
-                .default_value("sha1"),
-        )?
+        .arg(algorithm.default_value("sha1"))?
         .arg(
             arg!(in alloc; --output <FILE> "The customer's new file [default: ADDRESS-NUMBER.keys]"),
         )?
         .arg(
             arg!(in alloc; --server <"ADDRESS[:PORT]"> "Where the customer asks [default: where labntpd listens]"),
         )
-}
-
-// Reads a key number or a budget.
-fn from_one<'a>() -> ValueParser<'a> {
-    value_parser!(u16).range(1..)
 }

@@ -1,70 +1,163 @@
-//! Lists the customers, and compares them with labntpd's.
+//! Reads the customers that labntpd reports, lists them, and compares them with those of the commands file.
 
-use crate::command_line::Listing;
+use crate::commands_file::{ByAddress, Loaded};
 use crate::desk::{Clerk, Desk, MOST_REPORTED_OCTETS, Stop};
-use crate::differing::{Difference, differences};
-use crate::loading::{Loaded, load};
-use crate::reported::{customer_lines, reported_in};
-use crate::table::table;
-use ntp_admin::Status;
+use crate::differing::{differences, judge_reading};
+use crate::shown::signed_date;
+use indexmap::IndexMap;
+use ntp_admin::{Status, words};
+use ntp_clerk::{Seen, SeenKey, SeenTerms};
 use ntp_reports::customer_line;
+use ntp_service::Address;
+use serde::Deserialize;
 use std::alloc::{AllocError, Global};
 use std::fmt::Write as _;
 use std::io::Write as _;
 
+/// The heads of the columns.
+const HEAD: &str = "\
+ADDRESS         STATE    BUDGET LINE    NUMBER KEY      LAST SIGNED                   \
+basic       interleaved rate        nak         over-budget NAME\n";
+
+/// A customer, as a line of labntpd's customers file has it.
+#[derive(Drop, Deserialize)]
+pub struct CustomerLine<'a> {
+    pub address: &'a str,
+    pub state: &'a str,
+    pub keys: Vec<KeyLine<'a>>,
+    /// Nothing where it is revoked.
+    pub budget: Option<u16>,
+    /// The line of the commands file that enrolled it last.
+    pub line: u64,
+    pub answers: AnswerCounts,
+}
+
+/// A key of a customer.
+#[derive(Drop, Deserialize)]
+pub struct KeyLine<'a> {
+    pub number: u16,
+    pub algorithm: &'a str,
+    /// How many octets it has.
+    pub octets: u64,
+    /// The seconds since 1970, if it has signed.
+    pub last_signed: Option<&'a str>,
+}
+
+/// The counts of answers that have a column.
+#[derive(Clone, Copy, Drop, Deserialize)]
+pub struct AnswerCounts {
+    pub basic: u64,
+    pub interleaved: u64,
+    pub rate: u64,
+    pub nak: u64,
+    #[serde(rename = "over-budget")]
+    pub over_budget: u64,
+}
+
+impl<'a> CustomerLine<'a> {
+    // Returns the customer's address and what it has there, if the line is one of a customer.
+    fn reported(&self) -> Option<(Address, Seen)> {
+        let seen = match self.state {
+            "enrolled" => Seen::Enrolled(SeenTerms {
+                older: self.keys.first()?.seen()?,
+                newer: match self.keys.get(1) {
+                    Some(key) => Some(key.seen()?),
+                    None => None,
+                },
+                budget: self.budget?,
+            }),
+            "revoked" => Seen::Revoked,
+            _ => return None,
+        };
+        Some((words::address(self.address)?, seen))
+    }
+}
+
+impl<'a> KeyLine<'a> {
+    // Returns the key, if its algorithm is one.
+    fn seen(&self) -> Option<SeenKey> {
+        Some(SeenKey {
+            number: self.number,
+            algorithm: words::algorithm(self.algorithm)?,
+            octets: self.octets,
+        })
+    }
+}
+
+/// Reads the lines of a text, or reports the first one that is no line of a customer.
+pub fn customer_lines<'a>(desk: Desk<'_>, text: &'a str) -> Result<Vec<CustomerLine<'a>>, Stop> {
+    let mut lines = Vec::new(desk.alloc());
+    for (place, line) in text.lines().enumerate() {
+        match serde_json::from_str::<CustomerLine<'a>>(desk.alloc(), line) {
+            Ok(customer) => lines.push(customer)?,
+            Err(error) if error.is_memory() => return Err(Stop::Memory),
+            Err(_) => return Err(no_line(desk, place)),
+        }
+    }
+    Ok(lines)
+}
+
+/// Reads the customers of a text's lines, in their order and without the octets of their keys.
+pub fn reported_in(desk: Desk<'_>, text: &str) -> Result<ByAddress<Seen>, Stop> {
+    let mut customers = IndexMap::new(desk.alloc());
+    for (place, line) in customer_lines(desk, text)?.iter().enumerate() {
+        let (address, seen) = line.reported().ok_or_else(|| no_line(desk, place))?;
+        customers.insert(address, seen)?;
+    }
+    Ok(customers)
+}
+
+// Reports that the line at a place is none of a customer.
+fn no_line(desk: Desk<'_>, place: usize) -> Stop {
+    let number = (place as u64).saturating_add(1);
+    desk.refusal(format_args!("customers: line {number}: an object of a customer is wanted"))
+}
+
 /// Lists labntpd's customers, and reports where the commands file has others. Lists those of the commands file where labntpd has
 /// no customers file.
-pub fn list(clerk: &Clerk<'_>, listing: Listing) -> Result<(), Stop> {
-    let Some(text) = clerk.reported(&clerk.configuration.customers)? else {
-        return list_file(clerk.desk, clerk.commands(), listing);
+pub fn list(clerk: &Clerk<'_>, json: bool) -> Result<(), Stop> {
+    let reported = clerk.reported(&clerk.configuration.customers)?;
+    // That labntpd reads no more bars a change, but no list.
+    let _ = judge_reading(clerk);
+    let Some(text) = reported else {
+        return list_file(clerk.desk, clerk.commands(), json);
     };
     let loaded = clerk.load();
-    write(clerk.desk, text.as_str(), loaded.as_ref().ok(), listing)?;
-    for difference in differing(clerk.desk, text.as_str(), &loaded?)?.iter() {
+    write(clerk.desk, text.as_str(), loaded.as_ref().ok(), json)?;
+    for difference in differences(clerk.desk, text.as_str(), &loaded?)?.iter() {
         let _ = write!(clerk.desk.faults(), "{difference}");
     }
     Ok(())
 }
 
 /// Lists the customers of the commands file at a path.
-pub fn list_file(desk: Desk<'_>, path: &str, listing: Listing) -> Result<(), Stop> {
-    let loaded = load(desk, path)?;
+pub fn list_file(desk: Desk<'_>, path: &str, json: bool) -> Result<(), Stop> {
+    let loaded = Loaded::at(desk, path)?;
     let lines = lines_of(desk.alloc(), &loaded)?;
-    write(desk, lines.as_str(), Some(&loaded), listing)
+    write(desk, lines.as_str(), Some(&loaded), json)
 }
 
 /// Prints what differs between labntpd's customers and those of the commands file, and stops the work if anything does.
 pub fn compare(clerk: &Clerk<'_>) -> Result<(), Stop> {
+    let desk = clerk.desk;
     let Some(path) = &clerk.configuration.customers else {
         let why = "customers: missing: there is nothing to compare";
-        return Err(clerk.desk.refusal_at(clerk.config, why));
+        return Err(desk.refusal_at(clerk.config, why));
     };
-    let text = clerk.desk.text(path.as_str(), MOST_REPORTED_OCTETS)?;
-    let differing = differing(clerk.desk, text.as_str(), &clerk.load()?)?;
+    let text = desk.text(path.as_str(), MOST_REPORTED_OCTETS)?;
+    let differing = differences(desk, text.as_str(), &clerk.load()?)?;
     for difference in differing.iter() {
-        clerk.desk.print(*difference)?;
+        desk.print(*difference)?;
     }
     if differing.is_empty() {
-        Ok(())
-    } else {
-        Err(Stop::Printed(Status::TextFaulty))
+        return Ok(());
     }
-}
-
-// Returns what differs between the customers of labntpd's text and those of the commands file.
-fn differing(desk: Desk<'_>, text: &str, loaded: &Loaded) -> Result<Vec<Difference>, Stop> {
-    let reported = reported_in(desk, text)?;
-    Ok(differences(desk.alloc(), &reported, loaded)?)
+    Err(Stop::Printed(Status::TextFaulty))
 }
 
 // Prints lines of customers as they are, or a table of them with names.
-fn write(
-    desk: Desk<'_>,
-    text: &str,
-    loaded: Option<&Loaded>,
-    listing: Listing,
-) -> Result<(), Stop> {
-    if listing == Listing::Json {
+fn write(desk: Desk<'_>, text: &str, loaded: Option<&Loaded>, json: bool) -> Result<(), Stop> {
+    if json {
         return desk.print(text);
     }
     let customers = customer_lines(desk, text)?;
@@ -74,7 +167,7 @@ fn write(
 // Returns a line for each customer of a commands file as labntpd writes it, with its name, if it has one, as the last member.
 fn lines_of(alloc: Global, loaded: &Loaded) -> Result<String, AllocError> {
     let mut lines = String::new(alloc);
-    for (address, report) in loaded.counts.iter() {
+    for (address, report) in loaded.heard.counts.iter() {
         let Some(customer) = loaded.service.customer(*address) else {
             continue;
         };
@@ -89,4 +182,50 @@ fn lines_of(alloc: Global, loaded: &Loaded) -> Result<String, AllocError> {
         }
     }
     Ok(lines)
+}
+
+// Returns a table of customers, with a row for each key, and with the names of a commands file, if it is there. A value that is
+// too long shifts the columns behind it.
+fn table(
+    alloc: Global,
+    customers: &[CustomerLine<'_>],
+    loaded: Option<&Loaded>,
+) -> Result<String, AllocError> {
+    let mut table = String::from_str(alloc, HEAD)?;
+    for customer in customers {
+        let (address, state, line) = (customer.address, customer.state, customer.line);
+        let name = match (loaded, words::address(address)) {
+            (Some(loaded), Some(address)) => loaded.name(address),
+            _ => "",
+        };
+        let budget = match customer.budget {
+            Some(budget) => format!(in alloc; "{budget}")?,
+            None => String::from_str(alloc, "-")?,
+        };
+        let key = key_cells(alloc, customer.keys.first())?;
+        let counts = customer.answers;
+        let row = format!(in alloc;
+            "{address:<15} {state:<8} {budget:<6} {line:<7} {key} {:<11} {:<11} {:<11} {:<11} {:<11} {name}",
+            counts.basic, counts.interleaved, counts.rate, counts.nak, counts.over_budget
+        )?;
+        writeln!(table, "{}", row.trim_end())?;
+        for key in customer.keys.iter().skip(1) {
+            let key = key_cells(alloc, Some(key))?;
+            writeln!(table, "{:39} {}", "", key.trim_end())?;
+        }
+    }
+    Ok(table)
+}
+
+// Returns the part of a row for a key, if there is one.
+fn key_cells(alloc: Global, key: Option<&KeyLine<'_>>) -> Result<String, AllocError> {
+    let Some(key) = key else {
+        return format!(in alloc; "{:<6} {:<8} {:<29}", "-", "-", "-");
+    };
+    let kind = format!(in alloc; "{} {}", key.algorithm, key.octets)?;
+    let signed = match key.last_signed {
+        Some(seconds) => signed_date(alloc, seconds)?,
+        None => String::from_str(alloc, "-")?,
+    };
+    format!(in alloc; "{:<6} {kind:<8} {signed:<29}", key.number)
 }

@@ -1,17 +1,28 @@
-//! Gives a clerk the host, the configuration of labntpd, and ways to print.
+//! Gives a clerk the host, the configuration of labntpd, and ways to ask and to print.
 
-use crate::loading::{Loaded, load};
+use crate::commands_file::Loaded;
 use labntpd_assembly::{configuration_at, start_lines};
-use labntpd_files::{Configuration, Text};
+use labntpd_files::{Configuration, Endpoint, Listen, Text};
 use ntp_admin::{Escaped, Status, failed_status, memory_status, write_status};
 use ntp_host::{StartLines, read_regular_file};
+use ntp_query::Server;
+use ntp_service::Address;
 use std::alloc::{AllocError, AllocFailed, Global};
 use std::fmt::Display;
 use std::fs;
-use std::io::{self, ErrorKind, Stderr, Write};
+use std::io::{self, BufRead, BufReader, BufWriter, ErrorKind, Read, Stderr, Stdout, Write};
 
 /// The most octets of a file in which labntpd reports.
 pub const MOST_REPORTED_OCTETS: u32 = 268_435_456;
+
+/// The most octets of an answer that is a yes, with its line feed.
+const MOST_YES_OCTETS: usize = 16;
+
+/// The address that stands for all addresses of a host.
+pub const ANY: Address = Address([0, 0, 0, 0]);
+
+/// The port of NTP (RFC 5905).
+pub const NTP_PORT: u16 = 123;
 
 /// The reason why the work stops before it is done.
 #[derive(Clone, Copy)]
@@ -57,6 +68,12 @@ impl<'a> Desk<'a> {
         start_lines(self.rt)
     }
 
+    /// Returns standard output with a buffer.
+    pub fn buffered_output(self) -> Result<BufWriter<Stdout>, Stop> {
+        let out = BufWriter::new(self.alloc(), self.rt.stdout());
+        self.at("standard output", out)
+    }
+
     /// Returns the exit status of work, and reports want of memory.
     pub fn status(self, done: Result<(), Stop>) -> Status {
         match done {
@@ -74,6 +91,19 @@ impl<'a> Desk<'a> {
     /// Returns what came of a write to standard output, or reports that it failed.
     pub fn printed(self, done: io::Result<()>) -> Result<(), Stop> {
         done.map_err(|_| Stop::Printed(write_status(&mut self.faults())))
+    }
+
+    /// Asks a question, and stops the work where the next line of standard input is no yes.
+    pub fn ask<D: Display + Drop>(self, question: D) -> Result<(), Stop> {
+        self.print(question)?;
+        let input = self.rt.stdin().take(MOST_YES_OCTETS as u64 + 1);
+        let mut input = self.at("standard input", BufReader::new(self.alloc(), input))?;
+        let mut said = Vec::new(self.alloc());
+        self.at("standard input", input.read_until(b'\n', &mut said))?;
+        match said.as_slice().trim_ascii() {
+            b"y" | b"Y" | b"yes" | b"Yes" if said.len() <= MOST_YES_OCTETS => Ok(()),
+            _ => Err(Stop::Printed(Status::TextFaulty)),
+        }
     }
 
     /// Reports why something is refused.
@@ -135,7 +165,26 @@ impl<'a> Clerk<'a> {
 
     /// Reads the commands file.
     pub fn load(&self) -> Result<Loaded, Stop> {
-        load(self.desk, self.commands())
+        Loaded::at(self.desk, self.commands())
+    }
+
+    /// Returns where labntpd listens, if its configuration says it.
+    pub fn listening(&self) -> Option<Server> {
+        let port = self.port();
+        match self.configuration.listen {
+            Listen::Bound(Endpoint { address, .. }) if address != ANY => {
+                Some(Server { address, port })
+            }
+            _ => None,
+        }
+    }
+
+    /// Returns the port at which labntpd listens; that of NTP where its socket is handed down.
+    pub fn port(&self) -> u16 {
+        match self.configuration.listen {
+            Listen::Bound(endpoint) => endpoint.port.get(),
+            Listen::Inherited => NTP_PORT,
+        }
     }
 
     /// Reads a file in which labntpd reports, if it is named and there.

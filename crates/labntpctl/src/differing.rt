@@ -1,13 +1,23 @@
-//! Finds what differs between labntpd's customers and those of the commands file.
+//! Finds what differs between labntpd's customers and those of the commands file, and bars each change where anything does.
 
-use crate::loading::{ByAddress, Loaded};
-use crate::reported::Reported;
+use crate::commands_file::{ByAddress, Loaded};
+use crate::customers::reported_in;
+use crate::desk::{Clerk, Desk, Stop};
 use crate::shown::{Dotted, Keys, seen_at};
 use indexmap::IndexMap;
 use ntp_clerk::{Seen, are_same};
-use ntp_service::{Address, Command, Refusal, Service};
-use std::alloc::{AllocError, Global};
+use ntp_service::{Address, LineOutcome, Refusal, Service};
 use std::fmt::{self, Display};
+use std::fs;
+use std::io::{self, Write};
+use std::time::Duration;
+
+/// The line of the statistics file where labntpd no longer reads the commands file.
+const CHANGED: &str = "labntp_commands_changed 1";
+
+/// The seconds within which labntpd carries out and reports a line: a customers file that is younger than the commands file by
+/// more has all lines.
+const SETTLED_SECONDS: u64 = 2;
 
 /// An address at which labntpd has something else than the commands file.
 #[derive(Clone, Copy)]
@@ -54,70 +64,97 @@ fn state_word(seen: &Seen) -> &'static str {
     }
 }
 
-/// Returns the differences: at the addresses that labntpd reports, then at the others.
-pub fn differences(
-    alloc: Global,
-    reported: &[Reported],
-    loaded: &Loaded,
-) -> Result<Vec<Difference>, AllocError> {
-    let mut differences = Vec::new(alloc);
-    let mut known: ByAddress<()> = IndexMap::new(alloc);
-    for Reported { address, seen } in reported {
-        known.insert(*address, ())?;
-        add(&mut differences, loaded, *address, *seen)?;
-    }
+/// Returns the differences between the customers of labntpd's text and those of the commands file: at the addresses that labntpd
+/// reports, then at the others.
+pub fn differences(desk: Desk<'_>, text: &str, loaded: &Loaded) -> Result<Vec<Difference>, Stop> {
+    let mut reported = reported_in(desk, text)?;
     for address in loaded.service.addresses()?.iter() {
-        if known.get(address).is_none() {
-            add(&mut differences, loaded, *address, Seen::Nothing)?;
+        if reported.get(address).is_none() {
+            reported.insert(*address, Seen::Nothing)?;
+        }
+    }
+    let mut differences = Vec::new(desk.alloc());
+    for (address, daemon) in reported.iter() {
+        let file = seen_at(&loaded.service, *address);
+        if !are_same(daemon, &file) {
+            differences.push(Difference {
+                address: *address,
+                daemon: *daemon,
+                file,
+            })?;
         }
     }
     Ok(differences)
 }
 
-// Adds the difference at an address, if there is one.
-fn add(
-    differences: &mut Vec<Difference>,
-    loaded: &Loaded,
-    address: Address,
-    daemon: Seen,
-) -> Result<(), AllocError> {
-    let file = seen_at(&loaded.service, address);
-    if !are_same(&daemon, &file) {
-        differences.push(Difference {
-            address,
-            daemon,
-            file,
-        })?;
+/// Checks that labntpd reads the commands file, and has its customers, but for the last lines, which it may not have read yet.
+pub fn judge_daemon(clerk: &Clerk<'_>, loaded: &Loaded) -> Result<(), Stop> {
+    judge_reading(clerk)?;
+    let differing = lasting_differences(clerk, loaded)?;
+    if differing.is_empty() {
+        return Ok(());
+    }
+    for difference in differing.iter() {
+        let _ = write!(clerk.desk.faults(), "{difference}");
+    }
+    Err(clerk.refusal(
+        "labntpd has other customers: restart labntpd, or mend this file, and try again",
+    ))
+}
+
+/// Reports that labntpd no longer reads the commands file, if its statistics file says so.
+pub fn judge_reading(clerk: &Clerk<'_>) -> Result<(), Stop> {
+    let statistics = clerk.reported(&clerk.configuration.statistics)?;
+    if statistics.is_some_and(|text| text.as_str().lines().any(|line| line == CHANGED)) {
+        return Err(clerk.refusal("labntpd does not read this file any more: restart labntpd"));
     }
     Ok(())
 }
 
-/// Returns the differences that no late report explains: labntpd has there what the address had neither before nor after any of
-/// these commands, which were done.
-pub fn unexplained(
-    alloc: Global,
-    differences: &[Difference],
-    done: &[Command],
-) -> Result<Vec<Difference>, AllocError> {
+// Returns the differences that labntpd's next report will not mend: where its last one is late, labntpd has there what the address
+// had neither before nor after any of the commands that were done.
+fn lasting_differences(clerk: &Clerk<'_>, loaded: &Loaded) -> Result<Vec<Difference>, Stop> {
+    let alloc = clerk.desk.alloc();
+    // The report that is read below is no older.
+    let is_settled = is_settled(clerk).unwrap_or(false);
+    let Some(text) = clerk.reported(&clerk.configuration.customers)? else {
+        return Ok(Vec::new(alloc));
+    };
+    let all = differences(clerk.desk, text.as_str(), loaded)?;
+    if is_settled {
+        return Ok(all);
+    }
     let mut service = Service::new(alloc);
     let mut open: ByAddress<Difference> = IndexMap::new(alloc);
-    for difference in differences {
+    for difference in all.iter() {
         if !are_same(&difference.daemon, &Seen::Nothing) {
             open.insert(difference.address, *difference)?;
         }
     }
-    for command in done {
-        if service.command(command) == Err(Refusal::NoMemory) {
-            return Err(AllocError);
+    for line in loaded.heard.lines.iter() {
+        let (LineOutcome::Done, Some(command)) = (line.outcome, line.command) else {
+            continue;
+        };
+        if service.command(&command) == Err(Refusal::NoMemory) {
+            return Err(Stop::Memory);
         }
         let address = command.address();
         let seen = seen_at(&service, address);
-        if open
-            .get(&address)
-            .is_some_and(|it| are_same(&it.daemon, &seen))
-        {
+        let difference = open.get(&address);
+        if difference.is_some_and(|it| are_same(&it.daemon, &seen)) {
             open.shift_remove(&address);
         }
     }
-    open.values().copied().collect(alloc)
+    Ok(open.values().copied().collect(alloc)?)
+}
+
+// Returns whether labntpd's report has all lines of the commands file.
+fn is_settled(clerk: &Clerk<'_>) -> io::Result<bool> {
+    let Some(path) = &clerk.configuration.customers else {
+        return Ok(false);
+    };
+    let report = fs::metadata(clerk.desk.rt, path.as_str())?.modified()?;
+    let commands = fs::metadata(clerk.desk.rt, clerk.commands())?.modified()?;
+    let younger = report.duration_since(commands);
+    Ok(younger.is_ok_and(|younger| younger > Duration::from_secs(SETTLED_SECONDS)))
 }

@@ -1,10 +1,8 @@
 //! Writes the commands file anew in fewer lines.
 
-use crate::appending::judge_room;
 use crate::applying::or_unled;
+use crate::commands_file::{HeldFile, Loaded};
 use crate::desk::{Clerk, Stop};
-use crate::holding::HeldFile;
-use crate::loading::Loaded;
 use crate::replacing::{put_in_place, store_name};
 use ntp_admin::{Command, Escaped};
 use ntp_clerk::{LeadFault, NEW_KEY_OCTETS, NewKey, command_line, customers_of, fold, name_line};
@@ -18,24 +16,22 @@ use std::random::RandomSource;
 const RESTART: &str =
     "labntpd reads the new file at its next start, and carries out no further line before: restart labntpd\n";
 
-/// Writes the commands file anew, with the same customers and in fewer lines, and keeps the old one beside it.
-pub fn fold_commands(clerk: &Clerk<'_>) -> Result<(), Stop> {
+/// Writes the commands file anew, with as many customers and in fewer lines, and keeps the old one beside it; or only prints how long
+/// it would be.
+pub fn fold_commands(clerk: &Clerk<'_>, dry_run: bool) -> Result<(), Stop> {
     judge_no_link(clerk)?;
-    let desk = clerk.desk;
-    let mut held = HeldFile::hold(desk, clerk.commands())?;
-    let Some(text) = folded(clerk, &held.load()?)? else {
+    let (desk, path) = (clerk.desk, clerk.commands());
+    if dry_run {
+        folded(clerk, &clerk.load()?)?;
+        return Ok(());
+    }
+    let (_held, loaded) = HeldFile::hold(desk, path)?;
+    let Some(text) = folded(clerk, &loaded)? else {
         return Ok(());
     };
-    let kept = put_in_place(desk, clerk.commands(), text.as_str())?;
+    let kept = put_in_place(desk, path, text.as_str())?;
     desk.print(format_args!("kept: {kept}\n{RESTART}"))?;
-    desk.at(clerk.commands(), store_name(desk.rt, clerk.commands()))
-}
-
-/// Only prints how long the new file would be.
-pub fn show_fold(clerk: &Clerk<'_>) -> Result<(), Stop> {
-    judge_no_link(clerk)?;
-    folded(clerk, &clerk.load()?)?;
-    Ok(())
+    desk.at(path, store_name(desk.rt, path))
 }
 
 // Checks that the path is no link: a fold would replace the link, and leave the file that it names.
@@ -61,15 +57,14 @@ fn folded(clerk: &Clerk<'_>, loaded: &Loaded) -> Result<Option<String>, Stop> {
             "{path}: what stands behind {MOST_COMMANDS_OCTETS} octets is left out: labntpd does not read it\n"
         ))?;
     } else {
-        judge_room(clerk, loaded, 0)?;
+        loaded.judge_room(clerk, 0)?;
     }
     let mut spare = NewKey {
         algorithm: Algorithm::Sha1,
         octets: [0; NEW_KEY_OCTETS],
     };
     desk.at("random octets", desk.rt.fill_bytes(&mut spare.octets))?;
-    let folded = folded_text(desk.alloc(), loaded, spare.key());
-    let text = or_unled(desk, folded)?;
+    let text = or_unled(desk, folded_text(desk.alloc(), loaded, spare.key()))?;
     let customers = customers_of(desk.alloc(), &loaded.service)?.len();
     let (octets, before) = (text.len() as u64, loaded.octets);
     if octets >= before {
@@ -86,11 +81,8 @@ fn folded(clerk: &Clerk<'_>, loaded: &Loaded) -> Result<Option<String>, Stop> {
 fn folded_text(alloc: Global, loaded: &Loaded, spare: Key) -> Result<String, LeadFault> {
     let mut revoked = Vec::new(alloc);
     for address in loaded.service.addresses()?.iter() {
-        if loaded
-            .service
-            .customer(*address)
-            .is_some_and(|customer| !customer.is_enrolled())
-        {
+        let customer = loaded.service.customer(*address);
+        if customer.is_some_and(|customer| !customer.is_enrolled()) {
             revoked.push(*address).map_err(AllocError::from)?;
         }
     }

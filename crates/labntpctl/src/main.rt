@@ -3,42 +3,21 @@
 
 mod appending;
 mod applying;
-mod asking;
-mod barring;
 mod changing;
-mod checked_commands;
-mod checked_configuration;
 mod checking;
 mod command_line;
-mod customer_file;
+mod commands_file;
 mod customers;
 mod desk;
 mod differing;
 mod door;
-mod door_rules;
 mod explaining;
-mod exporting;
 mod folding;
-mod holding;
-mod loading;
-mod plan;
 mod replacing;
-mod report;
-mod reported;
 mod shown;
-mod table;
-mod waiting;
 
-use applying::apply;
-use changing::make_change;
-use checking::check;
-use command_line::{Asked, Task, parse};
-use customers::{compare, list, list_file};
+use command_line::{Task, parse};
 use desk::{Clerk, Desk, Stop};
-use door::write_door;
-use explaining::explain;
-use exporting::export;
-use folding::{fold_commands, show_fold};
 use labntpd_files::command_line::refused_status;
 use ntp_admin::{Status, unread_status, write_status};
 use ntp_host::has_standard_streams;
@@ -60,7 +39,7 @@ fn status(desk: Desk<'_>) -> Status {
         Err(error) => return unread_status(&error, &mut desk.faults()),
     };
     match parse(desk.alloc(), &words) {
-        Ok(asked) => desk.status(carry_out(desk, &asked)),
+        Ok((config, task)) => desk.status(carry_out(desk, config, task)),
         Err(error) => refused_status(desk.rt, &error, &mut desk.faults()),
     }
 }
@@ -70,20 +49,24 @@ fn words(rt: &HostRuntime) -> io::Result<Vec<String>> {
     Ok(env::args(rt)?.collect(rt.alloc())?)
 }
 
-// Does the work that is asked for.
-fn carry_out(desk: Desk<'_>, asked: &Asked<'_>) -> Result<(), Stop> {
-    let config = asked.config;
-    match &asked.task {
-        Task::Check(files) => check(desk, files),
-        Task::ListFile { commands, listing } => list_file(desk, commands, *listing),
-        Task::List(listing) => list(&Clerk::new(desk, config)?, *listing),
-        Task::Compare => compare(&Clerk::new(desk, config)?),
-        Task::Explain(explained) => explain(&Clerk::new(desk, config)?, explained),
-        Task::Door { place, output } => write_door(&Clerk::new(desk, config)?, *place, *output),
-        Task::Change(request) => make_change(&Clerk::new(desk, config)?, request),
-        Task::Apply(application) => apply(&Clerk::new(desk, config)?, application),
-        Task::Export { path, keys } => export(&Clerk::new(desk, config)?, *path, *keys),
-        Task::Fold => fold_commands(&Clerk::new(desk, config)?),
-        Task::ShowFold => show_fold(&Clerk::new(desk, config)?),
+// Does a task by the configuration file at a path.
+fn carry_out(desk: Desk<'_>, config: &str, task: Task<'_>) -> Result<(), Stop> {
+    match task {
+        Task::Check { commands, wanted } => checking::check(desk, config, commands, wanted),
+        Task::List { commands, json } => match commands {
+            Some(path) => customers::list_file(desk, path, json),
+            None => customers::list(&Clerk::new(desk, config)?, json),
+        },
+        Task::Compare => customers::compare(&Clerk::new(desk, config)?),
+        Task::Explain(explained) => explaining::explain(&Clerk::new(desk, config)?, explained),
+        Task::Door {
+            place,
+            output,
+            watch,
+        } => door::write_door(&Clerk::new(desk, config)?, place, output, watch),
+        Task::Change(request) => changing::make_change(&Clerk::new(desk, config)?, &request),
+        Task::Apply(application) => applying::apply(&Clerk::new(desk, config)?, &application),
+        Task::Export { path, keys } => applying::export(&Clerk::new(desk, config)?, path, keys),
+        Task::Fold { dry_run } => folding::fold_commands(&Clerk::new(desk, config)?, dry_run),
     }
 }

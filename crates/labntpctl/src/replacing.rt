@@ -30,7 +30,12 @@ pub fn put_in_place(desk: Desk<'_>, path: &str, text: &str) -> Result<String, St
     let (rt, alloc) = (desk.rt, desk.alloc());
     let new = format!(in alloc; "{path}.new")?;
     let new = new.as_str();
-    let time = time_now(desk)?;
+    let now = desk.at("clock", SystemTime::now(rt))?;
+    let seconds = now.duration_since(SystemTime::UNIX_EPOCH);
+    let seconds = seconds.map_or(0, |since| since.as_secs());
+    let Some(time) = date(alloc, seconds, KEPT_FORM) else {
+        return Err(desk.refusal("clock: a time from 1970 to 9999 is wanted"));
+    };
     let kept = format!(in alloc; "{path}.{time}")?;
     desk.at(new, write_like(rt, new, text, path))?;
     let linked = fs::hard_link(rt, path, kept.as_str());
@@ -91,17 +96,5 @@ fn keep_no_more(rt: &HostRuntime, path: &str, kept: &str) {
         if there.dev() == other.dev() && there.ino() == other.ino() {
             let _ = fs::remove_file(rt, kept);
         }
-    }
-}
-
-// Returns the time for the name of a file that is kept.
-fn time_now(desk: Desk<'_>) -> Result<String, Stop> {
-    let now = desk.at("clock", SystemTime::now(desk.rt))?;
-    let seconds = now
-        .duration_since(SystemTime::UNIX_EPOCH)
-        .map_or(0, |since| since.as_secs());
-    match date(desk.alloc(), seconds, KEPT_FORM) {
-        Some(time) => Ok(time),
-        None => Err(desk.refusal("clock: a time from 1970 to 9999 is wanted")),
     }
 }

@@ -71,19 +71,15 @@ pub fn seen_at(service: &Service, address: Address) -> Seen {
 
 /// Returns what is shown of a customer's terms.
 pub fn seen_terms(terms: &Terms) -> SeenTerms {
+    let seen = |GivenKey { number, key }| SeenKey {
+        number: number.get(),
+        algorithm: key.algorithm(),
+        octets: key.octet_count() as u64,
+    };
     SeenTerms {
-        older: seen_key(terms.older),
-        newer: terms.newer.map(seen_key),
+        older: seen(terms.older),
+        newer: terms.newer.map(seen),
         budget: terms.budget.get(),
-    }
-}
-
-// Returns what is shown of a key.
-fn seen_key(given: GivenKey) -> SeenKey {
-    SeenKey {
-        number: given.number.get(),
-        algorithm: given.key.algorithm(),
-        octets: given.key.octet_count() as u64,
     }
 }
 

@@ -1,0 +1,263 @@
+//! Reads the commands file, carries out its lines, and holds it, so that one clerk at a time changes it.
+
+use crate::desk::{Clerk, Desk, Stop};
+use indexmap::IndexMap;
+use labntpd_files::is_name;
+use ntp_admin::{Command, apply_lines};
+use ntp_clerk::{NameLine, name_in};
+use ntp_host::{MOST_COMMANDS_OCTETS, not_regular, pause, read_regular_file};
+use ntp_reports::CustomerCounts;
+use ntp_service::{Address, LineOutcome, Observer, Refusal, Service, TurnOutcome};
+use std::alloc::{AllocError, Global};
+use std::fs::{self, File, OpenOptions, TryLockError};
+use std::hash::{BuildHasherDefault, FoldHasher};
+use std::io::{self, ErrorKind, Read, Write};
+use std::os::unix::fs::MetadataExt;
+
+/// How often a clerk asks for the lock.
+const MOST_ASKED: u32 = 500;
+
+/// The milliseconds between two times.
+const ASKED_EACH: i32 = 20;
+
+/// Values by the addresses of customers.
+pub type ByAddress<T> = IndexMap<Address, T, BuildHasherDefault<FoldHasher>>;
+
+/// What the complete lines of a commands file have come to.
+#[derive(Drop)]
+pub struct Loaded {
+    /// The customers.
+    pub service: Service,
+    /// What became of each line.
+    pub heard: Heard,
+    /// The last name of each address that has one.
+    pub names: ByAddress<String>,
+    /// How many lines there are.
+    pub lines: u64,
+    /// How many octets the file has.
+    pub octets: u64,
+    /// Whether the file ends with these lines.
+    pub is_ended: bool,
+}
+
+impl Loaded {
+    /// Reads the commands file at a path.
+    pub fn at(desk: Desk<'_>, path: &str) -> Result<Loaded, Stop> {
+        let octets = read_regular_file(desk.rt, desk.alloc(), path, MOST_COMMANDS_OCTETS as u32);
+        Ok(Loaded::of(desk.alloc(), &desk.at(path, octets)?)?)
+    }
+
+    /// Carries out the complete lines of these octets, as labntpd does.
+    pub fn of(alloc: Global, octets: &[u8]) -> Result<Loaded, AllocError> {
+        let whole = complete_lines(octets);
+        let mut service = Service::new(alloc);
+        let mut heard = Heard {
+            counts: CustomerCounts::new(alloc),
+            lines: Vec::new(alloc),
+            command: None,
+            has_missed: false,
+        };
+        let lines = apply_lines(&mut service, whole, 0, &mut heard);
+        if heard.has_missed || heard.counts.has_missed() {
+            return Err(AllocError);
+        }
+        Ok(Loaded {
+            service,
+            heard,
+            names: names_in(alloc, whole)?,
+            lines,
+            octets: octets.len() as u64,
+            is_ended: whole.len() == octets.len(),
+        })
+    }
+
+    /// Returns the name of an address, or an empty text.
+    pub fn name(&self, address: Address) -> &str {
+        self.names.get(&address).map_or("", |name| name.as_str())
+    }
+
+    /// Checks that a line feed ends the commands file, and that so many octets more fit into it.
+    pub fn judge_room(&self, clerk: &Clerk<'_>, more: usize) -> Result<(), Stop> {
+        if self.octets.saturating_add(more as u64) > MOST_COMMANDS_OCTETS {
+            return Err(clerk.refusal(format_args!(
+                "at most {MOST_COMMANDS_OCTETS} octets are wanted: labntpctl fold shortens it"
+            )));
+        }
+        if !self.is_ended {
+            let line = self.lines.saturating_add(1);
+            return Err(clerk.refusal(format_args!(
+                "line {line}: a line feed at its end is wanted"
+            )));
+        }
+        Ok(())
+    }
+}
+
+/// Returns the complete lines of a commands file, as far as labntpd reads it.
+pub fn complete_lines(octets: &[u8]) -> &[u8] {
+    let most = MOST_COMMANDS_OCTETS as usize;
+    let read = octets.get(..most).unwrap_or(octets);
+    match read.iter().rposition(|octet| *octet == b'\n') {
+        Some(end) => read.get(..=end).unwrap_or(read),
+        None => &[],
+    }
+}
+
+// Returns the last name of each address in these lines.
+fn names_in(alloc: Global, octets: &[u8]) -> Result<ByAddress<String>, AllocError> {
+    let mut names = IndexMap::new(alloc);
+    for line in octets.split(|octet| *octet == b'\n') {
+        let named = str::from_utf8(line).ok().and_then(|text| name_in(text));
+        if let Some(NameLine { address, name }) = named.filter(|named| is_name(named.name)) {
+            names.insert(address, String::from_str(alloc, name)?)?;
+        }
+    }
+    Ok(names)
+}
+
+/// A line of a commands file that was taken.
+#[derive(Clone, Copy)]
+pub struct HeardLine {
+    pub number: u64,
+    /// Its command, if it is one.
+    pub command: Option<Command>,
+    pub outcome: LineOutcome,
+}
+
+/// Notes what becomes of lines.
+#[derive(Drop)]
+pub struct Heard {
+    /// The numbers of customers' keys, and the lines that enrolled them.
+    pub counts: CustomerCounts,
+    pub lines: Vec<HeardLine>,
+    // The command of the next line.
+    command: Option<Command>,
+    has_missed: bool,
+}
+
+impl Observer for Heard {
+    fn command(&mut self, command: &Command) {
+        self.counts.command(command);
+        self.command = Some(*command);
+    }
+
+    fn line(&mut self, number: u64, outcome: LineOutcome) {
+        self.counts.line(number, outcome);
+        let line = HeardLine {
+            number,
+            command: self.command.take(),
+            outcome,
+        };
+        if outcome == LineOutcome::Refused(Refusal::NoMemory) || self.lines.push(line).is_err() {
+            self.has_missed = true;
+        }
+    }
+
+    fn turn(&mut self, _outcome: &TurnOutcome) {}
+}
+
+/// The commands file at a path, locked for other clerks.
+#[derive(Drop)]
+pub struct HeldFile<'a> {
+    rt: &'a HostRuntime,
+    path: &'a str,
+    // Closing it ends the lock.
+    file: File,
+    // The octets that it had when it was read.
+    octets: u64,
+}
+
+impl<'a> HeldFile<'a> {
+    /// Waits until nobody else holds the regular file at a path, for ten seconds at most. Then holds and reads it.
+    pub fn hold(desk: Desk<'a>, path: &'a str) -> Result<(HeldFile<'a>, Loaded), Stop> {
+        let file = desk.at(path, held_file(desk.rt, path))?;
+        let mut octets = Vec::new(desk.alloc());
+        let most = MOST_COMMANDS_OCTETS.saturating_add(1);
+        desk.at(path, (&file).take(most).read_to_end(&mut octets))?;
+        let held = HeldFile {
+            rt: desk.rt,
+            path,
+            file,
+            octets: octets.len() as u64,
+        };
+        Ok((held, Loaded::of(desk.alloc(), &octets)?))
+    }
+
+    /// Appends text. Where that fails, cuts the file to what was read, unless somebody else wrote to it meanwhile. No line feed
+    /// ends what it cuts off, so labntpd has not carried that out. The file gets its time back, by which labntpd would take it
+    /// for one that was written anew.
+    pub fn append(&mut self, text: &str) -> io::Result<()> {
+        let modified = self.file.metadata()?.modified()?;
+        let mut written: usize = 0;
+        let done = write_counted(&mut self.file, text.as_bytes(), &mut written);
+        if done.is_err() && self.has_grown_by(written) && self.file.set_len(self.octets).is_ok() {
+            let _ = self.file.set_modified(modified);
+        }
+        done
+    }
+
+    /// Returns whether the file has so many octets more than when it was read.
+    pub fn has_grown_by(&self, octets: usize) -> bool {
+        let length = self.octets.saturating_add(octets as u64);
+        self.file
+            .metadata()
+            .is_ok_and(|there| there.len() == length)
+    }
+
+    /// Has the system store what was appended.
+    pub fn store(&self) -> io::Result<()> {
+        self.file.sync_all()
+    }
+
+    /// Returns whether this is still the file at its path.
+    pub fn is_at_its_path(&self) -> bool {
+        is_at(self.rt, &self.file, self.path).unwrap_or(false)
+    }
+}
+
+// Opens the file at a path, and holds it.
+fn held_file(rt: &HostRuntime, path: &str) -> io::Result<File> {
+    for _ in 0..MOST_ASKED {
+        // A pipe that is opened for reading and writing is opened at once, whoever holds its other end (fifo(7)).
+        let file = OpenOptions::new().read(true).append(true).open(rt, path)?;
+        if !file.metadata()?.is_file() {
+            return Err(not_regular());
+        }
+        match file.try_lock() {
+            Ok(()) => {
+                // Another file may have taken its place before it was held.
+                if is_at(rt, &file, path)? {
+                    return Ok(file);
+                }
+            }
+            Err(TryLockError::WouldBlock) => {}
+            Err(TryLockError::Error(error)) => return Err(error),
+        }
+        drop(file);
+        pause(ASKED_EACH);
+    }
+    Err(io::Error::from(ErrorKind::WouldBlock))
+}
+
+// Writes octets, and counts those that were written.
+fn write_counted(file: &mut File, octets: &[u8], written: &mut usize) -> io::Result<()> {
+    for _ in 0..u64::MAX {
+        let left = octets.get(*written..).unwrap_or(&[]);
+        if left.is_empty() {
+            break;
+        }
+        match file.write(left) {
+            Ok(0) => return Err(io::Error::from(ErrorKind::WriteZero)),
+            Ok(count) => *written = written.saturating_add(count),
+            Err(error) if error.kind() == ErrorKind::Interrupted => {}
+            Err(error) => return Err(error),
+        }
+    }
+    Ok(())
+}
+
+// Returns whether this is the file at a path.
+fn is_at(rt: &HostRuntime, file: &File, path: &str) -> io::Result<bool> {
+    let (ours, there) = (file.metadata()?, fs::metadata(rt, path)?);
+    Ok(ours.dev() == there.dev() && ours.ino() == there.ino())
+}

@@ -1,7 +1,7 @@
 -- A change to the unused exchange with a receive stamp: it is made at one place, and keeps the receive stamps.
-use Rattle.std.proofs.Common.{◌≡◌, ◌≢◌, ℕ, suc, ◌<◌, inl, inr, Bool, true, false, not, cond, List, [], ◌∷◌, length, map, set, get_or, Some, None, refl, sym, ap, subst, ◌∙◌, arith, ltb}
+use Rattle.std.proofs.Common.{◌≡◌, ◌≢◌, ℕ, suc, ◌<◌, inl, inr, Bool, true, false, cond, List, [], ◌∷◌, length, map, set, get_or, Some, None, refl, sym, ap, subst, ◌∙◌, arith}
 use Rattle.std.specs.Prelude.{find, position, slice_get, Contains}
-use Rattle.std.specs.List.{AllPairs, position_or_len}
+use Rattle.std.specs.List.{AllPairs}
 use Rattle.std.proofs.lemmas.Bool.{cases_Bool, cases_eq, cases_order, and_parts, eqb-true, false_from_ne_true, ltb-false}
 use Rattle.std.proofs.lemmas.List.{length-set, length-map, get_or-set_same, get_or-set_other, get_or-map, get_or_default, same_lists}
 use Rattle.std.proofs.lemmas.List.Folds.{find_at}
@@ -9,7 +9,7 @@ use Rattle.std.proofs.lemmas.List.Quantifiers.{position-Some}
 use Rattle.std.proofs.lemmas.Option.{slice_get_cases, get_or_from_slice_get}
 use Rattle.ntp_packet.specs.declared.stamp.Stamp.{Stamp}
 use Rattle.ntp_customer.specs.declared.slot.Slot.{Slot}
-use Rattle.ntp_customer.specs.Exchanges.{receives, transmits, all_stamps, with_unused, is_unused_at, unused_at, spent}
+use Rattle.ntp_customer.specs.Exchanges.{receives, all_stamps, with_unused, is_unused_at, unused_at, spent}
 
 -- what is found is a member that passes
 pub find-member : {X : Type 0} (p : X → Bool) (xs : List X) (x : X) → find p xs ≡ Some x → Contains xs x × (p x ≡ true)
@@ -37,26 +37,12 @@ map-unfound p change (y ∷ xs) none =
 
 -- who has no first place is not found
 pub find-from_no_position : {X : Type 0} (p : X → Bool) (xs : List X) → position p xs ≡ None → find p xs ≡ None
-find-from_no_position p xs none =
-    elim (cases_Bool (ltb (position_or_len p xs) (length xs))) [
-      | inl below ↦ let at : Some (position_or_len p xs) ≡ None = rw below at none in cc
-      | inr past ↦ elim (slice_get_cases xs (position_or_len p xs)).1 [
-        | inl some ↦ absurd (omega (arith, ltb-false _ _ past, some.1))
-        | inr beyond ↦ find_at p xs ∙ beyond.1
-      ]
-    ]
+find-from_no_position p xs none = grind (arith, cases_Bool, slice_get_cases, ltb-false, find_at)
 
 -- who stands at the first place is found
 pub find-at_position : {X : Type 0} (p : X → Bool) (xs : List X) (i : ℕ) (x : X) → position p xs ≡ Some i → slice_get xs i ≡ Some x
     → find p xs ≡ Some x
-find-at_position p xs i x at there =
-    elim (cases_Bool (ltb (position_or_len p xs) (length xs))) [
-      | inl below ↦
-          let same : Some (position_or_len p xs) ≡ Some i = rw below at at in
-          let count : position_or_len p xs ≡ i = cc in
-          find_at p xs ∙ ap (slice_get xs) count ∙ there
-      | inr past ↦ let none : None ≡ Some i = rw past at at in absurd (cc)
-    ]
+find-at_position p xs i x at there = grind (arith, cases_Bool, find_at)
 
 -- the exchange with the receive stamp at one place is the only one
 only-there : (xs : List Slot) (i k : ℕ) (d : Slot) → AllPairs ◌≢◌ (receives xs) → i < length xs → k < length xs → k ≢ i
@@ -72,9 +58,7 @@ only-there xs i k d distinct there here other same =
 
 -- whoever has the receive stamp has it
 stamp-from_test : (receive : Stamp) (x : Slot) → is_unused_at receive x ≡ true → x.receive ≡ receive
-stamp-from_test receive x passes =
-    let numbers : x.receive.0 ≡ receive.0 = eqb-true x.receive.0 receive.0 (and_parts (not x.used) _ passes).1 in
-    ap (λ n. record { 0 = n }) numbers
+stamp-from_test receive x passes = grind (arith, eqb-true, and_parts)
 
 -- a change at the first place is all
 change-at_place : (receive : Stamp) (change : Slot → Slot) (xs : List Slot) (i : ℕ) (d : Slot) → AllPairs ◌≢◌ (receives xs)
@@ -138,7 +122,4 @@ receives-spent xs receive = receives-with_unused receive (λ x. record x { used 
 
 pub all_stamps-spent : (xs : List Slot) (receive : Stamp) → all_stamps (spent xs receive) ≡ all_stamps xs
 unfolding spent
-all_stamps-spent xs receive =
-    let same : transmits (spent xs receive) ≡ transmits xs =
-    map-with_unused (λ x. x.transmit) receive (λ x. record x { used = true }) xs (λ x. refl) in
-    rw (receives-spent xs receive, same) refl
+all_stamps-spent xs receive = grind (arith, map-with_unused, receives-spent)

@@ -1,5 +1,5 @@
 -- Customers by cases, and those that are not enrolled.
-use Rattle.std.proofs.Common.{◌≡◌, ℕ, ◌==◌, false, [], ◌∷◌, ◌++◌, Option, Some, None, ap, ◌∙◌, sym, refl, true≢false}
+use Rattle.std.proofs.Common.{◌≡◌, ℕ, ◌==◌, false, [], ◌∷◌, ◌++◌, Option, Some, None, refl, true≢false, arith}
 use Rattle.std.specs.Prelude.{not, filter}
 use Rattle.ntp_customer.specs.declared.numbered_key.NumberedKey.{NumberedKey}
 use Rattle.ntp_customer.specs.Customer.{Enrolment, AccountOf, CustomerOf, revoked, rebudgeted, is_enrolled, numbers_of}
@@ -33,11 +33,6 @@ module _ {C : Type 0} where
   pub revoked-absent : (c : CustomerOf C) → is_enrolled c ≡ false → revoked c ≡ c
   revoked-absent = by_customer _ (λ refusals out. refl) (λ a refusals out. absurd (true≢false out))
 
-  -- another budget of a customer that is not enrolled
-  pub rebudgeted-absent : (c : CustomerOf C) (budget : ℕ) → is_enrolled c ≡ false → rebudgeted c budget ≡ c
-  rebudgeted-absent c budget out = ap (λ d. rebudgeted d budget) (sym (revoked-absent c out)) ∙ revoked-absent c out
-
   -- another budget leaves the numbers
   pub numbers-rebudgeted : (c : CustomerOf C) (budget : ℕ) → numbers_of (rebudgeted c budget) ≡ numbers_of c
-  numbers-rebudgeted c budget =
-      by_customer (λ c. numbers_of (rebudgeted c budget) ≡ numbers_of c) (λ refusals. refl) (λ a refusals. refl) c
+  numbers-rebudgeted c budget = grind (arith, by_customer)

@@ -1,5 +1,6 @@
 -- Stamps that are listed one exchange after another.
-use Rattle.std.proofs.Common.{◌≡◌, ℕ, ◌+◌, ◌<◌, List, ◌++◌, ◌∷◌, [], length, take, map, slice_index_or, sym, ap, ◌∙◌}
+use Rattle.std.proofs.Common.{◌≡◌, ℕ, ◌+◌, ◌<◌, List, ◌++◌, ◌∷◌, [], length, take, map, slice_index_or, arith}
+use Rattle.std.proofs.lemmas.Grind.{common_steps}
 use Rattle.std.proofs.lemmas.List.{take_more, map-append, append_assoc}
 use Rattle.ntp_packet.specs.declared.stamp.Stamp.{Stamp}
 use Rattle.ntp_customer.specs.declared.slot.Slot.{Slot}
@@ -8,9 +9,4 @@ use Rattle.ntp_customer.specs.declared.slot.Slot.{Slot}
 pub one-more : (stamp : Slot → Stamp) (before listed now : List Stamp) (slots : List Slot) (at : ℕ) (d : Slot) → at < length slots
     → listed ≡ before ++ map stamp (take at slots) → now ≡ listed ++ stamp (slice_index_or slots at d) ∷ []
     → now ≡ before ++ map stamp (take (at + 1) slots)
-one-more stamp before listed now slots at d within so_far more =
-    let x = slice_index_or slots at d in
-    let last : take (at + 1) slots ≡ take at slots ++ x ∷ [] = take_more slots at d within in
-    more ∙ ap (λ stamps. stamps ++ stamp x ∷ []) so_far
-    ∙ append_assoc before (map stamp (take at slots)) (stamp x ∷ [])
-    ∙ ap (λ stamps. before ++ stamps) (sym (ap (λ xs. map stamp xs) last ∙ map-append stamp (take at slots) (x ∷ [])))
+one-more stamp before listed now slots at d within so_far more = grind (arith, common_steps, take_more, append_assoc, map-append)

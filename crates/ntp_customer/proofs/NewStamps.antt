@@ -1,5 +1,5 @@
 -- A stamp is looked for among saved ones without a list of them.
-use Rattle.std.proofs.Common.{◌≡◌, ◌*◌, ◌≤◌, Bool, true, false, ◌||◌, List, [], ◌∷◌, ◌++◌, length, refl, sym, ap, ◌∙◌, ◌==◌, arith}
+use Rattle.std.proofs.Common.{◌≡◌, ◌*◌, ◌≤◌, Bool, ◌||◌, List, [], ◌∷◌, ◌++◌, length, refl, sym, ap, ◌∙◌, ◌==◌, arith}
 use Rattle.std.specs.List.{list_any}
 use Rattle.std.proofs.Math.Bool.{or-false}
 use Rattle.std.proofs.lemmas.List.{length-map, length-append}
@@ -10,10 +10,7 @@ use Rattle.ntp_customer.specs.Exchanges.{most_slots, receives, transmits, all_st
 
 -- four tests: two change places
 changed : (a b c d : Bool) → ((a || b) || (c || d)) ≡ (a || (c || (b || d)))
-changed true b c d = refl
-changed false true true d = refl
-changed false true false d = refl
-changed false false c d = refl
+changed a b c d = grind arith
 
 -- among all stamps
 pub any-all_stamps : (p : Stamp → Bool) (xs : List Slot) → list_any (λ x. p x.receive || p x.transmit) xs ≡ list_any p (all_stamps xs)

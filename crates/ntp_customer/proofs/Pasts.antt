@@ -1,5 +1,5 @@
 -- Pasts, and what is kept of them.
-use Rattle.std.proofs.Common.{◌≡◌, ℕ, List, [], ◌∷◌, ◌++◌, Some, None, refl, sym}
+use Rattle.std.proofs.Common.{◌≡◌, ℕ, List, [], ◌∷◌, ◌++◌, Some, None, refl, sym, arith}
 use Rattle.std.specs.Option.{option_map_or}
 use Rattle.ntp_customer.specs.Tally.{Tally, tally}
 use Rattle.ntp_customer.proofs.Tallies.{tally-nil}
@@ -28,6 +28,4 @@ queries-short = by_past _ (λ refusals. sym tally-nil) (λ a refusals. refl)
 -- a signed query more in the past is one more in the tally
 pub short-with_query : (past : Past) (w : ℕ)
     → changing (λ a. with_queries a (tally (queries_in past ++ w ∷ []))) (short past) ≡ short (with_query past w)
-short-with_query past w =
-    by_past (λ past. changing (λ a. with_queries a (tally (queries_in past ++ w ∷ []))) (short past) ≡ short (with_query past w))
-    (λ refusals. refl) (λ a refusals. refl) past
+short-with_query past w = grind (arith, by_past, with_queries)

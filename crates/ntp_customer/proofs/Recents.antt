@@ -1,5 +1,6 @@
 -- The recent exchanges are the last ones of a list, and what is put behind a list goes by them alone.
-use Rattle.std.proofs.Common.{◌≡◌, true, ℕ, ◌+◌, ◌-◌, ◌≤◌, min, inl, inr, List, ◌++◌, length, take, drop, refl, sym, ap, ◌∙◌, arith, append_assoc}
+use Rattle.std.proofs.Common.{◌≡◌, true, ℕ, ◌+◌, ◌-◌, ◌≤◌, min, List, ◌++◌, length, drop, refl, sym, ap, ◌∙◌, arith, append_assoc}
+use Rattle.std.proofs.lemmas.Grind.{common_steps}
 use Rattle.std.proofs.lemmas.Bool.{cases_lt}
 use Rattle.std.proofs.lemmas.List.{length-append, length-drop, length-take-le, take-append-drop, drop-drop, drop_at}
 use Rattle.ntp_customer.specs.declared.slot.Slot.{Slot}
@@ -25,16 +26,7 @@ last_ones-append n xs ys enough =
 
 -- nor does what is no longer among the last n, where more is put behind
 last_ones-last_ones : {X : Type 0} (n : ℕ) (xs ys : List X) → last_ones n (last_ones n xs ++ ys) ≡ last_ones n (xs ++ ys)
-last_ones-last_ones n xs ys =
-    elim (cases_lt (length xs) n) [
-      | inl few ↦ rw (last_ones-all n xs (omega arith)) refl
-      | inr many ↦
-          let enough : n ≤ length (last_ones n xs ++ ys) =
-          omega (arith, length-append (last_ones n xs) ys, length-drop (length xs - n) xs) in
-          sym (ap (λ zs. last_ones n (zs ++ ys)) (sym (take-append-drop (length xs - n) xs))
-          ∙ ap (last_ones n) (append_assoc (take (length xs - n) xs) (last_ones n xs) ys)
-          ∙ last_ones-append n (take (length xs - n) xs) (last_ones n xs ++ ys) enough)
-    ]
+last_ones-last_ones n xs ys = grind (arith, common_steps, cases_lt, last_ones-all, length-append, length-drop, take-append-drop, append_assoc, last_ones-append)
 
 -- the recent ones are at most as many as are saved
 pub length-recent : (xs : List Slot) → length (recent xs) ≡ min most_slots (length xs)
@@ -46,29 +38,15 @@ pub recent-all : (xs : List Slot) → length xs ≤ most_slots → recent xs ≡
 unfolding recent
 recent-all xs few = last_ones-all most_slots xs few
 
--- of the recent ones, all are recent
-pub recent-recent : (xs : List Slot) → recent (recent xs) ≡ recent xs
-recent-recent xs = recent-all (recent xs) (omega (arith, length-recent xs))
-
 -- who keeps the recent ones alone goes on rightly
 pub recent-append : (xs ys : List Slot) → recent (recent xs ++ ys) ≡ recent (xs ++ ys)
 unfolding recent
 recent-append xs ys = last_ones-last_ones most_slots xs ys
 
--- a list with its own recent ones is itself
-pub with_recent-recent : (xs : List Slot) → with_recent xs (recent xs) ≡ xs
-unfolding recent with_recent
-with_recent-recent xs = take-append-drop (length xs - most_slots) xs
-
 -- a list with as many others as its recent ones has these
 pub recent-with_recent : (xs ys : List Slot) → length ys ≡ length (recent xs) → recent (with_recent xs ys) ≡ ys
 unfolding recent with_recent
-recent-with_recent xs ys as_many =
-    let before : length (take (length xs - most_slots) xs) ≡ length xs - most_slots =
-    length-take-le (length xs - most_slots) xs (omega arith) in
-    let past : length (take (length xs - most_slots) xs ++ ys) - most_slots ≡ length xs - most_slots =
-    omega (arith, before, length-append (take (length xs - most_slots) xs) ys, as_many, length-drop (length xs - most_slots) xs) in
-    rw past (drop_at (take (length xs - most_slots) xs) ys (length xs - most_slots) before)
+recent-with_recent xs ys as_many = grind (arith, length-take-le, length-append, length-drop, drop_at)
 
 -- a change in place to the recent ones leaves as many
 pub length-spent : (xs : List Slot) (receive : Stamp) → length (spent xs receive) ≡ length xs

@@ -1,5 +1,5 @@
 -- Saved exchanges stay saved: at a push, where one is spent, and where one departs.
-use Rattle.std.proofs.Common.{◌≡◌, ◌≢◌, ℕ, ◌+◌, ◌-◌, ◌^◌, ◌<◌, inl, inr, Bool, true, cond, List, [], ◌∷◌, ◌++◌, length, take, drop, map, get_or, refl, sym, ap, subst, ◌∙◌, arith}
+use Rattle.std.proofs.Common.{◌≡◌, ◌≢◌, ℕ, ◌+◌, ◌-◌, ◌^◌, ◌<◌, inl, inr, Bool, true, cond, List, [], ◌∷◌, ◌++◌, length, take, drop, map, get_or, refl, sym, ap, subst, ◌∙◌, arith, rules}
 use Rattle.std.specs.Prelude.{Contains, All, IsTrue, find, option_and_then, Option, Some, None, not, ◌&&◌}
 use Rattle.std.specs.List.{AllPairs}
 use Rattle.std.proofs.lemmas.Bool.{cases_Bool, cases_order, and_from, and_right, and_parts, not_from_false, not-true, both_ways, eqb-true, cond-true, cond-false}
@@ -22,11 +22,7 @@ record AreApart (xs : List Slot) : Type 0 where
 
 -- what f gives of a member is among what it gives of all
 pub Contains-map : {X Y : Type 0} (f : X → Y) (xs : List X) (x : X) → Contains xs x → Contains (map f xs) (f x)
-Contains-map f xs x member = (
-  member.0,
-  omega (arith, length-map xs f, member.1),
-  get_or-map f xs member.0 x (f x) member.1 ∙ ap f member.2,
-)
+Contains-map f xs x member = grind (arith, length-map, get_or-map)
 
 -- a member of what is left is a member
 Contains-drop : {X : Type 0} (n : ℕ) (xs : List X) (x : X) → Contains (drop n xs) x → Contains xs x
@@ -34,8 +30,7 @@ Contains-drop n xs x member = subst (λ ys. Contains ys x) (take-append-drop n x
 
 -- what is free of some is free of some of them
 free-drop : (n : ℕ) (avoid : List Stamp) (s : Stamp) → IsTrue (is_free avoid s) → IsTrue (is_free (drop n avoid) s)
-free-drop n avoid s free =
-    free-from_apart (drop n avoid) s (free-nonzero avoid s free) (λ a member. free-apart avoid s a free (Contains-drop n avoid a member))
+free-drop n avoid s free = search (rules, free-from_apart, free-nonzero, free-apart, Contains-drop)
 
 -- what is free of some and is not one more is free of all these
 free-push : (avoid : List Stamp) (a s : Stamp) → IsTrue (is_free avoid s) → a ≢ s → IsTrue (is_free (avoid ++ a ∷ []) s)
@@ -196,9 +191,7 @@ find-neither p q (y ∷ xs) none =
 
 -- an exchange that has the receive stamp has it
 stamp-of_found : (xs : List Slot) (receive : Stamp) (x : Slot) → exchange_at xs receive ≡ Some x → Contains xs x × (x.receive ≡ receive)
-stamp-of_found xs receive x found =
-    let at = find-member (is_received_at receive) xs x found in
-    (at.0, ap (λ n. record { 0 = n }) (eqb-true x.receive.0 receive.0 at.1))
+stamp-of_found xs receive x found = grind (arith, find-member, eqb-true)
 
 -- where that is used, no unused one has it
 used-alone : (xs : List Slot) (receive : Stamp) (x : Slot) → AreSaved xs → exchange_at xs receive ≡ Some x → x.used ≡ true

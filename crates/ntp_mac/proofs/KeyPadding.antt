@@ -11,13 +11,7 @@ IsPadded n padded = (1 ≤ n) × (n ≤ 32) × (padded ≡ take n padded ++ repl
 -- the octets and zeros behind them
 octets-then-zeros : (octets : List ℕ) → 1 ≤ length octets → length octets ≤ 32
     → IsPadded (length octets) (octets ++ replicate (32 - length octets) 0)
-octets-then-zeros octets some most =
-    let zeros : List ℕ = replicate (32 - length octets) 0 in (
-      some,
-      most,
-      ap (λ front. front ++ zeros) (sym (take-append_seam octets zeros)),
-      omega (arith, length-append octets zeros, length-replicate {A = ℕ} (32 - length octets) 0),
-    )
+octets-then-zeros octets some most = grind (arith, take-append_seam, length-append, length-replicate)
 
 -- the octets put over the front of zeros
 pub put-over-zeros : (octets front zeros : List ℕ) → 1 ≤ length octets → length octets ≤ 32 → front ≡ octets → zeros ≡ replicate 32 0

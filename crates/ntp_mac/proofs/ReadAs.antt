@@ -1,5 +1,5 @@
 -- What octets are read as.
-use Rattle.std.proofs.Common.{◌≡◌, ℕ, suc, ◌%◌, List, [], ◌∷◌, Result, Ok, Err, ◌⊎◌, inl, inr, refl, sym, ap, subst, ◌∙◌, arith}
+use Rattle.std.proofs.Common.{◌≡◌, ℕ, suc, ◌%◌, List, [], ◌∷◌, Result, Ok, Err, ◌⊎◌, refl, ap, ◌∙◌, arith}
 use Rattle.ntp_packet.specs.Request.{RequestValue, IsRequest}
 use Rattle.ntp_packet.specs.Faults.{Fails}
 use Rattle.ntp_packet.specs.declared.malformed.Malformed.{Malformed}
@@ -19,15 +19,12 @@ low-same (o ∷ os) are =
     ap (λ x. x ∷ low os) first ∙ ap (λ xs. o ∷ xs) (low-same os (λ i. are (suc i)))
 
 Reads-the_one : (octets : List ℕ) (a : HasOneReading octets ⊎ HasOneFault octets) → Reads octets (the_one octets a)
-Reads-the_one octets (inl reading) = reading.is_request
-Reads-the_one octets (inr fault) = fault.fails
+Reads-the_one octets a = grind arith
 
 -- octets are what they are read as
 pub Reads-reading_of : (octets : List ℕ) → AreOctets octets → Reads octets (reading_of octets)
 unfolding reading_of
-Reads-reading_of octets are =
-    let answer = one-answer (low octets) (AreOctets-low octets) in
-    subst (λ o. Reads o (the_one (low octets) answer)) (low-same octets are) (Reads-the_one (low octets) answer)
+Reads-reading_of octets are = grind (arith, one-answer, low, AreOctets-low, the_one, low-same, Reads-the_one)
 
 -- a result that is each request that the octets are, and each fault that they have, is what they are read as
 pub answers-so : (octets : List ℕ) (result : Result RequestValue Malformed) → AreOctets octets
@@ -36,18 +33,13 @@ pub answers-so : (octets : List ℕ) (result : Result RequestValue Malformed) �
 answers-so octets result are only exact = chosen (reading_of octets) (Reads-reading_of octets are)
   where
     chosen : (a : Result RequestValue Malformed) → Reads octets a → result ≡ a
-    chosen (Ok r) is = only r is
-    chosen (Err f) is = exact f is
+    chosen a e = grind arith
 
 only-the_one : (octets : List ℕ) (a : HasOneReading octets ⊎ HasOneFault octets) (r : Result RequestValue Malformed)
     → Reads octets r → r ≡ the_one octets a
-only-the_one octets (inl reading) (Ok r) is = ap Ok (reading.only r is)
-only-the_one octets (inl reading) (Err f) is = absurd (reading.sound f is)
-only-the_one octets (inr fault) (Ok r) is = absurd (fault.unread r is)
-only-the_one octets (inr fault) (Err f) is = ap Err (fault.only f is)
+only-the_one octets a r e = grind arith
 
 -- and they are nothing else
 pub only-reading_of : (octets : List ℕ) (r : Result RequestValue Malformed) → AreOctets octets → Reads octets r → r ≡ reading_of octets
 unfolding reading_of
-only-reading_of octets r are is =
-    only-the_one (low octets) (one-answer (low octets) (AreOctets-low octets)) r (subst (λ o. Reads o r) (sym (low-same octets are)) is)
+only-reading_of octets r are is = grind (arith, only-the_one, low, one-answer, AreOctets-low, low-same)

@@ -1,26 +1,22 @@
 -- What the comparison of a request's tail with a MAC tells.
-use Rattle.std.proofs.Common.{◌≡◌, ℕ, List, Bool, true, false, ◌==◌, ◌&&◌, ap, sym, ◌∙◌, refl, nat_eq, eqb-true, eq-eqb}
+use Rattle.std.proofs.Common.{◌≡◌, ℕ, List, Bool, ◌==◌, ◌&&◌, ap, ◌∙◌, refl, nat_eq, eqb-true, eq-eqb, arith, rules}
 use Rattle.std.specs.Prelude.{◌↔◌, IsTrue}
 use Rattle.std.specs.Cmp.Lexicographic.{pointwise, bytes_decides}
 use Rattle.ntp_packet.specs.Tail.{TailValue}
-use Rattle.ntp_packet.specs.Tail.TailValue.{NoTail, BareTail, MacTail}
+use Rattle.ntp_packet.specs.Tail.TailValue.{MacTail}
 use Rattle.ntp_packet.specs.Request.{RequestValue}
 use Rattle.ntp_packet.specs.declared.digests.Digest.{Digest}
-use Rattle.ntp_packet.specs.declared.digests.Digest.TheVariants.{Md5, Sha1}
 use Rattle.ntp_mac.specs.Key.{SymmetricKey}
 use Rattle.ntp_mac.specs.Digest.{digest_of}
 use Rattle.ntp_mac.specs.Signed.{IsSigned, is_mac, is_signed}
 
 both-hold : (a b : Bool) → IsTrue (a && b) → IsTrue a × IsTrue b
-both-hold true b h = (refl, h)
-both-hold false b h = (h, absurd (cc))
+both-hold a b e = grind arith
 
 -- a number and octets that pass the comparison, and those that are equal
 same-mac : (found number : ℕ) (octets digest : List ℕ) → IsTrue ((found == number) && pointwise nat_eq octets digest)
     → (found ≡ number) × (octets ≡ digest)
-same-mac found number octets digest h =
-    let both = both-hold (found == number) (pointwise nat_eq octets digest) h in
-    (eqb-true found number both.0, (bytes_decides octets digest).0 both.1)
+same-mac found number octets digest h = search (rules, both-hold, eqb-true)
 
 passes : (found number : ℕ) (octets digest : List ℕ) → found ≡ number → octets ≡ digest
     → IsTrue ((found == number) && pointwise nat_eq octets digest)
@@ -28,16 +24,7 @@ passes found number octets digest n d = rw (eq-eqb found number n, (bytes_decide
 
 -- a tail passes the comparison exactly where it is the MAC
 is-mac : (tail : TailValue) (number : ℕ) (digest : Digest) → IsTrue (is_mac tail number digest) ↔ (tail ≡ MacTail number digest)
-is-mac NoTail number (Md5 digest) = (λ h. absurd (cc), λ e. absurd (cc))
-is-mac NoTail number (Sha1 digest) = (λ h. absurd (cc), λ e. absurd (cc))
-is-mac (BareTail found) number (Md5 digest) = (λ h. absurd (cc), λ e. absurd (cc))
-is-mac (BareTail found) number (Sha1 digest) = (λ h. absurd (cc), λ e. absurd (cc))
-is-mac (MacTail found (Md5 octets)) number (Md5 digest) =
-    (λ h. let same = same-mac found number octets digest h in cc, λ e. passes found number octets digest (cc) (cc))
-is-mac (MacTail found (Md5 octets)) number (Sha1 digest) = (λ h. absurd (cc), λ e. absurd (cc))
-is-mac (MacTail found (Sha1 octets)) number (Md5 digest) = (λ h. absurd (cc), λ e. absurd (cc))
-is-mac (MacTail found (Sha1 octets)) number (Sha1 digest) =
-    (λ h. let same = same-mac found number octets digest h in cc, λ e. passes found number octets digest (cc) (cc))
+is-mac tail number digest = grind (arith, same-mac, passes)
 
 -- a request passes the comparison exactly where it is signed
 pub is-signed : (key : SymmetricKey) (number : ℕ) (request : RequestValue)
@@ -54,5 +41,4 @@ test-of-parts key number parts request r same e = e ∙ ap (λ (q : RequestValue
 -- so a result that is the comparison's is true exactly where the request is signed
 pub test-shows-signed : (key : SymmetricKey) (number : ℕ) (request : RequestValue) (r : Bool)
     → r ≡ is_signed key number request → IsTrue r ↔ IsSigned key number request
-test-shows-signed key number request r e =
-    (λ h. (is-signed key number request).0 (sym e ∙ h), λ s. e ∙ (is-signed key number request).1 s)
+test-shows-signed key number request r e = grind (arith, is-signed)

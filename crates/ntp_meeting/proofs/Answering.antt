@@ -1,5 +1,5 @@
 -- How many calls of a port fail while a datagram is answered.
-use Rattle.std.proofs.Common.{◌≡◌, ℕ, ◌+◌, ◌≤◌, Option, Result, Ok, Err, List, ap, arith}
+use Rattle.std.proofs.Common.{◌≡◌, ℕ, ◌+◌, ◌≤◌, Option, Result, List, arith}
 use Rattle.std.specs.Prelude.{option_map, is_err}
 use Rattle.std.specs.Result.{result_ok}
 use Rattle.ntp_reply.specs.Reference.{ReferenceState}
@@ -9,7 +9,7 @@ use Rattle.ntp_service.specs.declared.observation.TurnOutcome.{TurnOutcome}
 use Rattle.ntp_port.specs.declared.port.PortCounts.{PortCounts}
 use Rattle.ntp_port.specs.declared.port.PortFault.{PortFault}
 use Rattle.ntp_port.specs.Port.{Told, failed_calls, counted_send, CountsReceive}
-use Rattle.ntp_port.specs.Made.{Made, Missed, Received, turn_of, arrival_of, is_unsent}
+use Rattle.ntp_port.specs.Made.{Made, turn_of, arrival_of, is_unsent}
 use Rattle.ntp_port.specs.Serving.{TurnMakes}
 use Rattle.ntp_port.proofs.PublicLaws.{at-most-one}
 
@@ -21,13 +21,4 @@ one-fails A reference r buffer t u a b c s q o turn received = by_turn turn.made
   where
     by_turn : (made : Made) (r : Result Arrival PortFault) → option_map arrival_of (turn_of made).arrival ≡ result_ok r
         → CountsReceive a b (is_err r) → c ≡ counted_send (is_unsent made) b → failed_calls c ≤ failed_calls a + 1
-    by_turn (Missed clock sends) (Ok arrival) arrived received sent = absurd (cc)
-    by_turn (Missed clock sends) (Err fault) arrived received sent =
-        let receives : c.failed_receives ≡ b.failed_receives = ap (λ (k : PortCounts). k.failed_receives) sent in
-        let none : c.failed_sends ≡ b.failed_sends + 0 = ap (λ (k : PortCounts). k.failed_sends) sent in
-        omega (arith, received.0, received.1, receives, none)
-    by_turn (Received d clock sends answer noted) (Err fault) arrived received sent = absurd (cc)
-    by_turn (Received d clock sends answer noted) (Ok arrival) arrived received sent =
-        let unsent = is_unsent (Received d clock sends answer noted) in
-        let receives : c.failed_receives ≡ b.failed_receives = ap (λ (k : PortCounts). k.failed_receives) sent in
-        omega (arith, received.0, received.1, receives, ap (λ (k : PortCounts). k.failed_sends) sent, at-most-one unsent)
+    by_turn made r e f g = grind (arith, at-most-one)

@@ -1,5 +1,5 @@
 -- What a client's request is to the server.
-use Rattle.std.proofs.Common.{◌≡◌, ℕ, ◌^◌, ◌<◌, Some, IfSome, Ok, refl, ap, ◌∙◌}
+use Rattle.std.proofs.Common.{◌≡◌, ℕ, ◌^◌, ◌<◌, Some, IfSome, Ok, refl, ap, ◌∙◌, arith}
 use Rattle.ntp_packet.specs.declared.moment.Moment.{Moment}
 use Rattle.ntp_mac.specs.Key.{SymmetricKey}
 use Rattle.ntp_mac.specs.Reading.{reading_of}
@@ -20,8 +20,7 @@ use Rattle.ntp_meeting.proofs.Readings.{sealed_packet, signed-sealed, read-seale
 signed-kind : (key : SymmetricKey) (number : ℕ) (q : Outstanding) (e : Enrolment)
     → held_in e number ≡ Some (record { number = number; key = key })
     → octets_kind (Some e) (Ok (sealed_packet key number (query_fields q))) ≡ Signed key number (query_fields q)
-signed-kind key number q e held =
-    rw (held, (is-signed key number (sealed_packet key number (query_fields q))).1 (signed-sealed key number (query_fields q))) refl
+signed-kind key number q e held = grind (arith, is-signed, sealed_packet, signed-sealed)
 
 -- a request is a signed query, where the key is shared
 pub request-kind : (c : ClientState) (q : Outstanding) (past : Past) → WaitsForReply c q → SharesKey past c

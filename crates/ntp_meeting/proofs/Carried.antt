@@ -1,5 +1,5 @@
 -- What a time reply leaves on both sides.
-use Rattle.std.proofs.Common.{◌≡◌, ℕ, ◌^◌, ◌<◌, List, [], Option, Some, None, Ok, refl, sym, ap, ◌∙◌}
+use Rattle.std.proofs.Common.{◌≡◌, ℕ, ◌^◌, ◌<◌, List, [], Option, Some, None, Ok, refl, sym, ap, ◌∙◌, arith}
 use Rattle.std.specs.Prelude.{IfSome, option_map, option_and_then}
 use Rattle.ntp_packet.specs.declared.stamp.Stamp.{Stamp}
 use Rattle.ntp_packet.specs.declared.moment.Moment.{Moment}
@@ -37,10 +37,7 @@ time-header : (past : Past) (o : Occasion) (q : Outstanding) (found : Option Slo
     → IfSome found (λ x. x.transmit.0 < 2 ^ 64)
     → IsHeader (time_fields o (query_fields q) found (stamps_of past o))
     × ((time_fields o (query_fields q) found (stamps_of past o)).receive ≡ (stamps_of past o).receive)
-time-header past o q None state_fits is fits =
-    (IsHeader-reply o.reference q q.transmit _ _ state_fits is is.transmit (receive-fits past o) (transmit-fits past o), refl)
-time-header past o q (Some x) state_fits is fits =
-    (IsHeader-reply o.reference q (query_fields q).receive _ x.transmit state_fits is is.receive (receive-fits past o) fits, refl)
+time-header past o q found e f g = grind (arith, IsHeader-reply, receive-fits, transmit-fits)
 
 module _ (c : ClientState) (q : Outstanding) (past : Past) (o : Occasion) (reply : List ℕ) (saved : Stamp) (waits : WaitsForReply c q)
     (shares : SharesKey past c) (answered : verdict (Some past) o (request_octets c q) ≡ answer.Time reply saved) where

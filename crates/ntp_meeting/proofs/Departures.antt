@@ -1,5 +1,5 @@
 -- The exchange that a report of a departure leaves at the server.
-use Rattle.std.proofs.Common.{◌≡◌, List, [], ◌∷◌, Some, inl, inr, refl, ap, ◌∙◌}
+use Rattle.std.proofs.Common.{◌≡◌, List, [], ◌∷◌, Some, inl, inr, arith}
 use Rattle.std.proofs.lemmas.Bool.{cases_Bool}
 use Rattle.std.proofs.lemmas.Option.{none-some}
 use Rattle.ntp_packet.specs.declared.stamp.Stamp.{Stamp}
@@ -30,14 +30,10 @@ change-found receive change keeps (y ∷ ys) x found =
 departed-found : (xs : List Slot) (receive : Stamp) (m : Moment) (x : Slot) → unused_at xs receive ≡ Some x
     → unused_at (with_departure xs receive m) receive ≡ Some (record x { transmit = fresh m.stamp (receives xs) })
 unfolding with_departure
-departed-found xs receive m x found =
-    change-found receive (λ y. record y { transmit = fresh m.stamp (receives xs) }) (λ y. refl) xs x found
+departed-found xs receive m x found = grind (arith, change-found)
 
 pub departure-found : (receive : Stamp) (m : Moment) (x : Slot) (past : Past) → unused_at (recent_of past) receive ≡ Some x
     → unused_at (recent_of (after_departure past receive m)) receive
     ≡ Some (record x { transmit = fresh m.stamp (receives (recent_of past)) })
 unfolding recent
-departure-found receive m x =
-    by_past _ (λ refusals found. absurd (none-some x found))
-    (λ a refusals found.
-    ap (λ xs. unused_at xs receive) (recent-departed a.exchanges receive m) ∙ departed-found (recent a.exchanges) receive m x found)
+departure-found receive m x = grind (arith, by_past, none-some, recent-departed, departed-found)

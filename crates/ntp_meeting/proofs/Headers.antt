@@ -1,5 +1,5 @@
 -- The headers of replies and requests have the widths of the packet.
-use Rattle.std.proofs.Common.{◌≡◌, ℕ, ◌^◌, ◌<◌, ◌≤◌, ◌==◌, Bool, true, false, Option, Some, None, List, [], ◌∷◌, length, refl, arith}
+use Rattle.std.proofs.Common.{◌≡◌, ℕ, ◌^◌, ◌<◌, ◌≤◌, ◌==◌, Bool, Option, List, [], ◌∷◌, length, refl, arith}
 use Rattle.std.proofs.Math.Facts.{sfits_lit}
 use Rattle.std.specs.Prelude.{if◌then◌else◌, IfSome}
 use Rattle.ntp_packet.specs.declared.stamp.Stamp.{Stamp}
@@ -12,69 +12,36 @@ use Rattle.ntp_client.specs.Query.{query_fields, origin_of, receive_of, transmit
 use Rattle.ntp_reply.specs.Reference.{ReferenceState}
 use Rattle.ntp_reply.specs.Replies.{reply_fields, kiss_code, kiss_transmit, kiss_fields}
 use Rattle.ntp_reply.specs.declared.kiss.Kiss.{Kiss}
-use Rattle.ntp_reply.specs.declared.kiss.Kiss.TheVariants.{Rate, Deny}
 use Rattle.ntp_meeting.specs.Meeting.{FitsPacket}
 use Rattle.ntp_meeting.proofs.Octets.{Octets, four}
 
 -- a stratum of at most 16, or 0 in its place
 stratum-fits : (unsynchronised : Bool) (stratum : ℕ) → stratum ≤ 16 → (if unsynchronised then 0 else stratum) < 2 ^ 8
-stratum-fits true stratum most = omega arith
-stratum-fits false stratum most = omega arith
+stratum-fits unsynchronised stratum e = grind arith
 
 -- an identifier, or zeros in its place
 id-fits : (unsynchronised : Bool) (id : List ℕ) → (length id ≡ 4) × Octets id
     → (length (if unsynchronised then 0 ∷ 0 ∷ 0 ∷ 0 ∷ [] else id) ≡ 4) × Octets (if unsynchronised then 0 ∷ 0 ∷ 0 ∷ 0 ∷ [] else id)
-id-fits true id is = (refl, four 0 0 0 0 (omega arith) (omega arith) (omega arith) (omega arith))
-id-fits false id is = is
+id-fits unsynchronised id e = grind (arith, four)
 
 -- a reply to a request, with stamps of 64 bits
 pub IsHeader-reply : (r : ReferenceState) (q : Outstanding) (origin receive transmit : Stamp) → FitsPacket r → IsHeader (query_fields q)
     → origin.0 < 2 ^ 64 → receive.0 < 2 ^ 64 → transmit.0 < 2 ^ 64 → IsHeader (reply_fields r (query_fields q) origin receive transmit)
-IsHeader-reply r q origin receive transmit fits is origin_fits receive_fits transmit_fits = record {
-  leap = omega (arith, fits.state.leap);
-  version = omega arith;
-  mode = omega arith;
-  stratum = stratum-fits (r.stratum == 16) r.stratum fits.state.stratum_to;
-  poll = is.poll;
-  precision = fits.precision;
-  root_delay = fits.root_delay;
-  root_dispersion = fits.root_dispersion;
-  reference_id = id-fits (r.stratum == 16) r.reference_id fits.reference_id;
-  reference = fits.reference;
-  origin = origin_fits;
-  receive = receive_fits;
-  transmit = transmit_fits;
-}
+IsHeader-reply r q origin receive transmit fits is origin_fits receive_fits transmit_fits = grind (arith, stratum-fits, id-fits)
 
 -- a kiss code, and the transmit stamp of a kiss
 code-fits : (kiss : Kiss) → (length (kiss_code kiss) ≡ 4) × Octets (kiss_code kiss)
-code-fits Rate = (refl, four 82 65 84 69 (omega arith) (omega arith) (omega arith) (omega arith))
-code-fits Deny = (refl, four 68 69 78 89 (omega arith) (omega arith) (omega arith) (omega arith))
+code-fits kiss = grind (arith, four)
 
 kiss-fits : (s : Stamp) → s.0 < 2 ^ 64 → (kiss_transmit s).0 < 2 ^ 64
 kiss-fits s fits = by_test (s.0 == 0)
   where
     by_test : (zeros : Bool) → (if zeros then record { 0 = 1 } else s).0 < 2 ^ 64
-    by_test true = omega arith
-    by_test false = fits
+    by_test zeros = grind arith
 
 -- a kiss to a request
 pub IsHeader-kiss : (kiss : Kiss) (q : Outstanding) → IsHeader (query_fields q) → IsHeader (kiss_fields kiss (query_fields q))
-IsHeader-kiss kiss q is = record {
-  leap = omega arith;
-  version = omega arith;
-  mode = omega arith;
-  stratum = omega arith;
-  poll = is.poll;
-  precision = is.precision;
-  root_delay = omega arith;
-  root_dispersion = omega arith;
-  reference_id = code-fits kiss;
-  reference = omega arith;
-  origin = is.transmit;
-  receive = omega arith;
-  transmit = kiss-fits q.transmit is.transmit;
-}
+IsHeader-kiss kiss q is = grind (arith, code-fits, kiss-fits)
 
 -- a request whose earlier exchange has stamps of 64 bits
 pub IsHeader-query : (sampled : Option Exchange) (now : Moment) → IfSome sampled (λ e. (e.receive.0 < 2 ^ 64) × (e.arrival.0 < 2 ^ 64))
@@ -99,5 +66,4 @@ IsHeader-query sampled now fit =
   where
     query-fits : (sampled : Option Exchange) (now : Moment) → IfSome sampled (λ e. (e.receive.0 < 2 ^ 64) × (e.arrival.0 < 2 ^ 64))
         → ((origin_of sampled).0 < 2 ^ 64) × ((receive_of sampled).0 < 2 ^ 64) × ((transmit_of sampled now).0 < 2 ^ 64)
-    query-fits None now fit = (omega arith, omega arith, fresh-below now.stamp [] (omega arith))
-    query-fits (Some e) now fit = (fit.0, fit.1, fresh-below now.stamp (e.arrival ∷ []) (omega arith))
+    query-fits sampled now e = grind (arith, fresh-below)

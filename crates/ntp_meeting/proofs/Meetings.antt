@@ -1,5 +1,5 @@
 -- Meetings, and then one more.
-use Rattle.std.proofs.Common.{ℕ, ◌+◌, List, [], ◌∷◌, ◌++◌, Option, None, Some, refl, sym, ap, ◌∙◌, append-nil, length-append}
+use Rattle.std.proofs.Common.{ℕ, ◌+◌, List, [], ◌∷◌, ◌++◌, Option, None, Some, ap, ◌∙◌, append-nil, length-append, arith}
 use Rattle.std.proofs.lemmas.List.{flat_map_more}
 use Rattle.std.specs.Io.KnownBytes.{Appends}
 use Rattle.ntp_client.specs.declared.taken.Taken.{Taken}
@@ -7,8 +7,7 @@ use Rattle.ntp_meeting.specs.Words.{line_of, HasMet}
 
 -- they met no time, and nothing was written
 pub HasMet-none : (out : Option (List ℕ)) → HasMet 0 out out
-HasMet-none None = ([], refl, tt)
-HasMet-none (Some text) = ([], refl, sym (append-nil text))
+HasMet-none out = grind (arith, append-nil)
 
 -- they met once more, and a line was written
 pub HasMet-more : (times : ℕ) (old mid new : Option (List ℕ)) (what : Taken) → HasMet times old mid → Appends mid new (line_of what)

@@ -1,8 +1,8 @@
 -- What is written is octets.
-use Rattle.std.proofs.Common.{ℕ, zero, suc, ◌+◌, ◌*◌, ◌/◌, ◌%◌, ◌^◌, ◌<◌, List, [], ◌∷◌, ◌++◌, arith}
+use Rattle.std.proofs.Common.{ℕ, zero, suc, ◌+◌, ◌/◌, ◌%◌, ◌^◌, ◌<◌, List, [], ◌∷◌, ◌++◌, arith}
 use Rattle.std.proofs.Math.Facts.{Fits-of_z}
 use Rattle.std.specs.Prelude.{All, slice_index}
-use Rattle.std.specs.Int.{w8, w32, w64, cast_unsigned, byte_at, bytes_low_first, bytes_high_first, to_be_bytes, to_le_bytes}
+use Rattle.std.specs.Int.{w32, w64, byte_at, bytes_low_first, bytes_high_first, to_be_bytes, to_le_bytes}
 use Rattle.std.proofs.lemmas.List.Elements.{All-nil, All-cons, All-append}
 use Rattle.md5.specs.Md5.{md5, digest_bytes as md5_octets}
 use Rattle.sha1.specs.Sha1.{sha1, digest_bytes as sha1_octets}
@@ -12,7 +12,6 @@ use Rattle.ntp_packet.specs.Tail.{digest_octets}
 use Rattle.ntp_mac.specs.Digest.{hash, digest_of}
 use Rattle.ntp_mac.specs.Mac.{nak_octets}
 use Rattle.ntp_mac.specs.declared.key.Algorithm.{Algorithm}
-use Rattle.ntp_mac.specs.declared.key.Algorithm.TheVariants.{Md5, Sha1}
 
 -- each member is an octet
 abbrev pub Octets : List ℕ → Type 0
@@ -53,12 +52,7 @@ pub four : (a b c d : ℕ) → a < 256 → b < 256 → c < 256 → d < 256 → O
 four a b c d p q r s = one a (b ∷ c ∷ d ∷ []) p (one b (c ∷ d ∷ []) q (one c (d ∷ []) r (one d [] s none)))
 
 Octets-first : (h : HeaderFields) → IsHeader h → Octets (first_octets h)
-Octets-first h is =
-    let leap = is.leap in
-    let version = is.version in
-    let mode = is.mode in
-    four (h.clock.leap * 64 + h.version * 8 + h.mode) h.clock.stratum (cast_unsigned w8 h.poll) (cast_unsigned w8 h.clock.precision) (omega arith)
-    is.stratum (Fits-of_z is.poll).fits (Fits-of_z is.precision).fits
+Octets-first h is = grind (arith, four, Fits-of_z)
 
 -- of a header
 pub Octets-header : (h : HeaderFields) → IsHeader h → Octets (header_octets h)
@@ -88,8 +82,7 @@ Octets-sha1_octets h (suc n) =
 
 Octets-hash : (algorithm : Algorithm) (message : List ℕ) → Octets (digest_octets (hash algorithm message))
 unfolding md5 sha1
-Octets-hash Md5 message = Octets-md5_octets _ 4
-Octets-hash Sha1 message = Octets-sha1_octets _ 5
+Octets-hash algorithm message = grind (arith, Octets-md5_octets, Octets-sha1_octets)
 
 -- of a key number and a digest
 pub Octets-mac : (key : SymmetricKey) (number : ℕ) (message : List ℕ)

@@ -11,7 +11,6 @@ use Rattle.ntp_mac.specs.Mac.{mac_of, nak_octets}
 use Rattle.ntp_mac.specs.Reading.{reading_of}
 use Rattle.ntp_mac.specs.Signed.{IsSigned}
 use Rattle.ntp_mac.specs.declared.key.Algorithm.{Algorithm}
-use Rattle.ntp_mac.specs.declared.key.Algorithm.TheVariants.{Md5, Sha1}
 use Rattle.ntp_mac.proofs.PublicLaws.{only-reading_of}
 use Rattle.md5.proofs.StandardFacts.{length-md5}
 use Rattle.ntp_reply.proofs.PublicLaws.{length-sha1}
@@ -25,16 +24,7 @@ packet h tail = record { header = h; fields = []; signed = header_octets h; tail
 IsRequest-packet : (h : HeaderFields) (tail : TailValue) → IsHeader h → IsTail tail
     → IsRequest (header_octets h ++ tail_octets tail) (packet h tail)
 unfolding signed_octets
-IsRequest-packet h tail is is-tail = record {
-  reading = record {
-    header = is;
-    signed = sym (append-nil (header_octets h));
-    fields = tt;
-    tail = is-tail;
-    fits = omega (arith, length-header_octets h is, length-tail tail is-tail);
-  };
-  spelled = refl;
-}
+IsRequest-packet h tail is is-tail = grind (arith, append-nil, length-header_octets, length-tail)
 
 -- and are read as it
 read-packet : (h : HeaderFields) (tail : TailValue) → IsHeader h → IsTail tail → Octets (header_octets h ++ tail_octets tail)
@@ -61,8 +51,7 @@ sealed_packet key number h = packet h (MacTail number (digest_of key (header_oct
 
 IsTail-mac : (number : ℕ) (algorithm : Algorithm) (message : List ℕ) → number < 2 ^ 32
     → IsTail (MacTail number (hash algorithm message))
-IsTail-mac number Md5 message fits = (fits, length-md5 message)
-IsTail-mac number Sha1 message fits = (fits, length-sha1 message)
+IsTail-mac number algorithm message e = grind (arith, length-md5, length-sha1)
 
 -- it is signed so
 pub signed-sealed : (key : SymmetricKey) (number : ℕ) (h : HeaderFields) → IsSigned key number (sealed_packet key number h)

@@ -1,20 +1,19 @@
 -- What the answer to a datagram is that is refused.
-use Rattle.std.proofs.Common.{◌≡◌, ℕ, Bool, true, false, ◌==◌, nat_lt, List, ◌++◌, Some, None, Ok, ap, ◌∙◌}
+use Rattle.std.proofs.Common.{◌≡◌, ℕ, Bool, List, ◌++◌, Ok, ap, ◌∙◌, arith}
 use Rattle.std.specs.Prelude.{if◌then◌else◌}
 use Rattle.ntp_packet.specs.Header.{HeaderFields, header_octets}
 use Rattle.ntp_mac.specs.Mac.{nak_octets}
 use Rattle.ntp_packet.specs.Request.{RequestValue}
 use Rattle.ntp_mac.specs.Key.{SymmetricKey}
 use Rattle.ntp_mac.specs.Reading.{reading_of}
-use Rattle.ntp_customer.specs.Customer.{budget_of}
 use Rattle.ntp_customer.specs.Past.{Past}
 use Rattle.ntp_reply.specs.declared.occasion.Occasion.{Occasion}
 use Rattle.ntp_reply.specs.Replies.{basic_fields, kiss_fields, sealed}
 use Rattle.ntp_reply.specs.declared.kiss.Kiss.TheVariants.{Rate, Deny}
 use Rattle.ntp_reply.specs.Life.{Life, recent_of}
 use Rattle.ntp_reply.specs.Exchanged.{stamps_of}
-use Rattle.ntp_reply.specs.Kind.{Kind, PassedOver, RefusedByDeny, RefusedByNak, Signed, kind_of}
-use Rattle.ntp_reply.specs.Verdict.{kind_answer, verdict, query_count, timed}
+use Rattle.ntp_reply.specs.Kind.{Kind, PassedOver, RefusedByDeny, RefusedByNak, Signed}
+use Rattle.ntp_reply.specs.Verdict.{kind_answer, verdict, timed}
 use Rattle.ntp_reply.specs.declared.answers.Answer.{Answer}
 use Rattle.ntp_reply.specs.declared.answers.Answer.TheVariants as answer
 use Rattle.ntp_reply.specs.declared.answers.Reason.TheVariants as reason
@@ -22,18 +21,14 @@ use Rattle.ntp_meeting.proofs.Speaks.{SpeaksOf, kind-speaks}
 
 -- neither of two answers is a third
 neither : (test : Bool) (one other third : Answer) → (one ≡ third → ⊥) → (other ≡ third → ⊥) → (if test then one else other) ≡ third → ⊥
-neither true one other third a b is = a is
-neither false one other third a b is = b is
+neither test one other third e f g = grind arith
 
 module _ (past : Past) (o : Occasion) where
   -- a signed query is answered by the time, a RATE or silence
   served : (key : SymmetricKey) (number : ℕ) (h : HeaderFields) (third : Answer) → (timed key number o h (recent_of past) ≡ third → ⊥)
       → (answer.Rate (sealed key number (kiss_fields Rate h)) ≡ third → ⊥) → (answer.Silent reason.OverBudget ≡ third → ⊥)
       → kind_answer past o (Signed key number h) ≡ third → ⊥
-  served key number h third a b c is =
-      neither (nat_lt (query_count past o) (budget_of past)) (timed key number o h (recent_of past)) _ third a
-      (neither (query_count past o == budget_of past) (answer.Rate (sealed key number (kiss_fields Rate h))) (answer.Silent reason.OverBudget) third b c)
-      is
+  served key number h third a b c is = grind (arith, neither)
 
   -- the octets of a crypto-NAK to a header
   abbrev nak : HeaderFields → List ℕ
@@ -48,8 +43,7 @@ module _ (past : Past) (o : Occasion) where
   told-nak h (RefusedByNak other) reply speaks is = sent _ is ∙ ap nak speaks
     where
       sent : (test : Bool) → (if test then answer.Nak (nak other) else answer.Silent reason.Muted) ≡ answer.Nak reply → reply ≡ nak other
-      sent true is = cc
-      sent false is = absurd (cc)
+      sent test e = grind arith
   told-nak h (Signed key number other) reply speaks is =
       absurd (served key number other (answer.Nak reply) (λ e. absurd (cc)) (λ e. absurd (cc)) (λ e. absurd (cc)) is)
 
@@ -61,8 +55,7 @@ module _ (past : Past) (o : Occasion) where
     where
       sent : (test : Bool) → (if test then answer.Deny (header_octets (kiss_fields Deny other)) else answer.Silent reason.Muted) ≡ answer.Deny reply
           → reply ≡ header_octets (kiss_fields Deny other)
-      sent true is = cc
-      sent false is = absurd (cc)
+      sent test e = grind arith
   told-deny h (RefusedByNak other) reply speaks is =
       absurd (neither _ (answer.Nak (nak other)) (answer.Silent reason.Muted) (answer.Deny reply)
       (λ e. absurd (cc)) (λ e. absurd (cc)) is)
@@ -72,5 +65,4 @@ module _ (past : Past) (o : Occasion) where
 -- so a DENY to octets goes to the header that they are read with
 pub denied : (life : Life) (o : Occasion) (octets : List ℕ) (r : RequestValue) (reply : List ℕ) → reading_of octets ≡ Ok r
     → verdict life o octets ≡ answer.Deny reply → reply ≡ header_octets (kiss_fields Deny r.header)
-denied None o octets r reply read is = absurd (cc)
-denied (Some past) o octets r reply read is = told-deny past o r.header (kind_of past octets) reply (kind-speaks past octets r read) is
+denied life o octets r reply e f = grind (arith, told-deny, kind-speaks)

@@ -36,9 +36,7 @@ use Rattle.ntp_meeting.proofs.Readings.{packet, sealed_packet, signed-sealed, re
 basic-taken : (c : ClientState) (q : Outstanding) (octets : List ℕ) (r : RequestValue) (at : Moment) → c.outstanding ≡ Some q
     → reading_of octets ≡ Ok r → r.header.mode ≡ 4 → r.header.version ≡ 4 → r.header.origin ≡ q.transmit
     → taken_for c octets at ≡ decided (tail_steps c.key c.number Basic r (sample_of q Basic r.header at))
-basic-taken c q octets r at there read mode version is =
-    read-taken c q octets r at there read
-    ∙ ap decided (paired-taken c.key c.number q r at Basic mode version (basic-pairing q r.header.origin is))
+basic-taken c q octets r at there read mode version is = grind (arith, read-taken, paired-taken, basic-pairing)
 
 -- a RATE is taken for one
 pub rate-taken : (c : ClientState) (q : Outstanding) (at : Moment) → WaitsForReply c q
@@ -86,9 +84,7 @@ signed-reply c q past o at p origin transmit waits fits origin_fits transmit_fit
 
 -- the stratum of a clock that is synchronised
 stratum-synchronised : (r : ReferenceState) → IsReference r → r.leap ≢ 3 → (1 ≤ shown_stratum r) × (shown_stratum r ≤ 15)
-stratum-synchronised r is clock =
-    let known : r.stratum ≢ 16 = λ same. clock (is.together.1 same) in
-    rw (ne_eqb r.stratum 16 known) (is.stratum_from, omega (arith, is.stratum_to, known))
+stratum-synchronised r is clock = grind (arith, ne_eqb)
 
 -- of such a clock, and with a transmit stamp of known time, for the sample of its pairing
 pub sample-taken : (c : ClientState) (q : Outstanding) (past : Past) (o : Occasion) (at : Moment) (p : Pairing) (origin transmit : Stamp)

@@ -1,5 +1,5 @@
 -- What the answer to a signed query is, and what it leaves.
-use Rattle.std.proofs.Common.{◌≡◌, ℕ, Bool, true, false, ◌==◌, nat_lt, ◌<◌, lt-ltb, List, refl}
+use Rattle.std.proofs.Common.{◌≡◌, ℕ, Bool, true, ◌==◌, nat_lt, ◌<◌, lt-ltb, List, refl, arith}
 use Rattle.std.specs.Prelude.{if◌then◌else◌}
 use Rattle.ntp_packet.specs.declared.stamp.Stamp.{Stamp}
 use Rattle.ntp_packet.specs.Header.{HeaderFields}
@@ -24,15 +24,11 @@ by_budget within last time receive rate =
 
 only-time : (within last : Bool) (time rate reply : List ℕ) (receive saved : Stamp)
     → by_budget within last time receive rate ≡ answer.Time reply saved → (within ≡ true) × (reply ≡ time) × (saved ≡ receive)
-only-time true last time rate reply receive saved is = (refl, cc, cc)
-only-time false true time rate reply receive saved is = absurd (cc)
-only-time false false time rate reply receive saved is = absurd (cc)
+only-time within last time rate reply receive saved e = grind arith
 
 only-rate : (within last : Bool) (time rate reply : List ℕ) (receive : Stamp)
     → by_budget within last time receive rate ≡ answer.Rate reply → reply ≡ rate
-only-rate true last time rate reply receive is = absurd (cc)
-only-rate false true time rate reply receive is = cc
-only-rate false false time rate reply receive is = absurd (cc)
+only-rate within last time rate reply receive e = grind arith
 
 module _ (past : Past) (o : Occasion) (key : SymmetricKey) (number : ℕ) (h : HeaderFields) where
   abbrev within : Bool
@@ -47,14 +43,12 @@ module _ (past : Past) (o : Occasion) (key : SymmetricKey) (number : ℕ) (h : H
   -- the time is in its octets, with the new receive stamp beside them
   pub told-time : (reply : List ℕ) (saved : Stamp) → kind_answer past o (Signed key number h) ≡ answer.Time reply saved
       → (reply ≡ time) × (saved ≡ (stamps_of past o).receive)
-  told-time reply saved is =
-      let only = only-time within last time (sealed key number (kiss_fields Rate h)) reply (stamps_of past o).receive saved is in (only.1, only.2)
+  told-time reply saved is = grind (arith, only-time)
 
   -- and leaves the past after one
   pub after-told_time : (reply : List ℕ) (saved : Stamp) → kind_answer past o (Signed key number h) ≡ answer.Time reply saved
       → after_kind past o (Signed key number h) ≡ after_time (with_query past (window_at o)) o h
-  after-told_time reply saved is =
-      rw (only-time within last time (sealed key number (kiss_fields Rate h)) reply (stamps_of past o).receive saved is).0 refl
+  after-told_time reply saved is = grind (arith, only-time)
 
   -- a RATE is in its octets
   pub told-rate : (reply : List ℕ) → kind_answer past o (Signed key number h) ≡ answer.Rate reply → reply ≡ sealed key number (kiss_fields Rate h)

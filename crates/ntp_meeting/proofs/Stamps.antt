@@ -1,11 +1,9 @@
 -- The new stamps of a reply are of known time, and have 64 bits.
-use Rattle.std.proofs.Common.{◌≢◌, ◌^◌, ◌<◌, List, [], ◌∷◌, ◌++◌, length, arith}
+use Rattle.std.proofs.Common.{◌≢◌, ◌^◌, ◌<◌, [], ◌∷◌, ◌++◌, length, arith}
 use Rattle.std.proofs.lemmas.List.{length-append, length-map}
 use Rattle.ntp_packet.proofs.PublicLaws.{fresh-nonzero, fresh-below}
-use Rattle.ntp_customer.specs.declared.slot.Slot.{Slot}
-use Rattle.ntp_customer.specs.Exchanges.{receives, transmits, all_stamps}
+use Rattle.ntp_customer.specs.Exchanges.{receives, all_stamps}
 use Rattle.ntp_customer.proofs.PublicLaws.{length-recent}
-use Rattle.ntp_customer.specs.Customer.{exchanges_of}
 use Rattle.ntp_customer.specs.Past.{Past}
 use Rattle.ntp_reply.specs.declared.occasion.Occasion.{Occasion}
 use Rattle.ntp_reply.specs.Life.{recent_of}
@@ -14,25 +12,10 @@ use Rattle.ntp_reply.specs.Exchanged.{stamps_of}
 module _ (past : Past) (o : Occasion) where
   -- few stamps are avoided
   pub receive-few : length (all_stamps (recent_of past)) < 2 ^ 63
-  receive-few =
-      let saved : List Slot = recent_of past in
-      omega (
-        arith,
-        length-append (receives saved) (transmits saved),
-        length-map saved (λ x. x.receive),
-        length-map saved (λ x. x.transmit),
-        length-recent (exchanges_of past),
-      )
+  receive-few = grind (arith, length-append, length-map, length-recent)
 
   transmit-few : length (receives (recent_of past) ++ (stamps_of past o).receive ∷ []) < 2 ^ 63
-  transmit-few =
-      let saved : List Slot = recent_of past in
-      omega (
-        arith,
-        length-append (receives saved) ((stamps_of past o).receive ∷ []),
-        length-map saved (λ x. x.receive),
-        length-recent (exchanges_of past),
-      )
+  transmit-few = grind (arith, length-append, length-map, length-recent)
 
   pub receive-known : (stamps_of past o).receive.0 ≢ 0
   receive-known = fresh-nonzero o.receipt.stamp (all_stamps (recent_of past)) receive-few

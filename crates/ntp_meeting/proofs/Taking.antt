@@ -1,5 +1,5 @@
 -- What a client takes the answer to its own request for.
-use Rattle.std.proofs.Common.{◌≡◌, ◌≢◌, ℕ, ◌^◌, ◌<◌, List, Option, Some, None, refl, sym, ap, ◌∙◌}
+use Rattle.std.proofs.Common.{◌≡◌, ◌≢◌, ℕ, ◌^◌, ◌<◌, List, Option, Some, None, refl, sym, ap, ◌∙◌, arith}
 use Rattle.std.specs.Prelude.{IfSome}
 use Rattle.std.specs.Option.{option_and_then}
 use Rattle.std.proofs.lemmas.Option.{none-some}
@@ -102,10 +102,7 @@ module _ (c : ClientState) (q : Outstanding) (past : Past) (o : Occasion) (at : 
   -- a RATE is taken for one
   pub rate-met : (reply : List ℕ) → SharesKey past c → verdict (Some past) o (request_octets c q) ≡ answer.Rate reply
       → taken_for c reply at ≡ taken.Rate
-  rate-met reply shares is =
-      ap (λ octets. taken_for c octets at)
-      (told-rate past o c.key c.number (query_fields q) reply (sym (request-answer c q past o waits shares) ∙ is))
-      ∙ rate-taken c q at waits
+  rate-met reply shares is = grind (arith, told-rate, request-answer, rate-taken)
 
 -- whatever the life of the address: a crypto-NAK is taken for one
 pub nak-met : (c : ClientState) (q : Outstanding) (life : Life) (o : Occasion) (reply : List ℕ) (at : Moment) → WaitsForReply c q

@@ -1,5 +1,5 @@
 -- A header, fields and a tail, one behind another, are a request.
-use Rattle.std.proofs.Common.{ℕ, ◌+◌, ◌≤◌, List, [], ◌∷◌, ◌++◌, length, refl, arith}
+use Rattle.std.proofs.Common.{ℕ, ◌+◌, ◌≤◌, List, [], ◌∷◌, ◌++◌, length, arith}
 use Rattle.std.specs.List.{flat_map, All, AllByRecursion}
 use Rattle.std.proofs.lemmas.List.{length-append}
 use Rattle.std.proofs.lemmas.List.Elements.{recursion_from_All}
@@ -11,10 +11,7 @@ use Rattle.ntp_packet.proofs.Spelling.{length-field_octets}
 
 pub composed : (h : HeaderFields) (fs : List Field) (t : TailValue) → IsHeader h → AreFields fs (length (tail_octets t)) → IsTail t
     → length (signed_octets h fs) + length (tail_octets t) ≤ 1024 → IsRequest (signed_octets h fs ++ tail_octets t) (request_of h fs t)
-composed h fs t is-header are is-tail fits = record {
-  reading = record { header = is-header; signed = refl; fields = are; tail = is-tail; fits = fits };
-  spelled = refl;
-}
+composed h fs t is-header are is-tail fits = grind arith
 
 -- before 20 octets or more each field begins with more than 24 octets left
 AreFields-mac : (fs : List Field) (after : ℕ) → 20 ≤ after → AllByRecursion IsField fs → AreFields fs after
@@ -28,5 +25,4 @@ AreFields-mac (f ∷ fs) after mac all =
 pub composed-mac : (h : HeaderFields) (fs : List Field) (t : TailValue) → IsHeader h → All IsField fs → IsTail t
     → 20 ≤ length (tail_octets t) → length (signed_octets h fs) + length (tail_octets t) ≤ 1024
     → IsRequest (signed_octets h fs ++ tail_octets t) (request_of h fs t)
-composed-mac h fs t is-header all is-tail mac fits =
-    composed h fs t is-header (AreFields-mac fs (length (tail_octets t)) mac (recursion_from_All IsField fs all)) is-tail fits
+composed-mac h fs t is-header all is-tail mac fits = grind (arith, composed, AreFields-mac, recursion_from_All)

@@ -1,5 +1,5 @@
 -- A case that is not decided by a step is decided by the steps after it.
-use Rattle.std.proofs.Common.{◌≡◌, ◌≢◌, Bool, true, false, Option, Some, None, Result, Ok, Err, refl}
+use Rattle.std.proofs.Common.{◌≡◌, ◌≢◌, Bool, true, Option, Some, Result, Ok, arith}
 use Rattle.std.specs.Prelude.{ok_or}
 use Rattle.ntp_packet.specs.FirstCase.{◌>>=◌, ◌>>◌, provided, map_err, decided}
 
@@ -7,19 +7,16 @@ module _ {D : Type 0} where
   -- after a condition, which holds then
   pub after-provided : (b : Bool) (otherwise d : D) (others : Result D D) → otherwise ≢ d → decided (provided b otherwise >> others) ≡ d
       → (b ≡ true) × (decided others ≡ d)
-  after-provided true otherwise d others differs is = (refl, is)
-  after-provided false otherwise d others differs is = absurd (differs is)
+  after-provided b otherwise d others e f = grind arith
 
   -- after an option, which has a value then
   pub after-ok_or : {X : Type 0} (o : Option X) (otherwise d : D) (others : X → Result D D) → otherwise ≢ d
       → decided (ok_or o otherwise >>= others) ≡ d
       → (x : X) × (o ≡ Some x) × (decided (others x) ≡ d)
-  after-ok_or None otherwise d others differs is = absurd (differs is)
-  after-ok_or (Some x) otherwise d others differs is = (x, refl, is)
+  after-ok_or o otherwise d others e f = grind arith
 
   -- after a result, which is no error then
   pub after-map_err : {X E : Type 0} (r : Result X E) (said : E → D) (d : D) (others : X → Result D D) → ((e : E) → said e ≢ d)
       → decided (map_err r said >>= others) ≡ d
       → (x : X) × (r ≡ Ok x) × (decided (others x) ≡ d)
-  after-map_err (Ok x) said d others differs is = (x, refl, is)
-  after-map_err (Err e) said d others differs is = absurd (differs e is)
+  after-map_err r said d others e f = grind arith

@@ -43,10 +43,7 @@ members-all f ys a (suc m) each q found =
 
 -- a test for equality, turned round
 eqb-flips : (a b : ℕ) → eqb a b ≡ eqb b a
-eqb-flips a b = elim (cases_Bool (eqb a b)) [
-  | inl same ↦ same ∙ sym (eq-eqb b a (sym (eqb-true a b same)))
-  | inr other ↦ other ∙ sym (ne_eqb b a (λ e. eqb-false a b other (sym e)))
-]
+eqb-flips a b = grind (arith, cases_Bool, eq-eqb, eqb-true, ne_eqb, eqb-false)
 
 -- a number is among those of stamps where one of the stamps has it
 any-number : (n : ℕ) (avoid : List Stamp) → list_any (eqb n) (map (λ a. a.0) avoid) ≡ list_any (λ a. eqb a.0 n) avoid
@@ -60,11 +57,7 @@ taken_numbers avoid = 0 ∷ map (λ a. a.0) avoid
 -- a stamp that is not free has one of them
 taken-number : (avoid : List Stamp) (s : Stamp) → is_free avoid s ≡ false → list_any (eqb s.0) (taken_numbers avoid) ≡ true
 unfolding is_free
-taken-number avoid s taken =
-    elim (and_cases (not (eqb s.0 0)) _ taken) [
-      | inl zeros ↦ or_left _ _ (not-false _ zeros)
-      | inr among ↦ or_right (eqb s.0 0) _ (any-number s.0 avoid ∙ not-false _ among)
-    ]
+taken-number avoid s taken = grind (arith, and_cases, or_left, not-false, or_right, any-number)
 
 -- of the first length avoid + 2 stamps from s on one is free, since the numbers taken are fewer
 some-free : (s : Stamp) (avoid : List Stamp) → length avoid < 2 ^ 63
@@ -169,8 +162,7 @@ free-from_test taken s r tells known free = rw (ne_eqb s.0 0 known, sym tells, f
 pub taken-from_test : (taken : List Stamp) (s : Stamp) (r : Bool) → r ≡ list_any (λ a. eqb a.0 s.0) taken → r ≡ true
     → is_free taken s ≡ true → ⊥
 unfolding is_free
-taken-from_test taken s r tells found free =
-    both_ways (list_any (λ a. eqb a.0 s.0) taken) (not-true _ (and_parts (not (eqb s.0 0)) _ free).1) (sym tells ∙ found)
+taken-from_test taken s r tells found free = grind (arith, both_ways, not-true, and_parts)
 
 -- a free stamp is not 0
 pub free-nonzero : (avoid : List Stamp) (r : Stamp) → is_free avoid r ≡ true → r.0 ≢ 0
@@ -180,9 +172,7 @@ free-nonzero avoid r free = eqb-false r.0 0 (not-true _ (and_parts (not (eqb r.0
 -- a free stamp is none of those to avoid
 pub free-apart : (avoid : List Stamp) (r a : Stamp) → is_free avoid r ≡ true → Contains avoid a → a ≢ r
 unfolding is_free
-free-apart avoid r a free member same =
-    both_ways (list_any (λ b. eqb b.0 r.0) avoid) (not-true _ (and_parts (not (eqb r.0 0)) _ free).1)
-    (list_any_at (λ b. eqb b.0 r.0) avoid member.0 a member.1 (eq-eqb _ _ (ap (λ b. b.0) (member.2 ∙ same))))
+free-apart avoid r a free member same = grind (arith, both_ways, not-true, and_parts, list_any_at, eq-eqb)
 
 -- the first free stamp is not 0
 pub IsFresh-nonzero : {s : Stamp} {avoid : List Stamp} {r : Stamp} → IsFresh s avoid r → r.0 ≢ 0
@@ -208,25 +198,7 @@ fresh-apart s avoid small = IsFresh-apart (IsFresh-fresh s avoid small)
 pub fresh-below : (s : Stamp) (avoid : List Stamp) → length avoid < 2 ^ 63 → (fresh s avoid).0 < 2 ^ 64
 fresh-below s avoid small = IsFresh-below (IsFresh-fresh s avoid small)
 
--- a stamp that is free is itself fresh
-pub fresh-itself : (s : Stamp) (avoid : List Stamp) → s.0 < 2 ^ 64 → is_free avoid s ≡ true → fresh s avoid ≡ s
-fresh-itself s avoid fits free = sym (fresh-from_IsFresh s avoid s (record {
-  steps = 0;
-  few = omega arith;
-  reached = ap (λ n. record { 0 = n }) (omega arith);
-  free = free;
-  least = λ j before. absurd (omega arith);
-}))
-
 -- a stamp that is not 0 and none of those to avoid is free
 pub free-from_apart : (avoid : List Stamp) (s : Stamp) → s.0 ≢ 0 → ((a : Stamp) → Contains avoid a → a ≢ s) → is_free avoid s ≡ true
 unfolding is_free
-free-from_apart avoid s known apart =
-    and_from (not (eqb s.0 0)) _ (not_from_false _ (ne_eqb s.0 0 known)) (not_from_false _ (false_from_ne_true _ (λ found.
-    let at = Any-from_list_any (λ a. eqb a.0 s.0) avoid found in
-    apart at.1 (at.0, at.2, at.3) (ap (λ n. record { 0 = n }) (eqb-true at.1.0 s.0 at.4)))))
-
--- with nothing to avoid, each stamp of a known time is fresh
-pub fresh-alone : (s : Stamp) → 0 < s.0 → s.0 < 2 ^ 64 → fresh s [] ≡ s
-unfolding is_free
-fresh-alone s known fits = fresh-itself s [] fits (rw (ne_eqb s.0 0 (omega arith)) refl)
+free-from_apart avoid s known apart = grind (arith, and_from, not_from_false, ne_eqb, false_from_ne_true, Any-from_list_any, eqb-true)

@@ -1,5 +1,5 @@
 -- Octets that begin with a header.
-use Rattle.std.proofs.Common.{◌≡◌, ℕ, ◌+◌, ◌≤◌, arith, List, ◌++◌, length, take, drop, refl, sym, ◌∙◌, append_assoc}
+use Rattle.std.proofs.Common.{◌≡◌, ℕ, ◌+◌, ◌≤◌, arith, List, ◌++◌, length, take, drop, refl, sym, ◌∙◌, append_assoc, rules}
 use Rattle.std.specs.List.{flat_map}
 use Rattle.std.proofs.lemmas.List.{take_at, drop_at, length-append, length-take}
 use Rattle.ntp_packet.specs.Header.{HeaderFields, header_octets, IsHeader}
@@ -15,17 +15,13 @@ length-signed h fs is = omega (arith, length-append (header_octets h) (flat_map 
 -- the header at the front
 pub take-signed : (h : HeaderFields) (fs : List Field) (rest : List ℕ) → IsHeader h → take 48 (signed_octets h fs ++ rest) ≡ header_octets h
 unfolding signed_octets
-take-signed h fs rest is =
-    rw (append_assoc (header_octets h) (flat_map field_octets fs) rest)
-    (take_at (header_octets h) (flat_map field_octets fs ++ rest) 48 (length-header_octets h is))
+take-signed h fs rest is = search (rules, is, append_assoc, take_at, length-header_octets)
 
 -- what stands behind it
 pub drop-signed : (h : HeaderFields) (fs : List Field) (rest : List ℕ) → IsHeader h
     → drop 48 (signed_octets h fs ++ rest) ≡ flat_map field_octets fs ++ rest
 unfolding signed_octets
-drop-signed h fs rest is =
-    rw (append_assoc (header_octets h) (flat_map field_octets fs) rest)
-    (drop_at (header_octets h) (flat_map field_octets fs ++ rest) 48 (length-header_octets h is))
+drop-signed h fs rest is = search (rules, is, append_assoc, drop_at, length-header_octets)
 
 -- the fields behind it
 pub drop-header : (h : HeaderFields) (fs : List Field) → IsHeader h → drop 48 (signed_octets h fs) ≡ flat_map field_octets fs

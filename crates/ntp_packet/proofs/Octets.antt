@@ -1,5 +1,5 @@
 -- Lists of octets, and their parts.
-use Rattle.std.proofs.Common.{◌≡◌, ℕ, ◌+◌, ◌-◌, ◌<◌, ◌≤◌, List, ◌++◌, length, get_or, take, drop, sym, ap, ◌∙◌, append_assoc, arith, inl, inr}
+use Rattle.std.proofs.Common.{◌≡◌, ℕ, ◌+◌, ◌-◌, ◌<◌, ◌≤◌, List, ◌++◌, length, get_or, take, drop, sym, ap, ◌∙◌, append_assoc, arith}
 use Rattle.std.specs.List.{All}
 use Rattle.std.proofs.lemmas.Bool.{cases_lt}
 use Rattle.std.proofs.lemmas.List.{length-take, get_or-drop, get_or-take, get_or_past, get_or-append-add, take-append-drop, drop-drop}
@@ -11,11 +11,7 @@ pub AreOctets-drop : (n : ℕ) (octets : List ℕ) → AreOctets octets → AreO
 AreOctets-drop n octets h i = rw get_or-drop (h (n + i))
 
 pub AreOctets-take : (n : ℕ) (octets : List ℕ) → AreOctets octets → AreOctets (take n octets)
-AreOctets-take n octets h i =
-    elim (cases_lt i n) [
-      | inl lt ↦ rw (get_or-take n octets i 0 lt) (h i)
-      | inr le ↦ rw (get_or_past (take n octets) i 0 (omega (arith, length-take n octets))) (omega arith)
-    ]
+AreOctets-take n octets h i = grind (arith, cases_lt, get_or-take, get_or_past, length-take)
 
 -- what stands behind some octets
 pub AreOctets-behind : (front rest : List ℕ) → AreOctets (front ++ rest) → AreOctets rest
@@ -40,8 +36,4 @@ in_parts octets n least =
     join a b c d e f p q = append_assoc (a ++ b) c d ∙ append_assoc a b (c ++ d) ∙ ap (λ (rest : List ℕ). a ++ rest) q ∙ p
 
 pub AreOctets-all : (octets : List ℕ) → All (λ octet. octet < 256) octets → AreOctets octets
-AreOctets-all octets all i =
-    elim (cases_lt i (length octets)) [
-      | inl lt ↦ all i 0 lt
-      | inr le ↦ rw (get_or_past octets i 0 le) (omega arith)
-    ]
+AreOctets-all octets all i = grind (arith, cases_lt, get_or_past)

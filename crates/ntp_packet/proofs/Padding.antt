@@ -1,13 +1,13 @@
 -- The zeros behind a value.
-use Rattle.std.proofs.Common.{◌≡◌, ℕ, ◌+◌, ◌%◌, ◌^◌, ◌<◌, ◌≤◌, List, ◌++◌, length, replicate, ap, ◌∙◌, append_assoc, arith}
+use Rattle.std.proofs.Common.{◌≡◌, ℕ, ◌+◌, ◌%◌, ◌^◌, ◌<◌, ◌≤◌, List, ◌++◌, length, replicate, ap, ◌∙◌, append_assoc, arith, rules}
+use Rattle.std.proofs.lemmas.Grind.{common_steps}
 use Rattle.std.specs.Int.{w16, to_be_bytes}
 use Rattle.std.proofs.lemmas.List.{length-append, length-replicate}
 use Rattle.ntp_packet.specs.Field.{field_octets, IsField, padding, padded_field}
 use Rattle.ntp_packet.proofs.Spelling.{length-field_octets}
 
 length-value : (kind : ℕ) (value : List ℕ) → length (padded_field kind value).value ≡ length value + padding (length value)
-length-value kind value =
-    length-append value (replicate (padding (length value)) 0) ∙ ap (λ n. length value + n) (length-replicate (padding (length value)) 0)
+length-value kind value = grind (arith, length-append, length-replicate)
 
 pub length-padded_field : (kind : ℕ) (value : List ℕ)
     → length (field_octets (padded_field kind value)) ≡ 4 + (length value + padding (length value))
@@ -21,14 +21,7 @@ padding-least n = omega arith
 
 pub IsField-padded : (kind : ℕ) (value : List ℕ) → kind < 2 ^ 16
     → 4 + (length value + padding (length value)) < 2 ^ 16 → IsField (padded_field kind value)
-IsField-padded kind value k fits =
-    let len = length-value kind value in
-    record {
-      kind = k;
-      fits = rw len fits;
-      aligned = rw len (padding-aligned (length value));
-      least = rw len (padding-least (length value));
-    }
+IsField-padded kind value k fits = search (rules, length-value, padding-aligned, padding-least)
 
 appended : (old kind len value zeros a b c d : List ℕ) → a ≡ old ++ kind → b ≡ a ++ len → c ≡ b ++ value → d ≡ c ++ zeros
     → d ≡ old ++ (kind ++ len ++ (value ++ zeros))
@@ -40,8 +33,4 @@ pub put-field : (kind n : ℕ) (value zeros old a b c d : List ℕ) → n ≡ 4 
     → a ≡ old ++ to_be_bytes w16 kind → b ≡ a ++ to_be_bytes w16 n → c ≡ b ++ value → d ≡ c ++ zeros
     → d ≡ old ++ field_octets (padded_field kind value)
 unfolding field_octets
-put-field kind n value zeros old a b c d n-is zeros-is p q r s =
-    let len : n ≡ 4 + length (padded_field kind value).value = omega (arith, length-value kind value) in
-    appended old (to_be_bytes w16 kind) (to_be_bytes w16 (4 + length (padded_field kind value).value)) value
-    (replicate (padding (length value)) 0) a b c d
-    p (q ∙ ap (λ m. a ++ to_be_bytes w16 m) len) r (s ∙ ap (λ (octets : List ℕ). c ++ octets) zeros-is)
+put-field kind n value zeros old a b c d n-is zeros-is p q r s = grind (arith, common_steps, length-value, appended)

@@ -1,5 +1,6 @@
 -- Octets as their parts, one after another.
-use Rattle.std.proofs.Common.{◌≡◌, ℕ, ℤ, ◌+◌, ◌*◌, ◌/◌, ◌%◌, ◌≤◌, ◌<◌, List, [], ◌∷◌, ◌++◌, length, get_or, take, drop, refl, sym, ap, ◌∙◌, arith}
+use Rattle.std.proofs.Common.{◌≡◌, ℕ, ℤ, ◌+◌, ◌*◌, ◌/◌, ◌%◌, ◌≤◌, ◌<◌, List, [], ◌∷◌, ◌++◌, length, get_or, take, drop, sym, ◌∙◌, arith}
+use Rattle.std.proofs.lemmas.Grind.{common_steps}
 use Rattle.std.proofs.Math.Seq.{take-add}
 use Rattle.std.proofs.lemmas.Int.{of_z-to_z}
 use Rattle.std.specs.Int.{w8, w32, w64, cast_unsigned, cast_signed, to_be_bytes}
@@ -29,13 +30,7 @@ put-header h o1 o2 o3 o4 o5 o6 o7 o8 fits e1 e2 e3 e4 e5 e6 e7 e8 =
 parts-48 : (b : List ℕ)
     → take 48 b ≡ take 4 b ++ take 4 (drop 4 b) ++ take 4 (drop 8 b) ++ take 4 (drop 12 b)
     ++ take 8 (drop 16 b) ++ take 8 (drop 24 b) ++ take 8 (drop 32 b) ++ take 8 (drop 40 b)
-parts-48 b =
-    take-add 40 8 b ∙ ap (λ l. l ++ take 8 (drop 40 b)) (
-    take-add 32 8 b ∙ ap (λ l. l ++ take 8 (drop 32 b)) (
-    take-add 24 8 b ∙ ap (λ l. l ++ take 8 (drop 24 b)) (
-    take-add 16 8 b ∙ ap (λ l. l ++ take 8 (drop 16 b)) (
-    take-add 12 4 b ∙ ap (λ l. l ++ take 4 (drop 12 b)) (
-    take-add 8 4 b ∙ ap (λ l. l ++ take 4 (drop 8 b)) (take-add 4 4 b))))))
+parts-48 b = grind (arith, take-add)
 
 -- a header whose parts are those of the octets
 pub read-parts : (h : HeaderFields) (b : List ℕ) → first_octets h ≡ take 4 b
@@ -59,12 +54,7 @@ first-octet o h = omega arith
 
 -- a list of four, cell by cell
 pub four-cells : (xs : List ℕ) → length xs ≡ 4 → get_or xs 0 0 ∷ get_or xs 1 0 ∷ get_or xs 2 0 ∷ get_or xs 3 0 ∷ [] ≡ xs
-four-cells [] e = absurd (omega arith)
-four-cells (a ∷ []) e = absurd (omega arith)
-four-cells (a ∷ b ∷ []) e = absurd (omega arith)
-four-cells (a ∷ b ∷ c ∷ []) e = absurd (omega arith)
-four-cells (a ∷ b ∷ c ∷ d ∷ []) e = refl
-four-cells (a ∷ b ∷ c ∷ d ∷ x ∷ xs) e = absurd (omega arith)
+four-cells xs e = grind (arith, common_steps)
 
 -- the first four octets, as they are read
 pub first-fields : (h : HeaderFields) (four : List ℕ) → length four ≡ 4 → get_or four 0 0 < 256
@@ -75,6 +65,4 @@ first-fields h four len octet e1 e2 e3 e4 e5 e6 = rw (e1, e2, e3, e4, e5, e6, fi
 
 -- an octet that was read as a signed number and handed on
 pub handed-on : (z : ℤ) (n : ℕ) → n < 256 → z ≡ cast_signed w8 n → cast_unsigned w8 (cast_signed w8 (cast_unsigned w8 z)) ≡ n
-handed-on z n h e =
-    ap (λ y. cast_unsigned w8 (cast_signed w8 (cast_unsigned w8 y))) e
-    ∙ ap (λ m. cast_unsigned w8 (cast_signed w8 m)) (of_z-to_z w8 n h) ∙ of_z-to_z w8 n h
+handed-on z n h e = grind (arith, of_z-to_z)

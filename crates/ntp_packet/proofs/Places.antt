@@ -1,5 +1,5 @@
 -- Going from field to field.
-use Rattle.std.proofs.Common.{◌≡◌, ℕ, ◌+◌, ◌-◌, ◌%◌, ◌<◌, ◌≤◌, List, [], ◌∷◌, ◌++◌, length, take, drop, refl, sym, ap, subst, ◌∙◌, append_assoc, arith}
+use Rattle.std.proofs.Common.{◌≡◌, ℕ, ◌+◌, ◌-◌, ◌%◌, ◌<◌, ◌≤◌, List, [], ◌∷◌, ◌++◌, length, take, drop, sym, ap, subst, ◌∙◌, append_assoc, arith}
 use Rattle.std.specs.List.{flat_map}
 use Rattle.std.proofs.lemmas.List.{length-append, length-take, length-drop, drop-drop, append-nil, flat_map_more, take-append-drop}
 use Rattle.ntp_packet.specs.Header.{HeaderFields, header_octets, IsHeader}
@@ -46,16 +46,7 @@ Stands-first octets h is e long = record {
 -- behind a field stands what is left behind it
 Stands-push : (octets : List ℕ) (place : ℕ) (rest : List ℕ) (f : Field) (after : List ℕ) → Stands octets place rest → IsField f
     → field_octets f ++ after ≡ rest → 24 < length rest → Stands octets (place + length (field_octets f)) after
-Stands-push octets place rest f after s is e more =
-    let len : length rest ≡ length (field_octets f) + length after = ap length (sym e) ∙ length-append (field_octets f) after in
-    record {
-      header = s.header;
-      fields = s.fields ++ f ∷ [];
-      is_header = s.is_header;
-      are_fields = AreFields-push s.fields f (length after) (rw (← len) s.are_fields) is (rw (← len) more);
-      spelled = rw (signed-push s.header s.fields f, append_assoc (signed_octets s.header s.fields) (field_octets f) after, e) s.spelled;
-      place_is = rw (signed-push s.header s.fields f, length-append (signed_octets s.header s.fields) (field_octets f), ← s.place_is) refl;
-    }
+Stands-push octets place rest f after s is e more = grind (arith, length-append, AreFields-push, signed-push, append_assoc)
 
 pub Stands-octets : (octets : List ℕ) (place : ℕ) (rest : List ℕ) → Stands octets place rest → AreOctets octets → AreOctets rest
 Stands-octets octets place rest s are =
@@ -89,8 +80,7 @@ Stands-on octets at n part are s part-is more n-is least aligned whole =
 
 -- where a header and fields stand first there are 48 octets at least
 pub Stands-long : (octets : List ℕ) (place : ℕ) (rest : List ℕ) → Stands octets place rest → 48 ≤ length octets
-Stands-long octets place rest s =
-    omega (arith, ap length s.spelled, length-append (signed_octets s.header s.fields) rest, length-signed s.header s.fields s.is_header)
+Stands-long octets place rest s = grind (arith, length-append, length-signed)
 
 -- what is wrong with what is left from a place on is wrong with the octets
 pub fails_at : (fault : List ℕ → Type 0) (octets : List ℕ) (place : ℕ) (rest : List ℕ) → length octets ≤ 1024

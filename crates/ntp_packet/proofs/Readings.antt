@@ -1,5 +1,5 @@
 -- Every 48 octets are read as one header.
-use Rattle.std.proofs.Common.{◌≡◌, ℕ, ◌+◌, ◌*◌, ◌/◌, ◌%◌, ◌^◌, ◌≤◌, ◌<◌, List, [], ◌∷◌, length, get_or, take, drop, refl, sym, ap, subst, ◌∙◌, inl, inr, arith, rules}
+use Rattle.std.proofs.Common.{◌≡◌, ℕ, ◌+◌, ◌*◌, ◌/◌, ◌%◌, ◌^◌, ◌≤◌, ◌<◌, List, [], ◌∷◌, length, get_or, take, drop, refl, sym, ap, subst, ◌∙◌, arith, rules}
 use Rattle.std.specs.Prelude.{All}
 use Rattle.std.specs.Int.{w8, w32, w64, cast_signed, to_be_bytes, from_be_bytes}
 use Rattle.std.proofs.lemmas.Int.{of_z-to_z, to_z-of_z}
@@ -44,18 +44,10 @@ abbrev AreOctets : List ℕ → Type 0
 AreOctets b = (i : ℕ) → get_or b i 0 < 256
 
 pub octets-all : (b : List ℕ) → All (λ octet. octet < 256) b → AreOctets b
-octets-all b all i =
-    elim (cases_lt i (length b)) [
-      | inl lt ↦ all i 0 lt
-      | inr le ↦ rw (get_or_past b i 0 le) (omega arith)
-    ]
+octets-all b all i = grind (arith, cases_lt, get_or_past)
 
 octets-part : (n k : ℕ) (b : List ℕ) → AreOctets b → AreOctets (take n (drop k b))
-octets-part n k b octets i =
-    elim (cases_lt i n) [
-      | inl lt ↦ rw (get_or-take n (drop k b) i 0 lt, get_or-drop) (octets (k + i))
-      | inr le ↦ rw (get_or_past (take n (drop k b)) i 0 (omega (arith, length-take n (drop k b)))) (omega arith)
-    ]
+octets-part n k b octets i = grind (arith, cases_lt, get_or-take, get_or-drop, get_or_past, length-take)
 
 module _ (b : List ℕ) (len : length b ≡ 48) (octets : AreOctets b) where
   part-length : (n k : ℕ) → n + k ≤ 48 → length (take n (drop k b)) ≡ n
@@ -72,12 +64,7 @@ module _ (b : List ℕ) (len : length b ≡ 48) (octets : AreOctets b) where
   front-cell i lt = get_or-take 4 b i 0 lt
 
   front-part : first_octets (header_in b) ≡ take 4 b
-  front-part =
-      first-fields (header_in b) (take 4 b) (omega (arith, length-take 4 b)) (rw (front-cell 0 (omega arith)) (octets 0))
-      (rw (front-cell 0 (omega arith)) refl) (rw (front-cell 0 (omega arith)) refl) (rw (front-cell 0 (omega arith)) refl)
-      (sym (front-cell 1 (omega arith)))
-      (of_z-to_z w8 (get_or b 2 0) (octets 2) ∙ sym (front-cell 2 (omega arith)))
-      (of_z-to_z w8 (get_or b 3 0) (octets 3) ∙ sym (front-cell 3 (omega arith)))
+  front-part = grind (arith, first-fields, length-take, front-cell, of_z-to_z)
 
   -- the header that the octets spell is spelled by them
   pub spelled-again : header_octets (header_in b) ≡ b
@@ -131,23 +118,7 @@ with_id h id = record h { clock = record h.clock { reference_id = id } }
 cells-again : (h : HeaderFields) (a b c d : ℕ) → IsHeader h
     → header_in (header_octets (with_id h (a ∷ b ∷ c ∷ d ∷ []))) ≡ with_id h (a ∷ b ∷ c ∷ d ∷ [])
 unfolding header_octets
-cells-again h a b c d is = λ i. record {
-  version = middle-bits h.clock.leap h.version h.mode is.leap is.version is.mode i;
-  mode = low-bits h.clock.leap h.version h.mode is.leap is.version is.mode i;
-  poll = to_z-of_z w8 h.poll is.poll i;
-  clock = record {
-    leap = top-bits h.clock.leap h.version h.mode is.leap is.version is.mode i;
-    stratum = h.clock.stratum;
-    precision = to_z-of_z w8 h.clock.precision is.precision i;
-    root_delay = record { 0 = from_be_bytes-to_be_bytes_4 h.clock.root_delay.0 is.root_delay i };
-    root_dispersion = record { 0 = from_be_bytes-to_be_bytes_4 h.clock.root_dispersion.0 is.root_dispersion i };
-    reference_id = a ∷ b ∷ c ∷ d ∷ [];
-    reference = record { 0 = from_be_bytes-to_be_bytes_8 h.clock.reference.0 is.reference i };
-  };
-  origin = record { 0 = from_be_bytes-to_be_bytes_8 h.origin.0 is.origin i };
-  receive = record { 0 = from_be_bytes-to_be_bytes_8 h.receive.0 is.receive i };
-  transmit = record { 0 = from_be_bytes-to_be_bytes_8 h.transmit.0 is.transmit i };
-}
+cells-again h a b c d is = grind (arith, middle-bits, low-bits, to_z-of_z, top-bits, from_be_bytes-to_be_bytes_4, from_be_bytes-to_be_bytes_8)
 
 -- a header is the one that its octets spell
 pub header-again : (h : HeaderFields) → IsHeader h → header_in (header_octets h) ≡ h
@@ -163,6 +134,4 @@ only-header h b is e = sym (header-again h is) ∙ ap header_in e
 -- a header has 48 octets
 pub length-header_octets : (h : HeaderFields) → IsHeader h → length (header_octets h) ≡ 48
 unfolding header_octets
-length-header_octets h is =
-    let P : List ℕ → Type 0 = λ id. length (header_octets (with_id h id)) ≡ 48 in
-    subst P (four-cells h.clock.reference_id is.reference_id.0) refl
+length-header_octets h is = grind (arith, four-cells)

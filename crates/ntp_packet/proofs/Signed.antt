@@ -1,5 +1,5 @@
 -- Numbers modulo 2^64, read as signed ones.
-use Rattle.std.proofs.Common.{◌≡◌, ℕ, ◌+◌, ◌-◌, ◌%◌, ◌^◌, ◌<◌, ◌≤◌, ℤ, pos, negsuc, ◌+ℤ◌, ◌-ℤ◌, ◌*ℤ◌, inl, inr, suc, refl, sym, ap, ◌∙◌, rules, arith}
+use Rattle.std.proofs.Common.{◌≡◌, ℕ, ◌+◌, ◌-◌, ◌%◌, ◌^◌, ◌<◌, ◌≤◌, ℤ, pos, negsuc, ◌+ℤ◌, ◌-ℤ◌, ◌*ℤ◌, inl, inr, suc, refl, ◌∙◌, rules, arith}
 use Rattle.std.specs.Prelude.{FitsSigned}
 use Rattle.std.proofs.lemmas.Bool.{cases_lt}
 use Rattle.std.proofs.Math.Facts.{sfits_to_z, to_z-neg}
@@ -17,10 +17,7 @@ lower : (n : ℕ) → n < 2 ^ 63 → cast_signed w64 n ≡ pos n
 lower n below = to_z_pos w64 n below
 
 upper : (n : ℕ) → 2 ^ 63 ≤ n → n < 2 ^ 64 → cast_signed w64 n ≡ negsuc (2 ^ 64 - suc n)
-upper n above below =
-    let k : ℕ = 2 ^ 64 - suc n in
-    let same : 2 ^ 64 - suc k ≡ n = omega arith in
-    ap (cast_signed w64) (sym same) ∙ to_z-neg w64 k (let small : k < 2 ^ 63 = omega arith in small)
+upper n above below = grind (arith, to_z-neg)
 
 -- a difference modulo 2^64 is the one of the numbers, but for whole eras
 whole-eras : (a b : ℕ) (d : ℤ) → a < 2 ^ 64 → b < 2 ^ 64 → d ≡ cast_signed w64 ((a + (2 ^ 64 - b)) % 2 ^ 64)

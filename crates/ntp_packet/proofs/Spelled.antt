@@ -1,5 +1,5 @@
 -- The fields that octets spell.
-use Rattle.std.proofs.Common.{◌≡◌, ℕ, zero, suc, ◌+◌, ◌-◌, ◌<◌, ◌≤◌, List, [], ◌∷◌, ◌++◌, length, take, drop, refl, sym, ap, ◌∙◌, arith}
+use Rattle.std.proofs.Common.{◌≡◌, ℕ, zero, suc, ◌+◌, ◌-◌, ◌<◌, ◌≤◌, List, [], ◌∷◌, ◌++◌, length, take, drop, refl, ap, ◌∙◌, arith}
 use Rattle.std.specs.List.{flat_map, AllByRecursion}
 use Rattle.std.proofs.lemmas.List.{length-append, drop-take}
 use Rattle.ntp_packet.specs.Field.{Field, field_octets, IsField, written_kind, written_length}
@@ -8,14 +8,12 @@ use Rattle.ntp_packet.proofs.Spelling.{length-field_octets, written_length-field
 
 first_fields-nil : (n : ℕ) → first_fields n [] ≡ []
 unfolding first_fields
-first_fields-nil zero = refl
-first_fields-nil (suc n) = refl
+first_fields-nil n = grind arith
 
 first_fields-suc : (n : ℕ) (octets : List ℕ) → 0 < length octets
     → first_fields (suc n) octets ≡ first_field octets ∷ first_fields n (drop (written_length octets) octets)
 unfolding first_fields
-first_fields-suc n [] h = absurd (omega arith)
-first_fields-suc n (octet ∷ octets) h = refl
+first_fields-suc n octets e = grind arith
 
 -- fields are read back from their octets
 first_fields-spelled : (fs : List Field) (n : ℕ) → AllByRecursion IsField fs → length (flat_map field_octets fs) ≤ n
@@ -42,9 +40,7 @@ fields_of-spelled fs all = first_fields-spelled fs (length (flat_map field_octet
 -- the octets of fields spell just those
 pub SpellFields-fields : (octets : List ℕ) (fs : List Field) → AllByRecursion IsField fs → octets ≡ flat_map field_octets fs
     → SpellFields octets × (fields_of octets ≡ fs)
-SpellFields-fields octets fs all e =
-    let back : fields_of octets ≡ fs = ap fields_of e ∙ fields_of-spelled fs all in
-    (record { each = rw back all; whole = rw back (sym e) }, back)
+SpellFields-fields octets fs all e = grind (arith, fields_of-spelled)
 
 -- what the octets of fields begin with, and what is behind the first
 pub record FirstStands (octets : List ℕ) : Type 0 where

@@ -25,10 +25,7 @@ drop_4-field f rest = refl
 
 -- the field at the front is the one that is spelled there
 pub first_field-spelled : (f : Field) (rest : List ℕ) → IsField f → first_field (field_octets f ++ rest) ≡ f
-first_field-spelled f rest i =
-    let e : take (written_length (field_octets f ++ rest) - 4) (drop 4 (field_octets f ++ rest)) ≡ f.value =
-    rw (written_length-field f rest i, drop_4-field f rest) (take_at f.value rest (4 + length f.value - 4) (omega arith)) in
-    rw (written_kind-field f rest i, e) refl
+first_field-spelled f rest i = grind (arith, written_length-field, drop_4-field, take_at, written_kind-field)
 
 pub drop-field : (f : Field) (rest : List ℕ) → IsField f → drop (written_length (field_octets f ++ rest)) (field_octets f ++ rest) ≡ rest
 drop-field f rest i = drop_at (field_octets f) rest _ (length-field_octets f ∙ sym (written_length-field f rest i))

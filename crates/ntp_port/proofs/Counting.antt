@@ -24,8 +24,7 @@ use Rattle.ntp_port.proofs.Taking.{TakesTurn}
 use Rattle.ntp_port.proofs.ManyTurns.{sent_of, if_so, count-more, Makes-nil, Makes-append}
 
 pub at-most-one : (b : Bool) → if_so b ≤ 1
-at-most-one true = omega arith
-at-most-one false = omega arith
+at-most-one b = grind arith
 
 -- a turn counts one at most
 pub record CountsOne (c d : Served) : Type 0 where
@@ -77,8 +76,7 @@ counted-made (Received d clock sends a noted) c = record {
 }
 
 sent-more : (made : List Made) (m : Made) → length (sent_of (made ++ m ∷ [])) ≡ length (sent_of made) + length (sent_in m)
-sent-more made m = ap length (flat_map-append sent_in made (m ∷ [])) ∙ length-append (sent_of made) (sent_of (m ∷ []))
-    ∙ ap (λ l. length (sent_of made) + length l) (append-nil (sent_in m))
+sent-more made m = grind (arith, flat_map-append, length-append, sent_of, append-nil)
 
 -- ---- the turns of a server
 pub ServeMakes-nil : (A : Type 0) (reference : ReferenceState) (may : Bool) (t : Option Told) (a : PortCounts) (s : Registry)

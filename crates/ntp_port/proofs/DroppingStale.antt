@@ -37,8 +37,7 @@ Drops-none k fits below = Drops-still k k.told k.history fits below (TellsOn-sam
 
 pub Drops-unswept : (k : Kept) (u : Option Told) (r : Option (List QueueEvent)) → k.stale ≤ 2 ^ 64 - 1 → k.sweeps ≤ 2 ^ 64 - 1
     → DropTells k.told u false → TellsEvents k.history r (seen_in_drop false) → Drops 0 k (record k { told = u; history = r })
-Drops-unswept k u r fits below drops tells =
-    Drops-still k u r fits below drops (seen-in_call k.reading k.history r (seen_in_drop false) (λ shown known. refl) tells)
+Drops-unswept k u r fits below drops tells = grind (arith, Drops-still, seen-in_call)
 
 -- these, and then those
 pub Drops-append : (m n all : ℕ) (a b c : Kept) → all ≡ m + n → Drops m a b → Drops n b c → Drops all a c

@@ -1,5 +1,5 @@
 -- What is kept goes on to be that of a history.
-use Rattle.std.proofs.Common.{◌≡◌, ℕ, zero, suc, ◌+◌, ◌-◌, ◌≤◌, ◌⊎◌, inl, inr, List, [], ◌∷◌, ◌++◌, refl, sym, ap, subst, ◌∙◌, arith}
+use Rattle.std.proofs.Common.{◌≡◌, ℕ, ◌+◌, ◌-◌, ◌≤◌, ◌⊎◌, inl, inr, List, [], ◌∷◌, ◌++◌, refl, sym, ap, subst, ◌∙◌, arith}
 use Rattle.std.specs.Prelude.{All}
 use Rattle.ntp_port.specs.declared.queue_event.QueueEvent.{QueueEvent}
 use Rattle.ntp_port.specs.declared.queue_event.QueueEvent.TheVariants.{Held, Looked, Taken, Read}
@@ -10,8 +10,7 @@ use Rattle.ntp_port.specs.Fresh.{KeepsHistory, LooksAgain, Dropped, InHand, Swep
 use Rattle.ntp_port.proofs.Watching.{watched-more}
 
 All-cons : {X : Type 0} (P : X → Type 0) (x : X) (xs : List X) → P x → All P xs → All P (x ∷ xs)
-All-cons P x xs here rest zero d below = here
-All-cons P x xs here rest (suc k) d below = rest k d (omega arith)
+All-cons P x xs e f = grind arith
 
 -- when it may be looked again stays in time
 LooksAgain-more : (longest next : ℕ) (event : QueueEvent) (history : List QueueEvent) → IsInOrder (event ∷ history)
@@ -39,8 +38,7 @@ Counts-took watch after history at seen less counts =
 
 -- the next datagram is one of those
 pub counts-one : (watch : QueueWatch) (history : List QueueEvent) → IsWaiting watch → Counts watch history → AreCounted 1 history
-counts-one watch history waits counts =
-    let x = counts waits in (x.0, x.1, x.2, watch.seen, x.3, omega (arith, waits, x.4))
+counts-one watch history waits counts = grind arith
 
 -- an event of now
 StandsFor-event : (watch after : QueueWatch) (reading now next : ℕ) (history : List QueueEvent) (event : QueueEvent) → reading ≤ now
@@ -88,13 +86,7 @@ StandsFor-Read watch reading now next history later stands = StandsFor-event wat
 -- it may be looked again at another moment
 pub StandsFor-next : (watch : QueueWatch) (reading next later : ℕ) (history : List QueueEvent) → LooksAgain (longest_of watch) history later
     → KeepsHistory watch reading next history → KeepsHistory watch reading later history
-StandsFor-next watch reading next later history looks stands = record {
-  watches = stands.watches;
-  counts = stands.counts;
-  looks_again = looks;
-  ordered = stands.ordered;
-  past = stands.past;
-}
+StandsFor-next watch reading next later history looks stands = grind arith
 
 -- these, and then those
 pub AreStale-append : (longest : ℕ) (h k m : List QueueEvent) (first second : List Dropped) → AreStale longest h first k

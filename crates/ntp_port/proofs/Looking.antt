@@ -1,5 +1,5 @@
 -- Looks at a queue.
-use Rattle.std.proofs.Common.{◌≡◌, ℕ, ◌+◌, ◌/◌, ◌<◌, ◌≤◌, ◌⊎◌, inl, inr, List, [], ◌∷◌, ◌++◌, Option, Some, false, refl, sym, subst, ◌∙◌, arith, append_assoc}
+use Rattle.std.proofs.Common.{◌≡◌, ℕ, ◌+◌, ◌/◌, ◌<◌, ◌≤◌, ◌⊎◌, inr, List, [], ◌∷◌, ◌++◌, Option, Some, false, refl, sym, subst, ◌∙◌, arith, append_assoc}
 use Rattle.ntp_port.specs.Port.{Told}
 use Rattle.ntp_port.specs.declared.queue_event.QueueEvent.{QueueEvent}
 use Rattle.ntp_port.specs.declared.queue_event.QueueEvent.TheVariants.{Held, Looked}
@@ -35,8 +35,7 @@ Looks-saw a after u r events Said told longest quiet seen stands = record {
 -- none
 Looks-same : (k : Kept) (Said : List QueueEvent → ℕ → Type 0) → ((history : List QueueEvent) → Stands k history → Said history k.reading)
     → LooksAtQueue k k Said
-Looks-same k Said looked = Looks-saw k k.watch k.told k.history [] Said refl refl refl (IsSeenFrom-same k.reading k.history)
-    (λ history stands. (stands, looked history stands))
+Looks-same k Said looked = grind (arith, Looks-saw, IsSeenFrom-same)
 
 pub Looks-none : (k : Kept) → LooksAtQueue k k Unsaid
 Looks-none k = Looks-same k Unsaid (λ history stands. tt)
@@ -73,16 +72,7 @@ Looks-more a b c before first second = record {
 -- what is said then, told in another way
 Looks-as : (a b : Kept) (More Said : List QueueEvent → ℕ → Type 0) → ((history : List QueueEvent) → More history a.reading → Said history a.reading)
     → LooksAtQueue a b More → LooksAtQueue a b Said
-Looks-as a b More Said tells looks = record {
-  reading = looks.reading;
-  stale = looks.stale;
-  sweeps = looks.sweeps;
-  told = looks.told;
-  longest = looks.longest;
-  each = λ history stands.
-      let x = looks.each history stands in
-      record { events = x.events; quiet = x.quiet; stands = x.stands; seen = x.seen; looked = tells (x.events ++ history) x.looked };
-}
+Looks-as a b More Said tells looks = grind arith
 
 -- a look need not be told of
 pub Looks-some : (a b : Kept) (before : ℕ) → LooksAtQueue a b (WasLookedAt before) → LooksAtQueue a b Unsaid
@@ -90,8 +80,7 @@ Looks-some a b before looks = Looks-as a b (WasLookedAt before) Unsaid (λ histo
 
 -- it may be older
 pub Looks-older : (a b : Kept) (less before : ℕ) → less ≤ before → LooksAtQueue a b (WasLookedAt less) → LooksAtQueue a b (WasLookedAt before)
-Looks-older a b less before older looks = Looks-as a b (WasLookedAt less) (WasLookedAt before)
-    (λ history looked. looked-by a.reading a.reading less before history (omega (arith, older)) looked) looks
+Looks-older a b less before older looks = grind (arith, Looks-as, looked-by)
 
 -- one that told how many datagrams the queue held at most
 pub Looks-count : (a : Kept) (after : QueueWatch) (u : Option Told) (r : Option (List QueueEvent)) (count : ℕ) → u ≡ a.told
@@ -117,8 +106,7 @@ pub Looks-early : (k : Kept) → k.reading < k.next_look → LooksAtQueue k k (W
 Looks-early k early = Looks-same k (WasWatched (longest_of k.watch)) (λ history stands. by history stands.looks_again)
   where
     by : (history : List QueueEvent) → LooksAgain (longest_of k.watch) history k.next_look → WasWatched (longest_of k.watch) history k.reading
-    by history (inl at_once) = absurd (omega (arith, at_once, early))
-    by history (inr watched) = watched-by (longest_of k.watch) k.next_look k.reading history (omega (arith, early)) watched
+    by history e = grind (arith, watched-by)
 
 -- one where it was time to, and when it may be looked again
 pub Looks-in_time : (a b : Kept) (next : ℕ) → LooksAtQueue a b (WasLookedAt (longest_of a.watch / 10)) → IsCounted b.watch a.reading

@@ -1,5 +1,5 @@
 -- One turn, by the calls that were made in it.
-use Rattle.std.proofs.Common.{◌≡◌, ℕ, ◌+◌, ◌≤◌, Bool, true, false, Option, None, Some, Result, Ok, Err, List, [], ◌∷◌, ◌++◌, length, drop, refl, sym, ap, ◌∙◌, subst, append-nil, arith, rules}
+use Rattle.std.proofs.Common.{◌≡◌, ℕ, ◌+◌, ◌≤◌, Bool, true, false, Option, None, Some, Result, Ok, Err, List, [], ◌∷◌, ◌++◌, length, refl, sym, ap, ◌∙◌, subst, append-nil, arith}
 use Rattle.std.specs.Prelude.{nat_le, not, is_err, is_some, option_to_list, map, if◌then◌else◌}
 use Rattle.ntp_packet.specs.declared.moment.Moment.{Moment}
 use Rattle.ntp_packet.specs.declared.stamp.Stamp.{Stamp}
@@ -19,8 +19,7 @@ use Rattle.ntp_port.specs.declared.memory_port.Sent.{Sent}
 use Rattle.ntp_port.specs.declared.port.PortCounts.{PortCounts}
 use Rattle.ntp_port.specs.declared.port.PortFault.{PortFault}
 use Rattle.ntp_port.specs.declared.port.PortFault.TheVariants.{Send}
-use Rattle.ntp_port.specs.Sequence.{firsts}
-use Rattle.ntp_port.specs.Port.{IncomingValue, Readings, later, TurnValue, no_turn, Told, counted_send, NowTells, SendTells}
+use Rattle.ntp_port.specs.Port.{IncomingValue, Readings, later, TurnValue, Told, counted_send, NowTells, SendTells}
 use Rattle.ntp_port.specs.Made.{Made, Received, turn_of, reply_in, departing, sent_in, sending_of, is_unsent}
 use Rattle.ntp_port.specs.Serving.{FollowsList, Follows}
 use Rattle.ntp_port.specs.Sending.{saved_in, turn_with, HasBegun, IsInTurn, SendingMakes}
@@ -36,42 +35,29 @@ counted-none k = let none : k.failed_sends ≡ k.failed_sends + 0 = omega arith 
 -- at a port that tells its turns
 pub follows-one : (m : Made) (rest : List TurnValue) (old new : Told) → old.coming ≡ turn_of m ∷ rest → new.coming ≡ rest
     → new.sent ≡ old.sent ++ sent_in m → FollowsList (turn_of m ∷ []) (m ∷ []) old new
-follows-one m rest old new here coming sent = record {
-  next = sym (ap (firsts no_turn 1) here);
-  coming = coming ∙ sym (ap (drop 1) here);
-  sent = sent ∙ ap (λ l. old.sent ++ l) (sym (append-nil (sent_in m)));
-}
+follows-one m rest old new here coming sent = grind (arith, coming, append-nil)
 
 -- ---- what becomes of the reply of an answer
 undeparting-silence : (sends : Bool) (a : Answer) → reply_in a ≡ None → departing sends a ≡ []
-undeparting-silence true (answer.Silent why) e = refl
-undeparting-silence false (answer.Silent why) e = refl
-undeparting-silence sends other e = cc
+undeparting-silence sends a e = grind arith
 
 undeparting : (a : Answer) → saved_in a ≡ None → departing true a ≡ []
-undeparting (answer.Time reply saved) e = cc
-undeparting other e = refl
+undeparting a e = grind arith
 
 departing-time : (a : Answer) (saved : Stamp) → saved_in a ≡ Some saved → departing true a ≡ saved ∷ []
-departing-time (answer.Time reply stamp) saved e = ap option_to_list e
-departing-time other saved e = cc
+departing-time a saved e = grind arith
 
 sending-silence : (sends : Bool) (a : Answer) (noted : Bool) → reply_in a ≡ None → NoReply ≡ sending_of a sends noted
-sending-silence sends (answer.Silent why) noted e = refl
-sending-silence sends other noted e = cc
+sending-silence sends a noted e = grind arith
 
 sending-failed : (a : Answer) (noted : Bool) (reply : List ℕ) → reply_in a ≡ Some reply → NotSent ≡ sending_of a false noted
-sending-failed (answer.Silent why) noted r e = cc
-sending-failed other noted r e = refl
+sending-failed a noted reply e = grind arith
 
 sending-sent : (a : Answer) (noted : Bool) (reply : List ℕ) → reply_in a ≡ Some reply → saved_in a ≡ None → WasSent ≡ sending_of a true noted
-sending-sent (answer.Time reply saved) noted r e h = cc
-sending-sent (answer.Silent why) noted r e h = cc
-sending-sent other noted r e h = refl
+sending-sent a noted reply e f = grind arith
 
 sending-time : (a : Answer) (noted : Bool) (saved : Stamp) → saved_in a ≡ Some saved → (if noted then Noted else NotNoted) ≡ sending_of a true noted
-sending-time (answer.Time reply stamp) noted saved e = refl
-sending-time other noted saved e = cc
+sending-time a noted saved e = grind arith
 
 -- what a port tells in a turn, once it tried to send a reply
 abbrev pub tried_in : List TurnValue → TurnValue → List Sent → Told
@@ -128,13 +114,7 @@ module _ (from : IncomingValue) (transmit : Moment) where
   pub tried : (reply : List ℕ) (t v w : Option Told) (sent : Result (Unit {0}) PortFault) (address : Address) (port : ℕ)
       → length reply ≤ most_reply_octets → from.address ≡ address → from.port ≡ port
       → IsInTurn t v from transmit → SendTells v w address port reply sent → HasTried (not (is_err sent)) reply t w
-  tried reply None v w sent address port few e h i p = tt
-  tried reply (Some old) None w sent address port few e h i p = absurd i
-  tried reply (Some old) (Some mid) None sent address port few e h i p = absurd p
-  tried reply (Some old) (Some mid) (Some new) sent address port few e h i p =
-      tried-one reply old mid new sent i.0 i.1 i.2 (search rules) i.3
-      (subst (λ q. SendTells (Some mid) (Some new) from.address q reply sent) (sym h)
-      (subst (λ q. SendTells (Some mid) (Some new) q port reply sent) (sym e) p))
+  tried reply t v w sent address port e f g h p = grind (arith, tried-one)
 
   -- the answer to the datagram
   module _ (a : Answer) where
@@ -164,8 +144,7 @@ module _ (from : IncomingValue) (transmit : Moment) where
 
     -- ---- there is no reply
     nothing-sent : (clock : Readings) (sends : Bool) → reply_in a ≡ None → sent_in (made_of clock sends false) ≡ []
-    nothing-sent clock true none = ap (sent_back from) none
-    nothing-sent clock false none = refl
+    nothing-sent clock sends e = grind arith
 
     follows-silent : (t u : Option Told) → reply_in a ≡ None → IsInTurn t u from transmit → (sends : Bool) × HasMade sends false t u
     follows-silent None u none i = (false, (λ tried n. transmit, refl, tt))
@@ -181,8 +160,7 @@ module _ (from : IncomingValue) (transmit : Moment) where
     )
 
     silent-sent : (clock : Readings) (sends : Bool) → reply_in a ≡ None → is_unsent (made_of clock sends false) ≡ false
-    silent-sent clock true none = refl
-    silent-sent clock false none = ap is_some none
+    silent-sent clock sends e = grind arith
 
     pub makes-no-reply : (A : Type 0) (t u : Option Told) (k l : PortCounts) (s : Registry) → reply_in a ≡ None → l ≡ k
         → IsInTurn t u from transmit → SendingMakes A a from transmit t u k l s s NoReply
@@ -196,8 +174,7 @@ module _ (from : IncomingValue) (transmit : Moment) where
     module _ (reply : List ℕ) (is : reply_in a ≡ Some reply) where
       tried-sent : (old : List Sent) (good noted : Bool) (clock : Readings)
           → if_sent good old from reply ≡ old ++ sent_in (made_of clock good noted)
-      tried-sent old true noted clock = ap (λ r. old ++ sent_back from r) (sym is)
-      tried-sent old false noted clock = sym (append-nil old)
+      tried-sent old good noted clock = grind (arith, append-nil)
 
       follows-tried : (good noted : Bool) (t w : Option Told) → HasTried good reply t w → HasMade good noted t w
       follows-tried good noted None w p = (λ tried n. transmit, refl, tt)

@@ -1,5 +1,5 @@
 -- What is received behind the datagrams that are dropped.
-use Rattle.std.proofs.Common.{◌≡◌, ℕ, ◌+◌, List, Option, None, Some, Result, Err, true, false, inl, inr, refl, subst, arith}
+use Rattle.std.proofs.Common.{◌≡◌, ℕ, ◌+◌, List, Option, None, Some, Result, Err, true, false, refl, subst, arith}
 use Rattle.std.specs.Prelude.{IfSome, IfNone}
 use Rattle.ntp_service.specs.declared.observation.Arrival.{Arrival}
 use Rattle.ntp_port.specs.declared.port.PortFault.{PortFault}
@@ -18,33 +18,20 @@ drops-on n t u v drops on =
 
 -- a port may drop that passes on only what may be answered, and counts what it drops
 pub passes-nothing : (a b : Kept) (datagram : List ℕ) → PassesOnFresh a b None datagram → DropsAny true a.stale b.stale a.told b.told
-passes-nothing a b datagram passes = (
-  passes.dropped,
-  counts-more a.stale b.stale passes.dropped passes.counted,
-  drops-on passes.dropped a.told passes.turns.0 b.told passes.turns.1 passes.turns.2,
-)
+passes-nothing a b datagram passes = grind (arith, counts-more, drops-on)
 
 pub passes-received : (a b : Kept) (received : Result Arrival PortFault) (datagram : List ℕ) → PassesOnFresh a b (Some received) datagram
     → Receives true a.stale b.stale a.told b.told received datagram
-passes-received a b received datagram passes = (
-  passes.turns.0,
-  (passes.dropped, counts-more a.stale b.stale passes.dropped passes.counted, passes.turns.1),
-  inl passes.turns.2,
-)
+passes-received a b received datagram passes = grind (arith, counts-more)
 
 -- where it gives up, no turn began behind them
 pub passes-given_up : (a b : Kept) (datagram : List ℕ) → PassesOnFresh a b None datagram
     → Receives true a.stale b.stale a.told b.told (Err Receive) datagram
-passes-given_up a b datagram passes = (
-  passes.turns.0,
-  (passes.dropped, counts-more a.stale b.stale passes.dropped passes.counted, passes.turns.1),
-  inr (refl, passes.turns.2),
-)
+passes-given_up a b datagram passes = grind (arith, counts-more)
 
 pub passes-some : (a b : Kept) (result : Option (Result Arrival PortFault)) (datagram : List ℕ) → PassesOnFresh a b result datagram
     → IfSome result (λ received. Receives true a.stale b.stale a.told b.told received datagram)
-passes-some a b None datagram passes = tt
-passes-some a b (Some received) datagram passes = passes-received a b received datagram passes
+passes-some a b result datagram e = grind (arith, passes-received)
 
 pub passes-none : (a b : Kept) (result : Option (Result Arrival PortFault)) (datagram : List ℕ) → PassesOnFresh a b result datagram
     → IfNone result ((false ≡ false) × DropsAny true a.stale b.stale a.told b.told)

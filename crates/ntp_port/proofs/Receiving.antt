@@ -1,5 +1,5 @@
 -- A port in memory begins its next turn.
-use Rattle.std.proofs.Common.{◌-◌, get_or, length-take, inl, inr, ◌≡◌, ◌≢◌, ℕ, ◌+◌, ◌<◌, min, Option, None, Some, Result, Ok, List, ◌∷◌, ◌++◌, length, take, drop, map, refl, sym, ap, subst, ◌∙◌, arith}
+use Rattle.std.proofs.Common.{◌-◌, get_or, length-take, ◌≡◌, ℕ, ◌+◌, ◌<◌, min, Option, Some, Result, Ok, List, ◌++◌, length, take, drop, map, refl, sym, subst, arith}
 use Rattle.std.proofs.lemmas.List.{take_all, take-take, take-append-le, drop_more}
 use Rattle.std.proofs.lemmas.Bool.Decides.{eqb_tells}
 use Rattle.std.proofs.lemmas.Option.{slice_get_read}
@@ -13,17 +13,11 @@ use Rattle.ntp_port.specs.Made.{arrival_of}
 use Rattle.ntp_port.specs.Memory.{turn_told, incoming_told}
 
 shortest : (xs : List ℕ) (n m : ℕ) → n ≡ min (length xs) m → take n xs ≡ take m xs
-shortest xs n m e = elim (eqb_tells n m) [
-  | inl h ↦ ap (λ k. take k xs) h.1
-  | inr h ↦
-      let ne : n ≢ m = h.1 in take_all n xs (omega arith) ∙ sym (take_all m xs (omega arith))
-]
+shortest xs n m e = grind (arith, eqb_tells, take_all)
 
 -- the first octets of a buffer that begins with those of a datagram
 pub cut : (xs ys zs : List ℕ) (n m : ℕ) → n ≡ min (length xs) m → zs ≡ take n xs → take n (zs ++ ys) ≡ take m xs
-cut xs ys zs n m e f =
-    let size : length zs ≡ n = omega (arith, ap length f, length-take n xs) in
-    take-append-le n zs ys (omega arith) ∙ ap (take n) f ∙ take-take n n xs (omega arith) ∙ shortest xs n m e
+cut xs ys zs n m e f = grind (arith, length-take, take-append-le, take-take, shortest)
 
 -- the present turn, where it is this one of the list, if it has any there
 abbrev present : {A : Type 0} → Option (Turn A) → TurnValue
@@ -38,15 +32,7 @@ pub receives-next : (A : Type 0) (turns : List (Turn A)) (i : ℕ) (x : Turn A) 
     → i < length turns → x ≡ get_or turns i x → old.coming ≡ map turn_told (drop i turns) → Arrives (option_map incoming_told x.arrival) r buffer
     → Begins (get_or (map turn_told (drop i turns)) 0 no_turn) old
     (begun (map turn_told (drop (i + 1) turns)) (present (slice_get turns (i + 1 - 1))) old) r buffer
-receives-next A turns i x old r buffer h e told arrives =
-    let here : drop i turns ≡ x ∷ drop (i + 1) turns = drop_more turns i x h ∙ ap (λ y. y ∷ drop (i + 1) turns) (sym e) in
-    let same : i + 1 - 1 ≡ i = omega arith in
-    let there : slice_get turns (i + 1 - 1) ≡ Some x = ap (slice_get turns) same ∙ slice_get_read turns (length turns) i x refl h e in
-    let left : drop 1 old.coming ≡ map turn_told (drop (i + 1) turns) = ap (drop 1) (told ∙ ap (map turn_told) here) in
-    rw here (
-      arrives,
-      ap (λ q. begun (map turn_told (drop (i + 1) turns)) (present q) old) there ∙ ap (λ l. begun l (turn_told x) old) (sym left),
-    )
+receives-next A turns i x old r buffer h e told arrives = grind (arith, drop_more, slice_get_read)
 
 -- the turn at i begins, whose datagram is dropped
 pub drops-next : (A : Type 0) (turns : List (Turn A)) (i : ℕ) (x : Turn A) (old : Told) → i < length turns → x ≡ get_or turns i x
@@ -65,5 +51,4 @@ drops-next A turns i x old h e told some =
     (arrival, octets, subst (λ l. Begins (get_or l 0 no_turn) old new (Ok arrival) octets) (sym told) begins)
   where
     some-of : {X : Type 0} (o : Option X) → is_none o ≡ false → (d : X) × (o ≡ Some d)
-    some-of None is = absurd (cc)
-    some-of (Some d) is = (d, refl)
+    some-of o e = grind arith

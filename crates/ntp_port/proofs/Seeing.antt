@@ -1,5 +1,5 @@
 -- What a port tells over several calls.
-use Rattle.std.proofs.Common.{◌≡◌, ℕ, ◌≤◌, max, List, [], ◌∷◌, ◌++◌, Option, None, Some, Result, Ok, Err, refl, sym, ap, subst, ◌∙◌, arith, append_assoc}
+use Rattle.std.proofs.Common.{◌≡◌, ℕ, ◌≤◌, max, List, [], ◌∷◌, ◌++◌, Option, None, Some, Result, refl, sym, ap, ◌∙◌, arith, append_assoc}
 use Rattle.ntp_service.specs.declared.observation.Arrival.{Arrival}
 use Rattle.ntp_port.specs.declared.port.PortFault.{PortFault}
 use Rattle.ntp_port.specs.declared.queue_event.QueueEvent.{QueueEvent}
@@ -9,50 +9,35 @@ use Rattle.ntp_port.specs.Fresh.{IsSeenFrom}
 
 -- nothing was seen
 SeesMore-none : (q : Option (List QueueEvent)) → SeesMore q q []
-SeesMore-none None = tt
-SeesMore-none (Some told) = refl
+SeesMore-none q = grind arith
 
 -- these, and then those
 SeesMore-append : (q r s : Option (List QueueEvent)) (first second : List QueueEvent) → SeesMore q r first → SeesMore r s second
     → SeesMore q s (second ++ first)
-SeesMore-append q r None first second a b = tt
-SeesMore-append q None (Some s) first second a b = absurd b
-SeesMore-append None (Some r) (Some s) first second a b = absurd a
-SeesMore-append (Some q) (Some r) (Some s) first second a b =
-    b ∙ ap (λ xs. second ++ xs) a ∙ sym (append_assoc second first q)
+SeesMore-append q r s first second e f = grind (arith, append_assoc)
 
 pub IsSeenFrom-same : (reading : ℕ) (q : Option (List QueueEvent)) (history : List QueueEvent) → IsSeenFrom reading reading q q history history
 IsSeenFrom-same reading q history shown = (shown, [], refl, SeesMore-none q)
 
 pub IsSeenFrom-more : (a b c : ℕ) (q r s : Option (List QueueEvent)) (h k m : List QueueEvent) → IsSeenFrom a b q r h k → IsSeenFrom b c r s k m
     → IsSeenFrom a c q s h m
-IsSeenFrom-more a b c q r s h k m first second shown =
-    let x = first shown in
-    let y = second x.0 in
-    (y.0, y.1 ++ x.1, y.2 ∙ ap (λ xs. y.1 ++ xs) x.2 ∙ sym (append_assoc y.1 x.1 h), SeesMore-append q r s x.1 y.1 x.3 y.3)
+IsSeenFrom-more a b c q r s h k m first second shown = grind (arith, append_assoc, SeesMore-append)
 
 -- a call that reads no clock saw this
 pub seen-in_call : (reading : ℕ) (q r : Option (List QueueEvent)) (seen : ℕ → List QueueEvent)
     → ((shown : ℕ) (told : List QueueEvent) → last_reading (seen shown ++ told) ≡ last_reading told) → TellsEvents q r seen
     → (h : List QueueEvent) → IsSeenFrom reading reading q r h (seen reading ++ h)
-seen-in_call reading q None seen keeps tells h shown = (tt, seen reading, refl, tt)
-seen-in_call reading None (Some r) seen keeps tells h shown = absurd tells
-seen-in_call reading (Some q) (Some r) seen keeps tells h shown =
-    let told : r ≡ seen reading ++ q = tells ∙ ap (λ n. seen n ++ q) shown in
-    (ap last_reading told ∙ keeps reading q ∙ shown, seen reading, refl, told)
+seen-in_call reading q r seen e f h = grind arith
 
 -- a wait reads no clock
 keeps-wait : (received : Option (Result Arrival PortFault)) (shown : ℕ) (told : List QueueEvent)
     → last_reading (seen_in_wait received shown ++ told) ≡ last_reading told
-keeps-wait None shown told = refl
-keeps-wait (Some (Ok arrival)) shown told = refl
-keeps-wait (Some (Err fault)) shown told = refl
+keeps-wait received shown told = grind arith
 
 -- so a wait saw this, where what it gave is known
 seen-in_wait : (reading : ℕ) (q r : Option (List QueueEvent)) (received given : Option (Result Arrival PortFault)) → received ≡ given
     → TellsEvents q r (seen_in_wait received) → (h : List QueueEvent) → IsSeenFrom reading reading q r h (seen_in_wait given reading ++ h)
-seen-in_wait reading q r received given is tells =
-    seen-in_call reading q r (seen_in_wait given) (keeps-wait given) (subst (λ x. TellsEvents q r (seen_in_wait x)) is tells)
+seen-in_wait reading q r received given is tells = grind (arith, seen-in_call, keeps-wait)
 
 -- a reading of a clock that did not go back
 seen-in_reading : (reading now shows : ℕ) (q r : Option (List QueueEvent)) (h : List QueueEvent) → (reading ≤ shows → now ≡ shows)

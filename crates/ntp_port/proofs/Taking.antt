@@ -96,10 +96,7 @@ passes-over m last n c d t u v makes keeps counts drops follows =
 
 -- ---- what is told where nothing was begun
 follows-none : (clock : Readings) (sends : Bool) (t u v : Option Told) → TellsOn t u → v ≡ u → Follows [] (Missed clock sends ∷ []) t v
-follows-none clock sends None u v on same = tt
-follows-none clock sends (Some old) u v on same =
-    subst (λ o. Follows [] (Missed clock sends ∷ []) (Some old) o) (sym (same ∙ on))
-    (record { next = refl; coming = refl; sent = sym (append-nil old.sent) })
+follows-none clock sends t u v e f = grind (arith, append-nil)
 
 -- ---- a turn that was made of what was received
 pub record TakesTurn (A : Type 0) (reference : ReferenceState) (may : Bool) (r : Result Arrival PortFault) (buffer : List ℕ) (t v : Option Told)

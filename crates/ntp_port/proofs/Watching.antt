@@ -1,5 +1,5 @@
 -- What is kept of a history tells after which moment what comes next came.
-use Rattle.std.proofs.Common.{◌≡◌, ℕ, zero, suc, ◌+◌, ◌/◌, ◌<◌, ◌≤◌, inl, inr, Bool, true, false, List, [], ◌∷◌, ◌++◌, Some, refl, sym, ap, subst, ◌∙◌, arith}
+use Rattle.std.proofs.Common.{◌≡◌, ℕ, suc, ◌+◌, ◌/◌, ◌<◌, ◌≤◌, inl, inr, Bool, true, false, List, [], ◌∷◌, ◌++◌, Some, refl, sym, ap, subst, ◌∙◌, arith}
 use Rattle.std.specs.Prelude.{nat_le, ◌&&◌, if◌then◌else◌, All, Contains}
 use Rattle.std.proofs.lemmas.Bool.{le-leb, lt-leb, leb-true}
 use Rattle.std.proofs.lemmas.List.Elements.{All-contains, Contains-append_right}
@@ -68,14 +68,10 @@ known-latest more (Read here ∷ since) before count at ordered enough = known-l
 
 -- what is kept, where no more is taken
 and-false : (b : Bool) → (b && false) ≡ false
-and-false true = refl
-and-false false = refl
+and-false b = grind arith
 
 kept-none_by : (watch : QueueWatch) (n : ℕ) → watch.waiting ≡ n → kept_after watch 0 ≡ watch.known
-kept-none_by watch zero is = ap (λ k. if nat_le 1 k && nat_le k 0 then Some watch.seen else watch.known) is
-kept-none_by watch (suc n) is =
-    ap (λ b. if nat_le 1 watch.waiting && b then Some watch.seen else watch.known) (lt-leb watch.waiting 0 (omega (arith, is)))
-    ∙ ap (λ b. if b then Some watch.seen else watch.known) (and-false (nat_le 1 watch.waiting))
+kept-none_by watch n e = grind (arith, lt-leb, and-false)
 
 kept-none : (watch : QueueWatch) → kept_after watch 0 ≡ watch.known
 kept-none watch = kept-none_by watch watch.waiting refl
@@ -131,11 +127,7 @@ looked-later c before (e ∷ events) history ordered looked =
 
 -- at another moment
 pub looked-by : (c d less before : ℕ) (history : List QueueEvent) → d + less ≤ c + before → WasLookedAt less history c → WasLookedAt before history d
-looked-by c d less before [] by looked = absurd looked
-looked-by c d less before (Held count at ∷ history) by looked = omega (arith, by, looked)
-looked-by c d less before (Looked at ∷ history) by looked = omega (arith, by, looked)
-looked-by c d less before (Taken at ∷ history) by looked = looked-by c d less before history by looked
-looked-by c d less before (Read at ∷ history) by looked = looked-by c d less before history by looked
+looked-by c d less before history e f = grind arith
 
 -- what is known was seen by a look
 known-within : (more b : ℕ) (history : List QueueEvent) (at : ℕ) → known_after more history ≡ Some at → All (λ x. moment_of x ≤ b) history → at ≤ b
@@ -191,10 +183,7 @@ kept-counted watch (e ∷ history) now next watches counts ordered looked (inr k
 
 pub kept-watched : (watch : QueueWatch) (history : List QueueEvent) (now next : ℕ) → Watches watch history → Counts watch history → IsInOrder history
     → WasLookedAt (longest_of watch / 10) history now → IsCounted watch now → next ≤ now + 100000 → WasWatched (longest_of watch) history next
-kept-watched watch history now next watches counts ordered looked counted soon = (
-  looked-by now next (longest_of watch / 10) (oldest_look (longest_of watch)) history (omega (arith, soon)) looked,
-  kept-counted watch history now next watches counts ordered looked counted soon,
-)
+kept-watched watch history now next watches counts ordered looked counted soon = grind (arith, looked-by, kept-counted)
 
 -- one event more leaves it so
 pub watched-more : (longest c : ℕ) (e : QueueEvent) (history : List QueueEvent) → IsInOrder (e ∷ history) → WasWatched longest history c
@@ -205,8 +194,4 @@ watched-more longest c e history ordered watched =
 
 -- and so it was at an earlier moment
 pub watched-by : (longest c d : ℕ) (history : List QueueEvent) → d ≤ c → WasWatched longest history c → WasWatched longest history d
-watched-by longest c d history by watched =
-    let x = watched.1 in (
-      looked-by c d (oldest_look longest) (oldest_look longest) history (omega (arith, by)) watched.0,
-      (x.0, x.1, x.2, x.3, omega (arith, by, x.4), x.5),
-    )
+watched-by longest c d history by watched = grind (arith, looked-by)

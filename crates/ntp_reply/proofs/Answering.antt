@@ -13,12 +13,7 @@ use Rattle.ntp_reply.specs.declared.answers.Answer.{Answer}
 -- an answer to one kind is one to the same kind, and no longer than more octets
 pub as-kind : (o : Occasion) (kind other : Kind) (most more : ℕ) (old new : CustomerState) (reply : Answer)
     → Answers o kind most old new reply → other ≡ kind → most ≤ more → Answers o other more old new reply
-as-kind o kind other most more old new reply a same less = record {
-  answer = rw same a.answer;
-  after = rw same a.after;
-  numbers = a.numbers;
-  no_longer = omega (arith, a.no_longer, less);
-}
+as-kind o kind other most more old new reply a same less = grind arith
 
 -- a packet with a MAC from an enrolled customer: where it has no key with its number it is refused
 module _ (r : RequestValue) (number : ℕ) (served : ((r.header.version == 3) || (r.header.version == 4)) ≡ true) (mode : r.header.mode ≡ 3)

@@ -1,11 +1,12 @@
 -- The recent exchanges of a past stay as they are saved: apart.
-use Rattle.std.proofs.Common.{◌≡◌, Bool, true, false, List, [], ◌∷◌, ◌++◌, Option, Some, None, IfSome, Contains, sym, subst, refl}
+use Rattle.std.proofs.Common.{◌≡◌, Bool, true, false, List, [], ◌∷◌, ◌++◌, Option, None, IfSome, Contains, sym, subst, arith}
+use Rattle.std.proofs.lemmas.Grind.{common_steps}
 use Rattle.std.specs.Prelude.{if◌then◌else◌, is_some, nat_lt, ◌==◌}
 use Rattle.ntp_packet.specs.declared.stamp.Stamp.{Stamp}
 use Rattle.ntp_packet.specs.declared.moment.Moment.{Moment}
 use Rattle.ntp_packet.specs.Header.{HeaderFields}
 use Rattle.ntp_customer.specs.declared.slot.Slot.{Slot}
-use Rattle.ntp_customer.specs.Exchanges.{AreSaved, recent, new_exchange, unused_at, is_unused_at, spent}
+use Rattle.ntp_customer.specs.Exchanges.{AreSaved, recent, new_exchange, unused_at, spent}
 use Rattle.ntp_customer.proofs.PublicLaws.{find-member, receives-spent, all_stamps-spent, recent-departed, AreSaved-nil, AreSaved-push, AreSaved-spent, AreSaved-departed, by_past}
 use Rattle.ntp_reply.specs.declared.occasion.Occasion.{Occasion}
 use Rattle.ntp_reply.specs.Replies.{new_stamps}
@@ -27,12 +28,10 @@ pub matched-saved : (saved : List Slot) (request : HeaderFields) → IfSome (mat
 matched-saved saved request = by_stamps (request.receive.0 == request.transmit.0)
   where
     found : (o : Option Slot) → unused_at saved request.origin ≡ o → IfSome o (Contains saved)
-    found None is = tt
-    found (Some x) is = (find-member (is_unused_at request.origin) saved x is).0
+    found o e = grind (arith, find-member)
 
     by_stamps : (b : Bool) → IfSome (if b then None else unused_at saved request.origin) (Contains saved)
-    by_stamps true = tt
-    by_stamps false = found (unused_at saved request.origin) refl
+    by_stamps b = grind (arith, found)
 
 -- where one is marked used, they stay apart, and a new one may stand behind them
 used-then-new : (saved : List Slot) (request : HeaderFields) (o : Occasion) → AreSaved saved
@@ -43,14 +42,7 @@ used-then-new saved request o are = by_match (is_some (matched saved request))
     new = new_exchange (new_stamps o saved).receive (new_stamps o saved).transmit ∷ []
 
     by_match : (b : Bool) → AreSaved (recent ((if b then spent saved request.origin else saved) ++ new))
-    by_match true =
-        AreSaved-push (spent saved request.origin) (new_stamps o saved).receive (new_stamps o saved).transmit
-        (AreSaved-spent saved request.origin are)
-        (rw (all_stamps-spent saved request.origin) (receive-free o saved are))
-        (rw (receives-spent saved request.origin) (transmit-free o saved are))
-    by_match false =
-        AreSaved-push saved (new_stamps o saved).receive (new_stamps o saved).transmit are (receive-free o saved are)
-        (transmit-free o saved are)
+    by_match b = grind (arith, common_steps, AreSaved-push, AreSaved-spent, all_stamps-spent, receive-free, receives-spent, transmit-free)
 
 -- after a time reply, and after a departure
 AreSaved-after_time : (past : Past) (o : Occasion) (request : HeaderFields) → AreSaved (recent_of past)
@@ -63,11 +55,7 @@ AreSaved-after_time past o request =
 
 pub AreSaved-after_departure : (past : Past) (receive : Stamp) (m : Moment) → AreSaved (recent_of past)
     → AreSaved (recent_of (after_departure past receive m))
-AreSaved-after_departure past receive m =
-    by_past (λ past. AreSaved (recent_of past) → AreSaved (recent_of (after_departure past receive m)))
-    (λ refusals are. are)
-    (λ a refusals are. subst AreSaved (sym (recent-departed a.exchanges receive m)) (AreSaved-departed (recent a.exchanges) receive m are))
-    past
+AreSaved-after_departure past receive m = grind (arith, common_steps, by_past, recent-departed, AreSaved-departed)
 
 -- after a datagram
 pub AreSaved-after_kind : (past : Past) (o : Occasion) (k : Kind) → AreSaved (recent_of past) → AreSaved (recent_of (after_kind past o k))

@@ -1,5 +1,5 @@
 -- The receive and the transmit stamp of a reply.
-use Rattle.std.proofs.Common.{◌^◌, ◌<◌, List, [], ◌∷◌, ◌++◌, length, Option, Some, None, IfSome, Contains, sym, refl, arith}
+use Rattle.std.proofs.Common.{◌^◌, ◌<◌, List, [], ◌∷◌, ◌++◌, length, Option, Some, None, IfSome, Contains, sym, arith}
 use Rattle.std.specs.Prelude.{IsTrue}
 use Rattle.std.proofs.lemmas.List.{length-append, length-map}
 use Rattle.std.proofs.lemmas.List.Elements.{Contains-append_right}
@@ -35,12 +35,7 @@ module _ (o : Occasion) (saved : List Slot) (are : AreSaved saved) where
 
   -- so both are two stamps
   pub basic-distinct : (request : HeaderFields) → HasDistinctStamps (basic_fields o request (new_stamps o saved))
-  basic-distinct request = (
-    free-apart (receives saved ++ (new_stamps o saved).receive ∷ []) (new_stamps o saved).transmit (new_stamps o saved).receive
-        transmit-free
-        (Contains-append_right (receives saved) ((new_stamps o saved).receive ∷ []) _ (0, omega arith, refl)),
-    free-nonzero (receives saved ++ (new_stamps o saved).receive ∷ []) (new_stamps o saved).transmit transmit-free,
-  )
+  basic-distinct request = grind (arith, free-apart, transmit-free, Contains-append_right, free-nonzero)
 
   -- and so is the new receive stamp with the transmit stamp of a saved exchange
   pub time-distinct : (request : HeaderFields) (matched : Option Slot) → IfSome matched (Contains saved)

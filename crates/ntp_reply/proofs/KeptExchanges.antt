@@ -1,5 +1,5 @@
 -- What is kept of the exchanges of a past.
-use Rattle.std.proofs.Common.{◌≡◌, ℕ, Bool, true, false, List, [], ◌∷◌, ◌++◌, length, IsSome, IfSome, is_some, refl, sym, ap, ◌∙◌, true≢false, arith}
+use Rattle.std.proofs.Common.{◌≡◌, ℕ, Bool, false, List, [], ◌∷◌, ◌++◌, length, IsSome, IfSome, is_some, refl, sym, ap, ◌∙◌, arith}
 use Rattle.std.specs.Prelude.{if◌then◌else◌}
 use Rattle.ntp_packet.specs.declared.stamp.Stamp.{Stamp}
 use Rattle.ntp_packet.specs.declared.moment.Moment.{Moment}
@@ -17,8 +17,7 @@ use Rattle.ntp_reply.specs.Exchanged.{matched, with_match_used, stamps_of, after
 
 -- with other exchanges in a past, the recent ones of these are kept
 kept-changed : (past : Past) (xs : List Slot) → with_saved (short past) (recent xs) ≡ short (with_saved past xs)
-kept-changed past xs = by_past (λ past. with_saved (short past) (recent xs) ≡ short (with_saved past xs))
-    (λ refusals. refl) (λ a refusals. refl) past
+kept-changed past xs = grind (arith, by_past)
 
 -- none is recent where there is none
 pub recent-nil : recent [] ≡ []
@@ -33,9 +32,7 @@ saved-recent : (past : Past) → exchanges_of (short past) ≡ recent_of past
 saved-recent = by_past _ (λ refusals. sym recent-nil) (λ a refusals. refl)
 
 lent-saved : (c : CustomerState) (xs : List Slot) → IsSome (enrolment_at c) → IfSome c.account (λ a. xs ≡ a.exchanges) → xs ≡ exchanges_of c
-lent-saved c xs =
-    by_customer (λ c. IsSome (enrolment_at c) → IfSome c.account (λ a. xs ≡ a.exchanges) → xs ≡ exchanges_of c)
-    (λ refusals some is. absurd (true≢false (sym some))) (λ a refusals some is. is) c
+lent-saved c xs = grind (arith, by_customer)
 
 -- exchanges that are lent by a customer are the recent ones of its past
 pub lent-recent : (past : Past) (c : CustomerState) (xs : List Slot) → short past ≡ c → IsSome (enrolment_at c)
@@ -57,8 +54,7 @@ pub kept-with_match_used : {X : Type 0} (kept : List Slot → X) (xs : List Slot
 kept-with_match_used kept xs request spent-keeps = by_match (is_some (matched xs request))
   where
     by_match : (b : Bool) → kept (if b then spent xs request.origin else xs) ≡ kept xs
-    by_match true = spent-keeps
-    by_match false = refl
+    by_match b = grind arith
 
 -- as many exchanges are saved where one is used
 length-with_match_used : (xs : List Slot) (request : HeaderFields) → length (with_match_used xs request) ≡ length xs
@@ -87,8 +83,7 @@ short-after_time past o request =
 -- and after a departure
 short-after_departure : (past : Past) (receive : Stamp) (m : Moment)
     → with_saved (short past) (with_departure (recent_of past) receive m) ≡ short (after_departure past receive m)
-short-after_departure past receive m =
-    ap (with_saved (short past)) (sym (recent-departed (exchanges_of past) receive m)) ∙ kept-changed past _
+short-after_departure past receive m = grind (arith, recent-departed, kept-changed)
 
 -- so where these exchanges were lent
 pub kept-after_time : (past : Past) (c : CustomerState) (o : Occasion) (request : HeaderFields) (xs saved : List Slot) (stamps : NewStamps)

@@ -1,6 +1,6 @@
 -- How many octets requests and replies have.
-use Rattle.std.proofs.Common.{◌≡◌, ℕ, ◌+◌, ◌≤◌, List, length, Ok, ap, ◌∙◌, subst, arith}
-use Rattle.ntp_packet.specs.Tail.{TailValue, NoTail, BareTail, MacTail, tail_octets, IsTail}
+use Rattle.std.proofs.Common.{◌≡◌, ℕ, ◌+◌, ◌≤◌, List, length, Ok, ap, arith}
+use Rattle.ntp_packet.specs.Tail.{TailValue, MacTail, tail_octets, IsTail}
 use Rattle.ntp_packet.specs.Request.{RequestValue, IsReading}
 use Rattle.ntp_packet.specs.declared.digests.Digest.TheVariants as digest
 use Rattle.ntp_packet.proofs.PublicLaws.{length-signed}
@@ -26,10 +26,7 @@ unfolding tail_octets
 sha1-long number octets is = omega (arith, is.1)
 
 mac-long : (r : RequestValue) (number : ℕ) (tail : TailValue) → IsTail tail → mac_number r tail ≡ Ok number → 20 ≤ length (tail_octets tail)
-mac-long r number NoTail is mac = grind arith
-mac-long r number (MacTail found (digest.Md5 octets)) is mac = omega (arith, md5-long found octets is)
-mac-long r number (MacTail found (digest.Sha1 octets)) is mac = omega (arith, sha1-long found octets is)
-mac-long r number (BareTail found) is mac = grind arith
+mac-long r number tail e f = grind (arith, md5-long, sha1-long)
 
 -- so a request with one is as long as a crypto-NAK
 pub mac-fits : (number : ℕ) (r : RequestValue) → IsReading r → mac_number r r.tail ≡ Ok number → 52 ≤ request_length r
@@ -38,16 +35,10 @@ mac-fits number r is mac = omega (arith, signed-long r is, mac-long r number r.t
 -- a MAC under an algorithm has four octets more than its digest
 signed-tail : (algorithm : Algorithm) (message : List ℕ) (number : ℕ) (tail : TailValue) → IsTail tail
     → tail ≡ MacTail number (hash algorithm message) → length (tail_octets tail) ≡ 4 + digest_length algorithm
-signed-tail Md5 message number tail is e =
-    let mac : IsTail (MacTail number (hash Md5 message)) = subst IsTail e is in
-    ap (λ t. length (tail_octets t)) e ∙ md5-long number _ mac
-signed-tail Sha1 message number tail is e =
-    let mac : IsTail (MacTail number (hash Sha1 message)) = subst IsTail e is in
-    ap (λ t. length (tail_octets t)) e ∙ sha1-long number _ mac
+signed-tail algorithm message number tail e f = grind (arith, md5-long, sha1-long)
 
 -- a request that is signed is as long as a reply under the same key
 pub signed-fits : (key : SymmetricKey) (number : ℕ) (r : RequestValue) → IsReading r → IsSigned key number r
     → 52 + digest_length key.algorithm ≤ request_length r
 unfolding IsSigned
-signed-fits key number r is signed =
-    omega (arith, signed-long r is, signed-tail key.algorithm _ number r.tail is.tail signed)
+signed-fits key number r is signed = grind (arith, signed-long, signed-tail)

@@ -1,23 +1,19 @@
 -- Pasts that leave the same.
-use Rattle.std.proofs.Common.{◌≡◌, ℕ, ◌<◌, ◌==◌, min, nat_lt, Bool, true, false, List, ◌++◌, refl, sym, ap, ◌∙◌, arith}
+use Rattle.std.proofs.Common.{◌≡◌, ℕ, ◌<◌, ◌==◌, min, nat_lt, Bool, true, false, List, sym, ap, ◌∙◌, arith}
 use Rattle.std.specs.Prelude.{if◌then◌else◌}
 use Rattle.std.specs.Option.{option_map_or}
 use Rattle.std.proofs.lemmas.Bool.Decides.{nat_tests}
 use Rattle.ntp_customer.specs.Tally.{tally, count_in, most_counted}
 use Rattle.ntp_customer.proofs.PublicLaws.{tally-tells_all, with_queries, enrolment_at-short, queries_kept, queries-short, short-with_query}
-use Rattle.ntp_packet.specs.Header.{HeaderFields, header_octets}
-use Rattle.ntp_mac.specs.Mac.{nak_octets}
+use Rattle.ntp_packet.specs.Header.{HeaderFields}
 use Rattle.ntp_mac.specs.Reading.{reading_of}
 use Rattle.ntp_customer.specs.Customer.{enrolment_at, budget_of, changing}
 use Rattle.ntp_customer.specs.Past.{Past, queries_in, with_refusal, with_query, short}
-use Rattle.ntp_reply.specs.Replies.{new_stamps, basic_fields, kiss_fields, sealed}
-use Rattle.ntp_reply.specs.declared.kiss.Kiss.TheVariants.{Rate, Deny}
 use Rattle.ntp_reply.specs.declared.occasion.Occasion.{Occasion}
 use Rattle.ntp_reply.specs.Life.{recent_of}
 use Rattle.ntp_reply.specs.Kind.{Kind, PassedOver, RefusedByDeny, RefusedByNak, Signed, octets_kind, kind_of}
 use Rattle.ntp_reply.specs.Exchanged.{after_time}
-use Rattle.ntp_reply.specs.Verdict.{kind_answer, after_kind, window_at, query_count, refusals_sent, timed}
-use Rattle.ntp_reply.specs.declared.answers.Answer.{Answer}
+use Rattle.ntp_reply.specs.Verdict.{kind_answer, after_kind, window_at, query_count, refusals_sent}
 use Rattle.ntp_reply.specs.declared.answers.Answer.TheVariants as answer
 use Rattle.ntp_reply.specs.declared.answers.Reason.TheVariants as reason
 use Rattle.ntp_reply.proofs.KeptExchanges.{recent-alike, time-alike}
@@ -28,10 +24,6 @@ below n m b same lt = grind (arith, nat_tests)
 
 equal : (n m b : ℕ) → min n most_counted ≡ min m most_counted → b < most_counted → (n == b) ≡ (m == b)
 equal n m b same lt = grind (arith, nat_tests)
-
--- the answer to a signed query, by whether the budget has room and by whether it was just spent
-abbrev by_budget : Answer → Answer → Bool → Bool → Answer
-by_budget time rate within last_one = if within then time else if last_one then rate else answer.Silent reason.OverBudget
 
 -- the same is kept of two pasts after a signed query, which gets the time in both or in neither
 signed-alike : (one other : Past) → short one ≡ short other → (o : Occasion) (h : HeaderFields) (b : Bool)
@@ -68,36 +60,21 @@ module _ (one other : Past) (same : short one ≡ short other) where
 
   -- counts fall alike below the limit of refusals, and below a budget that is counted up to
   sent : (w : ℕ) → nat_lt (count_in one.refusals w) refusals_sent ≡ nat_lt (count_in other.refusals w) refusals_sent
-  sent w = below (count_in one.refusals w) (count_in other.refusals w) refusals_sent
-      (tally-tells_all one.refusals other.refusals w refusals).0 (omega arith)
+  sent w = grind (arith, below, refusals, tally-tells_all)
 
   module _ (few : budget_of one < most_counted) where
     within : (w : ℕ) → nat_lt (count_in (queries_in one) w) (budget_of one) ≡ nat_lt (count_in (queries_in other) w) (budget_of other)
-    within w =
-        below (count_in (queries_in one) w) (count_in (queries_in other) w) (budget_of one)
-        (tally-tells_all (queries_in one) (queries_in other) w queries).0 few
-        ∙ ap (nat_lt (count_in (queries_in other) w)) budgets
+    within w = grind (arith, below, tally-tells_all, queries, budgets)
 
     last_one : (w : ℕ) → (count_in (queries_in one) w == budget_of one) ≡ (count_in (queries_in other) w == budget_of other)
-    last_one w =
-        equal (count_in (queries_in one) w) (count_in (queries_in other) w) (budget_of one)
-        (tally-tells_all (queries_in one) (queries_in other) w queries).0 few
-        ∙ ap (λ b. count_in (queries_in other) w == b) budgets
+    last_one w = grind (arith, equal, tally-tells_all, queries, budgets)
 
     recents : recent_of one ≡ recent_of other
     recents = recent-alike one other same
 
     -- a datagram of one kind is answered alike
     answered-alike : (o : Occasion) (k : Kind) → kind_answer one o k ≡ kind_answer other o k
-    answered-alike o (PassedOver why) = refl
-    answered-alike o (RefusedByDeny h) =
-        λ i. if sent (window_at o) i then answer.Deny (header_octets (kiss_fields Deny h)) else answer.Silent reason.Muted
-    answered-alike o (RefusedByNak h) =
-        λ i. if sent (window_at o) i
-        then answer.Nak (header_octets (basic_fields o h (new_stamps o (recents i))) ++ nak_octets) else answer.Silent reason.Muted
-    answered-alike o (Signed key number h) =
-        λ i. by_budget (timed key number o h (recents i)) (answer.Rate (sealed key number (kiss_fields Rate h))) (within (window_at o) i)
-        (last_one (window_at o) i)
+    answered-alike o k = grind (arith, sent, recents, within, last_one)
 
     -- and the same is kept of both pasts afterwards
     kept-alike : (o : Occasion) (k : Kind) → short (after_kind one o k) ≡ short (after_kind other o k)

@@ -35,11 +35,7 @@ address_eq_equiv = on_texts_equal (λ (a : Address). a.0)
 
 -- and so are numbers
 pub numbers : IsKeyOrder nat_cmp nat_eq
-numbers = record {
-  total = nat_cmp_total;
-  same = nat_cmp-IsAntisymmetric;
-  ties = λ a b. grind (arith, nat_tests);
-}
+numbers = grind (arith, nat_cmp_total, nat_tests)
 
 -- two addresses are one, or not
 pub same_or_other_address : (a b : Address) → (a ≡ b) ⊎ (a ≢ b)

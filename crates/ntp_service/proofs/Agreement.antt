@@ -34,8 +34,7 @@ in_none ms n e is = Contains-none n (subst (λ l. Contains l n) e is)
 
 -- a customer that is not enrolled has no number
 no_numbers : (o : Option CustomerState) → option_map_or is_enrolled o false ≡ false → numbers_held o ≡ []
-no_numbers None h = refl
-no_numbers (Some c) h = ap numbers_of (sym (revoked-absent c h))
+no_numbers o e = grind (arith, revoked-absent)
 
 pub unenrolled-numbers : (r : Registry) (address : Address) → is_enrolled_at r address ≡ false → numbers_at r address ≡ []
 unenrolled-numbers r address h = no_numbers (customer_at r address) h
@@ -46,17 +45,6 @@ agrees-empty = record {
   held = λ a n h. absurd (in_none (numbers_at empty_registry a) n (ap numbers_held (get-empty address_cmp a)) h);
   enrolled = λ a n h. absurd (none-some a (sym (get-empty nat_cmp n) ∙ h));
 }
-
--- the holder of a number that an address wants that is not enrolled is another address, and is enrolled with it
-pub other-holder : (r : Registry) (address holder : Address) (number : ℕ) → Agrees r → is_enrolled_at r address ≡ false
-    → holder_of r number ≡ Some holder
-    → (holder ≢ address) × Contains (numbers_at r holder) number
-other-holder r address holder number agrees new held =
-    let enrolled : Contains (numbers_at r holder) number = agrees.enrolled holder number held in (
-      λ e. in_none (numbers_at r address) number (unenrolled-numbers r address new)
-          (subst (λ a. Contains (numbers_at r a) number) e enrolled),
-      enrolled,
-    )
 
 -- no two addresses are enrolled with one number
 pub one-holder : (r : Registry) (a b : Address) (number : ℕ) → Agrees r → Contains (numbers_at r a) number
@@ -107,11 +95,7 @@ module _ (r : Registry) (address : Address) (w : CustomerState) (agrees : Agrees
     agrees-taking = agrees-elsewhere r taking address (numbers_at-with_customer-other r address w) holders here agrees
       where
         holders : (a : Address) (n : ℕ) → a ≢ address → (holder_of taking n ≡ Some a) ↔ (holder_of r n ≡ Some a)
-        holders a n ne = ⊎_elim
-            (λ e. subst (λ m. (holder_of taking m ≡ Some a) ↔ (holder_of r m ≡ Some a)) (sym e)
-            ((λ h. absurd (ne (same_some a address (sym h ∙ now)))), (λ h. absurd (none-some a (sym free ∙ h)))))
-            (λ other. ((λ h. sym (stays n other) ∙ h), (λ h. stays n other ∙ h)))
-            (same_or_other_number n number)
+        holders a n ne = grind (arith, same_some, now, none-some, stays, same_or_other_number)
 
         here : (n : ℕ) → Contains (numbers_at taking address) n ↔ (holder_of taking n ≡ Some address)
         here n = subst (λ l. Contains l n ↔ (holder_of taking n ≡ Some address)) (sym (numbers_at-with_customer r address w ∙ more)) (⊎_elim
@@ -162,16 +146,13 @@ module _ (r : Registry) (address : Address) (w : CustomerState) (agrees : Agrees
 -- an enrolment of an address that is not enrolled, with a number that is free, keeps the agreement
 agrees-enrol : (r : Registry) (address : Address) (key : NumberedKey) (budget : ℕ) → is_enrolled_at r address ≡ false
     → holder_of r key.number ≡ None → Agrees r → Agrees (with_customer (with_holder r key.number address) address (new_customer (enrolment_of key budget)))
-agrees-enrol r address key budget new free agrees =
-    agrees-taking r address (new_customer (enrolment_of key budget)) agrees key.number free
-    (ap (λ l. l ++ key.number ∷ []) (sym (unenrolled-numbers r address new)))
+agrees-enrol r address key budget new free agrees = grind (arith, agrees-taking, unenrolled-numbers)
 
 module _ (r : Registry) (address : Address) (c : CustomerState) (there : customer_at r address ≡ Some c) (agrees : Agrees r) where
   -- so does one key more of an address that is enrolled, with a number that is free
   agrees-rollover : (key : NumberedKey) → is_enrolled c ≡ true → holder_of r key.number ≡ None
       → Agrees (with_customer (with_holder r key.number address) address (rolled_over c key))
-  agrees-rollover key enrolled free = agrees-taking r address (rolled_over c key) agrees key.number free
-      (numbers-rolled_over c key enrolled ∙ ap (λ l. l ++ key.number ∷ []) (sym (ap numbers_held there)))
+  agrees-rollover key enrolled free = grind (arith, agrees-taking, numbers-rolled_over, numbers_held)
 
   -- the end of a key
   agrees-retire : (number : ℕ) → Contains (numbers_at r address) number
@@ -210,8 +191,7 @@ unenrolled-there None address number budget key own = refl
 unenrolled-there (Some d) address number budget key own = by_enrolment (enrolment_at d) own
   where
     by_enrolment : (o : Option Enrolment) → refusal_of o (Enrol address number key budget) ≡ None → is_some o ≡ false
-    by_enrolment None own = refl
-    by_enrolment (Some e) own = cc
+    by_enrolment o e = grind arith
 
 -- a key that is taken is one that is held
 retired-held : (d : CustomerState) (address : Address) (number : NonZeroU16) → refusal_of (enrolment_at d) (Retire address number) ≡ None
@@ -220,8 +200,7 @@ retired-held d address number own = by_enrolment (enrolment_at d) own
   where
     by_enrolment : (o : Option Enrolment) → refusal_of o (Retire address number) ≡ None
         → Contains (option_map_or numbers_in o []) (non_zero_u16_get number)
-    by_enrolment None own = cc
-    by_enrolment (Some e) own = found-number e.keys (non_zero_u16_get number) (grind (arith, nat_tests))
+    by_enrolment o e = grind (arith, found-number, nat_tests)
 
 -- a command that nothing is in the way of keeps the agreement
 pub agrees-after : (r : Registry) (c : Command) → own_refusal r c ≡ None → holder_in_way r c ≡ None → Agrees r → Agrees (after_command r c)

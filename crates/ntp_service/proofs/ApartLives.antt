@@ -1,7 +1,7 @@
 -- The exchanges of an address are apart, whatever events it had.
-use Rattle.std.proofs.Common.{◌≡◌, Bool, true, false, List, [], ◌∷◌, Some, None, is_some, option_map, refl, sym, subst}
+use Rattle.std.proofs.Common.{◌≡◌, Bool, List, [], ◌∷◌, Some, None, is_some, option_map, refl, arith}
+use Rattle.std.proofs.lemmas.Grind.{common_steps}
 use Rattle.std.specs.Prelude.{if◌then◌else◌}
-use Rattle.std.specs.Int.NonZero.{non_zero_u16_get}
 use Rattle.ntp_customer.specs.Exchanges.{AreSaved}
 use Rattle.ntp_customer.proofs.PublicLaws.{AreSaved-nil, with_key, without_key}
 use Rattle.ntp_customer.specs.Customer.{Enrolment, with_terms}
@@ -10,10 +10,9 @@ use Rattle.ntp_reply.specs.Kind.{kind_of}
 use Rattle.ntp_reply.specs.Replies.{occasion_of}
 use Rattle.ntp_reply.proofs.PublicLaws.{AreSaved-none, AreSaved-after_kind, AreSaved-after_departure}
 use Rattle.ntp_service.specs.declared.command.Command.{Command}
-use Rattle.ntp_service.specs.declared.command.Command.TheVariants.{Enrol, Revoke, Budget, Rollover, Retire}
 use Rattle.ntp_service.specs.declared.event.Event.{Event}
 use Rattle.ntp_service.specs.declared.event.Event.TheVariants as event
-use Rattle.ntp_service.specs.Commands.{numbered, refusal_of, once_done}
+use Rattle.ntp_service.specs.Commands.{refusal_of, once_done}
 use Rattle.ntp_service.specs.Model.{after, life_after, life_of}
 use Rattle.ntp_service.proofs.Lives.{by_life}
 
@@ -22,18 +21,11 @@ changed : (change : Enrolment → Enrolment) (life : Life) → recent_in (option
 changed change = by_life _ refl (λ refusals. refl) (λ a refusals. refl)
 
 AreSaved-done : (life : Life) (c : Command) → AreSaved (recent_in life) → AreSaved (recent_in (once_done [] life c))
-AreSaved-done life (Enrol address number key budget) are = AreSaved-none
-AreSaved-done None (Revoke address) are = are
-AreSaved-done (Some past) (Revoke address) are = AreSaved-none
-AreSaved-done life (Budget address budget) are =
-    subst AreSaved (sym (changed (λ e. record e { budget = non_zero_u16_get budget }) life)) are
-AreSaved-done life (Rollover address number key) are = subst AreSaved (sym (changed (λ e. with_key e (numbered number key)) life)) are
-AreSaved-done life (Retire address number) are = subst AreSaved (sym (changed (λ e. without_key e (non_zero_u16_get number)) life)) are
+AreSaved-done life c e = grind (arith, AreSaved-none, changed, with_key, without_key)
 
 AreSaved-command : (life : Life) (c : Command) (b : Bool) → AreSaved (recent_in life)
     → AreSaved (recent_in (if b then life else once_done [] life c))
-AreSaved-command life c true are = are
-AreSaved-command life c false are = AreSaved-done life c are
+AreSaved-command life c b e = grind (arith, common_steps, AreSaved-done)
 
 module _ {A : Type 0} where
   AreSaved-after : (life : Life) (e : Event A) → AreSaved (recent_in life) → AreSaved (recent_in (after life e))

@@ -1,5 +1,5 @@
 -- What one event takes of the replies that an address has left in a window.
-use Rattle.std.proofs.Common.{◌≡◌, ◌≢◌, ℕ, suc, ◌+◌, ◌-◌, ◌≤◌, cond, Bool, true, false, is_some, List, [], ◌∷◌, ◌++◌, Some, None, Option, option_map, Result, Ok, Err, refl, sym, ap, ◌∙◌, true≢false, arith}
+use Rattle.std.proofs.Common.{◌≡◌, ◌≢◌, ℕ, suc, ◌+◌, ◌-◌, ◌≤◌, cond, Bool, true, false, is_some, List, [], ◌∷◌, ◌++◌, Some, None, Option, option_map, Result, Ok, refl, sym, ap, ◌∙◌, true≢false, arith}
 use Rattle.std.specs.Option.{option_map_or}
 use Rattle.std.proofs.lemmas.Bool.{eq-eqb}
 use Rattle.std.proofs.lemmas.Bool.Decides.{nat_tests}
@@ -95,9 +95,7 @@ unsigned r = grind arith
 
 signed-enrolled : (e : Option Enrolment) (read : Result RequestValue Malformed) → is_signed_query (octets_kind e read) ≡ true
     → is_some e ≡ true
-signed-enrolled (Some e) read is = refl
-signed-enrolled None (Ok r) is = absurd (true≢false (sym is ∙ unsigned r))
-signed-enrolled None (Err fault) is = absurd (true≢false (sym is))
+signed-enrolled e read f = grind (arith, unsigned)
 
 pub spends-datagram : (life : Life) (o : Occasion) (octets : List ℕ)
     → Spends life (after_datagram life o octets) (window_at o) (outcome.Datagram (verdict life o octets))
@@ -111,8 +109,7 @@ enrolment-kind o (Signed key number h) = by_past _ (λ refusals. grind arith) (�
 enrolment-kind o other = λ past. refl
 
 pub same-enrolment : (life : Life) (o : Occasion) (octets : List ℕ) → enrolment_in (after_datagram life o octets) ≡ enrolment_in life
-same-enrolment None o octets = refl
-same-enrolment (Some past) o octets = enrolment-kind o (kind_of past octets) past
+same-enrolment life o octets = grind (arith, enrolment-kind)
 
 pub same-most : (life : Life) (o : Occasion) (octets : List ℕ) → most_query_replies (after_datagram life o octets) ≡ most_query_replies life
 same-most life o octets = ap (λ found. option_map_or (λ e. e.budget + 1) found 0) (same-enrolment life o octets)

@@ -1,5 +1,5 @@
 -- One datagram, or one departure, by what the register has at its address.
-use Rattle.std.proofs.Common.{◌≡◌, Bool, true, false, Some, None, option_map, List, refl, sym, ap, ◌∙◌}
+use Rattle.std.proofs.Common.{◌≡◌, Bool, false, Some, None, option_map, List, sym, ap, ◌∙◌, arith}
 use Rattle.std.specs.Bool.{OnFalse}
 use Rattle.std.proofs.lemmas.Option.{none-some}
 use Rattle.ntp_service.specs.declared.address.Address.{Address}
@@ -48,12 +48,9 @@ module _ {A : Type 0} (r : Registry) (history : List (Event A)) (e : Event A) (s
 
 -- a departure is refused nothing
 pub unstruck : (noted : Bool) → is_struck (departure_outcome noted) ≡ false
-unstruck true = refl
-unstruck false = refl
+unstruck noted = grind arith
 
 -- where a customer is left as it was, so is the register
 pub unchanged-there : (noted : Bool) (r s : Registry) (address : Address) (c w : CustomerState) → s ≡ r → customer_at r address ≡ Some c
     → OnFalse noted (w ≡ c) → OnFalse noted (with_customer r address w ≡ s)
-unchanged-there true r s address c w is there same = same
-unchanged-there false r s address c w is there same =
-    ap (with_customer r address) same ∙ with_customer-present r address c there ∙ sym is
+unchanged-there noted r s address c w e f g = grind (arith, with_customer-present)

@@ -1,13 +1,10 @@
 -- Enrolments: commands alone change them, and what asks for a number depends on them alone.
-use Rattle.std.proofs.Common.{◌≡◌, false, Option, Some, None, option_map, List, [], Contains, refl, sym, ◌∙◌, subst, true≢false, arith}
-use Rattle.std.specs.Option.{option_map_or}
+use Rattle.std.proofs.Common.{◌≡◌, false, Option, Some, None, option_map, List, [], arith}
 use Rattle.std.specs.Int.NonZero.{non_zero_u16_get}
-use Rattle.ntp_customer.specs.Customer.{Enrolment, enrolment_of, numbers_in}
+use Rattle.ntp_customer.specs.Customer.{Enrolment, enrolment_of}
 use Rattle.ntp_customer.proofs.PublicLaws.{with_key, without_key}
 use Rattle.ntp_service.specs.declared.address.Address.{Address}
 use Rattle.ntp_reply.specs.Life.{Life, enrolment_in}
-use Rattle.ntp_reply.specs.Replies.{occasion_of}
-use Rattle.ntp_reply.specs.Exchanged.{after_departure}
 use Rattle.ntp_service.specs.declared.command.Command.{Command}
 use Rattle.ntp_service.specs.declared.command.Command.TheVariants.{Enrol, Revoke, Budget, Rollover, Retire}
 use Rattle.ntp_service.specs.declared.event.Event.{Event}
@@ -29,8 +26,7 @@ enrolment_after terms (Rollover address number key) = option_map {T = Enrolment}
 enrolment_after terms (Retire address number) = option_map {T = Enrolment} (λ e. without_key e (non_zero_u16_get number)) terms
 
 enrolment-done : (c : Command) (life : Life) → enrolment_in (once_done [] life c) ≡ enrolment_after (enrolment_in life) c
-enrolment-done (Enrol address number key budget) = λ life. refl
-enrolment-done other = by_life _ refl (λ refusals. refl) (λ a refusals. refl)
+enrolment-done c life = grind (arith, by_life)
 
 -- with one enrolment a command leaves one, and is answered alike
 enrolment-command : (c : Command) (one other : Life) → enrolment_in one ≡ enrolment_in other
@@ -43,26 +39,18 @@ command-alike c one other same = cc
 module _ {A : Type 0} where
   -- what is no command leaves the enrolment, and asks for no number
   pub enrolment-other : (life : Life) (e : Event A) → is_command e ≡ false → enrolment_in (after life e) ≡ enrolment_in life
-  enrolment-other life (event.Command c) plain = absurd (true≢false plain)
-  enrolment-other life (event.Datagram address receipt transmit reference octets) plain =
-      same-enrolment life (occasion_of receipt transmit reference) octets
-  enrolment-other life (event.Departed address receive m) plain =
-      by_life (λ l. enrolment_in (option_map (λ past. after_departure past receive m) l) ≡ enrolment_in l)
-      refl (λ refusals. refl) (λ a refusals. refl) life
+  enrolment-other life e f = grind (arith, same-enrolment, by_life)
 
   pub asks-nothing : (e : Event A) → is_command e ≡ false → number_asked e ≡ None
-  asks-nothing (event.Command c) plain = absurd (true≢false plain)
-  asks-nothing other plain = refl
+  asks-nothing e f = grind arith
 
   -- with one enrolment an event leaves one
   pub enrolment-alike : (one other : Life) (e : Event A) → enrolment_in one ≡ enrolment_in other
       → enrolment_in (after one e) ≡ enrolment_in (after other e)
-  enrolment-alike one other (event.Command c) same = enrolment-command c one other same
-  enrolment-alike one other e same = enrolment-other one e refl ∙ same ∙ sym (enrolment-other other e refl)
+  enrolment-alike one other e f = grind (arith, enrolment-command, enrolment-other)
 
   -- whether a number is taken depends on enrolments alone
   pub taken-over : (one other : List (Event A)) (e : Event A)
       → answer_to (life_of (own (address_of e) one)) e ≡ answer_to (life_of (own (address_of e) other)) e
       → ((a : Address) → enrolment_in (life_of (own a one)) ≡ enrolment_in (life_of (own a other))) → IsTaken one e → IsTaken other e
-  taken-over one other e answers lives is =
-      (is.0, (is.1.0, sym answers ∙ is.1.1), is.2, is.3, subst (λ terms. Contains (option_map_or numbers_in terms []) is.0) (lives is.2) is.4)
+  taken-over one other e answers lives is = grind arith

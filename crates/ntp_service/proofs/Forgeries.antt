@@ -1,5 +1,5 @@
 -- Forged datagrams change no answer to a genuine event.
-use Rattle.std.proofs.Common.{◌≡◌, ℕ, true, false, Some, None, List, [], ◌∷◌, map, refl, sym, ap, ◌∙◌, true≢false, arith}
+use Rattle.std.proofs.Common.{◌≡◌, ℕ, true, false, Some, None, List, [], ◌∷◌, map, refl, sym, ap, ◌∙◌, arith}
 use Rattle.ntp_packet.specs.declared.moment.Moment.{Moment}
 use Rattle.ntp_packet.specs.Header.{HeaderFields}
 use Rattle.ntp_service.specs.declared.address.Address.{Address}
@@ -7,14 +7,12 @@ use Rattle.ntp_service.specs.Registry.{Registry}
 use Rattle.ntp_customer.proofs.PublicLaws.{with_refusals}
 use Rattle.ntp_customer.specs.Past.{Past}
 use Rattle.ntp_reply.specs.Life.{Life}
-use Rattle.ntp_reply.specs.Replies.{occasion_of}
 use Rattle.ntp_reply.specs.Reference.{ReferenceState}
 use Rattle.ntp_reply.specs.declared.answers.Answer.{Answer}
-use Rattle.ntp_reply.specs.Kind.{Kind, Signed, kind_of}
+use Rattle.ntp_reply.specs.Kind.{Kind}
 use Rattle.ntp_reply.specs.Verdict.{after_signed, kind_answer, after_kind}
 use Rattle.ntp_reply.specs.declared.occasion.Occasion.{Occasion}
 use Rattle.ntp_service.specs.declared.command.Command.{Command}
-use Rattle.ntp_service.specs.declared.command.Command.TheVariants.{Enrol}
 use Rattle.ntp_service.specs.declared.event.Event.{Event}
 use Rattle.ntp_service.specs.declared.event.Event.TheVariants as event
 use Rattle.ntp_service.specs.declared.outcome.Outcome.{Outcome}
@@ -31,14 +29,12 @@ use Rattle.ntp_service.proofs.Lives.{life_after_command}
 -- a signed query is answered alike with no refusals counted
 query-answer : (past : Past) (o : Occasion) (k : Kind) → is_signed_query k ≡ true
     → kind_answer (with_refusals past []) o k ≡ kind_answer past o k
-query-answer past o (Signed key number request) signed = refl
-query-answer past o other signed = absurd (true≢false (sym signed))
+query-answer past o k e = grind arith
 
 -- what is none is a refusal counted, and no more
 forged-kind : (past : Past) (o : Occasion) (k : Kind) → is_signed_query k ≡ false
     → with_refusals (after_kind past o k) [] ≡ with_refusals past []
-forged-kind past o (Signed key number request) forged = absurd (true≢false forged)
-forged-kind past o other forged = refl
+forged-kind past o k e = grind arith
 
 -- the past after it is the same in all but refusals
 after-signed : (past : Past) (o : Occasion) (request : HeaderFields)
@@ -47,14 +43,12 @@ after-signed past o request = grind arith
 
 after-kind : (past : Past) (o : Occasion) (k : Kind)
     → with_refusals (after_kind (with_refusals past []) o k) [] ≡ with_refusals (after_kind past o k) []
-after-kind past o (Signed key number request) = after-signed past o request
-after-kind past o other = refl
+after-kind past o k = grind (arith, after-signed)
 
 -- and after a command
 same-done : (c : Command) (past : Past)
     → without_refusals (once_done [] (Some (with_refusals past [])) c) ≡ without_refusals (once_done [] (Some past) c)
-same-done (Enrol address number key budget) past = refl
-same-done other past = refl
+same-done c past = grind arith
 
 same-command : (c : Command) (past : Past)
     → without_refusals (life_after_command (Some (with_refusals past [])) c) ≡ without_refusals (life_after_command (Some past) c)
@@ -63,42 +57,28 @@ same-command c past = grind (arith, same-done c past)
 module _ {A : Type 0} where
   -- ---- one event
   same-genuine : (life : Life) (e : Event A) → is_genuine (without_refusals life) e ≡ is_genuine life e
-  same-genuine None e = refl
-  same-genuine (Some past) e = refl
+  same-genuine life e = grind arith
 
   -- a genuine event is answered alike with no refusals counted
   genuine-answer : (life : Life) (e : Event A) → is_genuine life e ≡ true → answer_to (without_refusals life) e ≡ answer_to life e
-  genuine-answer None e is = refl
-  genuine-answer (Some past) (event.Datagram address receipt transmit reference octets) is =
-      ap outcome.Datagram (query-answer past (occasion_of receipt transmit reference) (kind_of past octets) is)
-  genuine-answer (Some past) other is = refl
+  genuine-answer life e f = grind (arith, query-answer)
 
   -- and an event leaves the same life but for refusals
   same-after : (life : Life) (e : Event A) → without_refusals (after (without_refusals life) e) ≡ without_refusals (after life e)
-  same-after None e = refl
-  same-after (Some past) (event.Datagram address receipt transmit reference octets) =
-      ap Some (after-kind past (occasion_of receipt transmit reference) (kind_of past octets))
-  same-after (Some past) (event.Command c) = same-command c past
-  same-after (Some past) other = refl
+  same-after life e = grind (arith, after-kind, same-command)
 
   -- an event that is not genuine leaves the life as it was but for refusals
   forged-after : (life : Life) (e : Event A) → is_genuine life e ≡ false → without_refusals (after life e) ≡ without_refusals life
-  forged-after None (event.Datagram address receipt transmit reference octets) forged = refl
-  forged-after (Some past) (event.Datagram address receipt transmit reference octets) forged =
-      ap Some (forged-kind past (occasion_of receipt transmit reference) (kind_of past octets) forged)
-  forged-after life other forged = absurd (true≢false forged)
+  forged-after life e f = grind (arith, forged-kind)
 
   -- ---- two lives that agree in all but refusals
   alike-answer : (one other : Life) (e : Event A) → without_refusals one ≡ without_refusals other → is_genuine other e ≡ true
       → answer_to one e ≡ answer_to other e
-  alike-answer one other e same is =
-      let there : is_genuine one e ≡ true = sym (same-genuine one e) ∙ ap (λ l. is_genuine l e) same ∙ same-genuine other e ∙ is in
-      sym (genuine-answer one e there) ∙ ap (λ l. answer_to l e) same ∙ genuine-answer other e is
+  alike-answer one other e same is = grind (arith, same-genuine, genuine-answer)
 
   alike-after : (one other : Life) (e : Event A) → without_refusals one ≡ without_refusals other
       → without_refusals (after one e) ≡ without_refusals (after other e)
-  alike-after one other e same =
-      sym (same-after one e) ∙ ap (λ l. without_refusals (after l e)) same ∙ same-after other e
+  alike-after one other e same = grind (arith, same-after)
 
   -- the genuine events alone are answered as among all, and leave the same life but for refusals
   abbrev Alone : Life → Life → List (Event A) → Type 0

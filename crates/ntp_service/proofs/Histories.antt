@@ -1,9 +1,9 @@
 -- What one more event does to a history.
-use Rattle.std.proofs.Common.{◌≡◌, ◌≢◌, Bool, true, false, None, option_map, List, [], ◌∷◌, ◌++◌, map, refl, sym, ap, ◌∙◌, subst, append-nil, ⊎_elim, true≢false}
-use Rattle.std.specs.Prelude.{if◌then◌else◌}
+use Rattle.std.proofs.Common.{◌≡◌, ◌≢◌, Bool, true, false, option_map, List, [], ◌∷◌, ◌++◌, map, refl, sym, ap, ◌∙◌, subst, append-nil, ⊎_elim, arith}
+use Rattle.std.proofs.lemmas.Grind.{common_steps}
 use Rattle.std.specs.Ordering.{is_eq}
 use Rattle.std.specs.declared.cmp.Ordering.{Ordering}
-use Rattle.std.specs.declared.cmp.Ordering.TheVariants.{Less, Equal, Greater}
+use Rattle.std.specs.declared.cmp.Ordering.TheVariants.{Equal}
 use Rattle.std.specs.FinMap.{get-empty}
 use Rattle.std.proofs.lemmas.List.Elements.{filter-append}
 use Rattle.ntp_service.specs.declared.address.Address.{Address}
@@ -20,9 +20,7 @@ use Rattle.ntp_service.specs.Model.{answer_to, after, life_after, life_of}
 use Rattle.ntp_service.specs.Headline.{StandsFor, TellsOne, IsTaken, is_struck}
 
 tie : (o : Ordering) → is_eq o ≡ true → o ≡ Equal
-tie Less e = absurd (true≢false (sym e))
-tie Equal e = refl
-tie Greater e = absurd (true≢false (sym e))
+tie o e = grind arith
 
 -- a test of addresses says yes where they are one, and no where they differ
 pub same-address : (a b : Address) → address_eq a b ≡ true → a ≡ b
@@ -32,8 +30,7 @@ pub other-address : (a b : Address) → a ≢ b → address_eq a b ≡ false
 other-address a b ne = decided (address_eq a b) refl
   where
     decided : (t : Bool) → address_eq a b ≡ t → address_eq a b ≡ false
-    decided false e = e
-    decided true e = absurd (ne (same-address a b e))
+    decided t e = grind (arith, same-address)
 
 module _ {A : Type 0} where
   -- the events of what happened
@@ -44,22 +41,16 @@ module _ {A : Type 0} where
   own-append a xs ys = filter-append (names a) xs ys
 
   pub life_after-append : (life : Life) (xs ys : List (Event A)) → life_after life (xs ++ ys) ≡ life_after (life_after life xs) ys
-  life_after-append life [] ys = refl
-  life_after-append life (x ∷ xs) ys = life_after-append (after life x) xs ys
+  life_after-append life xs ys = grind (arith, common_steps)
 
   -- the life of the address that the next event names
   pub life-here : (history : List (Event A)) (e : Event A)
       → life_of (own (address_of e) (history ++ e ∷ [])) ≡ after (life_of (own (address_of e) history)) e
-  life-here history e =
-      ap life_of (own-append (address_of e) history (e ∷ [])
-      ∙ ap (λ (t : Bool). own (address_of e) history ++ (if t then e ∷ [] else [])) (address_eq_equiv.refl (address_of e)))
-      ∙ life_after-append None (own (address_of e) history) (e ∷ [])
+  life-here history e = grind (arith, own-append, address_eq_equiv, life_after-append)
 
   -- the life of any other
   pub life-there : (a : Address) (history : List (Event A)) (e : Event A) → a ≢ address_of e → own a (history ++ e ∷ []) ≡ own a history
-  life-there a history e ne =
-      own-append a history (e ∷ []) ∙ ap (λ (t : Bool). own a history ++ (if t then e ∷ [] else [])) (other-address a (address_of e) ne)
-      ∙ append-nil (own a history)
+  life-there a history e ne = grind (arith, own-append, other-address, append-nil)
 
   -- a service that did with the event's address what the event does, and with no other address anything
   pub stands-step : (r s : Registry) (history : List (Event A)) (e : Event A) → StandsFor r history
@@ -77,21 +68,13 @@ module _ {A : Type 0} where
   -- an event that changes no life
   pub stands-same : (r : Registry) (history : List (Event A)) (e : Event A) → StandsFor r history
       → after (life_of (own (address_of e) history)) e ≡ life_of (own (address_of e) history) → StandsFor r (history ++ e ∷ [])
-  stands-same r history e stands same =
-      stands-step r r history e stands (stands.entries (address_of e) ∙ ap (option_map short) (sym same)) (λ a ne. refl) stands.agrees
+  stands-same r history e stands same = grind (arith, stands-step)
 
   -- an outcome that is not struck out is that of the model, and then the service stands for one event more
   pub tells-one : (history : List (Event A)) (e : Event A) (o : Outcome) (s : Registry) → is_struck o ≡ false
       → o ≡ answer_to (life_of (own (address_of e) history)) e → (IsTaken history e → ⊥) → StandsFor s (history ++ e ∷ [])
       → TellsOne history e o s
-  tells-one history e o s plain is free stands = record {
-    as_model = λ h. is;
-    cause = record {
-      taken = (λ h. absurd (true≢false (ap is_struck (sym h) ∙ plain)), λ h. absurd (free h));
-      memory = λ h. absurd (true≢false (ap is_struck (sym h) ∙ plain));
-    };
-    stands = subst (λ (b : Bool). StandsFor s (if b then history else history ++ e ∷ [])) (sym plain) stands;
-  }
+  tells-one history e o s plain is free stands = grind arith
 
 -- a service with no customers
 pub stands-empty : {A : Type 0} → StandsFor {A = A} empty_registry []

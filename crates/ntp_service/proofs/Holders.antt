@@ -1,5 +1,5 @@
 -- Who holds a number.
-use Rattle.std.proofs.Common.{◌≡◌, ◌≢◌, ℕ, zero, suc, ◌==◌, Option, Some, None, IsSome, Contains, is_some, option_map, List, [], ◌∷◌, map, find, refl, sym, ap, ◌∙◌, subst, true, true≢false, arith}
+use Rattle.std.proofs.Common.{◌≡◌, ℕ, zero, suc, ◌==◌, Option, Some, None, IsSome, Contains, is_some, option_map, List, [], ◌∷◌, map, find, refl, sym, ap, ◌∙◌, subst, true, arith}
 use Rattle.std.specs.Prelude.{◌↔◌}
 use Rattle.std.specs.Option.{option_map_or}
 use Rattle.std.proofs.lemmas.Bool.Decides.{nat_tests}
@@ -12,10 +12,8 @@ use Rattle.ntp_service.proofs.Agreement.{one-holder}
 use Rattle.ntp_service.proofs.Lookups.{numbers_held}
 use Rattle.ntp_reply.specs.Life.{Life, enrolment_in}
 use Rattle.ntp_service.specs.declared.command.Command.{Command}
-use Rattle.ntp_service.specs.declared.command.Command.TheVariants.{Enrol, Rollover}
 use Rattle.ntp_service.specs.declared.event.Event.{Event}
 use Rattle.ntp_service.specs.declared.event.Event.TheVariants as event
-use Rattle.ntp_service.specs.declared.outcome.Outcome.TheVariants.{Done, Refused}
 use Rattle.ntp_service.specs.Events.{address_of, own}
 use Rattle.ntp_service.specs.Commands.{number_wanted, refusal_of}
 use Rattle.ntp_service.specs.Model.{life_of}
@@ -27,8 +25,7 @@ numbers-kept : (life : Life) → numbers_held (option_map short life) ≡ option
 numbers-kept = by_life _ refl (λ refusals. refl) (λ a refusals. refl)
 
 the-some : {X : Type 0} (o : Option X) → IsSome o → (x : X) × (o ≡ Some x)
-the-some None h = absurd (true≢false (sym h))
-the-some (Some x) h = (x, refl)
+the-some o e = grind arith
 
 -- a number that is held is found
 pub held-number : (keys : List NumberedKey) (n : ℕ) → Contains (map (λ k. k.number) keys) n → is_some (find (λ k. k.number == n) keys) ≡ true
@@ -39,11 +36,7 @@ held-number (k ∷ keys) n (suc i, within, is) = let later = held-number keys n 
 -- who asks for a number, and is not refused, does not hold it
 asked-free : (c : Command) (terms : Option Enrolment) (n : ℕ) → number_wanted c ≡ Some n → refusal_of terms c ≡ None
     → Contains (option_map_or numbers_in terms []) n → ⊥
-asked-free (Enrol address number key budget) None n asked plain is = omega (arith, is.1)
-asked-free (Enrol address number key budget) (Some e) n asked plain is = cc
-asked-free (Rollover address number key) None n asked plain is = cc
-asked-free (Rollover address number key) (Some e) n asked plain is = let held = held-number e.keys n is in grind arith
-asked-free other terms n asked plain is = cc
+asked-free c terms n e f g = grind (arith, held-number)
 
 module _ {A : Type 0} (r : Registry) (history : List (Event A)) (stands : StandsFor r history) where
   -- the register has the terms and the numbers of each life
@@ -70,14 +63,7 @@ module _ {A : Type 0} (r : Registry) (history : List (Event A)) (stands : Stands
       address = address_of {A = A} (event.Command c)
 
       there : IsSome (holder_of r n) → IsTaken history (event.Command c)
-      there h =
-          let holder = the-some (holder_of r n) h in
-          let held : IsEnrolledWith history holder.0 n =
-          subst (λ l. Contains l n) (numbers-are holder.0) (stands.agrees.enrolled holder.0 n holder.1) in
-          let other : holder.0 ≢ address = λ same.
-          asked-free c (enrolment_in (life_of (own address history))) n asked plain
-          (subst (λ a. IsEnrolledWith history a n) same held) in
-          (n, (asked, ap (λ o. option_map_or Refused o Done) plain), holder.0, other, held)
+      there h = grind (arith, the-some, numbers-are, asked-free)
 
       back : IsTaken history (event.Command c) → IsSome (holder_of r n)
       back h =

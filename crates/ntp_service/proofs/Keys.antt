@@ -1,16 +1,13 @@
 -- A finite map that was changed at one key, by cases on the key that is asked for.
-use Rattle.std.proofs.Common.{◌≡◌, ◌≢◌, false, cond, Some, None, refl, sym, ap, ◌∙◌, subst, true≢false, ◌⊎◌, inl, inr, ⊎_elim}
+use Rattle.std.proofs.Common.{◌≡◌, ◌≢◌, false, cond, Some, None, refl, sym, ap, ◌∙◌, subst, true≢false, ◌⊎◌, inl, inr, ⊎_elim, arith}
 use Rattle.std.specs.declared.cmp.Ordering.{Ordering}
-use Rattle.std.specs.declared.cmp.Ordering.TheVariants.{Less, Equal, Greater}
-use Rattle.std.specs.Ordering.{eq_by_cmp, is_eq}
+use Rattle.std.specs.Ordering.{eq_by_cmp}
 use Rattle.std.specs.Cmp.{IsTotalOrder, eq_by_cmp_equiv}
 use Rattle.std.specs.FinMap.{FinMap, IsAntisymmetric, get, insert, remove, get-insert, get-remove, same_map}
 
 module _ {K : Type 0} {R : K → K → Ordering} (total : IsTotalOrder R) (same : IsAntisymmetric R) where
   cases : (a b : K) (r : Ordering) → R a b ≡ r → (a ≡ b) ⊎ (eq_by_cmp R a b ≡ false)
-  cases a b Less e = inr (ap is_eq e)
-  cases a b Equal e = inl (same a b e)
-  cases a b Greater e = inr (ap is_eq e)
+  cases a b r e = grind arith
 
   distinct : (a b : K) → eq_by_cmp R a b ≡ false → a ≢ b
   distinct a b differ e = true≢false (sym ((eq_by_cmp_equiv total).refl b) ∙ subst (λ x. eq_by_cmp R x b ≡ false) e differ)

@@ -1,7 +1,6 @@
 -- While an address is enrolled it has one key or two, told apart by their numbers, whatever events it had.
-use Rattle.std.proofs.Common.{◌≡◌, ◌≢◌, ℕ, ◌+◌, ◌<◌, ◌==◌, false, not, List, [], ◌∷◌, ◌++◌, map, filter, find, length, Contains, AllPairs, Option, Some, None, IfSome, is_some, option_map, refl, sym, ap, ◌∙◌, subst, true≢false, arith}
+use Rattle.std.proofs.Common.{◌≡◌, ◌≢◌, ℕ, ◌+◌, ◌<◌, ◌==◌, false, not, List, [], ◌∷◌, ◌++◌, map, filter, find, length, Contains, AllPairs, Option, Some, None, IfSome, is_some, option_map, refl, sym, ◌∙◌, subst, true≢false, arith}
 use Rattle.std.specs.Prelude.{if◌then◌else◌}
-use Rattle.std.specs.Int.NonZero.{non_zero_u16_get}
 use Rattle.std.proofs.lemmas.Bool.Decides.{nat_tests}
 use Rattle.std.proofs.lemmas.List.{map-append, length-append}
 use Rattle.std.proofs.lemmas.List.Filters.{length-filter_both}
@@ -13,13 +12,10 @@ use Rattle.ntp_customer.specs.Customer.{Enrolment, HasKeys, enrolment_of, with_t
 use Rattle.ntp_customer.proofs.PublicLaws.{with_key, without_key}
 use Rattle.ntp_service.specs.declared.refusal.Refusal.{Refusal}
 use Rattle.ntp_reply.specs.Life.{Life, enrolment_in}
-use Rattle.ntp_reply.specs.Replies.{occasion_of}
-use Rattle.ntp_reply.specs.Exchanged.{after_departure}
 use Rattle.ntp_service.specs.declared.command.Command.{Command}
-use Rattle.ntp_service.specs.declared.command.Command.TheVariants.{Enrol, Revoke, Budget, Rollover, Retire}
 use Rattle.ntp_service.specs.declared.event.Event.{Event}
 use Rattle.ntp_service.specs.declared.event.Event.TheVariants as event
-use Rattle.ntp_service.specs.Commands.{numbered, rollover_refusal, retire_refusal, refusal_of, once_done}
+use Rattle.ntp_service.specs.Commands.{rollover_refusal, retire_refusal, refusal_of, once_done}
 use Rattle.ntp_service.specs.Model.{after, life_after, life_of}
 use Rattle.ntp_service.proofs.Lives.{by_life}
 use Rattle.ntp_service.proofs.Holders.{held-number}
@@ -89,32 +85,15 @@ changed : (change : Enrolment → Enrolment) (life : Life)
 changed change = by_life _ (λ step has. has) (λ refusals step has. has) (λ a refusals step has. step a.enrolment refl has)
 
 HasKeys-done : (life : Life) (c : Command) → refusal_of (enrolment_in life) c ≡ None → HasKeysIn life → HasKeysIn (once_done [] life c)
-HasKeys-done life (Enrol address number key budget) plain has = HasKeys-one (numbered number key) (non_zero_u16_get budget)
-HasKeys-done None (Revoke address) plain has = has
-HasKeys-done (Some past) (Revoke address) plain has = tt
-HasKeys-done life (Budget address budget) plain has =
-    changed (λ e. record e { budget = non_zero_u16_get budget }) life
-    (λ e is keys. record { some = keys.some; few = keys.few; apart = keys.apart }) has
-HasKeys-done life (Rollover address number key) plain has =
-    changed (λ e. with_key e (numbered number key)) life
-    (λ e is. HasKeys-with_key e (numbered number key) (sym (ap (λ o. refusal_of o (Rollover address number key)) is) ∙ plain)) has
-HasKeys-done life (Retire address number) plain has =
-    changed (λ e. without_key e (non_zero_u16_get number)) life
-    (λ e is. HasKeys-without_key e (non_zero_u16_get number) (sym (ap (λ o. refusal_of o (Retire address number)) is) ∙ plain)) has
+HasKeys-done life c e f = grind (arith, HasKeys-one, changed, with_key, HasKeys-with_key, without_key, HasKeys-without_key)
 
 HasKeys-command : (life : Life) (c : Command) (o : Option Refusal) → refusal_of (enrolment_in life) c ≡ o → HasKeysIn life
     → HasKeysIn (if is_some o then life else once_done [] life c)
-HasKeys-command life c None plain has = HasKeys-done life c plain has
-HasKeys-command life c (Some refusal) is has = has
+HasKeys-command life c o e f = grind (arith, HasKeys-done)
 
 module _ {A : Type 0} where
   HasKeys-after : (life : Life) (e : Event A) → HasKeysIn life → HasKeysIn (after life e)
-  HasKeys-after life (event.Command c) has = HasKeys-command life c (refusal_of (enrolment_in life) c) refl has
-  HasKeys-after life (event.Datagram address receipt transmit reference octets) has =
-      subst (λ o. IfSome o HasKeys) (sym (same-enrolment life (occasion_of receipt transmit reference) octets)) has
-  HasKeys-after life (event.Departed address receive m) has =
-      by_life (λ l. HasKeysIn l → HasKeysIn (option_map (λ past. after_departure past receive m) l))
-      (λ has. has) (λ refusals has. has) (λ a refusals has. has) life has
+  HasKeys-after life e f = grind (arith, HasKeys-command, same-enrolment, by_life)
 
   HasKeys-life_after : (life : Life) (events : List (Event A)) → HasKeysIn life → HasKeysIn (life_after life events)
   HasKeys-life_after life [] has = has

@@ -1,5 +1,5 @@
 -- Lives by their cases, what is kept of them, and the commands that leave them as they are.
-use Rattle.std.proofs.Common.{◌≡◌, ◌≢◌, ℕ, List, [], Option, Some, None, is_some, option_map, refl, sym}
+use Rattle.std.proofs.Common.{◌≡◌, ◌≢◌, ℕ, List, [], Option, Some, None, is_some, option_map, refl, arith}
 use Rattle.std.specs.Prelude.{if◌then◌else◌}
 use Rattle.std.specs.Option.{option_map_or}
 use Rattle.std.proofs.lemmas.Option.{none-some, same_Some}
@@ -17,19 +17,16 @@ use Rattle.ntp_service.specs.Commands.{refusal_of, once_done}
 module _ (P : Life → Type 0) (never : P None) (out : (refusals : List ℕ) → P (Some (record { account = None; refusals = refusals })))
     (enrolled : (a : AccountOf (List ℕ)) (refusals : List ℕ) → P (Some (record { account = Some a; refusals = refusals }))) where
   pub by_life : (life : Life) → P life
-  by_life None = never
-  by_life (Some past) = by_past (λ p. P (Some p)) out enrolled past
+  by_life life = grind (arith, by_past)
 
 -- what holds of each past that leaves this holds of a life that leaves it
 pub by_kept : (P : Life → Type 0) (c : CustomerState) → ((past : Past) → short past ≡ c → P (Some past))
     → (life : Life) → option_map short life ≡ Some c → P life
-by_kept P c so None is = absurd (none-some c is)
-by_kept P c so (Some past) is = so past (same_Some (short past) c is)
+by_kept P c e life f = grind (arith, none-some, same_Some)
 
 -- a life that leaves nothing
 pub never-enrolled : (life : Life) → option_map short life ≡ None → life ≡ None
-never-enrolled None is = refl
-never-enrolled (Some past) is = absurd (none-some (short past) (sym is))
+never-enrolled life e = grind (arith, none-some)
 
 -- the enrolment is kept
 pub enrolment-kept : (life : Life) → option_map_or enrolment_at (option_map short life) None ≡ enrolment_in life
@@ -47,5 +44,4 @@ pub undone : (c : Command) (life : Life) → command_answer life c ≢ Done → 
 undone c life = by_refusal (refusal_of (enrolment_in life) c)
   where
     by_refusal : (o : Option Refusal) → option_map_or Refused o Done ≢ Done → (if is_some o then life else once_done [] life c) ≡ life
-    by_refusal None plain = absurd (plain refl)
-    by_refusal (Some refusal) plain = refl
+    by_refusal o e = grind arith

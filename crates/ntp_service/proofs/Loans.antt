@@ -1,5 +1,5 @@
 -- Loans that come back.
-use Rattle.std.proofs.Common.{◌≡◌, Option, Some, None, IsSome, refl, subst, inl, inr}
+use Rattle.std.proofs.Common.{◌≡◌, Option, IsSome, arith}
 use Rattle.std.specs.Borrow.{MutBor}
 use Rattle.std.specs.Option.{ghost_name_of, option_copied_mut}
 use borrow.Follows.Closed.{read_of}
@@ -8,5 +8,4 @@ use borrow.Follows.Closed.{read_of}
 pub same_return_if : {D E : Type 0} (r : Option (MutBor E)) (o : Option E) → option_copied_mut r ≡ o
     → (f g : E → D) (v w : D) → (IsSome o → (x : E) → f x ≡ g x) → v ≡ w
     → read_of (ghost_name_of r) f v ≡ read_of (ghost_name_of r) g w
-same_return_if None o is f g v w there none = λ i. inr (none i)
-same_return_if (Some x) o is f g v w there none = λ i. inl (x.ghost_name, λ y. there (subst IsSome is refl) y i)
+same_return_if r o e f g v w h p = grind arith

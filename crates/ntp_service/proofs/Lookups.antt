@@ -1,5 +1,5 @@
 -- What a register answers after each change: at the address or the number that was changed, and at all others.
-use Rattle.std.proofs.Common.{◌≡◌, ◌≢◌, ℕ, List, [], ◌∷◌, Option, Some, None, Contains, refl, sym, ap, ◌∙◌, ⊎_elim, arith}
+use Rattle.std.proofs.Common.{◌≡◌, ◌≢◌, ℕ, List, [], ◌∷◌, Option, Some, None, Contains, refl, sym, ap, ◌∙◌, ⊎_elim, arith, rules}
 use Rattle.std.specs.Option.{option_map_or}
 use Rattle.std.proofs.lemmas.Cmp.{nat_cmp_total}
 use Rattle.std.specs.FinMap.{nat_cmp-IsAntisymmetric}
@@ -32,9 +32,7 @@ module _ (r : Registry) (address : Address) (c : CustomerState) where
 
   -- to write what is there
   pub with_customer-present : customer_at r address ≡ Some c → with_customer r address c ≡ r
-  with_customer-present there =
-      let same = insert-present address_cmp_total address_cmp-IsAntisymmetric r.customers address c there in
-      λ i. record { customers = same i; holders = r.holders }
+  with_customer-present there = grind (arith, insert-present, address_cmp_total, address_cmp-IsAntisymmetric)
 
 -- ---- a holder was put in or taken out
 module _ (r : Registry) (number : ℕ) where
@@ -54,8 +52,7 @@ module _ (r : Registry) (number : ℕ) where
   -- to take a holder out again
   pub without_holder-with_holder : (address : Address) → holder_of r number ≡ None
       → without_holder (with_holder r number address) number ≡ r
-  without_holder-with_holder address free =
-      λ i. record { customers = r.customers; holders = remove-insert nat_cmp_total nat_cmp-IsAntisymmetric r.holders number address free i }
+  without_holder-with_holder address free = search (rules, remove-insert, nat_cmp_total)
 
 -- ---- numbers were freed
 -- a number that is free stays so

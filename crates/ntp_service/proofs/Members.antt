@@ -1,5 +1,5 @@
 -- The members of a list of numbers.
-use Rattle.std.proofs.Common.{◌≡◌, ◌⊎◌, inl, inr, ℕ, zero, suc, List, [], ◌∷◌, Contains, arith, ⊎_elim}
+use Rattle.std.proofs.Common.{◌≡◌, ◌⊎◌, inl, inr, ℕ, suc, List, [], ◌∷◌, Contains, arith, ⊎_elim}
 use Rattle.ntp_service.proofs.AddressLaws.{same_or_other_number}
 
 pub Contains-here : (m : ℕ) (ms : List ℕ) (n : ℕ) → m ≡ n → Contains (m ∷ ms) n
@@ -10,8 +10,7 @@ Contains-there m ms n is = (suc is.0, omega (arith, is.1), is.2)
 
 -- a member is the first or a later one
 pub Contains-cases : (m : ℕ) (ms : List ℕ) (n : ℕ) → Contains (m ∷ ms) n → (m ≡ n) ⊎ Contains ms n
-Contains-cases m ms n (zero, lt, is) = inl is
-Contains-cases m ms n (suc k, lt, is) = inr (k, omega arith, is)
+Contains-cases m ms n e = grind arith
 
 pub Contains-none : (n : ℕ) → Contains [] n → ⊥
 Contains-none n is = omega (arith, is.1)

@@ -18,16 +18,12 @@ found-number (k ∷ keys) n is = by_first (k.number == n) refl (found-number key
   where
     by_first : (b : Bool) → (k.number == n) ≡ b → (is_some (find (λ k. k.number == n) keys) ≡ true → Contains (numbers keys) n)
         → Contains (numbers (k ∷ keys)) n
-    by_first true here later = Contains-here k.number (numbers keys) n (grind (arith, nat_tests))
-    by_first false other later = Contains-there k.number (numbers keys) n (later (grind (arith, nat_tests)))
+    by_first b e f = grind (arith, Contains-here, nat_tests, Contains-there)
 
 -- one key more has its number behind the others
 pub numbers-rolled_over : (c : CustomerState) (key : NumberedKey) → is_enrolled c ≡ true
     → numbers_of (rolled_over c key) ≡ numbers_of c ++ key.number ∷ []
-numbers-rolled_over c key = by_customer (λ c. is_enrolled c ≡ true → numbers_of (rolled_over c key) ≡ numbers_of c ++ key.number ∷ [])
-    (λ refusals is. absurd (true≢false (sym is)))
-    (λ a refusals is. map-append (λ (k : NumberedKey). k.number) a.enrolment.keys (key ∷ []))
-    c
+numbers-rolled_over c key = grind (arith, by_customer, map-append)
 
 module _ (number n : ℕ) where
   abbrev others : List NumberedKey → List NumberedKey

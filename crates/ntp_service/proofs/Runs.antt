@@ -1,25 +1,23 @@
 -- A list of events, one after another.
-use Rattle.std.proofs.Common.{◌≡◌, None, Bool, true, false, not, List, [], ◌∷◌, ◌++◌, map, filter, zip, cond, length, refl, sym, ap, ap₂, ◌∙◌, subst, append_assoc, append-nil, arith, ⊎_elim}
+use Rattle.std.proofs.Common.{◌≡◌, Bool, not, List, [], ◌∷◌, ◌++◌, map, zip, cond, length, refl, sym, ap, ap₂, ◌∙◌, subst, append_assoc, append-nil, arith, rules}
 use Rattle.std.specs.Prelude.{◌&&◌, if◌then◌else◌}
 use Rattle.std.proofs.lemmas.List.{map-append}
 use Rattle.std.proofs.lemmas.List.Elements.{filter-append}
 use Rattle.ntp_service.specs.declared.address.Address.{Address}
-use Rattle.ntp_service.specs.Address.{address_eq}
 use Rattle.ntp_service.specs.Registry.{Registry}
 use Rattle.ntp_service.proofs.AddressLaws.{address_eq_equiv, same_or_other_address}
 use Rattle.ntp_reply.specs.Life.{Life}
 use Rattle.ntp_service.specs.declared.event.Event.{Event}
 use Rattle.ntp_service.specs.declared.outcome.Outcome.{Outcome}
-use Rattle.ntp_service.specs.Events.{address_of, names, own}
-use Rattle.ntp_service.specs.Model.{answer_to, after, life_after, life_of, says_after, FollowsModel}
+use Rattle.ntp_service.specs.Events.{names, own}
+use Rattle.ntp_service.specs.Model.{answer_to, after, life_after, life_of, FollowsModel}
 use Rattle.ntp_service.specs.Headline.{StandsFor, HasCause, TellsOne, Tells, is_struck, not_struck, happened_to}
 use Rattle.ntp_service.proofs.Histories.{events_of, own-append, life_after-append, other-address}
 
 module _ {A : Type 0} where
   -- ---- what happened, and then more
   kept-append : (xs ys : List (Event A × Outcome)) → not_struck (xs ++ ys) ≡ not_struck xs ++ not_struck ys
-  kept-append xs ys = ap events_of (filter-append (λ p. not (is_struck p.1)) xs ys)
-      ∙ map-append (λ p. p.0) (filter (λ p. not (is_struck p.1)) xs) (filter (λ p. not (is_struck p.1)) ys)
+  kept-append xs ys = grind (arith, events_of, filter-append, map-append)
 
   -- of the events that are kept, an address's own are those that happened to it
   own-kept : (a : Address) (xs : List (Event A × Outcome)) → own a (not_struck xs) ≡ events_of (happened_to a xs)
@@ -29,9 +27,7 @@ module _ {A : Type 0} where
   -- the life that an address has behind what happened
   pub life-behind : (a : Address) (history : List (Event A)) (xs : List (Event A × Outcome))
       → life_of (own a (history ++ not_struck xs)) ≡ life_after (life_of (own a history)) (events_of (happened_to a xs))
-  life-behind a history xs =
-      ap life_of (own-append a history (not_struck xs) ∙ ap (λ l. own a history ++ l) (own-kept a xs))
-      ∙ life_after-append None (own a history) (events_of (happened_to a xs))
+  life-behind a history xs = grind (arith, own-append, own-kept, life_after-append, events_of)
 
   FollowsModel-append : (life : Life) (xs ys : List (Event A × Outcome)) → FollowsModel life xs
       → FollowsModel (life_after life (events_of xs)) ys → FollowsModel life (xs ++ ys)
@@ -95,31 +91,18 @@ module _ {A : Type 0} where
       where
         chosen : (b : Bool) → StandsFor s (if b then history else history ++ e ∷ [])
             → StandsFor s (history ++ map (λ (p : Event A × Outcome). p.0) (cond (not b) ((e, o) ∷ []) []))
-        chosen true h = subst (λ l. StandsFor s l) (sym (append-nil history)) h
-        chosen false h = h
+        chosen b e = grind (arith, append-nil)
 
     one-told : (a : Address) → FollowsModel (life_of (own a history)) (happened_to a ((e, o) ∷ []))
-    one-told a = ⊎_elim
-        (λ same.
-        let named : names a e ≡ true = ap (λ x. address_eq a x) (sym same) ∙ address_eq_equiv.refl a in
-        let model : is_struck o ≡ false → o ≡ answer_to (life_of (own a history)) e =
-        λ plain. t.as_model plain ∙ ap (λ x. answer_to (life_of (own x history)) e) (sym same) in
-        grind (arith, named, model))
-        (λ other. let unnamed : names a e ≡ false = other-address a (address_of e) other in grind (arith, unnamed))
-        (same_or_other_address a (address_of e))
+    one-told a = search (rules, address_eq_equiv, other-address, same_or_other_address)
 
   -- ---- what a service tells
   pub Tells-nil : (history : List (Event A)) (s : Registry) → StandsFor s history → Tells history [] s
-  Tells-nil history s stands = record {
-    told = λ a. refl;
-    causes = λ before behind e o is. absurd (nothing-there before behind (e, o) is);
-    stands = subst (λ l. StandsFor s l) (sym (append-nil history)) stands;
-  }
+  Tells-nil history s stands = grind (arith, nothing-there, append-nil)
 
   pub Tells-one : (history : List (Event A)) (e : Event A) (o : Outcome) (s : Registry) → TellsOne history e o s
       → Tells history ((e, o) ∷ []) s
-  Tells-one history e o s one =
-      record { told = one-told history e o s one; causes = AreCaused-one history e o one.cause; stands = one-stands history e o s one }
+  Tells-one history e o s one = search (rules, one-told, AreCaused-one, one-stands)
 
   pub Tells-append : (history : List (Event A)) (xs ys : List (Event A × Outcome)) (r s : Registry) → Tells history xs r
       → (StandsFor r (history ++ not_struck xs) → Tells (history ++ not_struck xs) ys s) → Tells history (xs ++ ys) s
@@ -140,13 +123,10 @@ module _ {A : Type 0} where
   pub Tells-push : (history : List (Event A)) (happened : List (Event A × Outcome)) (r s : Registry) (e : Event A) (o : Outcome)
       → Tells history happened r → (StandsFor r (history ++ not_struck happened) → TellsOne (history ++ not_struck happened) e o s)
       → Tells history (happened ++ (e, o) ∷ []) s
-  Tells-push history happened r s e o t step = Tells-append history happened ((e, o) ∷ []) r s t
-      (λ stands. Tells-one (history ++ not_struck happened) e o s (step stands))
+  Tells-push history happened r s e o t step = search (rules, Tells-append, Tells-one)
 
   -- two services that were told the same of an address tell it the same
   pub alike : (a : Address) (h h' : List (Event A)) (xs ys : List (Event A × Outcome)) (r s : Registry) → Tells h xs r → Tells h' ys s
       → own a h ≡ own a h' → events_of (happened_to a xs) ≡ events_of (happened_to a ys)
       → map (λ p. p.1) (happened_to a xs) ≡ map (λ p. p.1) (happened_to a ys)
-  alike a h h' xs ys r s t u before now =
-      t.told a ∙ ap (λ past. says_after (life_of past) (events_of (happened_to a xs))) before
-      ∙ ap (says_after (life_of (own a h'))) now ∙ sym (u.told a)
+  alike a h h' xs ys r s e f g p = grind (arith, events_of)

@@ -1,9 +1,7 @@
 -- Customers split over services.
-use Rattle.std.proofs.Common.{◌≡◌, ◌≢◌, ◌⊎◌, inl, inr, ℕ, Bool, true, false, None, List, [], ◌∷◌, filter, Contains, refl, sym, ap, ◌∙◌, subst, ⊎_elim, true≢false, arith}
-use Rattle.std.specs.Option.{option_map_or}
+use Rattle.std.proofs.Common.{◌≡◌, ◌≢◌, ◌⊎◌, ℕ, Bool, true, false, None, List, [], ◌∷◌, filter, refl, sym, ap, ◌∙◌, arith, rules}
 use Rattle.std.proofs.lemmas.Bool.{cases_Bool}
 use Rattle.std.proofs.lemmas.Option.{none-some}
-use Rattle.ntp_customer.specs.Customer.{numbers_in}
 use Rattle.ntp_service.specs.declared.address.Address.{Address}
 use Rattle.ntp_service.specs.declared.refusal.Refusal.TheVariants.{KeyTaken, NoMemory}
 use Rattle.ntp_service.specs.Registry.{Registry}
@@ -15,7 +13,7 @@ use Rattle.ntp_service.specs.declared.outcome.Outcome.{Outcome}
 use Rattle.ntp_service.specs.declared.outcome.Outcome.TheVariants as outcome
 use Rattle.ntp_service.specs.Events.{address_of, names, own}
 use Rattle.ntp_service.specs.Model.{answer_to, after, life_after, life_of}
-use Rattle.ntp_service.specs.Headline.{IsEnrolledWith, IsTaken, Tells, is_struck}
+use Rattle.ntp_service.specs.Headline.{IsEnrolledWith, Tells, is_struck}
 use Rattle.ntp_service.specs.Split.{is_command, names_any, comes_to, HadMemory, NoneStruck}
 use Rattle.ntp_service.proofs.Histories.{events_of, other-address}
 use Rattle.ntp_service.proofs.Enrolments.{asks-nothing, enrolment-other, enrolment-alike, taken-over, command-alike}
@@ -26,16 +24,12 @@ abbrev Had : Outcome → Type 0
 Had o = o ≢ outcome.Refused NoMemory
 
 taken-or-plain : (o : Outcome) → Had o → (o ≡ outcome.Refused KeyTaken) ⊎ (is_struck o ≡ false)
-taken-or-plain (outcome.Refused KeyTaken) had = inl refl
-taken-or-plain (outcome.Refused NoMemory) had = absurd (had refl)
-taken-or-plain (outcome.Refused refusal) had = inr refl
-taken-or-plain other had = inr refl
+taken-or-plain o e = grind arith
 
 module _ {A : Type 0} where
   -- an event names its own address alone
   named-address : (a : Address) (e : Event A) → names a e ≡ true → a ≡ address_of e
-  named-address a e named =
-      ⊎_elim (λ same. same) (λ other. absurd (true≢false (sym named ∙ other-address a (address_of e) other))) (same_or_other_address a (address_of e))
+  named-address a e named = search (rules, other-address, same_or_other_address)
 
   -- ---- a service that is told each command, and all else of the addresses that it has
   module _ (has : Address → Bool) where
@@ -65,29 +59,15 @@ module _ {A : Type 0} where
     -- by the model what comes is answered alike
     answers-alike : (history : List (Event A)) (e : Event A) → comes_to has e ≡ true
         → answer_to (life_of (own (address_of e) (filter (comes_to has) history))) e ≡ answer_to (life_of (own (address_of e) history)) e
-    answers-alike history (event.Command c) comes =
-        let address = address_of {A = A} (event.Command c) in
-        command-alike c (life_of (own address (filter (comes_to has) history))) (life_of (own address history)) (lives-alike address history)
-    answers-alike history e comes = ap (λ l. answer_to (life_of l) e) (own-there (address_of e) comes history)
+    answers-alike history e f = grind (arith, command-alike, lives-alike, own-there)
 
     come-alike : (history : List (Event A)) (e : Event A) (o p : Outcome) → comes_to has e ≡ true
         → IsTold history e o → IsTold (filter (comes_to has) history) e p → Had o → Had p → p ≡ o
-    come-alike history e o p comes here there had had_there =
-        let past = filter (comes_to has) history in
-        let answers = answers-alike history e comes in
-        let over : IsTaken history e → IsTaken past e = taken-over history past e (sym answers) (λ a. sym (lives-alike a history)) in
-        let back : IsTaken past e → IsTaken history e = taken-over past history e answers (λ a. lives-alike a history) in
-        ⊎_elim (λ taken. there.cause.taken.1 (over (here.cause.taken.0 taken)) ∙ sym taken)
-        (λ plain. ⊎_elim (λ taken. taken ∙ sym (here.cause.taken.1 (back (there.cause.taken.0 taken))))
-        (λ plain_there. there.as_model plain_there ∙ answers ∙ sym (here.as_model plain)) (taken-or-plain p had_there))
-        (taken-or-plain o had)
+    come-alike history e o p comes here there had had_there = grind (arith, answers-alike, taken-over, lives-alike, taken-or-plain)
 
     away-unstruck : (history : List (Event A)) (e : Event A) (o : Outcome) → comes_to has e ≡ false → IsTold history e o → Had o
         → is_struck o ≡ false
-    away-unstruck history e o away here had =
-        let plain : is_command e ≡ false = grind (arith, away) in
-        ⊎_elim (λ taken. let asks = here.cause.taken.0 taken in absurd (none-some asks.0 (sym (asks-nothing e plain) ∙ asks.1.0)))
-        (λ unstruck. unstruck) (taken-or-plain o had)
+    away-unstruck history e o away here had = grind (arith, none-some, asks-nothing, taken-or-plain)
 
     pub split-not-felt : (history : List (Event A)) (happened happened_there : List (Event A × Outcome)) (service service_there : Registry)
         → Tells history happened service → Tells (filter (comes_to has) history) happened_there service_there
@@ -114,21 +94,11 @@ module _ {A : Type 0} where
     -- who is enrolled there is enrolled here
     enrolled-here : (a : Address) (history : List (Event A)) (number : ℕ) → IsEnrolledWith (filter (names_any has) history) a number
         → IsEnrolledWith history a number
-    enrolled-here a history number enrolled =
-        ⊎_elim (λ is. subst (λ l. Contains (option_map_or numbers_in (enrolment_in (life_of l)) []) number) (own-has a is history) enrolled)
-        (λ is. let none = subst (λ l. Contains (option_map_or numbers_in (enrolment_in (life_of l)) []) number) (own-has_not a is history) enrolled in
-        absurd (omega (arith, none.1))) (cases_Bool (has a))
+    enrolled-here a history number enrolled = grind (arith, own-has, own-has_not, cases_Bool)
 
     mine-alike : (history : List (Event A)) (e : Event A) (o p : Outcome) → names_any has e ≡ true → IsTold history e o
         → IsTold (filter (names_any has) history) e p → is_struck o ≡ false → Had p → p ≡ o
-    mine-alike history e o p is here there plain had =
-        let past = filter (names_any has) history in
-        let answers : answer_to (life_of (own (address_of e) past)) e ≡ answer_to (life_of (own (address_of e) history)) e =
-        ap (λ l. answer_to (life_of l) e) (own-has (address_of e) is history) in
-        let back : IsTaken past e → IsTaken history e =
-        λ taken. (taken.0, (taken.1.0, sym answers ∙ taken.1.1), taken.2, taken.3, enrolled-here taken.2 history taken.0 taken.4) in
-        ⊎_elim (λ taken. absurd (true≢false (ap is_struck (sym (here.cause.taken.1 (back (there.cause.taken.0 taken)))) ∙ plain)))
-        (λ plain_there. there.as_model plain_there ∙ answers ∙ sym (here.as_model plain)) (taken-or-plain p had)
+    mine-alike history e o p is here there plain had = grind (arith, own-has, enrolled-here, taken-or-plain)
 
     pub split-commands-not-felt : (history : List (Event A)) (happened happened_there : List (Event A × Outcome)) (service service_there : Registry)
         → Tells history happened service → Tells (filter (names_any has) history) happened_there service_there

@@ -1,5 +1,5 @@
 -- Stretches of events with their outcomes, and how many replies they hold.
-use Rattle.std.proofs.Common.{◌≡◌, ◌≢◌, ℕ, suc, ◌+◌, ◌≤◌, ◌==◌, ◌&&◌, nat_lt, cond, Bool, false, List, [], ◌∷◌, ◌++◌, filter_map, All, AllPairs, refl, ap, ap₂, ◌∙◌, subst, append_assoc, arith}
+use Rattle.std.proofs.Common.{◌≡◌, ◌≢◌, ℕ, suc, ◌+◌, ◌≤◌, ◌==◌, ◌&&◌, nat_lt, cond, Bool, List, [], ◌∷◌, ◌++◌, filter_map, All, AllPairs, refl, ap, ap₂, ◌∙◌, subst, append_assoc, arith}
 use Rattle.std.proofs.lemmas.Bool.Decides.{nat_tests}
 use Rattle.std.proofs.lemmas.List.Elements.{All-head, All-tail}
 use Rattle.std.proofs.lemmas.List.Sums.{sum_by-cons}
@@ -46,12 +46,6 @@ module _ {A : Type 0} where
   replies-cons : (w : ℕ) (is_of_sort : Outcome → Bool) (e : Event A) (o : Outcome) (rest : List (Event A × Outcome))
       → replies_in w is_of_sort ((e, o) ∷ rest) ≡ one_if (is_received_in w e && is_of_sort o) + replies_in w is_of_sort rest
   replies-cons w is_of_sort e o rest = sum_by-cons (λ p. cond (is_received_in w p.0 && is_of_sort p.1) 1 0) (e, o) rest
-
-  -- one that was not received in the window
-  replies-other : (w : ℕ) (is_of_sort : Outcome → Bool) (e : Event A) (o : Outcome) (rest : List (Event A × Outcome))
-      → is_received_in w e ≡ false → replies_in w is_of_sort ((e, o) ∷ rest) ≡ replies_in w is_of_sort rest
-  replies-other w is_of_sort e o rest other =
-      omega (arith, replies-cons w is_of_sort e o rest, ap (λ b. one_if (b && is_of_sort o)) other)
 
   stretch-tail : (e : Event A) (o : Outcome) (rest : List (Event A × Outcome)) → IsUnbroken ((e, o) ∷ rest) → IsUnbroken rest
   stretch-tail (event.Datagram address receipt transmit reference octets) o rest s =

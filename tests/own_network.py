@@ -1,4 +1,4 @@
-"""What tests/door and tests/scale share: network namespaces that a test has for itself, nftables in them, and floods."""
+"""What tests share that police or flood a network: namespaces of networks that a test has for itself, nftables in them, and floods."""
 import contextlib
 import glob
 import os
@@ -49,15 +49,15 @@ def take_precedence():
 TRIVIAL = "table inet labntpd_trial\ndelete table inet labntpd_trial\n"
 
 
-def find_nft():
-    """Has nft on the path, where it is there or tests/run has fetched it, and has seen it work."""
-    folder, own = f"{os.environ.get('PEERS', '')}/nftables", f"{judging.ROOM}/bin"
+def find_nft(peers=None, own=None):
+    """Has nft in a folder of its own on the path, where it is there or tests/run has fetched it, and has seen it work."""
+    folder, own = f"{peers or os.environ.get('PEERS', '')}/nftables", own or f"{judging.ROOM}/bin"
     found = shutil.which("nft", path=f"{os.environ.get('PATH', os.defpath)}:/usr/sbin:{folder}/usr/sbin")
     if not found:
         raise PassedOver("there is no program nft")
-    if not os.path.exists(own):
+    if not os.path.exists(f"{own}/nft"):
         libraries = glob.glob(f"{folder}/usr/lib/*-linux-gnu") if found.startswith(folder) else []
-        os.mkdir(own)
+        os.makedirs(own, exist_ok=True)
         with open(f"{own}/nft", "w", opener=lambda path, flags: os.open(path, flags, 0o755)) as it:
             it.write("#!/bin/sh\n" + "".join(f"export LD_LIBRARY_PATH='{it}'\n" for it in libraries) + f"exec '{found}' \"$@\"\n")
         os.environ["PATH"] = f"{own}:{os.environ.get('PATH', os.defpath)}"
@@ -72,11 +72,14 @@ def nft(*words, given=None, fault=Odd):
     return ran.stdout
 
 
-def load_door(address, port):
-    """Loads the rules of examples/labntpd.nft, for a server there."""
-    with open(f"{TOP}/examples/labntpd.nft") as it:
-        rules = re.sub(r"(?m)^define port = .*", f"define port = {port}", re.sub(r"(?m)^define server = .*", f"define server = {address}", it.read()))
-    nft("-f", "-", given=rules)
+def load_door(labntpctl, *words):
+    """Loads the rules that labntpctl prints, and gives the name of their table."""
+    if not os.access(labntpctl, os.X_OK):
+        raise PassedOver(f"there is no program {labntpctl}")
+    ran = subprocess.run([labntpctl, "door", *words], capture_output=True, text=True, timeout=judging.WAIT)
+    judging.same("labntpctl door", (0, ""), (ran.returncode, ran.stderr))
+    nft("-f", "-", given=ran.stdout)
+    return re.search(r"(?m)^table inet (\S+) \{$", ran.stdout)[1]
 
 
 # ---- Floods

@@ -1,6 +1,6 @@
 //! What is told of the source of the clock's state.
 
-use ntp_client::{ClockAnswer, Doubt, Reading};
+use ntp_client::{ClockAnswer, Doubt, Follower, Reading};
 use ntp_host::{ClockSource, FollowedClock};
 use ntp_port::ReferenceSource;
 use ntp_reply::Reference;
@@ -13,22 +13,38 @@ const SECOND_NANOS: i128 = 1_000_000_000;
 /// The leap indicator of an unsynchronised clock (RFC 5905, 7.3).
 const UNSYNCHRONISED_LEAP: u8 = 3;
 
+/// The state of the clock that replies tell, and whether its daemon is believed or why not.
+#[derive(Clone, Copy)]
+pub struct ClockState {
+    /// What replies tell.
+    pub reference: Reference,
+    /// Whether the daemon is believed.
+    pub belief: Belief,
+}
+
 /// A source of a daemon's clock's state that also tells what the log and the statistics tell of it.
 pub trait DaemonClock: ReferenceSource {
     /// The state of the clock by a reading of the host's clocks.
-    fn state(&self, now: Reading) -> Reference;
+    fn state(&self, now: Reading) -> ClockState;
 
     /// Whether the state of the clock is known by now, even if only that it is not synchronised: it is not, where somebody was asked for it
     /// who has not answered yet.
     fn has_answered(&self) -> bool;
 
-    /// What the statistics tell of the clock, where replies tell this state.
-    fn gauges(&self, state: &Reference, now: Reading) -> ClockGauges;
+    /// What the statistics tell of the clock, where it has this state.
+    fn gauges(&self, state: &ClockState, now: Reading) -> ClockGauges;
 }
 
 impl<'a, C: Clock + Copy + Drop> DaemonClock for ClockSource<'a, C> {
-    fn state(&self, now: Reading) -> Reference {
-        self.state(now)
+    fn state(&self, now: Reading) -> ClockState {
+        let belief = match self {
+            ClockSource::Fixed(_) => Belief::Fixed,
+            ClockSource::Followed(followed) => belief_in(followed, now),
+        };
+        ClockState {
+            reference: self.state(now),
+            belief,
+        }
     }
 
     fn has_answered(&self) -> bool {
@@ -38,35 +54,42 @@ impl<'a, C: Clock + Copy + Drop> DaemonClock for ClockSource<'a, C> {
         }
     }
 
-    fn gauges(&self, state: &Reference, now: Reading) -> ClockGauges {
+    fn gauges(&self, state: &ClockState, now: Reading) -> ClockGauges {
         match self {
-            ClockSource::Fixed(_) => gauges_of(state, None, None, Belief::Fixed),
-            ClockSource::Followed(followed) => gauges_of(
-                state,
-                followed.follower().age(now.ticks),
-                followed.follower().learned().map(offset_nanos),
-                belief_in(followed, now),
-            ),
+            ClockSource::Fixed(_) => state_gauges(state),
+            ClockSource::Followed(followed) => {
+                let follower = followed.follower();
+                let limits = follower.limits();
+                ClockGauges {
+                    age: follower.age(now.ticks),
+                    offset: follower.learned().map(offset_nanos),
+                    reference_age: reference_age_nanos(follower, now),
+                    most_reference_age: limits.most_reference_age.map(seconds_nanos),
+                    root_distance: follower.root_distance_twice(now).map(distance_nanos),
+                    most_root_distance: Some(limits.most_root_distance),
+                    ..state_gauges(state)
+                }
+            }
         }
     }
 }
 
-// What is told of a clock whose state replies tell, with the `age`, `offset` and `belief` that are known of its daemon.
-fn gauges_of(
-    state: &Reference,
-    age: Option<u64>,
-    offset: Option<i64>,
-    belief: Belief,
-) -> ClockGauges {
+// What is told of a clock's state, where nobody is asked.
+fn state_gauges(state: &ClockState) -> ClockGauges {
+    let ClockState { reference, belief } = state;
     ClockGauges {
-        is_synchronised: is_synchronised(state),
-        age,
-        stratum: state.stratum(),
-        leap: state.leap(),
-        root_delay: state.root_delay(),
-        root_dispersion: state.root_dispersion(),
-        offset,
-        belief,
+        is_synchronised: is_synchronised(reference),
+        age: None,
+        stratum: reference.stratum(),
+        leap: reference.leap(),
+        root_delay: reference.root_delay(),
+        root_dispersion: reference.root_dispersion(),
+        offset: None,
+        reference_age: None,
+        most_reference_age: None,
+        root_distance: None,
+        most_root_distance: None,
+        belief: *belief,
     }
 }
 
@@ -77,9 +100,34 @@ pub(crate) fn is_synchronised(state: &Reference) -> bool {
 
 // How far the clock's daemon was from the host's clock at an answer, in nanoseconds: the answer has it twice, in units of 2^-32 seconds.
 fn offset_nanos(answer: &ClockAnswer) -> i64 {
-    let nanos = answer.offset_twice.saturating_mul(SECOND_NANOS) / (1 << 33);
+    half_units_nanos(answer.offset_twice)
+}
+
+// How long ago the clock's daemon was set, in nanoseconds, where its last answer says when.
+fn reference_age_nanos(follower: &Follower, now: Reading) -> Option<i64> {
+    let answer = follower.learned()?;
+    if answer.state.reference().0 == 0 {
+        return None;
+    }
+    let age = follower.reference_age(now)?;
+    Some(half_units_nanos(i128::from(age) * 2))
+}
+
+// A time in units of 2^-33 seconds, in nanoseconds.
+fn half_units_nanos(time: i128) -> i64 {
+    let nanos = time.saturating_mul(SECOND_NANOS) / (1 << 33);
     let farthest = if nanos < 0 { i64::MIN } else { i64::MAX };
     i64::try_from(nanos).unwrap_or(farthest)
+}
+
+// A number of seconds, in nanoseconds.
+fn seconds_nanos(seconds: u64) -> u64 {
+    seconds.saturating_mul(SECOND_NANOS as u64)
+}
+
+// A root distance, twice in units of 2^-16 seconds, in nanoseconds.
+fn distance_nanos(twice: u64) -> u64 {
+    seconds_nanos(twice) >> 17
 }
 
 // Whether the clock's daemon is believed, and else why not.

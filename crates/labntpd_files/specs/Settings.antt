@@ -1,5 +1,5 @@
 -- What a configuration file says, or its first fault: each step gives a part, or the file's fault.
-use Rattle.std.specs.Prelude.{◌≡◌, ◌⊎◌, ◌*◌, ◌^◌, ◌≤◌, if◌then◌else◌, ℕ, List, Option, Some, None, Result, Ok, Err}
+use Rattle.std.specs.Prelude.{◌≡◌, ◌⊎◌, ◌*◌, ◌^◌, ◌≤◌, if◌then◌else◌, ℕ, List, Option, Some, None, Result, Ok, Err, IfSome}
 use Rattle.std.specs.Option.{ok_or, option_map, option_map_or, option_or}
 use Rattle.std.specs.Result.{result_ok, result_err}
 use Rattle.toml.specs.Data.{Data, Members, no_items, get_member, as_array, as_table}
@@ -40,7 +40,7 @@ daemon_in clock = do
   key_file ← required setting.KeyFile (text_as path_in) clock
   valid_for ← with_default (16 * 10 ^ 9) setting.ValidFor validity_of clock
   distance ← with_default (2 ^ 16) setting.MostRootDistance distance_of clock
-  age ← with_default 4096 setting.MostReferenceAge age_of clock
+  age ← optional setting.MostReferenceAge age_of clock
   step ← with_default (500 * 10 ^ 6) setting.MostStep step_of clock
   Ok (record {
     source = source;
@@ -99,7 +99,7 @@ Reads said (Err why) = (why ≡ fault.NoMemory) ⊎ (said ≡ Err why)
 pub record HasDaemonRanges (daemon : ClockDaemon) : Type 0 where
   pub valid_for : (2 * 10 ^ 9 ≤ daemon.valid_for) × (daemon.valid_for ≤ 3600 * 10 ^ 9)
   pub most_root_distance : (1 ≤ daemon.most_root_distance) × (daemon.most_root_distance ≤ 16 * 2 ^ 16)
-  pub most_reference_age : (1 ≤ daemon.most_reference_age) × (daemon.most_reference_age ≤ 1000000)
+  pub most_reference_age : IfSome daemon.most_reference_age (λ age. (1 ≤ age) × (age ≤ 1000000))
   pub most_step : (1 ≤ daemon.most_step) × (daemon.most_step ≤ 3600 * 10 ^ 9)
 
 -- those of a clock
@@ -156,7 +156,7 @@ wrong_at setting.Algorithm table = result_err (required setting.Algorithm (text_
 wrong_at setting.KeyFile table = result_err (required setting.KeyFile (text_as path_in) table)
 wrong_at setting.ValidFor table = result_err (with_default (16 * 10 ^ 9) setting.ValidFor validity_of table)
 wrong_at setting.MostRootDistance table = result_err (with_default (2 ^ 16) setting.MostRootDistance distance_of table)
-wrong_at setting.MostReferenceAge table = result_err (with_default 4096 setting.MostReferenceAge age_of table)
+wrong_at setting.MostReferenceAge table = result_err (optional setting.MostReferenceAge age_of table)
 wrong_at setting.MostStep table = result_err (with_default (500 * 10 ^ 6) setting.MostStep step_of table)
 wrong_at setting.Customer table = result_err (with_default no_items setting.Customer as_array table)
 wrong_at setting.Address table = result_err (required setting.Address (text_as address_in) table)

@@ -7,7 +7,7 @@ use std::alloc::{AllocError, Global};
 use std::io::Write;
 
 /// The daemon's version.
-pub const VERSION: &str = "0.1.0";
+pub const VERSION: &str = "0.2.0";
 
 /// What the words of a command line ask for.
 #[derive(Clone, Copy)]

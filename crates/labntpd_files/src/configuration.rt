@@ -80,8 +80,8 @@ pub struct ClockDaemon {
     pub valid_for: u64,
     /// The root distance up to which it is believed, in units of 2^-16 s: 1 unit to 16 s.
     pub most_root_distance: u32,
-    /// The age of its reference time up to which it is believed, in seconds: 1 to 1,000,000.
-    pub most_reference_age: u32,
+    /// The age of its reference time up to which it is believed, in seconds: 1 to 1,000,000. `None` where any age is.
+    pub most_reference_age: Option<u64>,
     /// How far the host's clock may have been set since an answer that is believed, in nanoseconds: 1 ns to 3,600 s.
     pub most_step: u64,
 }

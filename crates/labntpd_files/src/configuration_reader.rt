@@ -8,9 +8,9 @@ use crate::fault::Reading;
 use crate::found::{Found, add_faults, add_no_toml, key_lines, place_at};
 use crate::setting::{TOP_KEYS, clock_keys, is_fixed, unknown_in, value_at};
 use crate::values::{
-    LONGEST_WAIT, MOST_REFERENCE_AGE, MOST_ROOT_DISTANCE, MOST_STEP, VALID_FOR, address_at,
-    algorithm_at, buffer_at, customers_at, key_at, listen_at, name_at, number_at, optional_path,
-    path_text, reference_at, seconds_at, source_at, table_at,
+    LONGEST_WAIT, MOST_ROOT_DISTANCE, MOST_STEP, VALID_FOR, address_at, algorithm_at, buffer_at,
+    customers_at, key_at, listen_at, name_at, number_at, optional_path, path_text,
+    reference_age_at, reference_at, seconds_at, source_at, table_at,
 };
 use crate::{Clock, ClockDaemon, Configuration, ConfigurationFault, Setting, Text};
 use std::alloc::{AllocError, Global};
@@ -123,7 +123,7 @@ fn daemon_in(alloc: Global, clock: &Table) -> Reading<ClockDaemon>
         key_file: Text::of(alloc, path_text(clock, KeyFile)?)?,
         valid_for: seconds_at(clock, ValidFor, &VALID_FOR)?,
         most_root_distance: seconds_at(clock, MostRootDistance, &MOST_ROOT_DISTANCE)? as u32,
-        most_reference_age: seconds_at(clock, MostReferenceAge, &MOST_REFERENCE_AGE)? as u32,
+        most_reference_age: reference_age_at(clock)?,
         most_step: seconds_at(clock, MostStep, &MOST_STEP)?,
     })
 }
@@ -154,7 +154,7 @@ pub(crate) fn wrong_at(table: &Table, setting: Setting) -> Option<ConfigurationF
         Algorithm => algorithm_at(table).err(),
         ValidFor => seconds_at(table, setting, &VALID_FOR).err(),
         MostRootDistance => seconds_at(table, setting, &MOST_ROOT_DISTANCE).err(),
-        MostReferenceAge => seconds_at(table, setting, &MOST_REFERENCE_AGE).err(),
+        MostReferenceAge => reference_age_at(table).err(),
         MostStep => seconds_at(table, setting, &MOST_STEP).err(),
         Customer => customers_at(table).err(),
         Address => address_at(table).err(),

@@ -1,5 +1,6 @@
 //! What is wrong with a configuration file, and at a key of a table.
 
+use crate::command_line::VERSION;
 use crate::{Setting, Text};
 use ConfigurationFault::*;
 use ntp_admin::Escaped;
@@ -67,7 +68,11 @@ impl<'a> fmt::Display for Behind<'a> {
                 write!(f, "{prefix}register: {NO_REGISTER}")
             }
             Unknown(key) | UnknownOfClock(key) => {
-                write!(f, "{prefix}{}: there is no such key", Escaped(key.as_str()))
+                let key = Escaped(key.as_str());
+                write!(
+                    f,
+                    "{prefix}{key}: there is no such key in version {VERSION}"
+                )
             }
             Missing(setting) => {
                 let (key, wanted) = (setting.key(), setting.wanted());

@@ -10,7 +10,7 @@ use std::fmt;
 /// Fewer octets than a key should have.
 const FEW_OCTETS: usize = 16;
 
-/// The greatest budget that the rule of `examples/labntpd.nft` lets pass: 200 datagrams a second for 64 seconds.
+/// The greatest budget that the rules of `labntpctl door` let pass: 200 datagrams a second for 64 seconds.
 const DOOR_BUDGET: u16 = 12_800;
 
 /// What is hardly meant at a customer.
@@ -30,7 +30,7 @@ pub enum HardlyMeant {
     Md5,
     /// Two queries may fall into one window of 64 seconds.
     SmallBudget,
-    /// The kernel's rule lets fewer queries pass.
+    /// The kernel's rules let fewer queries pass.
     LargeBudget(u16),
 }
 
@@ -61,7 +61,7 @@ pub fn key_warning(key: &Key) -> Option<HardlyMeant>
     }
 }
 
-/// What is hardly meant with a budget: 1, and what is more than the rule of `examples/labntpd.nft` lets pass.
+/// What is hardly meant with a budget: 1, and what is more than the rules of `labntpctl door` let pass.
 pub fn budget_warning(budget: u16) -> Option<HardlyMeant>
     ensures { result ≡ budget_warning budget }
 {
@@ -88,7 +88,7 @@ impl fmt::Display for HardlyMeant {
             ),
             LargeBudget(budget) => write!(
                 f,
-                "budget {budget}: the rule of examples/labntpd.nft lets 12800 queries pass in 64 seconds"
+                "budget {budget}: the rules of `labntpctl door` let 12800 queries pass in 64 seconds"
             ),
         }
     }

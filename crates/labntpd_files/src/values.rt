@@ -10,7 +10,7 @@ ghost use Rattle.ntp_admin.specs.Words.{address_in, algorithm_in, reference_in};
 ghost use Rattle.labntpd_files.specs.Keys.{setting_key};
 ghost use Rattle.labntpd_files.specs.declared.fault.ConfigurationFault.TheVariants.{Missing};
 ghost use Rattle.labntpd_files.specs.Settings.{required, with_default, optional, IsSaid};
-ghost use Rattle.labntpd_files.specs.Values.{endpoint_in, listen_in, path_in, text_as, key_for, is_name, name_in, whole_of, number_of, units_of, seconds_of};
+ghost use Rattle.labntpd_files.specs.Values.{endpoint_in, listen_in, path_in, text_as, key_for, is_name, name_in, whole_of, number_of, units_of, seconds_of, age_of};
 
 use crate::ConfigurationFault::{Missing, Wanted};
 use crate::fault::Reading;
@@ -55,8 +55,8 @@ pub(crate) const VALID_FOR: Span = Span(
 /// The root distance up to which it is believed: 1 unit to 16 s, else 1 s.
 pub(crate) const MOST_ROOT_DISTANCE: Span = Span(SHORT_UNITS, 65_536, 1, 1_048_576);
 
-/// The age of its reference time up to which it is believed: 1 to 1,000,000 s, else 4,096 s.
-pub(crate) const MOST_REFERENCE_AGE: Span = Span(1, 4_096, 1, 1_000_000);
+/// The greatest limit on the age of its reference time, in seconds.
+const MOST_REFERENCE_AGE: u64 = 1_000_000;
 
 /// How far the host's clock may have been set since its answer: 1 ns to 3,600 s, else 0.5 s.
 pub(crate) const MOST_STEP: Span = Span(NANOSECONDS, 500_000_000, 1, 3_600_000_000_000);
@@ -155,12 +155,23 @@ pub(crate) fn seconds_at(table: &Table, setting: Setting, span: &Span) -> Readin
     ensures value { result ≡ with_default span.now.1 setting (seconds_of span.now.0 span.now.2 span.now.3) (table_view table.now) }
 {
     let Span(units, default, least, most) = *span;
-    let Some(value) = value_at(table, setting) else {
-        return Ok(default);
-    };
-    match units_of(value, units) {
-        Some(count) if u128::from(least) <= count && count <= u128::from(most) => Ok(count as u64),
-        _ => Err(Wanted(setting)),
+    match value_at(table, setting) {
+        None => Ok(default),
+        Some(value) => seconds_of(value, units, least, most).ok_or(Wanted(setting)),
+    }
+}
+
+/// Up to which age of its reference time the clock's daemon is believed, in seconds: a limit that may be left out.
+pub(crate) fn reference_age_at(clock: &Table) -> Reading<Option<u64>>
+    ensures range { IfOk result (λ age. IfSome age (λ seconds. (1 ≤ seconds) × (seconds ≤ 1000000))) }
+    ensures value { result ≡ optional Setting.MostReferenceAge age_of (table_view clock.now) }
+{
+    match value_at(clock, Setting::MostReferenceAge) {
+        None => Ok(None),
+        Some(value) => match seconds_of(value, 1, 1, MOST_REFERENCE_AGE) {
+            None => Err(Wanted(Setting::MostReferenceAge)),
+            age => Ok(age),
+        },
     }
 }
 
@@ -261,6 +272,19 @@ fn number_of(value: &Value) -> Option<NonZero<u16>>
 {
     let whole = whole_of(value, 1, 65_535)?;
     NonZero::<u16>::new(whole as u16)
+}
+
+// A number of seconds from `least` to `most` units, where a second has `units` units.
+fn seconds_of(value: &Value, units: u32, least: u64, most: u64) -> Option<u64>
+    ensures value { result ≡ seconds_of units least most (view value.now) }
+    ensures range { IfSome result (λ count. (least ≤ count) × (count ≤ most)) }
+{
+    let count = units_of(value, units)?;
+    if u128::from(least) <= count && count <= u128::from(most) {
+        Some(count as u64)
+    } else {
+        None
+    }
 }
 
 // The units of a number of seconds. A float is rounded; one that is no number, or is below 0, gives 0, and one above 2^64 - 1 gives that:

@@ -1,5 +1,6 @@
 -- The reference state that replies tell, by the last answer of the host's clock daemon.
-use Rattle.std.specs.Prelude.{ℕ, ℤ, pos, neg_ℤ, ◌+◌, ◌-◌, ◌*◌, ◌^◌, ◌*ℤ◌, min, unsigned_abs, Bool, false, not, ◌&&◌, ◌==◌, nat_lt, nat_le, int_le, if◌then◌else◌, Option, Some, None, is_none}
+use Rattle.std.specs.Prelude.{ℕ, ℤ, pos, neg_ℤ, ◌+◌, ◌-◌, ◌*◌, ◌^◌, ◌*ℤ◌, min, unsigned_abs, Bool, false, true, not, ◌&&◌, ◌==◌, nat_lt, nat_le, int_le, if◌then◌else◌, Option, Some, None, is_none}
+use Rattle.std.specs.Option.{option_map_or}
 use Rattle.std.specs.Int.{div_ceil}
 use Rattle.ntp_packet.specs.declared.moment.Moment.{Moment}
 use Rattle.ntp_packet.specs.Moment.{units}
@@ -57,21 +58,28 @@ grown a now = record a.state { precision = precision_told a.state.precision; roo
 abbrev pub is_young : ClockLimits → ClockAnswer → Reading → Bool
 is_young limits a now = nat_lt (age a now.ticks) limits.valid_for
 
--- its clock was set, and not long ago by the host's clock (profile)
+-- how long ago the clock of an answer was set by the host's clock, in units of 2^-32 seconds (RFC 5905, 7.3; by the host's: profile)
+abbrev pub reference_age : ClockAnswer → Reading → ℤ
+reference_age a now = difference now.clock.stamp a.state.reference
+
+-- its clock was set, and not longer ago than the limit, where there is one (profile)
 abbrev pub was_set_lately : ClockLimits → ClockAnswer → Reading → Bool
 was_set_lately limits a now =
     not (a.state.reference.0 == 0)
-    && int_le (difference now.clock.stamp a.state.reference) (pos (limits.most_reference_age * 2 ^ 32))
+    && option_map_or (λ most. int_le (reference_age a now) (pos (most * 2 ^ 32))) limits.most_reference_age true
 
 -- it does not say that its clock was set after it left: not by more than a step may be (RFC 5905, A.5.1.1; than a step: profile). Either
 -- side counts in units of 2^-32 nanoseconds
 abbrev pub is_past : ClockLimits → ClockAnswer → Bool
 is_past limits a = int_le (difference a.state.reference a.sent *ℤ pos (10 ^ 9)) (pos (limits.most_step * 2 ^ 32))
 
--- its root distance by now, half the root delay and the root dispersion, is within the limit (RFC 5905, 11.2; the limit: profile). Either
--- side is counted twice
+-- twice its root distance by now, which is half the root delay and the root dispersion, in units of 2^-16 seconds (RFC 5905, 11.2)
+abbrev pub root_distance_twice : ClockAnswer → Reading → ℕ
+root_distance_twice a now = a.state.root_delay.0 + 2 * dispersion a now
+
+-- its root distance by now is within the limit (RFC 5905, 11.2; the limit: profile)
 abbrev pub is_near : ClockLimits → ClockAnswer → Reading → Bool
-is_near limits a now = nat_le (a.state.root_delay.0 + 2 * dispersion a now) (2 * limits.most_root_distance.0)
+is_near limits a now = nat_le (root_distance_twice a now) (2 * limits.most_root_distance.0)
 
 -- the host's clock was not set by more than a step may be, since the daemon last showed an update (profile). Either side counts in units
 -- of 2^-32 nanoseconds

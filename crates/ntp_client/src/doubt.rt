@@ -13,7 +13,7 @@ pub enum Doubt {
     Old,
     /// It says that its clock is not synchronised.
     Unsynchronised,
-    /// Its clock was not set, or too long ago.
+    /// Its clock was not set, or longer ago than the limit.
     ReferenceOld,
     /// It says that its clock was set after it left.
     ReferenceAhead,

@@ -5,10 +5,11 @@ ghost use Rattle.ntp_mac.specs.Signed.{IsSigned};
 ghost use Rattle.ntp_client.specs.Query.{query_octets};
 ghost use Rattle.ntp_client.specs.Sample.{IsTimeReply};
 ghost use Rattle.ntp_client.specs.Taking.{taken_for, header_taken, after_taken};
-ghost use Rattle.ntp_client.specs.InForce.{age, is_followed, doubt_of, in_force};
+ghost use Rattle.ntp_client.specs.InForce.{age, reference_age, root_distance_twice, is_followed, doubt_of, in_force};
 ghost use Rattle.ntp_client.specs.Watching.{is_set_since};
 ghost use Rattle.ntp_client.specs.Learning.{new_follower, looked, rests_before, has_to_read_anew, question, asked, root_delay_by, base_of, learned_of, learned_after, told_after, slowed_after, period};
 
+use crate::believing::{reference_age, root_distance_twice};
 use crate::doubt::doubt_of;
 use crate::growing::age;
 use crate::pacing::period;
@@ -217,6 +218,31 @@ impl Follower {
         ensures { result ≡ option_map (λ answer. age answer ticks) self.now.learned }
     {
         self.learned.as_ref().map(|answer| age(answer, ticks))
+    }
+
+    /// How long ago the daemon's clock was set, by that answer and the host's clock, in units of 2^-32 seconds.
+    pub fn reference_age(&self, now: Reading) -> Option<i64>
+        ensures { result ≡ option_map (λ answer. reference_age answer now) self.now.learned }
+    {
+        self.learned
+            .as_ref()
+            .map(|answer| reference_age(answer, now))
+    }
+
+    /// Twice the root distance of that answer by now, in units of 2^-16 seconds.
+    pub fn root_distance_twice(&self, now: Reading) -> Option<u64>
+        ensures { result ≡ option_map (λ answer. root_distance_twice answer now) self.now.learned }
+    {
+        self.learned
+            .as_ref()
+            .map(|answer| root_distance_twice(answer, now))
+    }
+
+    /// The limits within which an answer is believed.
+    pub fn limits(&self) -> ClockLimits
+        ensures { result ≡ self.now.limits }
+    {
+        self.limits
     }
 }
 

@@ -9,8 +9,8 @@ pub struct ClockLimits {
     pub valid_for: u64,
     /// The greatest root distance, in units of 2^-16 seconds.
     pub most_root_distance: Short,
-    /// How long ago the daemon's clock may have been set at most, in seconds.
-    pub most_reference_age: u64,
+    /// How long ago the daemon's clock may have been set at most, in seconds. `None` where it may be any time.
+    pub most_reference_age: Option<u64>,
     /// How far the host's clock may have been set since the daemon last showed an update at most, in nanoseconds.
     pub most_step: u64,
 }

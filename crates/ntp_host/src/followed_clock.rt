@@ -47,13 +47,6 @@ pub struct FollowedClock<'a, C: Clock + Copy + Drop> {
     is_unsynchronised: bool,
 }
 
-// A reading of both clocks, and how long it took, in nanoseconds.
-#[derive(Clone, Copy)]
-struct TimedReading {
-    reading: Reading,
-    took: u64,
-}
-
 impl<'a, C: Clock + Copy + Drop> FollowedClock<'a, C> {
     /// A daemon that was not asked yet, by a socket that is connected to it and does not wait.
     pub fn new(
@@ -93,29 +86,26 @@ impl<'a, C: Clock + Copy + Drop> FollowedClock<'a, C> {
     // What both clocks show together; nothing where the host's could not be read. Where the process was held up between their
     // readings, they are read again.
     fn reading(&self) -> Option<Reading> {
-        let mut best = self.timed_reading();
+        let (mut best, mut shortest) = self.timed_reading();
         for _ in 1..MOST_READINGS {
-            if best.took <= LONGEST_READING {
+            if shortest <= LONGEST_READING {
                 break;
             }
-            let next = self.timed_reading();
-            if next.took < best.took {
-                best = next;
+            let (reading, took) = self.timed_reading();
+            if took < shortest {
+                (best, shortest) = (reading, took);
             }
         }
-        Some(best.reading).filter(|it| is_read(it.clock))
+        Some(best).filter(|it| is_read(it.clock))
     }
 
-    // Reads the host's clock between two readings of the ticks.
-    fn timed_reading(&self) -> TimedReading {
+    // Reads the host's clock between two readings of the ticks, and tells how long that took, in nanoseconds.
+    fn timed_reading(&self) -> (Reading, u64) {
         let before = self.clocks.read(&self.clock);
         let clock = moment_now(&self.clock);
         let took = self.clocks.read(&self.clock).saturating_sub(before);
         let ticks = before.saturating_add(took / 2);
-        TimedReading {
-            reading: Reading { clock, ticks },
-            took,
-        }
+        (Reading { clock, ticks }, took)
     }
 
     // Looks whether the host's clock was set, where a reading shows it. The process may have been held up within that reading, which would
@@ -157,7 +147,8 @@ impl<'a, C: Clock + Copy + Drop> FollowedClock<'a, C> {
 
     // Takes what has come `since` nanoseconds after the question, where an answer is waited for and it is time to look for it.
     fn look_for_answer(&mut self, ticks: u64, since: u64) {
-        if !self.is_outstanding || !self.is_time_to_look(ticks, since) {
+        let is_due = since < PATIENCE || ticks.saturating_sub(self.looked) >= LATER_PERIOD;
+        if !self.is_outstanding || !is_due {
             return;
         }
         self.looked = ticks;
@@ -165,11 +156,6 @@ impl<'a, C: Clock + Copy + Drop> FollowedClock<'a, C> {
         if self.is_outstanding && since >= PATIENCE {
             self.clocks.expected.set(-1);
         }
-    }
-
-    // Whether it is time to look for an answer, `since` nanoseconds after the question.
-    fn is_time_to_look(&self, ticks: u64, since: u64) -> bool {
-        since < PATIENCE || ticks.saturating_sub(self.looked) >= LATER_PERIOD
     }
 
     // Sends a question. One that cannot be sent is sent again when the next one is due.

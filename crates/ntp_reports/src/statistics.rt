@@ -23,18 +23,35 @@ pub enum Belief {
     Doubted(Doubt),
 }
 
-/// Each belief, with its word.
-const BELIEFS: [(Belief, &str); 9] = [
-    (Belief::Believed, "believed"),
-    (Belief::Fixed, "fixed"),
-    (Belief::NoAnswer, "no-answer"),
-    (Belief::Doubted(Doubt::Old), "old"),
-    (Belief::Doubted(Doubt::Unsynchronised), "unsynchronised"),
-    (Belief::Doubted(Doubt::ReferenceOld), "reference-old"),
-    (Belief::Doubted(Doubt::ReferenceAhead), "reference-ahead"),
-    (Belief::Doubted(Doubt::Far), "far"),
-    (Belief::Doubted(Doubt::Set), "set"),
+/// Each belief.
+const BELIEFS: [Belief; 9] = [
+    Belief::Believed,
+    Belief::Fixed,
+    Belief::NoAnswer,
+    Belief::Doubted(Doubt::Old),
+    Belief::Doubted(Doubt::Unsynchronised),
+    Belief::Doubted(Doubt::ReferenceOld),
+    Belief::Doubted(Doubt::ReferenceAhead),
+    Belief::Doubted(Doubt::Far),
+    Belief::Doubted(Doubt::Set),
 ];
+
+impl Belief {
+    /// Its word in the statistics and the log.
+    pub fn word(self) -> &'static str {
+        match self {
+            Belief::Believed => "believed",
+            Belief::Fixed => "fixed",
+            Belief::NoAnswer => "no-answer",
+            Belief::Doubted(Doubt::Old) => "old",
+            Belief::Doubted(Doubt::Unsynchronised) => "unsynchronised",
+            Belief::Doubted(Doubt::ReferenceOld) => "reference-old",
+            Belief::Doubted(Doubt::ReferenceAhead) => "reference-ahead",
+            Belief::Doubted(Doubt::Far) => "far",
+            Belief::Doubted(Doubt::Set) => "set",
+        }
+    }
+}
 
 /// The state of the clock that replies tell.
 #[derive(Clone, Copy)]
@@ -53,6 +70,14 @@ pub struct ClockGauges {
     pub root_dispersion: Short,
     /// How far the daemon's clock was from the host's at its last answer, in nanoseconds. `None` where there is none.
     pub offset: Option<i64>,
+    /// How long ago the daemon's clock was set by that answer and the host's clock, in nanoseconds. `None` where it was never set too.
+    pub reference_age: Option<i64>,
+    /// The limit on that age, in nanoseconds. `None` where there is none.
+    pub most_reference_age: Option<u64>,
+    /// The root distance of that answer by now, whether it is believed or not, in nanoseconds.
+    pub root_distance: Option<u64>,
+    /// The limit on that distance. `None` where nobody is asked.
+    pub most_root_distance: Option<Short>,
     /// Whether the daemon is believed, and why not.
     pub belief: Belief,
 }
@@ -114,7 +139,7 @@ const COUNTER: &str = "counter";
 // The type of one that comes and goes.
 const GAUGE: &str = "gauge";
 
-// What a metric has behind its name. A number or a time that is not known is `NaN`.
+// What a metric has behind its name. A number or a time that there is not is `NaN`.
 #[derive(Clone, Copy)]
 enum Samples<'a> {
     Number(Option<u64>),
@@ -150,7 +175,7 @@ macro_rules! metrics {
 
 /// Writes the counts and gauges in the text form of Prometheus, each with its help and its type. It takes no memory.
 ///
-/// Seconds are decimals with nine places. The age of a clock is `NaN` where nothing is known of the clock.
+/// Seconds are decimals with nine places. What is not known, and a limit that is not set, is `NaN`.
 ///
 /// # Errors
 ///
@@ -218,7 +243,7 @@ fn command_metrics(gauges: &Gauges<'_>) -> [Metric<'static>; 5] {
 }
 
 // What is told of the clock.
-fn clock_metrics(clock: &ClockGauges) -> [Metric<'static>; 8] {
+fn clock_metrics(clock: &ClockGauges) -> [Metric<'static>; 12] {
     metrics! {
         GAUGE "labntp_clock_synchronised" = Number(Some(u64::from(clock.is_synchronised))),
             "Whether replies say that the clock is synchronised.";
@@ -234,6 +259,14 @@ fn clock_metrics(clock: &ClockGauges) -> [Metric<'static>; 8] {
             "The root dispersion that replies tell.";
         GAUGE "labntp_clock_offset_seconds" = SignedSeconds(clock.offset),
             "How far the daemon's clock was from the host's at its last answer.";
+        GAUGE "labntp_clock_reference_age_seconds" = SignedSeconds(clock.reference_age),
+            "How long ago the daemon's clock was set, by its last answer.";
+        GAUGE "labntp_clock_most_reference_age_seconds" = Seconds(clock.most_reference_age),
+            "Up to which of these ages it is believed.";
+        GAUGE "labntp_clock_root_distance_seconds" = Seconds(clock.root_distance),
+            "The root distance of the daemon's last answer by now.";
+        GAUGE "labntp_clock_most_root_distance_seconds" = Seconds(clock.most_root_distance.map(nanos_of)),
+            "Up to which of these distances it is believed.";
         GAUGE "labntp_clock_believed" = Belief(clock.belief),
             "Whether the clock's daemon is believed, or why not.";
     }
@@ -304,8 +337,9 @@ fn write_counts<W: Write>(
 
 // Whether the daemon is believed, and why not: of all reasons 1 stands at the one that there is.
 fn write_belief<W: Write>(out: &mut W, name: &str, belief: Belief) -> io::Result<()> {
-    for (each, word) in &BELIEFS {
+    for each in &BELIEFS {
         let is_so = u8::from(belief == *each);
+        let word = each.word();
         writeln!(out, "{name}{{why=\"{word}\"}} {is_so}")?;
     }
     Ok(())

@@ -165,6 +165,7 @@ fn known_at_start(wanted_buffer: u32) -> Begun {
         wanted_buffer,
         digest: [0; 32],
         form: LogForm::Plain,
+        manager: None,
     }
 }
 

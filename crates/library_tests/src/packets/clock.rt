@@ -15,7 +15,7 @@ use test_support::{moment, packet, stamps};
 const LIMITS: ClockLimits = ClockLimits {
     valid_for: 16_000_000_000,
     most_root_distance: Short(0x1_0000),
-    most_reference_age: 4_096,
+    most_reference_age: Some(4_096),
     most_step: 500_000_000,
 };
 
@@ -467,6 +467,34 @@ const ANSWERS: [(&str, u8, u8, u32, u64, i128, u32); 8] = [
     ),
     ("unsynchronised", 3, 16, 0, SET, TWICE_1_MS, FAR),
 ];
+
+#[test]
+fn a_reference_time_of_any_age_without_a_limit(rt: HostRuntime) -> Result<(), Fail> {
+    let limits = ClockLimits {
+        most_reference_age: None,
+        ..LIMITS
+    };
+    // Half of what stamps can tell apart, and more: then it lies ahead.
+    for (age, is_believed) in [(4_097, true), (0x7fff_ff00, true), (0x8000_0001, false)] {
+        let set = CAME.wrapping_sub(UNITS.wrapping_mul(age));
+        let answer = answer(0, 2, 0, set, 0)?;
+        let state = state_in_force(&limits, Some(&answer), answer.base);
+        assert!(rt; (state.leap() == 0) == is_believed, "set {age} s ago");
+    }
+    Ok(())
+}
+
+#[test]
+fn what_was_learned_has_an_age_and_a_distance(rt: HostRuntime) -> Result<(), Fail> {
+    let follower = following()?;
+    let now = seconds_later(10);
+    // Ten seconds, and what lies between the two stamps.
+    assert!(rt; follower.reference_age(now) == Some(0xa_40b3_9ab2));
+    // A delay of 8, and a dispersion of 13, in all twice.
+    assert!(rt; follower.root_distance_twice(now) == Some(8 + 2 * 13));
+    assert!(rt; follower.limits() == LIMITS);
+    Ok(())
+}
 
 #[test]
 fn answers_at_the_limits(rt: HostRuntime) -> Result<(), Fail> {

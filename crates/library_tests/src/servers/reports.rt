@@ -94,6 +94,18 @@ labntp_clock_root_dispersion_seconds 16.000015258
 # HELP labntp_clock_offset_seconds How far the daemon's clock was from the host's at its last answer.
 # TYPE labntp_clock_offset_seconds gauge
 labntp_clock_offset_seconds -1.000000002
+# HELP labntp_clock_reference_age_seconds How long ago the daemon's clock was set, by its last answer.
+# TYPE labntp_clock_reference_age_seconds gauge
+labntp_clock_reference_age_seconds 5000.250000000
+# HELP labntp_clock_most_reference_age_seconds Up to which of these ages it is believed.
+# TYPE labntp_clock_most_reference_age_seconds gauge
+labntp_clock_most_reference_age_seconds 86400.000000000
+# HELP labntp_clock_root_distance_seconds The root distance of the daemon's last answer by now.
+# TYPE labntp_clock_root_distance_seconds gauge
+labntp_clock_root_distance_seconds 16.250015258
+# HELP labntp_clock_most_root_distance_seconds Up to which of these distances it is believed.
+# TYPE labntp_clock_most_root_distance_seconds gauge
+labntp_clock_most_root_distance_seconds 1.500000000
 # HELP labntp_clock_believed Whether the clock's daemon is believed, or why not.
 # TYPE labntp_clock_believed gauge
 labntp_clock_believed{why="believed"} 0
@@ -300,6 +312,10 @@ const GAUGES: Gauges<'static> = Gauges {
         root_delay: Short(0x8000),
         root_dispersion: Short(0x0010_0001),
         offset: Some(-1_000_000_002),
+        reference_age: Some(5_000_250_000_000),
+        most_reference_age: Some(86_400_000_000_000),
+        root_distance: Some(16_250_015_258),
+        most_root_distance: Some(Short(0x0001_8000)),
         belief: Belief::Doubted(Doubt::Far),
     },
     files: FileGauges {
@@ -362,6 +378,10 @@ fn unknown() -> Gauges<'static> {
         is_synchronised: false,
         age: None,
         offset: None,
+        reference_age: None,
+        most_reference_age: None,
+        root_distance: None,
+        most_root_distance: None,
         ..GAUGES.clock
     };
     Gauges {
@@ -373,11 +393,15 @@ fn unknown() -> Gauges<'static> {
 }
 
 // Lines of what is written then.
-const UNKNOWN_LINES: [&str; 5] = [
+const UNKNOWN_LINES: [&str; 9] = [
     "\nlabntp_clock_synchronised 0\n",
     "\nlabntp_commands_changed 0\n",
     "\nlabntp_clock_age_seconds NaN\n",
     "\nlabntp_clock_offset_seconds NaN\n",
+    "\nlabntp_clock_reference_age_seconds NaN\n",
+    "\nlabntp_clock_most_reference_age_seconds NaN\n",
+    "\nlabntp_clock_root_distance_seconds NaN\n",
+    "\nlabntp_clock_most_root_distance_seconds NaN\n",
     "\nlabntp_queue_wait_seconds NaN\n",
 ];
 

@@ -1,4 +1,5 @@
-"""Which files a program opens, renames and deletes: a C library in front of the system's notes each, where OPENS names a file for it."""
+"""Which files a program opens, renames and deletes, and to which sockets it sends: a C library in front of the system's notes each, where OPENS
+names a file for it."""
 import re
 import subprocess
 
@@ -10,6 +11,9 @@ LIBRARY = r"""
 #include <stdio.h>
 #include <stdlib.h>
 #include <string.h>
+#include <sys/socket.h>
+#include <sys/syscall.h>
+#include <sys/un.h>
 #include <unistd.h>
 
 static int (*system_open)(const char *, int, ...), (*system_rename)(const char *, const char *), (*system_unlink)(const char *);
@@ -43,6 +47,12 @@ int rename(const char *from, const char *to) {
 int unlink(const char *path) {
     note("w", path);
     return system_unlink(path);
+}
+
+ssize_t sendto(int s, const void *octets, size_t length, int flags, const struct sockaddr *to, socklen_t size) {
+    if (to->sa_family == AF_UNIX)
+        note("w", ((const struct sockaddr_un *)to)->sun_path);
+    return syscall(SYS_sendto, s, octets, length, flags, to, size);
 }
 """
 

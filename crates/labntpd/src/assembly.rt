@@ -3,14 +3,14 @@ ghost use Rattle.std.specs.Prelude.{◌≡◌, ◌+◌, IfOk};
 
 use labntpd_assembly::{
     Assembly, Begun, FollowedDaemon, Host, Parts, Prepared, ReportingObserver, ServeFault,
-    answers_file, clock_source, commands_at, log_form, observer, open_socket, set_up, start_lines,
-    watch_from_now,
+    answers_file, clock_source, commands_at, log_form, observer, open_socket, service_manager,
+    set_up, start_lines, watch_from_now,
 };
 use labntpd_files::Configuration;
 use ntp_admin::{Status, memory_status, write_status};
 use ntp_host::{
-    BoundAt, BoundSocket, ClockSource, CommandsFile, HostClocks, Log, QueuedUdp, SOCKETS_ROOM,
-    UdpPort, has_standard_streams,
+    BoundAt, ClockSource, CommandsFile, HostClocks, Log, QueuedUdp, SOCKETS_ROOM, UdpPort,
+    has_standard_streams,
 };
 use ntp_port::FreshPort;
 use ntp_reports::CustomerCounts;
@@ -78,7 +78,7 @@ impl<'a> Opened<'a> {
         let Ok(room) = Vec::with_capacity(alloc, SOCKETS_ROOM) else {
             return Err(memory_status(&mut start_lines(rt)));
         };
-        let queued = QueuedUdp::new(BoundSocket { socket, at: bound }, rt, clocks, rt, room);
+        let queued = QueuedUdp::new(socket, bound, rt, clocks, rt, room);
         Ok(Opened {
             port: FreshPort::new(queued, watch),
             bound,
@@ -103,6 +103,7 @@ fn serve_opened<'a>(
         wanted_buffer: host.configuration.receive_buffer,
         digest,
         form: log_form(rt),
+        manager: service_manager(rt),
     };
     let parts = Parts {
         port: opened.port,

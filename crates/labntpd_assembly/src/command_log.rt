@@ -10,11 +10,14 @@ use std::io::Write;
 /// A minute, in nanoseconds.
 const MINUTE_NANOS: u64 = 60_000_000_000;
 
-/// Logs lines of commands, ten a minute at most and one for those held back, and counts the customers that are enrolled.
+/// Logs lines of commands, and counts the customers that are enrolled. In a minute it logs ten lines that were done at most, ten that were
+/// not, and one for those of either kind that were held back. Lines that are done once more at a start are not logged.
 #[derive(Drop)]
 pub struct CommandLog<'a, W: Write + Drop> {
     log: Log<W>,
-    allowance: LineAllowance,
+    // Those of lines that were done, and of others.
+    done: LineAllowance,
+    others: LineAllowance,
     clocks: &'a HostClocks,
     customers: u64,
     // The command that the next line is, if it is one.
@@ -30,7 +33,8 @@ impl<'a, W: Write + Drop> CommandLog<'a, W> {
     {
         CommandLog {
             log,
-            allowance: LineAllowance::new(),
+            done: LineAllowance::new(),
+            others: LineAllowance::new(),
             clocks,
             customers: 0,
             command: None,
@@ -54,16 +58,24 @@ impl<'a, W: Write + Drop> CommandLog<'a, W> {
         ensures command { self.new.command ≡ self.old.command }
         ensures customers { self.new.customers ≡ self.old.customers }
     {
-        match self.allowance.ask(self.clocks.ticks.get() / MINUTE_NANOS) {
+        let minute = self.clocks.ticks.get() / MINUTE_NANOS;
+        let (asked, priority, what) = match outcome {
+            LineOutcome::Done if self.clocks.began.get().is_none() => return,
+            LineOutcome::Done => (self.done.ask(minute), Priority::Information, "done"),
+            LineOutcome::Refused(_) | LineOutcome::Faulty(_) => {
+                (self.others.ask(minute), Priority::Warning, "not done")
+            }
+        };
+        match asked {
             Ask::Hold => return,
             Ask::Say => {}
             Ask::SayWithMore(held) => {
-                let line = self.log.begin(Priority::Warning);
-                let _ = write!(line, "commands: {held} more lines");
+                let line = self.log.begin(priority);
+                let _ = write!(line, "commands: {held} more lines {what}");
                 self.log.end();
             }
         }
-        let line = self.log.begin(priority_of(outcome));
+        let line = self.log.begin(priority);
         let _ = write_logged_line(line, number, self.command.as_ref(), outcome);
         self.log.end();
     }
@@ -89,12 +101,4 @@ impl<'a, W: Write + Drop> Observer for CommandLog<'a, W> {
     fn turn(&mut self, _outcome: &TurnOutcome)
         ensures { self.new ≡ self.old }
     {}
-}
-
-// How much a line matters.
-fn priority_of(outcome: LineOutcome) -> Priority {
-    match outcome {
-        LineOutcome::Done => Priority::Information,
-        LineOutcome::Refused(_) | LineOutcome::Faulty(_) => Priority::Warning,
-    }
 }

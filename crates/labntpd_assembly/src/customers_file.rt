@@ -1,11 +1,11 @@
 //! The customers file: what each customer has, what it was answered, and when its keys signed.
 
 use crate::files::FileFault;
-use ntp_host::new_file;
+use ntp_host::{new_file, put_in_place};
 use ntp_reports::{CustomerCounts, customer_line};
 use ntp_service::Service;
 use std::alloc::{AllocError, Global};
-use std::fs::{self, Files};
+use std::fs::Files;
 use std::io::{self, Write};
 
 /// How many seconds lie between two writings where nothing changed.
@@ -90,7 +90,7 @@ impl<'a, R: Files> CustomersFile<'a, R> {
             return;
         }
         drop(writing);
-        match self.replace(written) {
+        match put_in_place(self.files, self.beside.as_str(), self.path, written) {
             Err(error) => self.fail(error),
             Ok(()) if counts.has_missed() => self.fault = Some(FileFault::Incomplete),
             Ok(()) => self.fault = None,
@@ -101,12 +101,6 @@ impl<'a, R: Files> CustomersFile<'a, R> {
     fn fail(&mut self, error: io::Error) {
         self.due = self.begun.saturating_add(PATIENCE);
         self.fault = Some(FileFault::Unwritten(error));
-    }
-
-    // Gives what was written the name of the customers file, where that went well.
-    fn replace(&self, written: io::Result<()>) -> io::Result<()> {
-        written?;
-        fs::rename(self.files, self.beside.as_str(), self.path)
     }
 
     // Writes of the next customers.

@@ -13,7 +13,7 @@ use crate::receiving::FailedReceives;
 use crate::watched::{Watched, WatchedFiles};
 use labntpd_files::command_line::VERSION;
 use ntp_client::Reading;
-use ntp_host::{SOCKETS_ROOM, moment_now, queue_state, replace_file};
+use ntp_host::{HostClocks, KernelDrops, moment_now, replace_file};
 use ntp_packet::Moment;
 use ntp_reports::{ClockGauges, Counts, CustomerCounts, Gauges, Kind, write_statistics};
 use ntp_server::Reporter;
@@ -21,6 +21,7 @@ use ntp_service::Service;
 use std::alloc::AllocError;
 use std::fs::Files;
 use std::io::{self, Write};
+use std::net::SocketAddrV4;
 use std::time::{Clock, SystemTime, UNIX_EPOCH};
 
 /// A second, in nanoseconds.
@@ -69,12 +70,12 @@ impl<'a> StatisticsFile<'a> {
     }
 }
 
-// The files that are written, where there are some; and room for the kernel's list of sockets.
+// The files that are written, where there are some; and how many datagrams the kernel dropped.
 #[derive(Drop)]
 struct Written<'a, R: Files> {
     statistics: Option<StatisticsFile<'a>>,
     customers: Option<CustomersFile<'a, R>>,
-    sockets: Vec<u8>,
+    drops: KernelDrops<R>,
 }
 
 // What is due when.
@@ -82,9 +83,8 @@ struct Written<'a, R: Files> {
 struct Times {
     // When it began, in nanoseconds since 1970.
     began: u64,
-    // What the monotonic clock showed first, and what it shows when something is to be done next, in nanoseconds; and when the next piece
-    // of the customers file may be written beside datagrams.
-    first: Option<u64>,
+    // What the monotonic clock shows when something is to be done next, in nanoseconds; and when the next piece of the customers file may
+    // be written beside datagrams.
     next: u64,
     piece: u64,
     // How many whole seconds have passed, and after how many statistics and totals are due.
@@ -95,11 +95,13 @@ struct Times {
 
 impl Times {
     // Whether another second has begun by what the monotonic clock shows.
-    fn has_come(&mut self, ticks: u64) -> bool {
+    fn has_come(&mut self, clocks: &HostClocks) -> bool {
+        let ticks = clocks.ticks.get();
         if ticks < self.next {
             return false;
         }
-        let first = *self.first.get_or_insert(ticks);
+        let first = clocks.began.get().unwrap_or(ticks);
+        clocks.began.set(Some(first));
         self.seconds = ticks.saturating_sub(first) / SECOND_NANOS;
         self.next = self
             .seconds
@@ -115,8 +117,6 @@ impl Times {
 struct Seen {
     files: WatchedFiles,
     receives: FailedReceives,
-    // How many datagrams the kernel dropped.
-    drops: u64,
     // How many lines of its log were not written, by the last statistics.
     log_dropped: u64,
     // How long a datagram that was taken since the statistics were written last can have waited at most, where that is known.
@@ -145,7 +145,7 @@ impl<'a, R: Files + Clock, L: Write + Drop> Housekeeping<'a, R, L> {
         begun: Begun,
     ) -> Result<Housekeeping<'a, R, L>, AllocError> {
         let news = News::new(host.alloc, log, begun.form)?;
-        let written = written_by(&host)?;
+        let written = written_by(&host, begun.bound.local)?;
         let began = nanos_since_1970(host.rt);
         Ok(Housekeeping {
             host,
@@ -154,7 +154,6 @@ impl<'a, R: Files + Clock, L: Write + Drop> Housekeeping<'a, R, L> {
             written,
             times: Times {
                 began,
-                first: None,
                 next: 0,
                 piece: 0,
                 seconds: 0,
@@ -164,7 +163,6 @@ impl<'a, R: Files + Clock, L: Write + Drop> Housekeeping<'a, R, L> {
             seen: Seen {
                 files: WatchedFiles::new(),
                 receives: FailedReceives::new(),
-                drops: 0,
                 log_dropped: 0,
                 queue_wait: Some(0),
                 failed: 0,
@@ -191,7 +189,7 @@ impl<'a, R: Files + Clock, L: Write + Drop> Housekeeping<'a, R, L> {
         if let Some(reports) = server.observer.reports() {
             self.write_customers(reports, &server.service, ticks, receipt);
         }
-        if self.times.has_come(ticks) {
+        if self.times.has_come(self.host.clocks) {
             self.news.at(self.times.seconds);
             self.each_second(server);
         }
@@ -226,9 +224,18 @@ impl<'a, R: Files + Clock, L: Write + Drop> Housekeeping<'a, R, L> {
         self.begin_customers(server.observer.counts().count(Kind::Done));
         self.see_files(server.commands.inner(), server.observer.answers_fault());
         self.tell_files();
+        self.written.drops.look(rt);
         if seconds >= self.times.statistics {
+            let notice = if self.times.statistics == 0 {
+                "READY=1"
+            } else {
+                "WATCHDOG=1"
+            };
             self.times.statistics = seconds.saturating_add(STATISTICS_PERIOD);
             self.write_statistics(server, server.reference.gauges(&state, now));
+            if let Some(manager) = &self.begun.manager {
+                manager.hear(notice);
+            }
         }
         if seconds >= self.times.totals {
             self.times.totals = seconds.saturating_add(TOTALS_PERIOD);
@@ -308,10 +315,6 @@ impl<'a, R: Files + Clock, L: Write + Drop> Housekeeping<'a, R, L> {
         S: DaemonClock,
         O: DaemonObserver,
     {
-        let (rt, local) = (self.host.rt, self.begun.bound.local);
-        if let Some(state) = queue_state(rt, local, &mut self.written.sockets) {
-            self.seen.drops = state.drops;
-        }
         let dropped = self.news.take_dropped();
         self.seen.log_dropped = self.seen.log_dropped.saturating_add(dropped);
         let gauges = self.gauges(server, clock);
@@ -319,7 +322,7 @@ impl<'a, R: Files + Clock, L: Write + Drop> Housekeeping<'a, R, L> {
         let Some(file) = &mut self.written.statistics else {
             return;
         };
-        let written = file.replace(rt, server.observer.counts(), &gauges);
+        let written = file.replace(self.host.rt, server.observer.counts(), &gauges);
         self.seen.files.see(Watched::Statistics, written.err().map(FileFault::Unwritten));
     }
 
@@ -334,7 +337,7 @@ impl<'a, R: Files + Clock, L: Write + Drop> Housekeeping<'a, R, L> {
         let logged = server.observer.log_lines_dropped();
         Gauges {
             stale: server.port.stale(),
-            kernel_drops: self.seen.drops,
+            kernel_drops: self.written.drops.count(),
             receive_buffer: u64::from(self.begun.bound.buffer),
             queue_wait: self.seen.queue_wait,
             send_would_wait: server.port.port().would_wait(),
@@ -361,7 +364,7 @@ impl<'a, R: Files + Clock, L: Write + Drop> Housekeeping<'a, R, L> {
                 .saturating_add(counts.count(Kind::Interleaved)),
             rate: counts.count(Kind::Rate),
             stale,
-            drops: self.seen.drops,
+            drops: self.written.drops.count(),
         });
     }
 }
@@ -388,8 +391,11 @@ impl<
     }
 }
 
-// The files that a daemon writes by its configuration.
-fn written_by<'a, R: Files + Clock>(host: &Host<'a, R>) -> Result<Written<'a, R>, AllocError> {
+// The files that a daemon at this address writes by its configuration, and what the kernel dropped of its datagrams.
+fn written_by<'a, R: Files + Clock>(
+    host: &Host<'a, R>,
+    local: SocketAddrV4,
+) -> Result<Written<'a, R>, AllocError> {
     let (rt, alloc, configuration) = (host.rt, host.alloc, host.configuration);
     let statistics = match &configuration.statistics {
         None => None,
@@ -406,7 +412,7 @@ fn written_by<'a, R: Files + Clock>(host: &Host<'a, R>) -> Result<Written<'a, R>
     Ok(Written {
         statistics,
         customers,
-        sockets: Vec::with_capacity(alloc, SOCKETS_ROOM)?,
+        drops: KernelDrops::new(alloc, local)?,
     })
 }
 

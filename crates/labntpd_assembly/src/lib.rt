@@ -28,7 +28,7 @@ mod watched;
 pub use clock_told::DaemonClock;
 pub use command_log::CommandLog;
 pub use files::DaemonCommands;
-pub use lines::{log_form, start_lines};
+pub use lines::{log_form, service_manager, start_lines};
 pub use observers::{DaemonObserver, ReportingObserver, observer};
 pub use opened::{answers_file, clock_source, commands_at, watch_from_now};
 pub use parts::{Begun, Daemon, DaemonPort, Host, Parts};

@@ -1,7 +1,7 @@
-//! The lines that are told before the daemon serves.
+//! The lines that are told before the daemon serves, and who hears of it.
 
 use ntp_admin::{Status, failed_status};
-use ntp_host::{LogForm, StartLines, form_for};
+use ntp_host::{LogForm, ServiceManager, StartLines, form_for};
 use std::env;
 use std::io::{self, Stderr};
 
@@ -15,6 +15,14 @@ pub fn log_form(rt: &HostRuntime) -> LogForm {
     match env::var(rt, "JOURNAL_STREAM") {
         Ok(stream) => form_for(rt, stream.as_str()),
         Err(_) => LogForm::Plain,
+    }
+}
+
+/// The service manager that hears of this process, where there is one.
+pub fn service_manager(rt: &HostRuntime) -> Option<ServiceManager> {
+    match env::var(rt, "NOTIFY_SOCKET") {
+        Ok(name) => ServiceManager::at(name.as_str()),
+        Err(_) => None,
     }
 }
 

@@ -1,16 +1,14 @@
 //! What the log tells of a daemon: what is so from now on, where something else was told last. A `LineAllowance` bounds the lines of each
 //! kind a minute.
 
-use crate::clock_told::is_synchronised;
+use crate::clock_told::{ClockState, is_synchronised};
 use crate::files::{FileFault, have_same_words};
 use crate::parts::Begun;
 use crate::watched::Watched;
 use labntpd_files::Configuration;
 use labntpd_files::command_line::VERSION;
 use ntp_admin::Escaped;
-use ntp_client::reference_unsynchronised;
 use ntp_host::{BoundAt, Log, LogForm, Priority, is_nearly_full, write_nearly_full};
-use ntp_reply::Reference;
 use ntp_reports::{Ask, LineAllowance};
 use std::alloc::{AllocError, Global};
 use std::fmt::Display;
@@ -40,9 +38,8 @@ pub(crate) struct HourTotals {
 // What was told last.
 #[derive(Clone, Copy)]
 struct Told {
-    // The state of the clock, that of an unsynchronised one where none was told, and the leap second that it announces.
-    clock: Reference,
-    has_clock: bool,
+    // The state of the clock, and the leap second that it announces.
+    clock: Option<ClockState>,
     leap: u8,
     stale: u64,
     is_receiving: bool,
@@ -82,8 +79,7 @@ impl<L: Write + Drop> News<L> {
                 receiving: LineAllowance::new(),
             },
             told: Told {
-                clock: reference_unsynchronised(),
-                has_clock: false,
+                clock: None,
                 leap: NO_LEAP,
                 stale: 0,
                 is_receiving: true,
@@ -140,50 +136,40 @@ impl<L: Write + Drop> News<L> {
         );
     }
 
-    /// Logs that the clock is synchronised, or is not, where that was not told last; and of one that is, its stratum, its reference, and
-    /// the leap second that it announces, where one of them is another.
-    pub(crate) fn tell_clock(&mut self, state: &Reference) {
-        if !is_synchronised(state) {
-            self.tell_unsynchronised(state);
-            return;
+    /// Logs whether the clock is synchronised and why, of one that is also its stratum and its reference, where other words were told
+    /// last; and the leap second that it announces, where that is another.
+    pub(crate) fn tell_clock(&mut self, state: &ClockState) {
+        if !is_told_as(&self.told.clock, state) {
+            self.tell_state(state);
         }
-        let told = self.told.clock;
-        if !is_told_as(&told, state) {
-            self.tell_reference(state);
-        }
-        if self.told.leap != state.leap() {
-            self.tell_leap(state.leap());
+        let leap = state.reference.leap();
+        if is_synchronised(&state.reference) && self.told.leap != leap {
+            self.tell_leap(leap);
         }
     }
 
-    // Logs that the clock is not synchronised, where that was not told last.
-    fn tell_unsynchronised(&mut self, state: &Reference) {
-        let told = self.told.clock;
-        let is_told = self.told.has_clock && !is_synchronised(&told);
-        let seconds = self.seconds;
-        if is_told || !may_say(&mut self.allowances.clock, seconds) {
-            return;
-        }
-        self.told.clock = *state;
-        self.told.has_clock = true;
-        self.told.leap = NO_LEAP;
-        self.say(Priority::Warning, "clock: not synchronised");
-    }
-
-    // Logs which clock the host's follows.
-    fn tell_reference(&mut self, state: &Reference) {
+    // Logs the state of the clock.
+    fn tell_state(&mut self, state: &ClockState) {
         let seconds = self.seconds;
         if !may_say(&mut self.allowances.clock, seconds) {
             return;
         }
-        self.told.clock = *state;
-        self.told.has_clock = true;
-        let [a, b, c, d] = state.id();
-        let stratum = state.stratum();
+        self.told.clock = Some(*state);
+        let why = state.belief.word();
+        if !is_synchronised(&state.reference) {
+            self.told.leap = NO_LEAP;
+            self.say(
+                Priority::Warning,
+                format_args!("clock: not synchronised: {why}"),
+            );
+            return;
+        }
+        let [a, b, c, d] = state.reference.id();
+        let stratum = state.reference.stratum();
         self.say(
             Priority::Notice,
             format_args!(
-                "clock: synchronised, stratum {stratum}, reference {a:02x}{b:02x}{c:02x}{d:02x}"
+                "clock: synchronised, stratum {stratum}, reference {a:02x}{b:02x}{c:02x}{d:02x}: {why}"
             ),
         );
     }
@@ -301,9 +287,17 @@ fn may_say(allowance: &mut LineAllowance, seconds: u64) -> bool {
     allowance.has_room(minute) && allowance.ask(minute) != Ask::Hold
 }
 
-// Whether a state that was told is that of a synchronised clock with the stratum and the reference of another one.
-fn is_told_as(told: &Reference, state: &Reference) -> bool {
-    is_synchronised(told) && told.stratum() == state.stratum() && told.id() == state.id()
+// Whether a state is told in the same words as the one that was told last.
+fn is_told_as(told: &Option<ClockState>, state: &ClockState) -> bool {
+    let Some(told) = told else {
+        return false;
+    };
+    let (was, is) = (&told.reference, &state.reference);
+    if is_synchronised(is) {
+        is_synchronised(was) && was.stratum() == is.stratum() && was.id() == is.id()
+    } else {
+        !is_synchronised(was) && told.belief == state.belief
+    }
 }
 
 // What is told of a leap indicator of a synchronised clock (RFC 5905, 7.3).

@@ -1,6 +1,6 @@
 //! What a daemon works with.
 use labntpd_files::Configuration;
-use ntp_host::{BoundAt, EachMillisecond, HostClocks, LogForm, QueuedUdp};
+use ntp_host::{BoundAt, EachMillisecond, HostClocks, LogForm, QueuedUdp, ServiceManager};
 use ntp_port::{FreshPort, QueuedPort, TimedPort};
 use ntp_server::Server;
 use std::alloc::Global;
@@ -47,6 +47,8 @@ pub struct Begun {
     pub digest: [u8; 32],
     /// How the lines of its log begin.
     pub form: LogForm,
+    /// The service manager that hears of it, where there is one.
+    pub manager: Option<ServiceManager>,
 }
 
 /// What a daemon is made of when it begins to serve.

@@ -108,7 +108,7 @@ fn followed<R: Files, F: Write + Drop>(
     let limits = ClockLimits {
         valid_for: daemon.valid_for,
         most_root_distance: Short(daemon.most_root_distance),
-        most_reference_age: u64::from(daemon.most_reference_age),
+        most_reference_age: daemon.most_reference_age,
         most_step: daemon.most_step,
     };
     tell_readers(files, path, faults);

@@ -4,7 +4,7 @@ use crate::lines::{judged, start_lines};
 use labntpd_files::{Configuration, Listen};
 use ntp_admin::Status;
 use ntp_host::{
-    BoundAt, LONGEST_WAIT, SOCKETS_ROOM, bound, inherited, is_of_other_protocol, receive_buffer,
+    BoundAt, LONGEST_WAIT, SOCKETS_ROOM, inherited, is_of_other_protocol, receive_buffer,
     set_receive_buffer, set_send_buffer,
 };
 use std::alloc::Global;
@@ -58,7 +58,7 @@ fn bind(rt: &HostRuntime, address: SocketAddrV4) -> io::Result<UdpSocket> {
             let fault = "a socket was handed down (LISTEN_FDS): \"inherited\" is wanted";
             Err(io::Error::new(ErrorKind::InvalidInput, fault))
         }
-        _ => bound(rt, address),
+        _ => UdpSocket::bind(rt, address),
     }
 }
 

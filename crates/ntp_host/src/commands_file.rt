@@ -4,10 +4,9 @@ ghost use Rattle.ntp_port.specs.Sources.{Gives};
 ghost use Rattle.ntp_host.specs.Progress.{next_from};
 
 use crate::growth::{FileState, Growth};
-use crate::not_regular;
 use crate::pacing::{TENTH, is_due};
 use crate::progress::{MOST_COMMANDS_OCTETS, Progress};
-use crate::whole_read::regular_metadata;
+use crate::whole_file::open_regular_file;
 use ntp_packet::{Moment, Stamp};
 use ntp_port::CommandsSource;
 use std::alloc::Allocator;
@@ -120,13 +119,7 @@ impl<'a, R: Files> CommandsFile<'a, R> {
     /// Opens the regular file at `path`, and reads it once without a use, so that no start carries out a part of one that cannot be read to
     /// its end. The error is the system's, or says that a regular file is wanted.
     pub fn open(files: &'a R, path: &'a str) -> io::Result<CommandsFile<'a, R>> {
-        // To open a pipe might take for ever.
-        regular_metadata(files, path)?;
-        let mut file = fs::open(files, path)?;
-        let metadata = file.metadata()?;
-        if !metadata.is_file() {
-            return Err(not_regular());
-        }
+        let (mut file, metadata) = open_regular_file(files, path)?;
         read_through(&mut file)?;
         Ok(CommandsFile {
             files,

@@ -1,49 +1,94 @@
 //! What the kernel tells of a socket's queue.
 
+use std::alloc::{AllocError, Global};
 use std::fs::{self, Files};
 use std::io::Read;
 use std::net::SocketAddrV4;
 
-/// How many octets of the kernel's list of sockets are read at once, and how much room is wanted for them: 512 lines of 128 octets each,
-/// with its line feed.
-pub const SOCKETS_ROOM: usize = 65_536;
+/// How many octets of the kernel's list of sockets are read at once, and how much room is wanted for them: 128 lines of 128 octets each,
+/// with its line feed. For each page of it the kernel goes over all sockets before.
+pub const SOCKETS_ROOM: usize = 16_384;
 
-/// How many such parts are read at most.
-const MOST_PARTS: u32 = 16;
+/// How many such parts are read at most, and how many of them in one go.
+const MOST_PARTS: u32 = 64;
+
+const MOST_PARTS_AT_ONCE: u32 = 16;
+
+/// The kernel's list of UDP sockets (proc(5)).
+const UDP_LIST: &str = "/proc/net/udp";
 
 /// How many octets of a receive buffer a queued datagram takes at least, as Linux counts them: 576 for what it keeps of each
 /// datagram, and its headers.
 const LEAST_QUEUED_OCTETS: u32 = 640;
-
-/// What the kernel tells of the queue of a socket.
-#[derive(Clone, Copy)]
-pub struct QueueState {
-    /// How many octets of the receive buffer its datagrams take, as the kernel counts.
-    pub used: u32,
-    /// How many datagrams were dropped for want of room.
-    pub drops: u64,
-}
 
 /// How many datagrams `octets` octets of a receive buffer hold at most.
 pub(crate) fn most_datagrams(octets: u32) -> u64 {
     u64::from(octets / LEAST_QUEUED_OCTETS)
 }
 
-/// The queue of a UDP socket of this host, as /proc/net/udp tells (proc(5)); nothing where it does not tell, or where
-/// 8,191 other sockets or more stand before. `room` is for a part of that file.
-pub fn queue_state<R: Files>(
+/// How many octets of its receive buffer the datagrams take that wait at a UDP socket, as the kernel counts; nothing where it does not
+/// tell, or where 2,048 other sockets or more stand before. `room` is for a part of the list.
+pub(crate) fn used_octets<R: Files>(
     files: &R,
     local: SocketAddrV4,
     room: &mut Vec<u8>,
-) -> Option<QueueState> {
-    let mut file = fs::open(files, "/proc/net/udp").ok()?;
-    for _ in 0..MOST_PARTS {
-        let text = next_part(&mut file, room)?;
-        if let Some(line) = text.lines().find(|line| is_of(line, local)) {
-            return state_in(line);
+) -> Option<u32> {
+    let mut list = fs::open(files, UDP_LIST).ok()?;
+    for _ in 0..MOST_PARTS_AT_ONCE {
+        if let Some((used, _)) = queue_in(next_part(&mut list, room)?, local) {
+            return Some(used);
         }
     }
     None
+}
+
+/// How many datagrams the kernel dropped at a UDP socket. Each look reads a part of the kernel's list, so that none takes long.
+#[derive(Drop)]
+pub struct KernelDrops<R: Files> {
+    local: SocketAddrV4,
+    room: Vec<u8>,
+    // What is read on at the next look, and how many parts of it were read.
+    list: Option<R::File>,
+    parts: u32,
+    drops: u64,
+}
+
+impl<R: Files> KernelDrops<R> {
+    /// None is known of the socket at this address. The room for a part of the list is taken here.
+    pub fn new(alloc: Global, local: SocketAddrV4) -> Result<KernelDrops<R>, AllocError> {
+        Ok(KernelDrops {
+            local,
+            room: Vec::with_capacity(alloc, SOCKETS_ROOM)?,
+            list: None,
+            parts: 0,
+            drops: 0,
+        })
+    }
+
+    /// How many are known of. Those of a socket behind 8,191 others or more are not seen.
+    pub fn count(&self) -> u64 {
+        self.drops
+    }
+
+    /// Reads the next part of the list; the first one again behind its end, and behind the line of the socket.
+    pub fn look(&mut self, files: &R) {
+        if self.list.is_none() {
+            self.list = fs::open(files, UDP_LIST).ok();
+            self.parts = 0;
+        }
+        let Some(mut list) = self.list.take() else {
+            return;
+        };
+        let Some(text) = next_part(&mut list, &mut self.room) else {
+            return;
+        };
+        self.parts = self.parts.saturating_add(1);
+        match queue_in(text, self.local) {
+            Some((_, drops)) => self.drops = drops,
+            None if self.parts < MOST_PARTS => self.list = Some(list),
+            None => {}
+        }
+    }
 }
 
 /// The kernel's lists of IPv4 sockets that receive datagrams and are none of UDP (proc(5)).
@@ -60,21 +105,17 @@ pub fn is_of_other_protocol<R: Files>(files: &R, inode: u64, room: &mut Vec<u8>)
 // Nothing where a list has no socket of this inode, or cannot be read.
 fn is_listed<R: Files>(files: &R, list: &str, inode: u64, room: &mut Vec<u8>) -> Option<()> {
     let mut file = fs::open(files, list).ok()?;
-    for _ in 0..MOST_PARTS {
+    for _ in 0..MOST_PARTS_AT_ONCE {
         let text = next_part(&mut file, room)?;
-        if text.lines().any(|line| has_inode(line, inode)) {
+        // It is the tenth word (proc(5)).
+        let mut inodes = text
+            .lines()
+            .filter_map(|line| line.split_ascii_whitespace().nth(9));
+        if inodes.any(|word| word.parse() == Ok(inode)) {
             return Some(());
         }
     }
     None
-}
-
-// Whether a line is that of a socket of this inode, which is its tenth word (proc(5)).
-fn has_inode(line: &str, inode: u64) -> bool {
-    match line.split_ascii_whitespace().nth(9) {
-        Some(word) => word.parse() == Ok(inode),
-        None => false,
-    }
 }
 
 // The next lines of the kernel's list; nothing behind its end.
@@ -99,13 +140,12 @@ fn is_of(line: &str, local: SocketAddrV4) -> bool {
         && u16::from_str_radix(port, 16) == Ok(local.port())
 }
 
-// What a line tells: behind the colon of its fifth word the octets that are used, in hexadecimal digits, and in its last word
-// the drops.
-fn state_in(line: &str) -> Option<QueueState> {
+// What a part of the list tells of a socket: behind the colon of the fifth word of its line the octets that are used, in hexadecimal digits,
+// and in the last word the drops.
+fn queue_in(text: &str, local: SocketAddrV4) -> Option<(u32, u64)> {
+    let line = text.lines().find(|line| is_of(line, local))?;
     let mut words = line.split_ascii_whitespace();
     let (_, used) = words.nth(4)?.split_once(':')?;
-    Some(QueueState {
-        used: u32::from_str_radix(used, 16).ok()?,
-        drops: words.last()?.parse().ok()?,
-    })
+    let used = u32::from_str_radix(used, 16).ok()?;
+    Some((used, words.last()?.parse().ok()?))
 }

@@ -116,19 +116,13 @@ impl<W: Write + Drop> StartLines<W> {
         self.priority = Priority::Warning;
         self
     }
-
-    // Writes the priority of a line that begins, where lines have one.
-    fn begin(&mut self) -> io::Result<()> {
-        if self.is_begun || self.form == LogForm::Plain {
-            return Ok(());
-        }
-        write!(self.out, "<{}>", self.priority as u8)
-    }
 }
 
 impl<W: Write + Drop> Write for StartLines<W> {
     fn write(&mut self, octets: &[u8]) -> io::Result<usize> {
-        self.begin()?;
+        if !self.is_begun && self.form == LogForm::WithPriorities {
+            write!(self.out, "<{}>", self.priority as u8)?;
+        }
         self.is_begun = true;
         let count = self.out.write(octets)?;
         if octets[..count.min(octets.len())].last() == Some(&b'\n') {

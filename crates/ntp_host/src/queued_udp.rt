@@ -5,8 +5,8 @@ ghost use Rattle.ntp_port.specs.Port.{most_received_octets, failed_calls, Counts
 ghost use Rattle.ntp_host.specs.Reading.{middle, ReadsOnce};
 
 use crate::UdpPort;
-use crate::kernel_queue::{most_datagrams, queue_state};
-use crate::socket::{AtOnce, drop_at_once, send_at_once};
+use crate::kernel_queue::{most_datagrams, used_octets};
+use crate::socket::{drop_at_once, inet_address, send_at_once};
 use libc::net::{POLLIN, poll};
 use libc::types::pollfd;
 use ntp_packet::{Moment, Stamp};
@@ -14,6 +14,7 @@ use ntp_port::{Arrival, DatagramRoom, Port, PortCounts, PortFault, QueuedPort, T
 use ntp_service::Address;
 use std::cell::Cell;
 use std::fs::Files;
+use std::io::ErrorKind;
 use std::net::{SocketAddrV4, UdpSocket};
 use std::os::fd::AsRawFd;
 use std::time::Clock;
@@ -27,15 +28,18 @@ pub const LONGEST_WAIT: u16 = 20;
 pub struct HostClocks {
     /// What the monotonic clock showed when it was last read, in nanoseconds.
     pub ticks: Cell<u64>,
+    /// What it showed when the daemon began to serve; nothing while it carries out the lines that stand in its commands file at the start.
+    pub began: Cell<Option<u64>>,
     /// A second socket, at which something is expected that ends a wait for datagrams; -1 where nothing is.
     pub expected: Cell<i32>,
 }
 
 impl HostClocks {
-    /// Nothing was read, and nothing is expected.
+    /// Nothing was read, nothing is expected, and nobody is served.
     pub fn new() -> HostClocks {
         HostClocks {
             ticks: Cell::new(0),
+            began: Cell::new(None),
             expected: Cell::new(-1),
         }
     }
@@ -66,15 +70,6 @@ pub struct BoundAt {
     pub buffer: u32,
 }
 
-/// A bound socket, and what is known of it.
-#[derive(Drop)]
-pub struct BoundSocket {
-    /// The socket.
-    pub socket: UdpSocket,
-    /// What is known of it.
-    pub at: BoundAt,
-}
-
 /// The calls of a port over one bound UDP socket, which tell of its queue too. It receives by another port over the same socket,
 /// here `UdpPort`, and hands on what that gives. No reply waits for room in the send buffer: one that would is not sent.
 #[derive(Drop)]
@@ -101,7 +96,8 @@ impl<'a, C: Clock + Copy + Drop, R: Files> QueuedUdp<'a, UdpPort<C>, C, R> {
     /// A port over a bound socket, with the longest wait that the socket's time limit gives. `room` is for what the kernel tells of its
     /// queue.
     pub fn new(
-        bound: BoundSocket,
+        socket: UdpSocket,
+        bound: BoundAt,
         clock: C,
         clocks: &'a HostClocks,
         files: &'a R,
@@ -109,14 +105,13 @@ impl<'a, C: Clock + Copy + Drop, R: Files> QueuedUdp<'a, UdpPort<C>, C, R> {
     ) -> QueuedUdp<'a, UdpPort<C>, C, R>
         ensures { failed_calls result.counts ≡ 0 }
     {
-        let BoundSocket { socket, at } = bound;
         QueuedUdp {
             descriptor: socket.as_raw_fd(),
             port: UdpPort::new(socket, clock),
             clock,
             clocks,
             files,
-            bound: at,
+            bound,
             room,
             shown: None,
             has_sent: false,
@@ -198,12 +193,12 @@ impl<'a, P: TimedPort, C: Clock + Copy + Drop, R: Files> Port for QueuedUdp<'a, 
     }
 
     fn send(&mut self, address: Address, port: u16, reply: &[u8]) -> Result<(), PortFault> {
-        let sent = send_at_once(self.descriptor, reply, address, port);
-        self.has_sent = matches!(sent, AtOnce::Taken);
-        if self.has_sent {
+        let sent = send_at_once(self.descriptor, reply, &inet_address(address, port));
+        self.has_sent = sent.is_ok();
+        let Err(error) = sent else {
             return Ok(());
-        }
-        if matches!(sent, AtOnce::WouldWait) {
+        };
+        if error.kind() == ErrorKind::WouldBlock {
             self.would_wait = self.would_wait.saturating_add(1);
         }
         self.counts.failed_sends += 1;
@@ -253,8 +248,8 @@ impl<'a, P: TimedPort, C: Clock + Copy + Drop, R: Files> QueuedPort for QueuedUd
     }
 
     fn most_held(&mut self) -> u64 {
-        match queue_state(self.files, self.bound.local, &mut self.room) {
-            Some(state) => most_datagrams(state.used),
+        match used_octets(self.files, self.bound.local, &mut self.room) {
+            Some(used) => most_datagrams(used),
             // The kernel takes one more in while what is used does not exceed the buffer.
             None => most_datagrams(self.bound.buffer).saturating_add(1),
         }

@@ -1,25 +1,19 @@
 //! The sockets of the daemon.
-ghost use Rattle.std.specs.Prelude.{pos};
+ghost use Rattle.std.specs.Prelude.{◌≤◌, pos};
 ghost use Rattle.libc.specs.Net.{SockOption};
 
-use libc::EAGAIN;
 use libc::net::{
-    AF_INET, IPPROTO_TCP, MSG_DONTWAIT, MSG_NOSIGNAL, SO_RCVBUF, SO_SNDBUF, SOL_SOCKET,
-    TCP_NODELAY, getsockopt, recv, sendto, setsockopt,
+    AF_INET, AF_UNIX, IPPROTO_TCP, MSG_DONTWAIT, MSG_NOSIGNAL, SO_RCVBUF, SO_SNDBUF, SOCK_CLOEXEC,
+    SOCK_DGRAM, SOL_SOCKET, TCP_NODELAY, getsockopt, recv, sendto, setsockopt, socket,
 };
 use ntp_service::Address;
 use os::{FromRawFd, errno};
 use std::io::{self, ErrorKind};
-use std::net::{Net, SocketAddr, SocketAddrV4, UdpSocket};
+use std::net::{SocketAddr, UdpSocket};
 use std::os::fd::AsRawFd;
 
 /// The first descriptor that a service manager hands down (sd_listen_fds(3)).
 const FIRST_INHERITED: i32 = 3;
-
-/// A socket at an address and a UDP port.
-pub fn bound<R: Net>(net: &R, address: SocketAddrV4) -> io::Result<UdpSocket> {
-    UdpSocket::bind(net, address)
-}
 
 /// The socket that a service manager has handed down as descriptor 3 (sd_listen_fds(3)), made to wait for its datagrams: a bound UDP
 /// socket of IPv4. The error says what is wanted, or is the system's.
@@ -28,7 +22,8 @@ pub fn inherited() -> io::Result<UdpSocket> {
     let SocketAddr::V4(local) = socket.local_addr()? else {
         return Err(unsuited("an IPv4 socket is wanted"));
     };
-    if is_tcp(&socket) {
+    // Only a socket of TCP has this option (tcp(7)).
+    if option_of(&socket, IPPROTO_TCP, TCP_NODELAY).is_ok() {
         return Err(unsuited("a UDP socket is wanted"));
     }
     if local.port() == 0 {
@@ -41,22 +36,6 @@ pub fn inherited() -> io::Result<UdpSocket> {
 // What is wrong with a socket that was handed down.
 fn unsuited(what: &str) -> io::Error {
     io::Error::new(ErrorKind::InvalidInput, what)
-}
-
-// Whether a socket is one of TCP: only those have the option (tcp(7)).
-fn is_tcp(socket: &UdpSocket) -> bool {
-    let mut value = [0; 16];
-    let mut length = 4;
-    let status = unsafe {
-        getsockopt(
-            socket.as_raw_fd(),
-            IPPROTO_TCP,
-            TCP_NODELAY,
-            &mut value,
-            &mut length,
-        )
-    };
-    status == 0
 }
 
 /// Asks for a receive buffer of `octets` octets.
@@ -86,17 +65,16 @@ fn set_option(socket: &UdpSocket, name: i32, number: u32) -> io::Result<()>
 /// The size of the receive buffer, in octets as the kernel counts them: with its own words about each datagram, so twice
 /// what was asked for (socket(7)).
 pub fn receive_buffer(socket: &UdpSocket) -> io::Result<u32> {
+    option_of(socket, SOL_SOCKET, SO_RCVBUF)
+}
+
+// An option of a socket that is a number.
+fn option_of(socket: &UdpSocket, level: i32, name: i32) -> io::Result<u32>
+    requires { SockOption level name }
+{
     let mut value = [0; 16];
     let mut length = 4;
-    let status = unsafe {
-        getsockopt(
-            socket.as_raw_fd(),
-            SOL_SOCKET,
-            SO_RCVBUF,
-            &mut value,
-            &mut length,
-        )
-    };
+    let status = unsafe { getsockopt(socket.as_raw_fd(), level, name, &mut value, &mut length) };
     if status == 0 {
         Ok(u32::from_ne_bytes([value[0], value[1], value[2], value[3]]))
     } else {
@@ -104,41 +82,68 @@ pub fn receive_buffer(socket: &UdpSocket) -> io::Result<u32> {
     }
 }
 
-/// How many octets of an address the kernel reads: those of a `sockaddr_in` (ip(7)).
-const ADDRESS_OCTETS: u32 = 16;
+/// How many octets an address of IPv4 has, as the kernel takes it (ip(7)).
+const INET_OCTETS: u32 = 16;
 
-/// What came of a datagram that was to be sent at once.
+/// The most octets of the name of a socket of this host (unix(7)).
+const MOST_NAME_OCTETS: usize = 108;
+
+/// An address of a socket, as the kernel takes it: so many of these octets.
 #[derive(Clone, Copy)]
-pub(crate) enum AtOnce {
-    /// The kernel took the whole datagram.
-    Taken,
-    /// It would have waited for room in the send buffer.
-    WouldWait,
-    /// It was not taken for another reason, or not as a whole.
-    Failed,
+pub(crate) struct SocketAddress {
+    octets: [u8; 128],
+    length: u32,
+    ghost fits: { length ≤ 128 },
 }
 
-/// Sends a datagram to an address and a UDP port, where that needs no waiting.
-pub(crate) fn send_at_once(descriptor: i32, octets: &[u8], address: Address, port: u16) -> AtOnce {
-    let target = socket_address(address, port);
+/// Sends a datagram to an address, if that needs no waiting. The error is the system's.
+pub(crate) fn send_at_once(
+    descriptor: i32,
+    octets: &[u8],
+    target: &SocketAddress,
+) -> io::Result<()> {
     let flags = MSG_NOSIGNAL | MSG_DONTWAIT;
-    let sent = unsafe { sendto(descriptor, octets, flags, &target, ADDRESS_OCTETS) };
+    let sent = unsafe { sendto(descriptor, octets, flags, &target.octets, target.length) };
     if sent == octets.len() as isize {
-        AtOnce::Taken
-    } else if sent < 0 && errno() == EAGAIN {
-        AtOnce::WouldWait
+        Ok(())
     } else {
-        AtOnce::Failed
+        Err(io::Error::from_raw_os_error(errno()))
     }
 }
 
-// An address and a UDP port as the kernel takes them: a `sockaddr_in` in front (ip(7)).
-fn socket_address(address: Address, port: u16) -> [u8; 128] {
-    let mut target = [0; 128];
-    target[..2].copy_from_slice(&(AF_INET as u16).to_ne_bytes());
-    target[2..4].copy_from_slice(&port.to_be_bytes());
-    target[4..8].copy_from_slice(&address.0);
-    target
+/// An address and a UDP port.
+pub(crate) fn inet_address(address: Address, port: u16) -> SocketAddress {
+    let mut octets = [0; 128];
+    octets[..2].copy_from_slice(&(AF_INET as u16).to_ne_bytes());
+    octets[2..4].copy_from_slice(&port.to_be_bytes());
+    octets[4..8].copy_from_slice(&address.0);
+    SocketAddress {
+        octets,
+        length: INET_OCTETS,
+    }
+}
+
+/// The name of a socket of this host: a path, or a name behind `@` that is no file's; nothing where it is neither, or is too long.
+pub(crate) fn unix_address(name: &str) -> Option<SocketAddress> {
+    let name = name.as_bytes();
+    if name.len() > MOST_NAME_OCTETS || !matches!(name.first(), Some(&(b'/' | b'@'))) {
+        return None;
+    }
+    let mut octets = [0; 128];
+    octets[..2].copy_from_slice(&(AF_UNIX as u16).to_ne_bytes());
+    octets[2..2 + name.len()].copy_from_slice(name);
+    if octets[2] == b'@' {
+        octets[2] = 0;
+    }
+    Some(SocketAddress {
+        octets,
+        length: 2 + name.len() as u32,
+    })
+}
+
+/// A new socket from which datagrams go to sockets of this host; -1 where there can be none.
+pub(crate) fn unix_socket() -> i32 {
+    unsafe { socket(AF_UNIX, SOCK_DGRAM | SOCK_CLOEXEC, 0) }
 }
 
 /// Takes a datagram that has come, and drops it. Whether one was there.

@@ -1,8 +1,43 @@
-//! Files that the daemon writes: regular ones alone, so that no write waits for somebody who reads.
+//! Files that are read and written whole: regular ones alone, so that nothing waits for who has the other end of a pipe.
 
-use crate::not_regular;
-use std::fs::{self, Files, OpenFile, OpenOptions};
-use std::io::{self, ErrorKind, Write};
+use std::alloc::Allocator;
+use std::fs::{self, Files, Metadata, OpenFile, OpenOptions};
+use std::io::{self, ErrorKind, Read, Write};
+
+/// The octets of the regular file at a path, cut to one more than `most`, so that a longer file is still told from one of `most` octets. It
+/// takes memory for them from `alloc`. The error is the system's, or `OutOfMemory`, or says that a regular file is wanted.
+pub fn read_regular_file<R: Files, A: Allocator + Copy>(
+    files: &R,
+    alloc: A,
+    path: &str,
+    most: u32,
+) -> io::Result<Vec<u8, A>> {
+    let (mut file, _) = open_regular_file(files, path)?;
+    let mut octets = Vec::new(alloc);
+    file.take(u64::from(most) + 1).read_to_end(&mut octets)?;
+    Ok(octets)
+}
+
+/// The regular file at a path, to be read, and its metadata.
+pub(crate) fn open_regular_file<R: Files>(
+    files: &R,
+    path: &str,
+) -> io::Result<(R::File, Metadata)> {
+    // To open a pipe might take for ever.
+    if fs::metadata(files, path)?.is_file() {
+        let file = fs::open(files, path)?;
+        let metadata = file.metadata()?;
+        if metadata.is_file() {
+            return Ok((file, metadata));
+        }
+    }
+    Err(not_regular())
+}
+
+/// That a regular file is wanted, as an error.
+pub fn not_regular() -> io::Error {
+    io::Error::new(ErrorKind::InvalidInput, "a regular file is wanted")
+}
 
 /// A file that is made anew at a path, to be written: what stands there is taken away first, and no link is followed.
 pub fn new_file<R: Files>(files: &R, path: &str) -> io::Result<R::File> {
@@ -25,8 +60,25 @@ pub fn replace_file<R: Files>(
     octets: &[u8],
 ) -> io::Result<()> {
     let mut file = new_file(files, beside)?;
-    file.write_all(octets)?;
-    fs::rename(files, beside, path)
+    let written = file.write_all(octets);
+    put_in_place(files, beside, path, written)
+}
+
+/// Gives the file at `beside`, if it was written, the name of the one at a path. Where that fails it is removed, and takes no room.
+pub fn put_in_place<R: Files>(
+    files: &R,
+    beside: &str,
+    path: &str,
+    written: io::Result<()>,
+) -> io::Result<()> {
+    let put = match written {
+        Ok(()) => fs::rename(files, beside, path),
+        Err(error) => Err(error),
+    };
+    if put.is_err() {
+        let _ = fs::remove_file(files, beside);
+    }
+    put
 }
 
 /// The regular file at a path, made where there is none, and emptied. Each write goes to its end. The error is the system's, or says

@@ -26,6 +26,9 @@ PR_SET_SECCOMP, PR_SET_NO_NEW_PRIVS, SECCOMP_MODE_FILTER = 22, 38, 2
 PTRACE_TRACEME, PTRACE_SYSCALL = 0, 24
 # The daemon that serves where one does.
 LABNTPD = ""
+# By whom orders are given, and what stands in front of their lines: when they were given, and by whom.
+CLERK = os.environ["SUDO_USER"] = "clerk"
+RECORD = re.compile(r"# (\d{4}-\d\d-\d\dT\d\d:\d\d:\d\dZ) (.+)")
 
 
 def room(name):
@@ -189,12 +192,17 @@ def append_text(text, name="commands"):
 
 
 def appended(before):
-    """The lines of the commands file behind those that were there before."""
+    """The lines of the commands file behind those that were there before, but for records of orders."""
     text = read("commands")
     same("what was there stays", before, text[: len(before)])
     if text and not text.endswith("\n"):
         raise Odd("the commands file does not end with a line feed")
-    return text[len(before) :].splitlines()
+    return [it for it in text[len(before) :].splitlines() if not RECORD.fullmatch(it)]
+
+
+def all_done():
+    """The answers to the commands that stand there, if all are done."""
+    return [f"{number} done" for number, line in enumerate(lines_in("commands"), 1) if line[:1] not in ("", "#")]
 
 
 ENROL = re.compile(r"enrol (\S+) (\d+) (md5|sha1) ([0-9a-f]{40}) (\d+)")

@@ -2,8 +2,8 @@
 
 use crate::commands_file::{HeldFile, Loaded};
 use crate::desk::{Clerk, Desk, MOST_REPORTED_OCTETS, Stop};
-use ntp_admin::{Command, Status};
-use ntp_clerk::{command_line, command_shown};
+use ntp_admin::{Command, Escaped, Status};
+use ntp_clerk::{command_line, command_shown, record_line};
 use ntp_host::{not_regular, pause};
 use std::alloc::{AllocError, Global};
 use std::fmt::{self, Display};
@@ -12,6 +12,9 @@ use std::io::{self, ErrorKind, Read, Seek, SeekFrom, Write};
 
 /// The answer to a line that was carried out.
 const GOOD: &str = "done";
+
+/// The form of the time in a record (RFC 3339).
+const RECORD_FORM: &str = "%Y-%m-%dT%H:%M:%SZ";
 
 /// The milliseconds between two looks at the answers.
 const LOOKED_EACH: u64 = 20;
@@ -45,7 +48,7 @@ impl Display for LineNumbers {
 /// Lines that are appended in one write.
 #[derive(Drop)]
 pub struct Addition {
-    /// All lines: those of names, then those of commands.
+    /// All lines: the record of the order, those of names, then those of commands.
     pub text: String,
     /// How many lines of names there are.
     pub names: usize,
@@ -59,17 +62,20 @@ pub struct Addition {
 }
 
 impl Addition {
-    /// Writes these commands as lines that follow those of the commands file and these lines of names, once it has room for them.
+    /// Writes a record, these lines of names and these commands as lines that follow those of the commands file, once it has room
+    /// for them.
     pub fn new(
         clerk: &Clerk<'_>,
         loaded: &Loaded,
         name_lines: String,
         commands: Vec<Command>,
     ) -> Result<Addition, Stop> {
-        let alloc = clerk.desk.alloc();
+        let (desk, alloc) = (clerk.desk, clerk.desk.alloc());
         let (names, count) = (name_lines.lines().count(), commands.len());
-        let before = loaded.lines.saturating_add(names as u64);
-        let mut text = name_lines;
+        let before = loaded.lines.saturating_add(1).saturating_add(names as u64);
+        let (time, user) = (desk.time(RECORD_FORM)?, desk.user()?);
+        let mut text = record_line(alloc, time.as_str(), user.as_str())?;
+        text.push_str(name_lines.as_str())?;
         for command in commands.iter() {
             text.push_str(command_line(alloc, command)?.as_str())?;
         }
@@ -89,6 +95,32 @@ impl Addition {
             commands,
             given: None,
         })
+    }
+}
+
+/// Writes what is appended: names alone, or commands with the numbers of their lines.
+impl Display for Addition {
+    fn fmt<W: fmt::Write>(&self, f: &mut fmt::Formatter<W>) -> fmt::Result {
+        let (numbers, shown) = (self.numbers, self.shown.as_str());
+        if self.commands.is_empty() {
+            return f.write_str(shown);
+        }
+        write!(f, "{numbers}: {shown}")
+    }
+}
+
+// Prints what comes of an addition. Output that fails changes nothing of that, and a reader who goes away misses nothing.
+#[derive(Drop)]
+struct Teller<'a> {
+    desk: Desk<'a>,
+    has_failed: bool,
+}
+
+impl<'a> Teller<'a> {
+    fn tell<D: Display + Drop>(&mut self, text: D) {
+        if let Err(error) = writeln!(self.desk.rt.stdout(), "{text}") {
+            self.has_failed = self.has_failed || error.kind() != ErrorKind::BrokenPipe;
+        }
     }
 }
 
@@ -116,27 +148,33 @@ pub fn append(
     let stored = held.store();
     // Others may append while the answers are waited for.
     drop(held);
-    let (numbers, shown) = (addition.numbers, addition.shown.as_str());
-    if addition.commands.is_empty() {
-        desk.print(format_args!("{shown}\n"))?;
-    } else if is_sure {
-        desk.print(format_args!("{numbers}: {shown}\n"))?;
+    let mut teller = Teller {
+        desk,
+        has_failed: false,
+    };
+    if is_sure || addition.commands.is_empty() {
+        teller.tell(addition);
     }
     if let Some(path) = &addition.given {
-        desk.print(format_args!("for the customer: {path}\n"))?;
+        teller.tell(format_args!("for the customer: {path}"));
     }
     let followed = if is_sure {
-        follow(desk, addition, answers)
+        follow(&mut teller, addition, answers)
     } else {
-        Err(lost(clerk, shown, is_alone))
+        Err(lost(clerk, addition.shown.as_str(), is_alone))
     };
     desk.at(clerk.commands(), stored)?;
-    followed
+    followed?;
+    if teller.has_failed {
+        let _ = writeln!(desk.faults(), "write: {addition}: it stands there");
+        return Err(Stop::Printed(Status::IoFailed));
+    }
+    Ok(())
 }
 
 // Waits for the answers to lines that were appended, and prints them.
-fn follow(desk: Desk<'_>, addition: &Addition, answers: &Answers<'_>) -> Result<(), Stop> {
-    let (numbers, count) = (addition.numbers, addition.commands.len());
+fn follow(teller: &mut Teller<'_>, addition: &Addition, answers: &Answers<'_>) -> Result<(), Stop> {
+    let (desk, numbers, count) = (teller.desk, addition.numbers, addition.commands.len());
     if count == 0 {
         return Ok(());
     }
@@ -149,17 +187,19 @@ fn follow(desk: Desk<'_>, addition: &Addition, answers: &Answers<'_>) -> Result<
         return Err(Stop::Printed(Status::IoFailed));
     };
     if bad.is_empty() {
-        return desk.print(format_args!("{numbers}: done\n"));
+        teller.tell(format_args!("{numbers}: done"));
+        return Ok(());
     }
-    for BadAnswer { number, answer } in bad.iter() {
+    for (number, answer) in bad.iter() {
+        let answer = Escaped(answer.as_str());
         let place = number.saturating_sub(numbers.first) as usize;
         match addition.commands.get(place) {
             // A command alone was printed before.
             Some(command) if count > 1 => {
                 let shown = shown(desk.alloc(), command)?;
-                desk.print(format_args!("line {number}: {shown}: {answer}\n"))?;
+                teller.tell(format_args!("line {number}: {shown}: {answer}"));
             }
-            _ => desk.print(format_args!("line {number}: {answer}\n"))?,
+            _ => teller.tell(format_args!("line {number}: {answer}")),
         }
     }
     take_back(desk, &addition.given)?;
@@ -191,13 +231,6 @@ fn take_back(desk: Desk<'_>, path: &Option<String>) -> Result<(), Stop> {
     }
 }
 
-// An answer that is not `done`, with the number of its line.
-#[derive(Drop)]
-struct BadAnswer {
-    number: u64,
-    answer: String,
-}
-
 /// The answers to lines that are not written yet, in the files of all processes that serve.
 #[derive(Drop)]
 pub struct Answers<'a> {
@@ -207,8 +240,6 @@ pub struct Answers<'a> {
     files: Vec<(&'a str, u64)>,
     // The milliseconds for which they are waited for.
     millis: u64,
-    // Whether a file has older answers to lines of these numbers, which nobody can know from the new ones.
-    are_old: bool,
 }
 
 // What an answers file answers behind its old answers.
@@ -216,14 +247,15 @@ pub struct Answers<'a> {
 struct Answered {
     // The count of answers to the lines that are waited for.
     count: u64,
-    // Those that are not `done`.
-    bad: Vec<BadAnswer>,
+    // Those that are not `done`, with the numbers of their lines.
+    bad: Vec<(u64, String)>,
     // The octets up to the end of the last answer.
     end: u64,
 }
 
 impl<'a> Answers<'a> {
-    /// Reads the answers files before the lines with these numbers are written. A file that is not there has no answer yet.
+    /// Reads the answers files before the lines with these numbers are written. A file that is not there has no answer yet; one with
+    /// answers to these or to later lines shows that the commands file is not the one that was read.
     pub fn new(
         clerk: &'a Clerk<'_>,
         patience: Patience<'a>,
@@ -232,25 +264,29 @@ impl<'a> Answers<'a> {
         let desk = clerk.desk;
         let configured = clerk.configuration.answers.as_ref();
         let paths = patience.answers.or(configured.map(|path| path.as_str()));
+        let last = u64::MAX;
         let mut answers = Answers {
             desk,
-            numbers,
+            numbers: LineNumbers { last, ..numbers },
             files: Vec::new(desk.alloc()),
             millis: patience.millis,
-            are_old: false,
         };
         for path in paths.into_iter().flat_map(|paths| paths.split(',')) {
             let answered = answers.answered(path, 0)?;
+            if answered.count > 0 {
+                let why = "lines were answered that do not stand here: restart labntpd";
+                return Err(clerk.refusal(why));
+            }
             answers.files.push((path, answered.end))?;
-            answers.are_old = answers.are_old || answered.count > 0;
         }
+        answers.numbers = numbers;
         Ok(answers)
     }
 
     // Waits until each file answers each line, and returns what is not `done`, each line once. Returns nothing where it takes
-    // too long, where no file is named, and where one has older answers to these lines.
-    fn wait(&self) -> Result<Option<Vec<BadAnswer>>, Stop> {
-        if self.are_old || self.files.is_empty() {
+    // too long, and where no file is named.
+    fn wait(&self) -> Result<Option<Vec<(u64, String)>>, Stop> {
+        if self.files.is_empty() {
             return Ok(None);
         }
         for _ in 0..self.millis / LOOKED_EACH {
@@ -264,15 +300,15 @@ impl<'a> Answers<'a> {
     }
 
     // Returns what is not `done`, if each file answers each line now.
-    fn bad_of_all(&self) -> Result<Option<Vec<BadAnswer>>, Stop> {
-        let mut all: Vec<BadAnswer> = Vec::new(self.desk.alloc());
+    fn bad_of_all(&self) -> Result<Option<Vec<(u64, String)>>, Stop> {
+        let mut all: Vec<(u64, String)> = Vec::new(self.desk.alloc());
         for (path, old) in self.files.iter() {
             let Answered { count, mut bad, .. } = self.answered(path, *old)?;
             if count <= self.numbers.last.saturating_sub(self.numbers.first) {
                 return Ok(None);
             }
             for bad in bad.drain(..) {
-                if !all.iter().any(|other| other.number == bad.number) {
+                if !all.iter().any(|other| other.0 == bad.0) {
                     all.push(bad)?;
                 }
             }
@@ -309,7 +345,7 @@ impl<'a> Answers<'a> {
             answered.count = answered.count.saturating_add(1);
             if answer != GOOD {
                 let answer = String::from_str(desk.alloc(), answer)?;
-                answered.bad.push(BadAnswer { number, answer })?;
+                answered.bad.push((number, answer))?;
             }
         }
         Ok(answered)

@@ -6,18 +6,22 @@ use crate::customers::customer_lines;
 use crate::desk::{Clerk, NTP_PORT, Stop};
 use crate::differing::judge_daemon;
 use crate::replacing::write_new;
-use crate::shown::{Dotted, signed_date};
+use crate::shown::{Called, Dotted, SIGNED_FORM, date, signed_date, whole_seconds};
 use ntp_admin::Command;
 use ntp_clerk::{
-    Grant, NEW_KEY_OCTETS, NewKey, Terms, customer_text, customers_of, lowest_free, name_line,
+    Grant, NEW_KEY_OCTETS, NewKey, Terms, customer_text, customers_of, name_line, next_free,
     terms_of,
 };
 use ntp_mac::Algorithm;
 use ntp_query::Server;
-use ntp_service::{Address, Refusal};
+use ntp_service::{Address, LineOutcome, Refusal};
 use std::alloc::{AllocError, Global};
+use std::fmt::Write as _;
 use std::num::NonZero;
 use std::random::RandomSource;
+
+/// The seconds for which uses are to be counted before a key goes.
+const DAY: u64 = 86_400;
 
 /// A change that is asked for.
 #[derive(Clone, Copy)]
@@ -51,6 +55,8 @@ pub enum Change<'a> {
     Budget(NonZero<u16>),
     /// Gives it a new key beside the one that it has.
     Rollover,
+    /// Gives it this name.
+    Name(&'a str),
     /// Takes the key of this number away; the older one where no number is named.
     Retire {
         number: Option<NonZero<u16>>,
@@ -69,7 +75,7 @@ pub fn make_change(clerk: &Clerk<'_>, request: &ChangeRequest<'_>) -> Result<(),
     };
     if request.dry_run {
         let addition = addition_for(clerk, request, &mut clerk.load()?, &new)?;
-        return desk.print(format_args!("{}: {}\n", addition.numbers, addition.shown));
+        return desk.print(format_args!("{addition}\n"));
     }
     let request = confirmed(clerk, request, &new)?;
     let (held, mut loaded) = HeldFile::hold(desk, clerk.commands())?;
@@ -93,14 +99,22 @@ fn confirmed<'a>(
     let Change::Retire { asks: true, .. } = request.change else {
         return Ok(*request);
     };
-    let addition = addition_for(clerk, request, &mut clerk.load()?, new)?;
+    let mut loaded = clerk.load()?;
+    let addition = addition_for(clerk, request, &mut loaded, new)?;
     let Some(Command::Retire { number, .. }) = addition.commands.first() else {
         return Ok(*request);
     };
-    let used = last_use(clerk, request.address, *number)?;
-    clerk
-        .desk
-        .ask(format_args!("key {number}: {used}; retire it? [y/N] "))?;
+    let (said, are_ground) = uses(clerk, request.address, *number)?;
+    let customer = Called(request.address, loaded.name(request.address));
+    if !are_ground {
+        let why = "that the key that stays is in use is not known: --yes is wanted";
+        return Err(
+            clerk
+                .desk
+                .refusal(format_args!("{customer}: {said}: {why}")),
+        );
+    }
+    clerk.desk.ask(format_args!("{customer}: {said}; retire key {number}? [y/N] "))?;
     let change = Change::Retire {
         number: Some(*number),
         asks: false,
@@ -108,19 +122,39 @@ fn confirmed<'a>(
     Ok(ChangeRequest { change, ..*request })
 }
 
-// Says when a key of an address was last used, by labntpd's customers file.
-fn last_use(clerk: &Clerk<'_>, address: Address, number: NonZero<u16>) -> Result<String, Stop> {
+// Says when each key of an address was last used, and in which count: when labntpd began it, and when it wrote it. Returns too whether
+// another key than that with a number was used, in a count that is no younger than a day.
+fn uses(clerk: &Clerk<'_>, address: Address, number: NonZero<u16>) -> Result<(String, bool), Stop> {
     let (desk, alloc) = (clerk.desk, clerk.desk.alloc());
     let text = clerk.reported(&clerk.configuration.customers)?;
     let lines = customer_lines(desk, text.as_ref().map_or("", |text| text.as_str()))?;
     let address = format!(in alloc; "{}", Dotted(address))?;
-    let customer = lines.iter().find(|line| line.address == address.as_str());
-    let key = customer.and_then(|it| it.keys.iter().find(|key| key.number == number.get()));
-    Ok(match key.map(|key| key.last_signed) {
-        None => String::from_str(alloc, "its last use is not known")?,
-        Some(None) => String::from_str(alloc, "not used since labntpd has it")?,
-        Some(Some(seconds)) => format!(in alloc; "last used {}", signed_date(alloc, seconds)?)?,
-    })
+    let (mut said, mut is_used) = (String::new(alloc), false);
+    let customer = lines.iter().filter(|line| line.address == address.as_str());
+    for key in customer.flat_map(|customer| customer.keys.iter()) {
+        let other = key.number;
+        if let Some(seconds) = key.last_signed {
+            let date = signed_date(alloc, seconds)?;
+            write!(said, "key {other} last used {date}, ")?;
+            is_used = is_used || other != number.get();
+        } else {
+            write!(said, "key {other} not used, ")?;
+        }
+    }
+    let statistics = clerk.reported(&clerk.configuration.statistics)?;
+    let mut values = statistics.as_ref().map_or("", |text| text.as_str()).lines();
+    let begun = values.find_map(|line| line.strip_prefix("labntp_start_time_seconds "));
+    let begun = begun.and_then(|seconds| whole_seconds(seconds));
+    let customers = clerk.configuration.customers.as_ref();
+    let written = customers.and_then(|path| desk.written_at(path.as_str()));
+    let date_of = |time: Option<u64>| time.and_then(|seconds| date(alloc, seconds, SIGNED_FORM));
+    match (date_of(begun), date_of(written)) {
+        (Some(begun), Some(written)) => write!(said, "counted from {begun} to {written}")?,
+        _ => write!(said, "counted since a time that is not known")?,
+    }
+    let begun = begun.unwrap_or(u64::MAX);
+    let counted = written.unwrap_or(0).saturating_sub(begun);
+    Ok((said, is_used && counted >= DAY))
 }
 
 // Returns the lines for a change, once labntpd will do it and the commands file has room. It changes the customers in `loaded`.
@@ -132,29 +166,37 @@ fn addition_for(
 ) -> Result<Addition, Stop> {
     let (desk, alloc) = (clerk.desk, clerk.desk.alloc());
     loaded.judge_room(clerk, 0)?;
-    let number = number_for(alloc, request, loaded)?;
-    let Some(command) = command_for(request, number, new) else {
-        return Err(desk.refusal(match request.change {
-            Change::Retire { .. } => "refused not-enrolled",
-            _ => "every key number is held",
-        }));
-    };
-    match loaded.service.command(&command) {
-        Ok(()) => {}
-        Err(Refusal::NoMemory) => return Err(Stop::Memory),
-        Err(refusal) => return Err(desk.refusal(format_args!("refused {}", refusal.word()))),
+    let mut commands = Vec::new(alloc);
+    if let Change::Name(_) = request.change {
+        if loaded.service.customer(request.address).is_none() {
+            return Err(desk.refusal("refused not-enrolled"));
+        }
+    } else {
+        let number = number_for(alloc, request, loaded)?;
+        let Some(command) = command_for(request, number, new) else {
+            return Err(desk.refusal(match request.change {
+                Change::Retire { .. } => "refused not-enrolled",
+                _ => "every key number is held",
+            }));
+        };
+        match loaded.service.command(&command) {
+            Ok(()) => commands.push(command)?,
+            Err(Refusal::NoMemory) => return Err(Stop::Memory),
+            Err(refusal) => return Err(desk.refusal(format_args!("refused {}", refusal.word()))),
+        }
     }
     let names = match request.change {
         Change::Enrol {
             name: Some(name),
             ..
-        } => name_line(alloc, request.address, name)?,
+        }
+        | Change::Name(name) => name_line(alloc, request.address, name)?,
         _ => String::new(alloc),
     };
-    Addition::new(clerk, loaded, names, vec![in alloc; command]?)
+    Addition::new(clerk, loaded, names, commands)
 }
 
-// Returns the command for a change, or nothing where it wants a key number and there is none.
+// Returns the command for a change; nothing for a name, and where it wants a key number and there is none.
 fn command_for(
     request: &ChangeRequest<'_>,
     number: Option<NonZero<u16>>,
@@ -179,10 +221,11 @@ fn command_for(
         },
         Change::Revoke => Command::Revoke { address },
         Change::Budget(budget) => Command::Budget { address, budget },
+        Change::Name(_) => return None,
     })
 }
 
-// Returns the key number that a change wants: that of the key that goes, or the lowest one that nobody holds.
+// Returns the key number that a change wants: that of the key that goes, or the next one that is free.
 fn number_for(
     alloc: Global,
     request: &ChangeRequest<'_>,
@@ -193,14 +236,19 @@ fn number_for(
         let terms = customer.and_then(|customer| terms_of(customer));
         return Ok(number.or(terms.map(|terms| terms.older.number)));
     }
-    let mut held = Vec::new(alloc);
+    let (mut used, mut held) = (Vec::new(alloc), Vec::new(alloc));
+    for line in loaded.heard.lines.iter() {
+        if let (Some(command), LineOutcome::Done) = (line.command, line.outcome) {
+            used.extend(command.number_wanted().map(|number| number.get()))?;
+        }
+    }
     for customer in customers_of(alloc, &loaded.service)?.iter() {
         let Terms { older, newer, .. } = customer.terms;
         for key in [Some(older), newer].into_iter().flatten() {
             held.push(key.number.get())?;
         }
     }
-    Ok(lowest_free(&held))
+    Ok(next_free(&used, &held))
 }
 
 // Writes the new file for a customer who gets a key by a change, and returns its path.

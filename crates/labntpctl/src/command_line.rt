@@ -26,15 +26,8 @@ The customers stand in the commands file of labntpd. Each change appends lines t
 No key is shown: keys stand in that file, in files for customers and in files of `export`, which their owners alone may read.
 
 Examples:
-  labntpctl customers
   labntpctl enrol 192.0.2.10 --name 'PTB, clock 2' --server 198.51.100.1
-  labntpctl rollover 192.0.2.10
-  labntpctl retire 192.0.2.10
-  labntpctl export customers.toml
   labntpctl apply customers.toml
-  labntpctl check
-  labntpctl fold
-  labntpctl explain --pcap queries.pcap
   labntpctl door | nft -f -
 
 Exit status: 0 done; 1 refused, or a file has a fault, or customers differ; 2 other words; 3 no answer came in time, or a file \
@@ -57,11 +50,10 @@ pub enum Task<'a> {
     Compare,
     /// Explains what datagrams would get.
     Explain(Explained<'a>),
-    /// Writes the rules by which the kernel polices the door, into the file at a path if one is named.
+    /// Prints the rules by which the kernel polices the door, with this rate for each customer.
     Door {
         place: Option<Place>,
-        output: Option<&'a str>,
-        watch: bool,
+        rate: NonZero<u16>,
     },
     /// Changes one customer.
     Change(ChangeRequest<'a>),
@@ -106,8 +98,7 @@ fn asked_in<'a>(matches: &ArgMatches<'a>) -> Result<(&'a str, Task<'a>), &'stati
         "explain" => Task::Explain(explained_in(matches)?),
         "door" => Task::Door {
             place: place_in(matches)?,
-            output: matches.get_str("output"),
-            watch: matches.get_flag("watch"),
+            rate: number_in(matches, "rate").ok_or("--rate N is missing")?,
         },
         "apply" => Task::Apply(Application {
             path: matches.get_str("FILE").ok_or("FILE is missing")?,
@@ -199,6 +190,10 @@ fn change_in<'a>(name: &str, matches: &ArgMatches<'a>) -> Result<Change<'a>, &'s
                 name => name,
             },
         }),
+        "name" => match matches.get_str("NAME") {
+            Some(name) if is_name(name) => Ok(Change::Name(name)),
+            _ => Err("NAME: a line of 1 to 200 octets is wanted"),
+        },
         "rollover" => Ok(Change::Rollover),
         "budget" => Ok(Change::Budget(number_in(matches, "N").ok_or("N is missing")?)),
         "retire" => Ok(Change::Retire {
@@ -209,7 +204,7 @@ fn change_in<'a>(name: &str, matches: &ArgMatches<'a>) -> Result<Change<'a>, &'s
     }
 }
 
-// Returns the key number or the budget under a name.
+// Returns the key number, the budget or the rate under a name.
 fn number_in(matches: &ArgMatches<'_>, name: &str) -> Option<NonZero<u16>> {
     NonZero::<u16>::new(matches.get_one::<u16>(name)?)
 }
@@ -230,10 +225,6 @@ fn patience_in<'a>(matches: &ArgMatches<'a>) -> Result<Patience<'a>, &'static st
 fn command<'a>(alloc: Global) -> Result<Command<'a>, AllocError> {
     let rollover = with_key(alloc, "rollover")?;
     let revoke = with_address(alloc, "revoke")?;
-    let fold = with_config(alloc, "fold")?.about(
-        "Writes the commands file anew in fewer lines, with the same customers; the old file is kept",
-    );
-    let dry_run = arg!(in alloc; --"dry-run" "Only tells how long the new file would be");
     Command::new(alloc, "labntpctl")
         .version(VERSION)
         .about("Keeps the customers of labntpd")
@@ -246,9 +237,10 @@ fn command<'a>(alloc: Global) -> Result<Command<'a>, AllocError> {
         .subcommand(retire(alloc)?)?
         .subcommand(revoke.about("Ends an enrolment: the address is refused from now on"))?
         .subcommand(budget(alloc)?)?
+        .subcommand(name(alloc)?)?
         .subcommand(apply(alloc)?)?
         .subcommand(export(alloc)?)?
-        .subcommand(fold.arg(dry_run)?)?
+        .subcommand(fold(alloc)?)?
         .subcommand(check(alloc)?)?
         .subcommand(explain(alloc)?)?
         .subcommand(door(alloc)?)
@@ -286,15 +278,17 @@ fn explain<'a>(alloc: Global) -> Result<Command<'a>, AllocError> {
 }
 
 fn door<'a>(alloc: Global) -> Result<Command<'a>, AllocError> {
-    let watch =
-        arg!(in alloc; --watch "Runs on, and writes the file again whenever the rules change");
+    let rate =
+        arg!(in alloc; --rate <N> "Datagrams of a customer that pass in a second; twice as many pass at once");
     with_config(alloc, "door")?
-        .about("Prints rules of nftables that let pass from each customer what its budget asks for")
+        .about("Prints rules of nftables that let pass what customers send, each up to a rate")
         .arg(
             arg!(in alloc; --address <"ADDRESS[:PORT]"> "Where labntpd is asked [default: where it listens]"),
         )?
-        .arg(arg!(in alloc; --output <FILE> "Writes the rules into a file, if it has others"))?
-        .arg(watch.requires_arg("output")?)
+        .arg(
+            rate.value_parser(value_parser!(u16).range(1..))
+                .default_value("200"),
+        )
 }
 
 fn enrol<'a>(alloc: Global) -> Result<Command<'a>, AllocError> {
@@ -313,10 +307,10 @@ fn retire<'a>(alloc: Global) -> Result<Command<'a>, AllocError> {
     let number = arg!(in alloc; --number <N> "The key's number [default: that of the older one]");
     with_address(alloc, "retire")?
         .about(
-            "Tells when a key was last used, asks, and takes it from an address that has another",
+            "Tells when each key was last used, asks, and takes one from an address that has two",
         )
         .arg(number.value_parser(value_parser!(u16).range(1..)))?
-        .arg(arg!(in alloc; --yes "Does not ask first"))
+        .arg(arg!(in alloc; --yes "Does not ask first, nor look whether the other key is in use"))
 }
 
 fn budget<'a>(alloc: Global) -> Result<Command<'a>, AllocError> {
@@ -324,6 +318,18 @@ fn budget<'a>(alloc: Global) -> Result<Command<'a>, AllocError> {
     with_address(alloc, "budget")?
         .about("Gives an address another budget")
         .arg(budget.value_parser(value_parser!(u16).range(1..)))
+}
+
+fn name<'a>(alloc: Global) -> Result<Command<'a>, AllocError> {
+    with_address(alloc, "name")?
+        .about("Gives an address another name")
+        .arg(arg!(in alloc; <NAME> "Whose address it is"))
+}
+
+fn fold<'a>(alloc: Global) -> Result<Command<'a>, AllocError> {
+    with_config(alloc, "fold")?
+        .about("Writes the commands file anew in fewer lines, and keeps the old file")
+        .arg(arg!(in alloc; --"dry-run" "Only tells how long the new file would be"))
 }
 
 fn apply<'a>(alloc: Global) -> Result<Command<'a>, AllocError> {

@@ -3,7 +3,7 @@
 use crate::desk::{Clerk, Desk, Stop};
 use indexmap::IndexMap;
 use labntpd_files::is_name;
-use ntp_admin::{Command, apply_lines};
+use ntp_admin::{Command, Escaped, Status, apply_lines};
 use ntp_clerk::{NameLine, name_in};
 use ntp_host::{MOST_COMMANDS_OCTETS, not_regular, pause, read_regular_file};
 use ntp_reports::CustomerCounts;
@@ -32,6 +32,9 @@ pub struct Loaded {
     pub heard: Heard,
     /// The last name of each address that has one.
     pub names: ByAddress<String>,
+    /// The comment in front of each address's last command that was done: when it was given, and by whom. Behind an empty line, and
+    /// another comment that is no name, this one counts no more.
+    pub records: ByAddress<String>,
     /// How many lines there are.
     pub lines: u64,
     /// How many octets the file has.
@@ -61,19 +64,29 @@ impl Loaded {
         if heard.has_missed || heard.counts.has_missed() {
             return Err(AllocError);
         }
-        Ok(Loaded {
+        let mut loaded = Loaded {
             service,
             heard,
-            names: names_in(alloc, whole)?,
+            names: IndexMap::new(alloc),
+            records: IndexMap::new(alloc),
             lines,
             octets: octets.len() as u64,
             is_ended: whole.len() == octets.len(),
-        })
+        };
+        note_comments(alloc, whole, &mut loaded)?;
+        Ok(loaded)
     }
 
     /// Returns the name of an address, or an empty text.
     pub fn name(&self, address: Address) -> &str {
         self.names.get(&address).map_or("", |name| name.as_str())
+    }
+
+    /// Returns the comment in front of an address's last command, or an empty text.
+    pub fn record(&self, address: Address) -> &str {
+        self.records
+            .get(&address)
+            .map_or("", |record| record.as_str())
     }
 
     /// Checks that a line feed ends the commands file, and that so many octets more fit into it.
@@ -103,16 +116,30 @@ pub fn complete_lines(octets: &[u8]) -> &[u8] {
     }
 }
 
-// Returns the last name of each address in these lines.
-fn names_in(alloc: Global, octets: &[u8]) -> Result<ByAddress<String>, AllocError> {
-    let mut names = IndexMap::new(alloc);
-    for line in octets.split(|octet| *octet == b'\n') {
-        let named = str::from_utf8(line).ok().and_then(|text| name_in(text));
-        if let Some(NameLine { address, name }) = named.filter(|named| is_name(named.name)) {
-            names.insert(address, String::from_str(alloc, name)?)?;
+// Takes from these lines, by address, the last names, and the comments in front of the last commands that were done.
+fn note_comments(alloc: Global, octets: &[u8], loaded: &mut Loaded) -> Result<(), AllocError> {
+    let (mut record, mut taken): (&[u8], usize) = (&[], 0);
+    let (names, records) = (&mut loaded.names, &mut loaded.records);
+    for (place, line) in octets.split(|octet| *octet == b'\n').enumerate() {
+        let number = (place as u64).saturating_add(1);
+        let heard = loaded.heard.lines.get(taken);
+        if let Some(heard) = heard.filter(|heard| heard.number == number) {
+            taken = taken.saturating_add(1);
+            if let (Some(command), LineOutcome::Done) = (heard.command, heard.outcome) {
+                let record = str::from_utf8(record).unwrap_or("");
+                records.insert(command.address(), String::from_str(alloc, record)?)?;
+            }
+            continue;
+        }
+        let text = str::from_utf8(line).unwrap_or("");
+        match name_in(text).filter(|named| is_name(named.name)) {
+            Some(NameLine { address, name }) => {
+                names.insert(address, String::from_str(alloc, name)?)?;
+            }
+            None => record = line,
         }
     }
-    Ok(names)
+    Ok(())
 }
 
 /// A line of a commands file that was taken.
@@ -170,7 +197,16 @@ pub struct HeldFile<'a> {
 impl<'a> HeldFile<'a> {
     /// Waits until nobody else holds the regular file at a path, for ten seconds at most. Then holds and reads it.
     pub fn hold(desk: Desk<'a>, path: &'a str) -> Result<(HeldFile<'a>, Loaded), Stop> {
-        let file = desk.at(path, held_file(desk.rt, path))?;
+        let file = match held_file(desk.rt, path) {
+            Err(error) if error.kind() == ErrorKind::WouldBlock => {
+                let holder = holder(desk, path);
+                let holder = holder.as_ref().map_or("", |holder| holder.as_str());
+                let why = format_args!("somebody else has held it for ten seconds{holder}");
+                let _ = desk.refusal_at(path, why);
+                return Err(Stop::Printed(Status::IoFailed));
+            }
+            file => desk.at(path, file)?,
+        };
         let mut octets = Vec::new(desk.alloc());
         let most = MOST_COMMANDS_OCTETS.saturating_add(1);
         desk.at(path, (&file).take(most).read_to_end(&mut octets))?;
@@ -183,9 +219,9 @@ impl<'a> HeldFile<'a> {
         Ok((held, Loaded::of(desk.alloc(), &octets)?))
     }
 
-    /// Appends text. Where that fails, cuts the file to what was read, unless somebody else wrote to it meanwhile. No line feed
-    /// ends what it cuts off, so labntpd has not carried that out. The file gets its time back, by which labntpd would take it
-    /// for one that was written anew.
+    /// Appends text. Where that fails, cuts the file to what was read, unless somebody else wrote to it meanwhile. If labntpd read
+    /// a whole line of it before, it says that the file is shorter, and reads no more. The file gets its time back, by which
+    /// labntpd would take it for one that was written anew.
     pub fn append(&mut self, text: &str) -> io::Result<()> {
         let modified = self.file.metadata()?.modified()?;
         let mut written: usize = 0;
@@ -237,6 +273,27 @@ fn held_file(rt: &HostRuntime, path: &str) -> io::Result<File> {
         pause(ASKED_EACH);
     }
     Err(io::Error::from(ErrorKind::WouldBlock))
+}
+
+// Returns which process holds the file at a path, by what the system says (proc(5)), if that can be read.
+fn holder(desk: Desk<'_>, path: &str) -> Option<String> {
+    let alloc = desk.alloc();
+    let inode = format!(in alloc; ":{} ", fs::metadata(desk.rt, path).ok()?.ino()).ok()?;
+    let locks = system_text(desk, "/proc/locks")?;
+    let mut lines = locks.as_str().lines();
+    let line = lines.find(|line| line.contains(inode.as_str()))?;
+    // NUMBER: FLOCK ADVISORY WRITE PROCESS DEVICE:INODE FIRST LAST
+    let process = line.split_ascii_whitespace().nth(4)?;
+    let name = format!(in alloc; "/proc/{process}/comm").ok()?;
+    let program = system_text(desk, name.as_str())?;
+    let program = Escaped(program.as_str().trim_end());
+    format!(in alloc; ": process {process}, {program}").ok()
+}
+
+// Reads what the system says at a path.
+fn system_text(desk: Desk<'_>, path: &str) -> Option<String> {
+    let octets = read_regular_file(desk.rt, desk.alloc(), path, MOST_COMMANDS_OCTETS as u32);
+    String::from_utf8(octets.ok()?).ok()
 }
 
 // Writes octets, and counts those that were written.

@@ -1,17 +1,18 @@
 //! Reads the customers that labntpd reports, lists them, and compares them with those of the commands file.
 
 use crate::commands_file::{ByAddress, Loaded};
-use crate::desk::{Clerk, Desk, MOST_REPORTED_OCTETS, Stop};
-use crate::differing::{differences, judge_reading};
+use crate::desk::{Clerk, Desk, Stop};
+use crate::differing::{judge_reading, lasting_differences};
 use crate::shown::signed_date;
 use indexmap::IndexMap;
-use ntp_admin::{Status, words};
+use ntp_admin::{Escaped, Status, words};
 use ntp_clerk::{Seen, SeenKey, SeenTerms};
 use ntp_reports::customer_line;
 use ntp_service::Address;
 use serde::Deserialize;
 use std::alloc::{AllocError, Global};
 use std::fmt::Write as _;
+use std::fs;
 use std::io::Write as _;
 
 /// The heads of the columns.
@@ -124,7 +125,7 @@ pub fn list(clerk: &Clerk<'_>, json: bool) -> Result<(), Stop> {
     };
     let loaded = clerk.load();
     write(clerk.desk, text.as_str(), loaded.as_ref().ok(), json)?;
-    for difference in differences(clerk.desk, text.as_str(), &loaded?)?.iter() {
+    for difference in lasting_differences(clerk, &loaded?)?.iter() {
         let _ = write!(clerk.desk.faults(), "{difference}");
     }
     Ok(())
@@ -144,8 +145,8 @@ pub fn compare(clerk: &Clerk<'_>) -> Result<(), Stop> {
         let why = "customers: missing: there is nothing to compare";
         return Err(desk.refusal_at(clerk.config, why));
     };
-    let text = desk.text(path.as_str(), MOST_REPORTED_OCTETS)?;
-    let differing = differences(desk, text.as_str(), &clerk.load()?)?;
+    desk.at(path.as_str(), fs::metadata(desk.rt, path.as_str()))?;
+    let differing = lasting_differences(clerk, &clerk.load()?)?;
     for difference in differing.iter() {
         desk.print(*difference)?;
     }
@@ -155,16 +156,35 @@ pub fn compare(clerk: &Clerk<'_>) -> Result<(), Stop> {
     Err(Stop::Printed(Status::TextFaulty))
 }
 
-// Prints lines of customers as they are, or a table of them with names.
+// Prints a table of customers with their names, or their lines, each with its name, if it has one, as the last member.
 fn write(desk: Desk<'_>, text: &str, loaded: Option<&Loaded>, json: bool) -> Result<(), Stop> {
-    if json {
-        return desk.print(text);
-    }
     let customers = customer_lines(desk, text)?;
-    desk.print(table(desk.alloc(), &customers, loaded)?)
+    if !json {
+        return desk.print(table(desk.alloc(), &customers, loaded)?);
+    }
+    let mut lines = String::new(desk.alloc());
+    for (line, customer) in text.lines().zip(customers.iter()) {
+        let name = name_of(loaded, customer);
+        match line.strip_suffix("}") {
+            Some(line) if !name.is_empty() => {
+                let name = serde_json::to_string(desk.alloc(), &name).map_err(|_| AllocError)?;
+                writeln!(lines, "{line},\"name\":{name}}}")?;
+            }
+            _ => writeln!(lines, "{line}")?,
+        }
+    }
+    desk.print(lines)
 }
 
-// Returns a line for each customer of a commands file as labntpd writes it, with its name, if it has one, as the last member.
+// Returns the name that a commands file gives a customer, or an empty text.
+fn name_of<'a>(loaded: Option<&'a Loaded>, customer: &CustomerLine<'_>) -> &'a str {
+    match (loaded, words::address(customer.address)) {
+        (Some(loaded), Some(address)) => loaded.name(address),
+        _ => "",
+    }
+}
+
+// Returns a line for each customer of a commands file as labntpd writes it.
 fn lines_of(alloc: Global, loaded: &Loaded) -> Result<String, AllocError> {
     let mut lines = String::new(alloc);
     for (address, report) in loaded.heard.counts.iter() {
@@ -172,14 +192,7 @@ fn lines_of(alloc: Global, loaded: &Loaded) -> Result<String, AllocError> {
             continue;
         };
         let octets = customer_line(alloc, *address, customer, report)?;
-        let line = str::from_utf8(&octets).unwrap_or("");
-        match (loaded.names.get(address), line.strip_suffix("}\n")) {
-            (Some(name), Some(line)) => {
-                let name = serde_json::to_string(alloc, &name.as_str()).map_err(|_| AllocError)?;
-                writeln!(lines, "{line},\"name\":{name}}}")?;
-            }
-            _ => lines.push_str(line)?,
-        }
+        lines.push_str(str::from_utf8(&octets).unwrap_or(""))?;
     }
     Ok(lines)
 }
@@ -193,11 +206,10 @@ fn table(
 ) -> Result<String, AllocError> {
     let mut table = String::from_str(alloc, HEAD)?;
     for customer in customers {
-        let (address, state, line) = (customer.address, customer.state, customer.line);
-        let name = match (loaded, words::address(address)) {
-            (Some(loaded), Some(address)) => loaded.name(address),
-            _ => "",
-        };
+        let line = customer.line;
+        let address = format!(in alloc; "{}", Escaped(customer.address))?;
+        let state = format!(in alloc; "{}", Escaped(customer.state))?;
+        let name = name_of(loaded, customer);
         let budget = match customer.budget {
             Some(budget) => format!(in alloc; "{budget}")?,
             None => String::from_str(alloc, "-")?,
@@ -222,7 +234,7 @@ fn key_cells(alloc: Global, key: Option<&KeyLine<'_>>) -> Result<String, AllocEr
     let Some(key) = key else {
         return format!(in alloc; "{:<6} {:<8} {:<29}", "-", "-", "-");
     };
-    let kind = format!(in alloc; "{} {}", key.algorithm, key.octets)?;
+    let kind = format!(in alloc; "{} {}", Escaped(key.algorithm), key.octets)?;
     let signed = match key.last_signed {
         Some(seconds) => signed_date(alloc, seconds)?,
         None => String::from_str(alloc, "-")?,

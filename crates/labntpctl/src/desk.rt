@@ -1,16 +1,19 @@
 //! Gives a clerk the host, the configuration of labntpd, and ways to ask and to print.
 
 use crate::commands_file::Loaded;
+use crate::shown::{date, seconds_of};
 use labntpd_assembly::{configuration_at, start_lines};
-use labntpd_files::{Configuration, Endpoint, Listen, Text};
+use labntpd_files::{Configuration, Endpoint, Listen, Text, is_name};
 use ntp_admin::{Escaped, Status, failed_status, memory_status, write_status};
 use ntp_host::{StartLines, read_regular_file};
 use ntp_query::Server;
 use ntp_service::Address;
 use std::alloc::{AllocError, AllocFailed, Global};
 use std::fmt::Display;
-use std::fs;
 use std::io::{self, BufRead, BufReader, BufWriter, ErrorKind, Read, Stderr, Stdout, Write};
+use std::os::unix::fs::MetadataExt;
+use std::time::SystemTime;
+use std::{env, fs};
 
 /// The most octets of a file in which labntpd reports.
 pub const MOST_REPORTED_OCTETS: u32 = 268_435_456;
@@ -72,6 +75,32 @@ impl<'a> Desk<'a> {
     pub fn buffered_output(self) -> Result<BufWriter<Stdout>, Stop> {
         let out = BufWriter::new(self.alloc(), self.rt.stdout());
         self.at("standard output", out)
+    }
+
+    /// Returns the time in a form of strftime(3).
+    pub fn time(self, form: &'static str) -> Result<String, Stop> {
+        let seconds = seconds_of(self.at("clock", SystemTime::now(self.rt))?);
+        let date = seconds.and_then(|seconds| date(self.alloc(), seconds, form));
+        date.ok_or_else(|| self.refusal("clock: a time from 1970 to 9999 is wanted"))
+    }
+
+    /// Returns when the file at a path was last written, in seconds since 1970, if it is there.
+    pub fn written_at(self, path: &str) -> Option<u64> {
+        seconds_of(fs::metadata(self.rt, path).ok()?.modified().ok()?)
+    }
+
+    /// Returns the login name of the clerk, or the number of the process's user where no name is known (proc(5)).
+    pub fn user(self) -> Result<String, Stop> {
+        for variable in ["SUDO_USER", "USER"] {
+            match env::var(self.rt, variable) {
+                Ok(name) if is_name(name.as_str()) => return Ok(name),
+                _ => {}
+            }
+        }
+        let user = self
+            .at("/proc/self", fs::metadata(self.rt, "/proc/self"))?
+            .uid();
+        Ok(format!(in self.alloc(); "{user}")?)
     }
 
     /// Returns the exit status of work, and reports want of memory.

@@ -8,9 +8,7 @@ use indexmap::IndexMap;
 use ntp_clerk::{Seen, are_same};
 use ntp_service::{Address, LineOutcome, Refusal, Service};
 use std::fmt::{self, Display};
-use std::fs;
-use std::io::{self, Write};
-use std::time::Duration;
+use std::io::Write;
 
 /// The line of the statistics file where labntpd no longer reads the commands file.
 const CHANGED: &str = "labntp_commands_changed 1";
@@ -64,9 +62,9 @@ fn state_word(seen: &Seen) -> &'static str {
     }
 }
 
-/// Returns the differences between the customers of labntpd's text and those of the commands file: at the addresses that labntpd
-/// reports, then at the others.
-pub fn differences(desk: Desk<'_>, text: &str, loaded: &Loaded) -> Result<Vec<Difference>, Stop> {
+// Returns the differences between the customers of labntpd's text and those of the commands file: at the addresses that labntpd
+// reports, then at the others.
+fn differences(desk: Desk<'_>, text: &str, loaded: &Loaded) -> Result<Vec<Difference>, Stop> {
     let mut reported = reported_in(desk, text)?;
     for address in loaded.service.addresses()?.iter() {
         if reported.get(address).is_none() {
@@ -111,9 +109,9 @@ pub fn judge_reading(clerk: &Clerk<'_>) -> Result<(), Stop> {
     Ok(())
 }
 
-// Returns the differences that labntpd's next report will not mend: where its last one is late, labntpd has there what the address
-// had neither before nor after any of the commands that were done.
-fn lasting_differences(clerk: &Clerk<'_>, loaded: &Loaded) -> Result<Vec<Difference>, Stop> {
+/// Returns the differences that labntpd's next report will not mend: where its last one is late, labntpd has there what the address
+/// had neither before nor after any of the commands that were done.
+pub fn lasting_differences(clerk: &Clerk<'_>, loaded: &Loaded) -> Result<Vec<Difference>, Stop> {
     let alloc = clerk.desk.alloc();
     // The report that is read below is no older.
     let is_settled = is_settled(clerk).unwrap_or(false);
@@ -148,13 +146,11 @@ fn lasting_differences(clerk: &Clerk<'_>, loaded: &Loaded) -> Result<Vec<Differe
     Ok(open.values().copied().collect(alloc)?)
 }
 
-// Returns whether labntpd's report has all lines of the commands file.
-fn is_settled(clerk: &Clerk<'_>) -> io::Result<bool> {
-    let Some(path) = &clerk.configuration.customers else {
-        return Ok(false);
-    };
-    let report = fs::metadata(clerk.desk.rt, path.as_str())?.modified()?;
-    let commands = fs::metadata(clerk.desk.rt, clerk.commands())?.modified()?;
-    let younger = report.duration_since(commands);
-    Ok(younger.is_ok_and(|younger| younger > Duration::from_secs(SETTLED_SECONDS)))
+// Returns whether labntpd's report has all lines of the commands file, if both are there.
+fn is_settled(clerk: &Clerk<'_>) -> Option<bool> {
+    let report = clerk
+        .desk
+        .written_at(clerk.configuration.customers.as_ref()?.as_str())?;
+    let commands = clerk.desk.written_at(clerk.commands())?;
+    Some(report > commands.saturating_add(SETTLED_SECONDS))
 }

@@ -1,7 +1,8 @@
 //! Explains what datagrams would get, and why.
 
+use crate::commands_file::Loaded;
 use crate::desk::{Clerk, Stop};
-use crate::shown::Dotted;
+use crate::shown::Called;
 use ntp_admin::{Outcome, print_answer};
 use ntp_clerk::{
     Capture, GivenKey, Record, Terms, capture_in, datagram_in, next_record, packet_in, terms_of,
@@ -11,7 +12,7 @@ use ntp_host::moment_now;
 use ntp_mac::Algorithm;
 use ntp_packet::{Malformed, Moment, Stamp, Tail, read_header, read_request};
 use ntp_reply::{Answer, Reason};
-use ntp_service::{Address, Service};
+use ntp_service::Address;
 use std::alloc::{AllocError, Global};
 use std::io::{self, BufWriter, Stdout, Write};
 
@@ -40,7 +41,7 @@ pub fn explain(clerk: &Clerk<'_>, explained: Explained<'_>) -> Result<(), Stop> 
     let mut explainer = Explainer {
         out: desk.buffered_output()?,
         alloc: desk.alloc(),
-        service: clerk.load()?.service,
+        loaded: clerk.load()?,
         now: moment_now(&desk.rt),
         explained: 0,
     };
@@ -75,7 +76,7 @@ pub fn explain(clerk: &Clerk<'_>, explained: Explained<'_>) -> Result<(), Stop> 
 struct Explainer {
     out: BufWriter<Stdout>,
     alloc: Global,
-    service: Service,
+    loaded: Loaded,
     now: Moment,
     // How many were explained so far.
     explained: u64,
@@ -118,7 +119,7 @@ impl Explainer {
             Some((word, _)) if word != "silent" => word,
             _ => line,
         };
-        let (count, from) = (octets.len(), Dotted(address));
+        let (count, from) = (octets.len(), Called(address, self.loaded.name(address)));
         let _ = write!(self.out, "{count} octets from {from}");
         let _ = self.write_fields(octets);
         let _ = write!(self.out, ": {word}: ");
@@ -138,7 +139,8 @@ impl Explainer {
             ..self.now
         };
         let reference = reference_unsynchronised();
-        self.service
+        self.loaded
+            .service
             .datagram(address, moment, moment, &reference, octets)
     }
 
@@ -162,7 +164,7 @@ impl Explainer {
     fn write_why(&mut self, from: Address, octets: &[u8], answer: &Answer) -> io::Result<()> {
         // The prover has to see which types stand within `Terms`.
         let _types: Option<GivenKey> = None;
-        let customer = self.service.customer(from);
+        let customer = self.loaded.service.customer(from);
         let terms = customer.and_then(|customer| terms_of(customer));
         let refused = "four refusals are sent in a window, then silence (muted)";
         match answer {

@@ -8,7 +8,9 @@ use ntp_admin::{Command, Escaped};
 use ntp_clerk::{LeadFault, NEW_KEY_OCTETS, NewKey, command_line, customers_of, fold, name_line};
 use ntp_host::MOST_COMMANDS_OCTETS;
 use ntp_mac::{Algorithm, Key};
+use ntp_service::Address;
 use std::alloc::{AllocError, Global};
+use std::fmt::Write as _;
 use std::fs;
 use std::random::RandomSource;
 
@@ -77,7 +79,7 @@ fn folded(clerk: &Clerk<'_>, loaded: &Loaded) -> Result<Option<String>, Stop> {
     Ok(Some(text))
 }
 
-// Returns the text of a file with these customers and names alone.
+// Returns the text of a file with these customers, names and records alone. A record stands in front of all to whom it belongs.
 fn folded_text(alloc: Global, loaded: &Loaded, spare: Key) -> Result<String, LeadFault> {
     let mut revoked = Vec::new(alloc);
     for address in loaded.service.addresses()?.iter() {
@@ -87,8 +89,15 @@ fn folded_text(alloc: Global, loaded: &Loaded, spare: Key) -> Result<String, Lea
         }
     }
     let mut text = String::new(alloc);
+    // Whose comment stands there last.
+    let mut last: Option<Address> = None;
     for command in fold(alloc, &loaded.service, &revoked, spare)?.iter() {
         if let Command::Enrol { address, .. } = command {
+            let record = loaded.record(*address);
+            if record != last.map_or("", |last| loaded.record(last)) {
+                writeln!(text, "{record}")?;
+            }
+            last = Some(*address);
             if let Some(name) = loaded.names.get(address) {
                 text.push_str(name_line(alloc, *address, name.as_str())?.as_str())?;
             }

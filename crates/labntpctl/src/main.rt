@@ -59,11 +59,7 @@ fn carry_out(desk: Desk<'_>, config: &str, task: Task<'_>) -> Result<(), Stop> {
         },
         Task::Compare => customers::compare(&Clerk::new(desk, config)?),
         Task::Explain(explained) => explaining::explain(&Clerk::new(desk, config)?, explained),
-        Task::Door {
-            place,
-            output,
-            watch,
-        } => door::write_door(&Clerk::new(desk, config)?, place, output, watch),
+        Task::Door { place, rate } => { door::print_door(&Clerk::new(desk, config)?, place, rate) }
         Task::Change(request) => changing::make_change(&Clerk::new(desk, config)?, &request),
         Task::Apply(application) => applying::apply(&Clerk::new(desk, config)?, &application),
         Task::Export { path, keys } => applying::export(&Clerk::new(desk, config)?, path, keys),

@@ -1,12 +1,10 @@
 //! Writes new files, and puts them in the place of others.
 
 use crate::desk::{Desk, Stop};
-use crate::shown::date;
 use labntpd_assembly::directory_of;
 use std::fs::{self, File, OpenOptions, Permissions};
 use std::io::{self, ErrorKind, Write};
 use std::os::unix::fs::{MetadataExt, OpenOptionsExt, PermissionsExt, fchown};
-use std::time::SystemTime;
 
 /// The mode of a new file: its owner alone may read it.
 const OWNERS: u32 = 0o600;
@@ -30,12 +28,7 @@ pub fn put_in_place(desk: Desk<'_>, path: &str, text: &str) -> Result<String, St
     let (rt, alloc) = (desk.rt, desk.alloc());
     let new = format!(in alloc; "{path}.new")?;
     let new = new.as_str();
-    let now = desk.at("clock", SystemTime::now(rt))?;
-    let seconds = now.duration_since(SystemTime::UNIX_EPOCH);
-    let seconds = seconds.map_or(0, |since| since.as_secs());
-    let Some(time) = date(alloc, seconds, KEPT_FORM) else {
-        return Err(desk.refusal("clock: a time from 1970 to 9999 is wanted"));
-    };
+    let time = desk.time(KEPT_FORM)?;
     let kept = format!(in alloc; "{path}.{time}")?;
     desk.at(new, write_like(rt, new, text, path))?;
     let linked = fs::hard_link(rt, path, kept.as_str());

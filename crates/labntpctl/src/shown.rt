@@ -2,14 +2,16 @@
 
 use jiff::Timestamp;
 use labntpd_files::Found;
+use ntp_admin::Escaped;
 use ntp_clerk::{GivenKey, Seen, SeenKey, SeenTerms, Terms, are_same, terms_of};
 use ntp_mac::Algorithm;
 use ntp_service::{Address, Service};
 use std::alloc::{AllocError, Global};
 use std::fmt::{self, Display};
+use std::time::SystemTime;
 
 /// The form of dates in tables.
-const SIGNED_FORM: &str = "%a, %d %b %Y %H:%M:%S GMT";
+pub const SIGNED_FORM: &str = "%a, %d %b %Y %H:%M:%S GMT";
 
 /// An address as text.
 #[derive(Clone, Copy)]
@@ -19,6 +21,21 @@ impl Display for Dotted {
     fn fmt<W: fmt::Write>(&self, f: &mut fmt::Formatter<W>) -> fmt::Result {
         let Address([a, b, c, d]) = self.0;
         write!(f, "{a}.{b}.{c}.{d}")
+    }
+}
+
+/// An address with its name, if it has one.
+#[derive(Clone, Copy)]
+pub struct Called<'a>(pub Address, pub &'a str);
+
+impl<'a> Display for Called<'a> {
+    fn fmt<W: fmt::Write>(&self, f: &mut fmt::Formatter<W>) -> fmt::Result {
+        let Called(address, name) = *self;
+        write!(f, "{}", Dotted(address))?;
+        if name.is_empty() {
+            return Ok(());
+        }
+        write!(f, " ({name})")
     }
 }
 
@@ -85,15 +102,22 @@ pub fn seen_terms(terms: &Terms) -> SeenTerms {
 
 /// Returns the date of a time in seconds since 1970, with decimals or without; the seconds where they are no date.
 pub fn signed_date(alloc: Global, seconds: &str) -> Result<String, AllocError> {
-    let whole = seconds.split_once('.').map_or(seconds, |(whole, _)| whole);
-    let date = whole
-        .parse::<u64>()
-        .ok()
-        .and_then(|whole| date(alloc, whole, SIGNED_FORM));
-    match date {
+    match whole_seconds(seconds).and_then(|whole| date(alloc, whole, SIGNED_FORM)) {
         Some(date) => Ok(date),
-        None => String::from_str(alloc, seconds),
+        None => format!(in alloc; "{}", Escaped(seconds)),
     }
+}
+
+/// Returns a time in seconds since 1970.
+pub fn seconds_of(time: SystemTime) -> Option<u64> {
+    let since = time.duration_since(SystemTime::UNIX_EPOCH).ok()?;
+    Some(since.as_secs())
+}
+
+/// Returns the whole seconds of a count with decimals or without, if it is one.
+pub fn whole_seconds(seconds: &str) -> Option<u64> {
+    let whole = seconds.split_once('.').map_or(seconds, |(whole, _)| whole);
+    whole.parse::<u64>().ok()
 }
 
 /// Returns the date of a time in seconds since 1970, in a form of strftime(3); nothing where it is no date, or memory runs out.

@@ -40,8 +40,7 @@ lacks-algorithm c out Md5 = out.md5
 lacks-algorithm c out Sha1 = out.sha1
 
 reads-algorithm : (algorithm : Algorithm) → algorithm_in (algorithm_text algorithm) ≡ Some algorithm
-reads-algorithm Md5 = refl
-reads-algorithm Sha1 = refl
+reads-algorithm algorithm = grind arith
 
 -- the octets of a command's key can be a key's
 abbrev pub HasKeyOctets : Command → Type 0
@@ -75,27 +74,18 @@ joins-behind word [] = sym (append-nil word)
 joins-behind word (next ∷ words) = ap (λ end. word ++ (32 ∷ end)) (joins-behind next words)
 
 number-behind : (number : Option NonZeroU16) → number_behind number ≡ behind (number_words number)
-number-behind None = refl
-number-behind (Some n) = ap (λ text. 32 ∷ text) (sym (append-nil (number_text n)))
+number-behind number = grind (arith, append-nil)
 
 keyed : (h k : List ℕ) → 32 ∷ [] ++ h ++ 32 ∷ [] ++ k ≡ 32 ∷ (h ++ (32 ∷ (k ++ [])))
 keyed h k = simp (append_assoc, append-nil)
 
 key-behind : (key_word : List ℕ) (key : Option SymmetricKey) → key_behind key_word key ≡ behind (key_words key_word key)
-key-behind key_word None = refl
-key-behind key_word (Some k) = keyed (algorithm_text k.algorithm) key_word
+key-behind key_word key = grind (arith, keyed)
 
 -- its text is they, with one space between each two
 text-joins : (key_word : List ℕ) (c : Command) → command_text key_word c ≡ join_with_byte 32 (words_of key_word c)
 unfolding command_text
-text-joins key_word c =
-    let number = number_words (number_named c) in let key = key_words key_word (key_named c) in let budget = number_words (budget_named c) in
-    let texts : number_behind (number_named c) ++ (key_behind key_word (key_named c) ++ number_behind (budget_named c))
-    ≡ behind (number ++ (key ++ budget)) =
-    rw (number-behind (number_named c), key-behind key_word (key_named c), number-behind (budget_named c))
-    (ap (λ end. behind number ++ end) (sym (behind-append key budget)) ∙ sym (behind-append number (key ++ budget))) in
-    ap (λ end. command_word c ++ (32 ∷ (address_text (address_named c) ++ end))) texts
-    ∙ sym (joins-behind (command_word c) (address_text (address_named c) ∷ (number ++ (key ++ budget))))
+text-joins key_word c = grind (arith, number-behind, key-behind, behind-append, joins-behind)
 
 -- they lack it
 AllLack-append : (c : ℕ) (xs ys : List (List ℕ)) → AllLack c xs → AllLack c ys → AllLack c (xs ++ ys)
@@ -112,8 +102,7 @@ key-lacks c out None are = tt
 key-lacks c out (Some k) are = (lacks-algorithm c out k.algorithm, (lacks-digits c k.octets out.hex are.2, tt))
 
 word-lowercase : (c : Command) → list_all is_ascii_lowercase (command_word c) ≡ true
-word-lowercase (command.Enrol address number key budget) = refl
-word-lowercase other = refl
+word-lowercase c = grind arith
 
 words-lack : (c : ℕ) → Outside c → (o : Command) → IsCommand o → HasKeyOctets o → AllLack c (words_of (key_digits o) o)
 words-lack c out o is are =

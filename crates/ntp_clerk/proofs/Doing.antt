@@ -1,5 +1,5 @@
 -- What commands that are done make of a service.
-use Rattle.std.proofs.Common.{◌≡◌, ◌≢◌, Bool, true, false, Option, Some, None, List, [], ◌∷◌, ◌++◌, map, length, drop, get_or, ℕ, zero, suc, ◌+◌, ◌<◌, ◌==◌, eq-eqb, arith, append-nil, append_assoc, ⊎_elim, refl, sym, ap, ◌∙◌, subst}
+use Rattle.std.proofs.Common.{◌≡◌, ◌≢◌, Bool, true, Option, Some, None, List, [], ◌∷◌, ◌++◌, map, length, drop, get_or, ℕ, zero, suc, ◌+◌, ◌<◌, ◌==◌, eq-eqb, arith, append-nil, append_assoc, ⊎_elim, refl, sym, ap, ◌∙◌, subst}
 use Rattle.std.specs.Prelude.{option_and_then, fold, find, if◌then◌else◌, is_some, Contains, IfSome, IsSome, Err}
 use Rattle.std.specs.Option.{option_map_or}
 use Rattle.std.specs.FinMap as map
@@ -31,27 +31,19 @@ use Rattle.ntp_clerk.specs.Steps.{done_in, terms_after, AreDone, CanDo, CanDoAll
 -- what its address is enrolled with, by what it was enrolled with
 terms-of-some : (x : CustomerState) (a : Option Account) (c : Command)
     → option_map_or enrolment_at (once_done (tally []) (Some (record x { account = a })) c) None ≡ terms_after (enrolment_at (record x { account = a })) c
-terms-of-some x a (command.Enrol address number key budget) = refl
-terms-of-some x None other = refl
-terms-of-some x (Some a) other = refl
+terms-of-some x a c = grind arith
 
 terms-of : (o : Option CustomerState) (c : Command)
     → option_map_or enrolment_at (once_done (tally []) o c) None ≡ terms_after (option_map_or enrolment_at o None) c
-terms-of (Some x) c = terms-of-some x x.account c
-terms-of None (command.Enrol address number key budget) = refl
-terms-of None other = refl
+terms-of o c = grind (arith, terms-of-some)
 
 -- a command that changes no customer had none to change
 absent : (o : Option CustomerState) (c : Command) → once_done (tally []) o c ≡ None → o ≡ None
-absent None c is = refl
-absent (Some x) (command.Enrol address number key budget) is = absurd cc
-absent (Some x) other is = absurd cc
+absent o c e = grind arith
 
 -- who is known is known still
 still : (o : Option CustomerState) (c : Command) → IsSome o → IsSome (once_done (tally []) o c)
-still o (command.Enrol address number key budget) is = refl
-still None other is = absurd cc
-still (Some x) other is = refl
+still o c e = grind arith
 
 abbrev made : Registry → Command → Option CustomerState → Registry
 made r c o = option_map_or (λ x. record { customers = map.insert r.customers (address_named c) x; holders = holders_after r c }) o r
@@ -62,15 +54,13 @@ module _ (r : Registry) (c : Command) where
     where
       by-customer : (o : Option CustomerState) → once_done (tally []) (customer_at r (address_named c)) c ≡ o
           → customer_at (made r c o) (address_named c) ≡ o
-      by-customer None is = absent (customer_at r (address_named c)) c is
-      by-customer (Some x) is = customer_at-with_customer r (address_named c) x
+      by-customer o e = grind (arith, absent, customer_at-with_customer)
 
   customer-there : (other : Address) → other ≢ address_named c → customer_at (after_command r c) other ≡ customer_at r other
   customer-there other ne = by-customer (once_done (tally []) (customer_at r (address_named c)) c)
     where
       by-customer : (o : Option CustomerState) → customer_at (made r c o) other ≡ customer_at r other
-      by-customer None = refl
-      by-customer (Some x) = customer_at-with_customer-other r (address_named c) x other ne
+      by-customer o = grind (arith, customer_at-with_customer-other)
 
   pub is-done : (s : Registry) → s ≡ after_command r c
       → ((history : List (Event Global)) → StandsFor r history → TellsOne history (event.Command c) outcome.Done s)
@@ -95,26 +85,18 @@ held-found (k ∷ ks) n (zero, inside, is) = let same = eq-eqb k.number n is in 
 held-found (k ∷ ks) n (suc i, inside, is) = by-test (k.number == n) (held-found ks n (i, omega (arith, inside), is))
   where
     by-test : (b : Bool) → is_some (find (λ k. k.number == n) ks) ≡ true → is_some (if b then Some k else find (λ k. k.number == n) ks) ≡ true
-    by-test true found = refl
-    by-test false found = found
+    by-test b e = grind arith
 
 -- who asks for a number and is not refused did not hold it
 held-not : (held : Option Enrolment) (c : Command) (n : ℕ) → refusal_of held c ≡ None → number_wanted c ≡ Some n → Holds held n → ⊥
-held-not None c n own asks there = omega (arith, there.1)
-held-not (Some e) (command.Rollover address number key) n own asks there =
-    let same : number.value ≡ n = cc in
-    let found = held-found e.keys number.value (subst (Contains (numbers_in e)) (sym same) there) in
-    let none = rw found at own in
-    absurd cc
-held-not (Some e) other n own asks there = absurd cc
+held-not held c n e f g = grind (arith, held-found)
 
 holds-at : (r : Registry) (q : Address) → numbers_at r q ≡ option_map_or numbers_in (terms_at r q) []
 holds-at r q = by-customer (customer_at r q)
   where
     by-customer : (o : Option CustomerState) → option_map_or (λ c. option_map_or numbers_in (enrolment_at c) []) o []
         ≡ option_map_or numbers_in (option_map_or enrolment_at o None) []
-    by-customer None = refl
-    by-customer (Some c) = refl
+    by-customer o = grind arith
 
 module _ (r : Registry) (c : Command) (can : CanDo r c) (agrees : Agrees r) where
   -- nobody holds the number that it asks for
@@ -130,8 +112,7 @@ module _ (r : Registry) (c : Command) (can : CanDo r c) (agrees : Agrees r) wher
   only-memory s refusal answers = by-holder (holder_in_way r c) refl
     where
       by-holder : (o : Option Address) → holder_in_way r c ≡ o → refusal ≡ NoMemory
-      by-holder None none = (answers.memory can.own none).0
-      by-holder (Some q) some = absurd (none-in-way (number_wanted c) q refl some)
+      by-holder o e = grind (arith, can, none-in-way)
 
 -- ---- commands one after another
 

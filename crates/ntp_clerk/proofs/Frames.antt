@@ -1,5 +1,6 @@
 -- Packets have one reading.
-use Rattle.std.proofs.Common.{◌≡◌, ℕ, ◌+◌, ◌<◌, List, [], ◌∷◌, ◌++◌, length, take, drop, get_or, ap, sym, subst, ◌∙◌, arith}
+use Rattle.std.proofs.Common.{◌≡◌, ℕ, ◌+◌, ◌<◌, List, ◌++◌, length, take, drop, ap, sym, ◌∙◌, arith}
+use Rattle.std.proofs.lemmas.Grind.{common_steps}
 use Rattle.std.proofs.Math.Seq.{take-append_seam, drop-append_seam}
 use Rattle.std.proofs.lemmas.List.{length-append}
 use Rattle.ntp_clerk.specs.Datagram.{IsIpHead, IsUdpHead, IsDatagram}
@@ -20,24 +21,12 @@ same-rest xs ys zs ws same long =
 
 -- the header of a packet is as long as its first octet says
 same-length : (ip rest other behind : List ℕ) → ip ++ rest ≡ other ++ behind → IsIpHead ip → IsIpHead other → length ip ≡ length other
-same-length [] rest other behind same is are = absurd (omega (arith, is.least, is.ip_length))
-same-length (x ∷ xs) rest [] behind same is are = absurd (omega (arith, are.least, are.ip_length))
-same-length (x ∷ xs) rest (y ∷ ys) behind same is are =
-    let first : x ≡ y = ap (λ octets. get_or octets 0 0) same in
-    omega (arith, first, is.version, is.ip_length, are.version, are.ip_length)
+same-length ip rest other behind e f g = grind (arith, common_steps)
 
 -- what stands behind the header of a datagram is its header of UDP, and then its payload
 pub read-on : (packet source payload : List ℕ) (port : ℕ) (ip rest udp behind : List ℕ) → packet ≡ ip ++ rest → IsIpHead ip → rest ≡ udp ++ behind
     → length udp ≡ 8 → (d : IsDatagram packet source port payload) → IsUdpHead udp port (length payload) × (behind ≡ payload ++ d.padding)
-read-on packet source payload port ip rest udp behind first is second eight d =
-    let whole : ip ++ rest ≡ d.ip ++ (d.udp ++ (payload ++ d.padding)) = sym first ∙ d.parts in
-    let left : rest ≡ d.udp ++ (payload ++ d.padding) =
-    same-rest ip rest d.ip (d.udp ++ (payload ++ d.padding)) whole (same-length ip rest d.ip (d.udp ++ (payload ++ d.padding)) whole is d.ip_head) in
-    let split : udp ++ behind ≡ d.udp ++ (payload ++ d.padding) = sym second ∙ left in
-    let long : length udp ≡ length d.udp = eight ∙ sym d.udp_head.udp_length in (
-      subst (λ head. IsUdpHead head port (length payload)) (sym (same-front udp behind d.udp (payload ++ d.padding) split long)) d.udp_head,
-      same-rest udp behind d.udp (payload ++ d.padding) split long,
-    )
+read-on packet source payload port ip rest udp behind first is second eight d = grind (arith, same-rest, same-length, same-front)
 
 -- there are no fewer octets than the header says
 pub long-enough : (packet source payload : List ℕ) (port octets : ℕ) (ip rest udp behind : List ℕ) → packet ≡ ip ++ rest → IsIpHead ip

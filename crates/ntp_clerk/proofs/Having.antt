@@ -1,5 +1,5 @@
 -- The customers that a service has, address by address.
-use Rattle.std.proofs.Common.{◌≡◌, ◌⊎◌, inl, inr, ⊎_elim, Bool, true, false, Option, Some, None, List, [], ◌∷◌, ◌++◌, map, true≢false, refl, sym, ap, ◌∙◌, subst}
+use Rattle.std.proofs.Common.{◌≡◌, ◌⊎◌, inl, inr, ⊎_elim, Bool, true, false, Option, Some, None, List, [], ◌∷◌, ◌++◌, map, true≢false, refl, sym, ap, ◌∙◌, subst, arith}
 use Rattle.std.specs.Prelude.{All, Contains, IsSome, is_some, find, if◌then◌else◌, option_map}
 use Rattle.std.specs.Option.{option_map_or}
 use Rattle.std.proofs.lemmas.List.{map-append}
@@ -23,8 +23,7 @@ pub record Having (service : Registry) (left : List Address) (customers : List W
 
 -- who is enrolled is known
 pub enrolled-known : (o : Option CustomerState) → IsSome (option_map_or enrolment_at o None) → IsSome o
-enrolled-known None enrolled = absurd cc
-enrolled-known (Some c) enrolled = refl
+enrolled-known o e = grind arith
 
 pub having-none : (service : Registry) (addresses : List Address) → ((q : Address) → IsSome (customer_at service q) → Contains addresses q)
     → Having service addresses []
@@ -73,8 +72,7 @@ found (v ∷ vs) q w P all is = decided (address_eq q v.address) refl is (found 
   where
     decided : (b : Bool) → address_eq q v.address ≡ b → (if b then Some v else find (λ w. address_eq q w.address) vs) ≡ Some w
         → (find (λ w. address_eq q w.address) vs ≡ Some w → P w × (q ≡ w.address)) → P w × (q ≡ w.address)
-    decided true e is more = let same : v ≡ w = cc in subst (λ v. P v × (q ≡ v.address)) same (All-head P v vs all, same-address q v.address e)
-    decided false e is more = more is
+    decided b e f g = grind (arith, All-head, same-address)
 
 none-found : (customers : List Wanted) (q : Address) → find (λ w. address_eq q w.address) customers ≡ None → Contains (map (λ w. w.address) customers) q → ⊥
 none-found [] q none there = Contains-none q there
@@ -82,11 +80,7 @@ none-found (v ∷ vs) q none there = decided (address_eq q v.address) refl none 
   where
     decided : (b : Bool) → address_eq q v.address ≡ b → (if b then Some v else find (λ w. address_eq q w.address) vs) ≡ None
         → (find (λ w. address_eq q w.address) vs ≡ None → Contains (map (λ w. w.address) vs) q → ⊥) → ⊥
-    decided true e some more = absurd cc
-    decided false e none more = ⊎_elim
-        (λ same. true≢false (sym (subst (λ a. address_eq q a ≡ true) (sym same) (address_eq_equiv.refl q)) ∙ e))
-        (λ behind. more none behind)
-        (Contains-cases v.address (map (λ w. w.address) vs) q there)
+    decided b e f g = grind (arith, address_eq_equiv, Contains-cases)
 
 pub having-exactly : (service : Registry) (customers : List Wanted) → Having service [] customers → HasExactly service customers
 having-exactly service customers having q = by-found (find (λ w. address_eq q w.address) customers) refl

@@ -7,9 +7,7 @@ use Rattle.std.proofs.lemmas.List.Folds.{Any-from_list_any}
 
 -- what a test finds is there
 pub held-found : (held : List ℕ) (number : ℕ) → list_any (λ y. nat_eq y number) held ≡ true → Contains held number
-held-found held number found =
-    let any = Any-from_list_any (λ y. nat_eq y number) held found in
-    subst (Contains held) (eqb-true any.1 number any.4) (any.0, any.2, any.3)
+held-found held number found = grind (arith, Any-from_list_any, eqb-true)
 
 -- all up to a number, and it
 pub held-through : (held : List ℕ) (number : ℕ) → ((smaller : ℕ) → 1 ≤ smaller → smaller < number → Contains held smaller)

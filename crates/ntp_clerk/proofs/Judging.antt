@@ -93,13 +93,10 @@ among-more taken w q = ap (option_map (λ w. enrolment_with w.terms)) (find-appe
   where
     by-found : (o : Option Wanted) (b : Bool) → option_map (λ w. enrolment_with w.terms) (option_or o (if b then Some w else None))
         ≡ option_or (option_map (λ w. enrolment_with w.terms) o) (if b then Some (enrolment_with w.terms) else None)
-    by-found None true = refl
-    by-found None false = refl
-    by-found (Some v) b = refl
+    by-found o b = grind arith
 
 or-none : (o : Option Enrolment) → option_or o None ≡ o
-or-none None = refl
-or-none (Some e) = refl
+or-none o = grind arith
 
 pub judged-more : (taken : List Wanted) (w : Wanted) (old new : Address → Option Terms) (numbers noted : ℕ → Bool) → Judged taken old numbers
     → Notes w.address w.terms old new numbers noted → Judged (taken ++ w ∷ []) new noted

@@ -12,7 +12,6 @@ use Rattle.hex.specs.Hex.{encode_lower, is_hex_digit}
 use Rattle.ntp_packet.specs.FirstCase.{◌>>=◌, map_err}
 use Rattle.ntp_mac.specs.Key.{SymmetricKey}
 use Rattle.ntp_mac.specs.declared.key.Algorithm.{Algorithm}
-use Rattle.ntp_mac.specs.declared.key.Algorithm.TheVariants.{Md5, Sha1}
 use Rattle.ntp_admin.specs.Words.{parts}
 use Rattle.ntp_query.specs.KeyFile.{words, begins_with, is_key_line, key_of_words, key_in_words, key_in_line, key_in_lines, key_in_text}
 use Rattle.ntp_query.specs.declared.key_file.KeyFileFault.{KeyFileFault}
@@ -36,8 +35,7 @@ three-lack c digit hex mark md5 sha1 number key fits is = (
 )
   where
     algorithm : (a : Algorithm) → lacks c (chrony_algorithm a) ≡ true
-    algorithm Md5 = md5
-    algorithm Sha1 = sha1
+    algorithm a = grind arith
 
 -- none of them is empty
 abbrev is_word : List ℕ → Bool
@@ -47,8 +45,7 @@ some-octet : (first : ℕ) (others : List ℕ) → is_word (first ∷ others) �
 some-octet first others = grind (arith, nat_tests)
 
 kept : (word : List ℕ) (others : List (List ℕ)) → is_word word ≡ true → filter is_word others ≡ others → filter is_word (word ∷ others) ≡ word ∷ others
-kept word others some rest =
-    ap (λ b. if b then word ∷ filter is_word others else filter is_word others) some ∙ ap (λ (kept : List (List ℕ)). word ∷ kept) rest
+kept word others some rest = grind arith
 
 three-words : (number : NonZeroU16) (key : NewKey) → IsNumber number → filter is_word (three number key) ≡ three number key
 three-words number key fits =
@@ -57,8 +54,7 @@ three-words number key fits =
     kept (number_text number) _ first (kept (chrony_algorithm key.algorithm) _ (algorithm key.algorithm) (kept (codes "HEX:" ++ encode_lower key.octets) [] (some-octet 72 (codes "EX:" ++ encode_lower key.octets)) refl))
   where
     algorithm : (a : Algorithm) → is_word (chrony_algorithm a) ≡ true
-    algorithm Md5 = some-octet 77 (codes "D5")
-    algorithm Sha1 = some-octet 83 (codes "HA1")
+    algorithm a = grind (arith, some-octet)
 
 line-words : (number : NonZeroU16) (key : NewKey) → IsNumber number → IsNewKey key → words (chrony_key number key) ≡ three number key
 unfolding chrony_key
@@ -79,8 +75,7 @@ has-key number key fits is = ap key_of_words (line-words number key fits is) ∙
   where
     by-algorithm : (a : Algorithm) → key_of_words (number_text number ∷ chrony_algorithm a ∷ (codes "HEX:" ++ encode_lower key.octets) ∷ [])
         ≡ Ok (record { algorithm = a; octets = key.octets })
-    by-algorithm Md5 = rw (reads-key key.octets (new-key key is)) refl
-    by-algorithm Sha1 = rw (reads-key key.octets (new-key key is)) refl
+    by-algorithm a = grind (arith, reads-key, new-key)
 
 -- the key of the first line, or of the others
 picked : ℕ → List ℕ → List (List ℕ) → Bool → Result SymmetricKey KeyFileFault

@@ -1,16 +1,15 @@
 -- Commands that lead to wanted customers, address by address.
-use Rattle.std.proofs.Common.{◌≡◌, ◌≢◌, ◌⊎◌, inl, inr, ⊎_elim, true, Option, Some, None, List, [], ◌∷◌, map, refl, sym, ap, ◌∙◌, subst}
+use Rattle.std.proofs.Common.{◌≡◌, ◌≢◌, ◌⊎◌, inl, inr, ⊎_elim, Option, Some, None, List, [], ◌∷◌, map, refl, sym, ap, ◌∙◌, subst, arith}
 use Rattle.std.specs.Prelude.{All, Contains, IsSome, find, option_map}
-use Rattle.std.specs.Option.{option_map_or}
 use Rattle.std.proofs.lemmas.List.Elements.{All-nil, All-append, All-weaker, All-contains_itself}
 use Rattle.ntp_customer.proofs.PublicLaws.{Contains-map}
-use Rattle.ntp_customer.specs.Customer.{Enrolment, CustomerState, enrolment_at}
+use Rattle.ntp_customer.specs.Customer.{Enrolment, CustomerState}
 use Rattle.ntp_service.specs.declared.address.Address.{Address}
 use Rattle.ntp_service.specs.declared.command.Command.{Command}
 use Rattle.ntp_service.specs.Commands.{address_named}
 use Rattle.ntp_service.specs.Registry.{Registry, customer_at, terms_at}
 use Rattle.ntp_service.proofs.PublicLaws.{same_or_other_address}
-use Rattle.ntp_clerk.specs.Leading.{ends, enrolment_among, enrolment_with, HasExactly, IsNeeded, IsNeededAt, KeepsNoKey, LeadsTo, NobodyIsForgotten}
+use Rattle.ntp_clerk.specs.Leading.{ends, enrolment_among, enrolment_with, HasExactly, IsNeeded, IsNeededAt, LeadsTo, NobodyIsForgotten}
 use Rattle.ntp_clerk.specs.declared.wanted.Wanted.{Wanted}
 use Rattle.ntp_service.specs.Address.{address_eq}
 use Rattle.ntp_clerk.specs.Steps.{Kept, Moves, OnlyWanted}
@@ -33,8 +32,7 @@ kept-none : (held wanted : Option Enrolment) → Kept held wanted held
 kept-none held wanted = record { same = λ e. refl; keeps = λ none. none }
 
 kept-more : (held wanted mid now : Option Enrolment) → Kept held wanted mid → Kept mid wanted now → Kept held wanted now
-kept-more held wanted mid now first more =
-    record { same = λ e. more.same (first.same e ∙ e) ∙ first.same e; keeps = λ none. first.keeps (more.keeps none) }
+kept-more held wanted mid now first more = grind arith
 
 pub reaches-none : (from : Registry) (want : Address → Option Enrolment) → Reaches from want [] from
 reaches-none from want = record {
@@ -69,11 +67,7 @@ module _ (from r s : Registry) (want : Address → Option Enrolment) (a : Addres
       }
 
       needs : (c : Command) → IsNeededAt a (terms_at r a) (want a) c → Needs from want c
-      needs c is = let here = needs-here c is in record {
-        named = refl;
-        differs = subst (λ q. terms_at from q ≢ want q) (sym is.named) here.differs;
-        ends_none = subst (λ q. ends c ≡ true → KeepsNoKey (terms_at from q) (want q)) (sym is.named) here.ends_none;
-      }
+      needs c is = grind (arith, needs-here)
 
 -- ---- the first loop: each address is freed
 
@@ -95,8 +89,7 @@ pub freeing-none : (from : Registry) (want : Address → Option Enrolment) (addr
 freeing-none from want addresses all = record { reaches = reaches-none from want; only = λ q. by-customer q (customer_at from q) refl }
   where
     by-customer : (q : Address) (o : Option CustomerState) → customer_at from q ≡ o → OnlyWanted (terms_at from q) (want q) ⊎ Contains addresses q
-    by-customer q None is = inl (subst (λ (o : Option CustomerState). OnlyWanted (option_map_or enrolment_at o None) (want q)) (sym is) tt)
-    by-customer q (Some c) is = inr (all q (subst IsSome (sym is) refl))
+    by-customer q o e = grind arith
 
 -- ---- the second loop: each wanted customer is given what is wanted of it
 
@@ -115,8 +108,7 @@ giving-none from now want customers commands among freed =
     only q = ⊎_elim (λ only. only) (λ there. absurd (Contains-none q there)) (freed.only q)
 
     nothing : (o : Option Enrolment) → OnlyWanted o None → o ≡ None
-    nothing None only = refl
-    nothing (Some e) only = absurd only
+    nothing o e = grind (arith, only)
 
     by-found : (q : Address) (o : Option Wanted) → find (λ w. address_eq q w.address) customers ≡ o
         → (terms_at now q ≡ want q) ⊎ Contains (map (λ w. w.address) customers) q
@@ -129,8 +121,7 @@ giving-none from now want customers commands among freed =
 
 -- what is wanted is only wanted
 only-itself : (wanted : Option Enrolment) → OnlyWanted wanted wanted
-only-itself None = tt
-only-itself (Some e) = All-contains_itself e.keys
+only-itself wanted = grind (arith, All-contains_itself)
 
 pub giving-more : (from r s : Registry) (want : Address → Option Enrolment) (w : Wanted) (left : List Wanted) (old new : List Command)
     → Giving from want (w ∷ left) old r → Moves r w.address (want w.address) old new s → terms_at s w.address ≡ want w.address

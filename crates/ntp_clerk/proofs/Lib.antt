@@ -3,8 +3,6 @@ mod Joined
 mod Spelled
 mod CommandLines
 mod KeyText
-mod Windows
-mod Passing
 mod Frames
 mod Stepping
 mod Doing

@@ -1,10 +1,11 @@
--- The line of a name says it.
+-- The line of a name says it, and the daemon passes over that of a record.
 use Rattle.std.proofs.Common.{◌≡◌, ℕ, ◌+◌, ◌==◌, Bool, true, List, [], ◌∷◌, ◌++◌, length, drop, take, Option, Some, None, refl, sym, ap, ◌∙◌, arith, append_assoc}
 use Rattle.std.specs.Prelude.{codes, option_map, if◌then◌else◌}
 use Rattle.std.specs.List.{position_or_len, before_first, after_first}
 use Rattle.std.proofs.lemmas.Bool.{and_parts, ne_eqb, not-true}
 use Rattle.std.proofs.Math.Seq.{take-append_seam, drop-append-add}
 use Rattle.ntp_service.specs.declared.address.Address.{Address}
+use Rattle.ntp_admin.specs.Spells.{is_passed_over}
 use Rattle.ntp_admin.specs.Words.{address_in, address_text, parts}
 use Rattle.ntp_clerk.specs.CommandText.{IsAddress}
 use Rattle.ntp_clerk.specs.Names.{name_behind, name_in, IsName}
@@ -34,8 +35,7 @@ behind-address a name address is =
   where
     parts-say : (before after : List ℕ) → before ≡ address_text a → after ≡ name
         → said (length after == 0) after (address_in before) ≡ Some (a, name)
-    parts-say before after is_word is_name =
-        rw (is_word, is_name, ne_eqb (length name) 0 (λ none. omega (arith, is.0, none)), reads-address a address) refl
+    parts-say before after is_word is_name = grind (arith, ne_eqb, reads-address)
 
 pub name-says : (a : Address) (name text : List ℕ) → IsAddress a → IsName name → text ≡ codes "# name " ++ (address_text a ++ (codes " " ++ (name ++ 10 ∷ [])))
     → (line : List ℕ) × (parts 10 text ≡ line ∷ [] ∷ []) × (name_in line ≡ Some (a, name))
@@ -45,3 +45,12 @@ name-says a name text address is whole =
     (lacks-both 10 (address_text a) (32 ∷ name) (lacks-address 10 refl refl a address) (lacks-both 10 (32 ∷ []) name refl is.1)) in
     let ended : address_text a ++ (codes " " ++ (name ++ 10 ∷ [])) ≡ (address_text a ++ (32 ∷ name)) ++ 10 ∷ [] = sym (append_assoc (address_text a) (32 ∷ name) (10 ∷ [])) in
     (line, ap (parts 10) (whole ∙ ap (λ end. codes "# name " ++ end) ended) ∙ parts-first-line line [] lack, behind-address a name address is)
+
+pub record-passed : (time user text : List ℕ) → IsName time → IsName user → text ≡ codes "# " ++ (time ++ (codes " " ++ (user ++ 10 ∷ [])))
+    → (line : List ℕ) × (parts 10 text ≡ line ∷ [] ∷ []) × (is_passed_over line ≡ true)
+record-passed time user text is_time is_user whole =
+    let line = codes "# " ++ (time ++ (32 ∷ user)) in
+    let lack = lacks-both 10 (codes "# ") (time ++ (32 ∷ user)) refl
+    (lacks-both 10 time (32 ∷ user) is_time.1 (lacks-both 10 (32 ∷ []) user refl is_user.1)) in
+    let ended : time ++ (codes " " ++ (user ++ 10 ∷ [])) ≡ (time ++ (32 ∷ user)) ++ 10 ∷ [] = sym (append_assoc time (32 ∷ user) (10 ∷ [])) in
+    (line, ap (parts 10) (whole ∙ ap (λ end. codes "# " ++ end) ended) ∙ parts-first-line line [] lack, refl)

@@ -1,8 +1,7 @@
 -- What is written of a number, an address and a key is read as it.
-use Rattle.std.proofs.Common.{◌≡◌, ℕ, zero, suc, ◌*◌, ◌^◌, ◌<◌, ◌≤◌, ◌==◌, ◌&&◌, ◌||◌, true, false, List, [], ◌∷◌, length, Some, None, refl, ap, subst, sym, ◌∙◌, arith, rules, lit<}
-use Rattle.std.specs.Prelude.{map, not, slice_index, nat_le, if◌then◌else◌}
+use Rattle.std.proofs.Common.{◌≡◌, ℕ, suc, ◌^◌, ◌<◌, ◌≤◌, ◌==◌, ◌||◌, true, false, List, [], ◌∷◌, length, Some, refl, ap, sym, ◌∙◌, arith, rules}
+use Rattle.std.specs.Prelude.{map, not, slice_index}
 use Rattle.std.specs.Option.{option_and_then}
-use Rattle.std.specs.Result.{result_ok}
 use Rattle.std.specs.List.{list_all}
 use Rattle.std.specs.Char.{is_ascii_digit}
 use Rattle.std.specs.Fmt.{decimal}
@@ -13,7 +12,7 @@ use Rattle.std.proofs.lemmas.List.{length-map}
 use Rattle.std.proofs.lemmas.Fmt.{digits_decimal, digits_value-decimal, decimal_nonempty, first_decimal, decimal_digit}
 use Rattle.std.proofs.lemmas.Str.Parse.{IsNumeralModel, numerals_by_value}
 use Rattle.std.proofs.lemmas.List.Sums.{list_all-from_AllPass}
-use Rattle.hex.specs.Hex.{decode_of, encode_lower, lower_digits, IsBytes, is_hex_digit}
+use Rattle.hex.specs.Hex.{encode_lower, IsBytes, is_hex_digit}
 use Rattle.hex.proofs.HexLemmas.{decode_of-encode_lower, decode_of-ok, length-encode_with}
 use Rattle.ntp_service.specs.declared.address.Address.{Address}
 use Rattle.ntp_admin.specs.Words.{is_decimal, decimal_in, number_in, key_in, address_in, address_from, address_text, non_zero}
@@ -32,22 +31,14 @@ lacks-decimal c n other fits = lacks-by is_ascii_digit c other (decimal n) (digi
 
 -- no zero in front of others
 leading : (n : ℕ) → n < 2 ^ 64 → (not (slice_index (decimal n) 0 == 48) || (length (decimal n) == 1)) ≡ true
-leading zero fits = subst (λ ds. (not (slice_index ds 0 == 48) || (length ds == 1)) ≡ true) (sym (decimal_digit 0 (lit< tt))) refl
-leading (suc n) fits = let first = first_decimal (suc n) (omega arith) fits in grind (arith, nat_tests)
+leading n e = grind (arith, decimal_digit, first_decimal, nat_tests)
 
 decimal-is : (n : ℕ) → n < 2 ^ 64 → is_decimal (decimal n) ≡ true
-decimal-is n fits =
-    let all = digits_decimal own n fits in
-    let some = decimal_nonempty n fits in
-    let front = leading n fits in
-    grind (arith, nat_tests)
+decimal-is n fits = grind (arith, digits_decimal, own, decimal_nonempty, leading, nat_tests)
 
 -- a number
 pub reads-decimal : (least most n : ℕ) → least ≤ n → n ≤ most → n < 2 ^ 64 → decimal_in least most (decimal n) ≡ Some n
-reads-decimal least most n low high fits =
-    let is = decimal-is n fits in
-    let value = digits_value-decimal own n fits in
-    grind (arith, nat_tests)
+reads-decimal least most n low high fits = grind (arith, decimal-is, digits_value-decimal, own, nat_tests)
 
 pub reads-number : (number : NonZeroU16) → IsNumber number → number_in (number_text number) ≡ Some number
 reads-number number fits =
@@ -78,8 +69,7 @@ reads-address address is =
 pub lacks-address : (x : ℕ) → is_ascii_digit x ≡ false → not (46 == x) ≡ true → (address : Address) → IsAddress address
     → lacks x (address_text address) ≡ true
 unfolding address_text
-lacks-address x other dot address is =
-    lacks-all x 46 dot (map decimal address.0) (omega (arith, is.0, length-map address.0 decimal)) (octets-lack x other address.0 is.1)
+lacks-address x other dot address is = grind (arith, lacks-all, length-map, octets-lack)
 
 -- a key
 pub lacks-digits : (c : ℕ) (octets : List ℕ) → is_hex_digit c ≡ false → IsBytes octets → lacks c (encode_lower octets) ≡ true
@@ -88,11 +78,7 @@ lacks-digits c octets other bytes =
     lacks-by is_hex_digit c other (encode_lower octets) (list_all-from_AllPass is_hex_digit (encode_lower octets) read.1)
 
 pub reads-key : (octets : List ℕ) → AreKeyOctets octets → key_in (encode_lower octets) ≡ Some octets
-reads-key octets is =
-    let whole = decode_of-encode_lower octets is.2 in
-    let twice : length (encode_lower octets) ≡ 2 * length octets = omega (arith, length-encode_with lower_digits octets) in
-    let fits : (nat_le 2 (length (encode_lower octets)) && nat_le (length (encode_lower octets)) 64) ≡ true = grind (arith, nat_tests, is.0, is.1) in
-    ap (λ b. if b then result_ok (decode_of (encode_lower octets)) else None) fits ∙ ap result_ok whole
+reads-key octets is = grind (arith, decode_of-encode_lower, length-encode_with, nat_tests)
 
 -- a new key is a key
 pub new-key : (key : NewKey) → IsNewKey key → AreKeyOctets key.octets

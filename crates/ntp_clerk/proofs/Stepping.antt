@@ -1,5 +1,5 @@
 -- Steps from keys that an address holds to those that are wanted of it.
-use Rattle.std.proofs.Common.{◌≡◌, ◌≢◌, ◌⊎◌, ℕ, zero, suc, ◌==◌, Bool, true, false, Option, Some, None, inl, inr, eqb-true, eq-eqb, true≢false, List, [], ◌∷◌, ◌++◌, map, get_or, refl, sym, ap, ◌∙◌, subst, arith, ⊎_elim}
+use Rattle.std.proofs.Common.{◌≡◌, ◌≢◌, ◌⊎◌, ℕ, ◌==◌, Bool, true, false, Option, Some, None, inl, inr, eqb-true, eq-eqb, true≢false, List, [], ◌∷◌, ◌++◌, map, get_or, refl, sym, ap, ◌∙◌, subst, arith, ⊎_elim, rules}
 use Rattle.std.specs.Prelude.{if◌then◌else◌, Contains, All, fold, IfSome, not, ◌&&◌, ◌||◌, option_map, option_to_list, IsTrue, ◌↔◌}
 use Rattle.std.specs.Bool.{then_some}
 use Rattle.std.specs.Option.{is_some, option_flatten}
@@ -22,8 +22,7 @@ use Rattle.ntp_clerk.specs.Steps.{done_in, rebudgeting, terms_after, AreDone, As
 -- ---- members
 
 pub Contains-cases : {X : Type 0} → (x : X) (xs : List X) (y : X) → Contains (x ∷ xs) y → (x ≡ y) ⊎ Contains xs y
-Contains-cases x xs y (zero, lt, is) = inl is
-Contains-cases x xs y (suc k, lt, is) = inr (k, omega arith, is)
+Contains-cases x xs y e = grind arith
 
 pub Contains-none : {X : Type 0} → (y : X) → Contains [] y → ⊥
 Contains-none y is = omega (arith, is.1)
@@ -56,24 +55,11 @@ goes-enrol {a} {cs} {new} g budget wanted more = record {
 module _ {a : Address} {budget : ℕ} {cs : List Command} {new : Option Enrolment} where
   goes-rollover : (k : NumberedKey) (g : GivenKey) → k.number ≢ (key_given g).number → Holds new (key_given g).number
       → Goes (enrolled (k ∷ key_given g ∷ []) budget) cs new → Goes (enrolled (k ∷ []) budget) (command.Rollover a g.number g.key ∷ cs) new
-  goes-rollover k g apart wanted more =
-      let there = ne_eqb k.number (key_given g).number apart in
-      record {
-        leads = more.leads;
-        refused = (rw there refl, more.refused);
-        asks = All-cons (AsksOf new) (command.Rollover a g.number g.key) cs wanted more.asks;
-      }
+  goes-rollover k g apart wanted more = grind (arith, more, ne_eqb, All-cons)
 
   goes-retire : (g : GivenKey) (k : NumberedKey) → k.number ≢ (key_given g).number → Goes (enrolled (k ∷ []) budget) cs new
       → Goes (enrolled (key_given g ∷ k ∷ []) budget) (command.Retire a g.number ∷ cs) new
-  goes-retire g k apart more =
-      let here = eq-eqb (key_given g).number (key_given g).number refl in
-      let there = ne_eqb k.number (key_given g).number apart in
-      record {
-        leads = rw (here, there) more.leads;
-        refused = rw (here, there) (refl, more.refused);
-        asks = All-cons (AsksOf new) (command.Retire a g.number) cs tt more.asks;
-      }
+  goes-retire g k apart more = grind (arith, more, eq-eqb, ne_eqb, All-cons)
 
 goes-end : (a : Address) (keys : List NumberedKey) (held wanted : Terms) → keys ≡ (enrolment_with wanted).keys
     → Goes (enrolled keys held.budget.value) (done_in (rebudgeting a held wanted ∷ [])) (Some (enrolment_with wanted))
@@ -111,8 +97,7 @@ all-done : (P : Command → Type 0) (s t u v : Option Command) → IfSome s P �
 all-done P s t u v p q r z = more s (t ∷ u ∷ v ∷ []) p (more t (u ∷ v ∷ []) q (more u (v ∷ []) r (more v [] z (All-nil P))))
   where
     more : (step : Option Command) (steps : List (Option Command)) → IfSome step P → All P (done_in steps) → All P (done_in (step ∷ steps))
-    more None steps is all = all
-    more (Some c) steps is all = All-cons P c (done_in steps) is all
+    more step steps e f = grind (arith, All-cons)
 
 pub arranging-keeps : (a : Address) (held wanted : Terms) (first two : Bool) → All (IsKeeping a) (done_in (arranging a held wanted first two))
 arranging-keeps a held wanted first two =
@@ -122,17 +107,13 @@ arranging-keeps a held wanted first two =
     (rolled (not first || not two) wanted.newer) (budget (held.budget.value == wanted.budget.value))
   where
     if-done : (b : Bool) (c : Command) → IsKeeping a c → IfSome (then_some b c) (IsKeeping a)
-    if-done true c is = is
-    if-done false c is = tt
+    if-done b c e = grind arith
 
     rolled : (b : Bool) (newer : Option GivenKey) → IfSome (option_flatten (then_some b (roll a newer))) (IsKeeping a)
-    rolled false newer = tt
-    rolled true None = tt
-    rolled true (Some g) = (refl, refl)
+    rolled b newer = grind arith
 
     budget : (b : Bool) → IfSome (if b then None else Some (command.Budget a wanted.budget)) (IsKeeping a)
-    budget true = tt
-    budget false = (refl, refl)
+    budget b = grind arith
 
 abbrev made : GivenKey → Option GivenKey → NonZeroU16 → Terms
 made older newer budget = record { older = older; newer = newer; budget = budget }
@@ -144,9 +125,7 @@ enrolled-goes a terms newer two is = rw is (by-newer terms.older terms.newer ter
   where
     by-newer : (older : GivenKey) (newer : Option GivenKey) (budget : NonZeroU16) → AreTwo (made older newer budget)
         → Goes None (command.Enrol a older.number older.key budget ∷ done_in (roll a newer ∷ [])) (Some (enrolment_with (made older newer budget)))
-    by-newer older None budget two = goes-enrol older budget (0, omega arith, refl) (record { leads = refl; refused = tt; asks = All-nil _ })
-    by-newer older (Some newer) budget two = goes-enrol older budget (0, omega arith, refl)
-        (goes-rollover (key_given older) newer two (1, omega arith, refl) (record { leads = refl; refused = tt; asks = All-nil _ }))
+    by-newer older newer budget e = grind (arith, budget, goes-enrol, All-nil, goes-rollover)
 
 abbrev pub Arranged : Address → Terms → Terms → Bool → Type 0
 Arranged a held wanted first =
@@ -224,22 +203,11 @@ module _ (a : Address) (older newer : GivenKey) (budget : ℕ) (f : Enrolment) w
   newer-there = (1, omega arith, refl)
 
   pub frees-none : Contains f.keys (key_given older) → Contains f.keys (key_given newer) → Frees a (enrolled keys budget) (Some f) []
-  frees-none one other = record {
-    refused = tt;
-    asks = All-nil (λ c. number_wanted c ≡ None);
-    needed = All-nil (IsNeededAt a (enrolled keys budget) (Some f));
-    kept = record { same = λ e. refl; keeps = λ none. none };
-    only = All-cons (Contains f.keys) (key_given older) (key_given newer ∷ []) one
-        (All-cons (Contains f.keys) (key_given newer) [] other (All-nil (Contains f.keys)));
-  }
+  frees-none one other = search (rules, one, All-nil, budget, All-cons)
 
   pub frees-newer : (key_given older).number ≢ (key_given newer).number → Contains f.keys (key_given older) → (Contains f.keys (key_given newer) → ⊥)
       → Frees a (enrolled keys budget) (Some f) (command.Retire a newer.number ∷ [])
-  frees-newer two one not_other =
-      let apart = ne_eqb (key_given older).number (key_given newer).number two in
-      let here = eq-eqb (key_given newer).number (key_given newer).number refl in
-      frees-one a _ f (key_given older) (key_given newer) (command.Retire a newer.number) (refl, refl)
-      (rw (apart, here) refl) refl (rw (apart, here) refl) older-there one newer-there not_other
+  frees-newer two one not_other = search (rules, one, ne_eqb, eq-eqb, frees-one, older-there, newer-there)
 
   pub frees-older : (key_given older).number ≢ (key_given newer).number → (Contains f.keys (key_given older) → ⊥) → Contains f.keys (key_given newer)
       → Frees a (enrolled keys budget) (Some f) (command.Retire a older.number ∷ [])

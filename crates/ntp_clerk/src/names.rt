@@ -1,6 +1,7 @@
-//! The names of customers: comment lines of the commands file.
-ghost use Rattle.std.specs.Prelude.{◌≡◌, ◌++◌, ◌∷◌, [], List, ℕ, Some, IfOk, codes, option_map, string_bytes};
+//! The names of customers, and the records of orders: comment lines of the commands file.
+ghost use Rattle.std.specs.Prelude.{◌≡◌, ◌++◌, ◌∷◌, [], List, ℕ, Some, IfOk, codes, option_map, string_bytes, true};
 ghost use Rattle.ntp_admin.specs.Answers.{line_feed};
+ghost use Rattle.ntp_admin.specs.Spells.{is_passed_over};
 ghost use Rattle.ntp_admin.specs.Words.{address_text, parts};
 ghost use Rattle.ntp_clerk.specs.CommandText.{IsAddress};
 ghost use Rattle.ntp_clerk.specs.Names.{name_behind, name_in, IsName};
@@ -57,4 +58,22 @@ fn name_behind(said: &str) -> Option<NameLine<'_>>
     }
     let address = words::address(word)?;
     Some(NameLine { address, name })
+}
+
+/// The line that stands in front of those of an order, with its line feed: when it was given, and by whom. Where neither is empty or
+/// has a line feed, it is one line, which the daemon passes over. The memory for it is taken from `alloc`.
+pub fn record_line(alloc: Global, time: &str, user: &str) -> Result<String, AllocError>
+    ensures text { IfOk result (λ text. string_bytes text ≡ codes "# " ++ (time.now ++ (codes " " ++ (user.now ++ line_feed)))) }
+    ensures line { IsName time.now → IsName user.now → IfOk result (λ text. (line : List ℕ)
+        × (parts 10 (string_bytes text) ≡ line ∷ [] ∷ []) × (is_passed_over line ≡ true)) }
+{
+    let text = record_text(alloc, time, user)?;
+    Ok(text)
+}
+
+// The text of this line.
+fn record_text(alloc: Global, time: &str, user: &str) -> Result<String, AllocError>
+    ensures { IfOk result (λ text. string_bytes text ≡ codes "# " ++ (time.now ++ (codes " " ++ (user.now ++ line_feed)))) }
+{
+    format!(in alloc; "# {time} {user}\n")
 }

@@ -8,7 +8,7 @@
    `tools/belief --check`, `tools/crates --check` and `tests/pages --check`, a case each; `tools/wrong_bodies --check`, whether the edits fit
    the sources; and `tools/layout`, since `rt ci` says only at the end of an hour that a file is not laid out.
 2. `rt ci`, the toolchain's gate, where all is laid out: every proof and test from nothing, the wrong bodies of must-fail/, and each program
-   by two compilers.
+   by two compilers. The programs get their records (tools/records.py).
 3. `tests/run`: the programs, as they were built, from outside. It waits for most of its time.
 4. Beside it, giving way to it, `tools/wrong_bodies`: those of wrong-bodies/, many in one check. All with `--whole`; else those of the crates
    that changed since the last whole run, and a tenth of the others, another one each day.
@@ -35,6 +35,8 @@ import traceback
 sys.dont_write_bytecode = True
 TOP = os.path.dirname(os.path.dirname(os.path.realpath(__file__)))
 sys.path.insert(0, f"{TOP}/tools")
+import records
+from building import ENDS_AT_ONCE
 from processes import Table, end_all, take_orphans
 from rooms import Ticker, crates_of
 
@@ -159,8 +161,11 @@ def gate(is_whole):
         it.part("tools/belief --self-test", [f"{TOP}/tools/belief", "--self-test"])
         for name in COMPARED:
             it.part(f"{name} --check", [f"{TOP}/{name}", "--check"])
+        sources = {name: records.sources_of(name) for name in ENDS_AT_ONCE}
         is_proved = it.part("tools/layout", [f"{TOP}/tools/layout"]) and it.part("rt ci", ["rt", "ci"])
         if is_proved:
+            for name in filter(lambda it: os.access(records.built_at(it), os.X_OK), sources):
+                records.write(name, sources[name])
             some = ["--write-digests"] if is_whole else ["--tenth", str(datetime.date.today().timetuple().tm_yday % 10)]
             with concurrent.futures.ThreadPoolExecutor() as beside:
                 words = ["nice", "-n", "19", f"{TOP}/tools/wrong_bodies", "--behind-ci", *some]

@@ -126,7 +126,8 @@ def begin(room, pipe, judge):
     pipe = int(pipe)
     os.set_inheritable(pipe, False)
     os.umask(0o022)
-    os.environ |= {"PATH": PATH, "LC_ALL": "C.UTF-8"}
+    # The caller's folder for what is temporary is outside of the root that is made here.
+    os.environ |= {"PATH": PATH, "LC_ALL": "C.UTF-8", "TMPDIR": "/tmp"}
     ran = subprocess.run(["sh", "-ec", ROOT, "sh", room], capture_output=True, text=True)
     os.chdir("/")
     if not ran.returncode and os.fork():

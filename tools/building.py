@@ -10,6 +10,7 @@ import sys
 import threading
 import time
 
+from records import sources_of, write
 from rooms import TOP, Ticker, below, crates_of, in_lanes, is_program, lines_of, room
 
 # How often the line of progress is renewed on a terminal, and written elsewhere, in seconds.
@@ -72,8 +73,11 @@ def run(words, folder, name, progress, said):
 
 
 def build(what, names, program=None, top=TOP):
-    """Proves and builds these libraries with all below them, and then the program. Returns whether all went well; what failed is told."""
+    """Proves and builds these libraries with all below them, and then the program, with its record. Returns whether all went well; what
+    failed is told."""
     crates, said = crates_of(top), []
+    # A source that changes during the build is another one than in the record.
+    sources = sources_of(program, top) if program else {}
     wanted = {*names}.union(*(below(it, crates) for it in names)) - {*filter(lambda it: is_program(it, top), names)}
 
     def prove(name, jobs):
@@ -86,5 +90,7 @@ def build(what, names, program=None, top=TOP):
         if well and program:
             command = ["rt", "run", "--jobs", str(min(2, LANES)), "--", ENDS_AT_ONCE[program]]
             well = run(command, f"{top}/crates/{program}", program, progress, said)
+            if well:
+                write(program, sources, top)
     print(f"{what}: proved and built in {progress.minutes()}" if well else "".join(said) + f"{what}: not built", file=sys.stderr, flush=True)
     return well

@@ -8,7 +8,7 @@ use std::alloc::{AllocError, Global};
 use std::num::{self, NonZero};
 
 /// The program's version.
-const VERSION: &str = "0.1.0";
+const VERSION: &str = "0.2.0";
 
 /// How many nanoseconds a second has.
 const SECOND_NANOS: f64 = 1_000_000_000.0;

@@ -151,7 +151,7 @@ def brought(text):
     for name in names.split(","):
         if name.strip():
             name, _, other = (it.strip() for it in name.partition(" as "))
-            yield other or name, f"{path}.{name}"
+            yield other or name.split(".")[-1], f"{path}.{name}"
 
 
 # ---- Definitions

@@ -47,7 +47,7 @@ impl Version {
 }
 
 impl<'a, R: Files> WholeCommands<'a, R> {
-    /// Begins with the file at `path`, of which nothing was given.
+    /// Begins with the file at `path`, before its first line.
     pub fn new(files: &'a R, path: &'a str) -> WholeCommands<'a, R> {
         WholeCommands {
             files,
@@ -114,7 +114,7 @@ fn due(octets: &[u8], given: u64) -> Option<Span>
     })
 }
 
-// Returns what stands behind the first `lines` complete lines of a text, where it has so many.
+// Returns what stands behind the first `lines` complete lines of a text, where it has as many.
 fn behind(text: &str, lines: u64) -> Option<&str>
     ensures within { IfSome result (λ rest. length rest.now ≤ length text.now) }
     ensures behind { IfSome result (λ rest. (lines ≤ length (complete_lines text.now))

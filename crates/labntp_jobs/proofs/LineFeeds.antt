@@ -1,8 +1,7 @@
 -- Where the lines of a text end.
 use Rattle.std.proofs.Common.{◌≡◌, ◌≢◌, ℕ, List, [], ◌∷◌, ◌++◌, length, refl, ap, ◌∙◌, arith}
 use Rattle.std.specs.Prelude.{All}
-use Rattle.std.proofs.lemmas.Bool.{ne_eqb}
-use Rattle.std.proofs.lemmas.List.Elements.{All-head, All-tail}
+use Rattle.std.proofs.{lemmas.Bool.ne_eqb, lemmas.List.Elements.All-head, lemmas.List.Elements.All-tail}
 use Rattle.labntp_jobs.specs.Script.{begin_line, lines_of}
 
 -- no octet of it is a line feed

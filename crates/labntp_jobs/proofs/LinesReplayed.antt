@@ -4,19 +4,12 @@ use Rattle.std.specs.Prelude.{Bool, not, All, map, filter, Ok, if◌then◌else�
 use Rattle.std.specs.List.{AllZip}
 use Rattle.std.proofs.lemmas.List.{flat_map_more, map-append}
 use Rattle.std.proofs.lemmas.List.Elements.{All-nil, All-cons, All-append, filter-append}
-use Rattle.ntp_service.specs.Registry.{Registry}
-use Rattle.ntp_service.specs.declared.event.Event.{Event}
-use Rattle.ntp_service.specs.declared.outcome.Outcome.{Outcome}
-use Rattle.ntp_admin.specs.Words.{words}
-use Rattle.ntp_admin.specs.Spells.{is_passed_over, event_in}
-use Rattle.ntp_admin.specs.Answers.{outcome_text}
-use Rattle.labntp_jobs.specs.declared.faults.ReplayFaultKind.{ReplayFaultKind}
-use Rattle.labntp_jobs.specs.declared.faults.ReplayFaultKind.TheVariants.{Line, Read, Write, NoMemory, LineLong, NotUtf8}
+use Rattle.ntp_service.specs.{Registry.Registry, declared.event.Event.Event, declared.outcome.Outcome.Outcome}
 use Rattle.ntp_service.specs.Headline.{StandsFor, TellsOne}
-use Rattle.labntp_jobs.specs.Script.{IsReadable}
-use Rattle.labntp_jobs.specs.Replay.{Replays, Causes}
-use Rattle.labntp_jobs.specs.Lines.{CutsShort}
-use Rattle.labntp_jobs.specs.Engine.{AnswersLines, Halts}
+use Rattle.ntp_admin.specs.{Words.words, Spells.is_passed_over, Spells.event_in, Answers.outcome_text}
+use Rattle.labntp_jobs.specs.{declared.faults.ReplayFaultKind.ReplayFaultKind, Script.IsReadable, Replay.Replays, Replay.Causes}
+use Rattle.labntp_jobs.specs.{Lines.CutsShort, Engine.AnswersLines, Engine.Halts}
+use Rattle.labntp_jobs.specs.declared.faults.ReplayFaultKind.TheVariants.{Line, Read, Write, NoMemory, LineLong, NotUtf8}
 use Rattle.ntp_service.proofs.PublicLaws.{Tells-nil, Tells-push}
 
 -- two lists that agree place by place, each with one member more

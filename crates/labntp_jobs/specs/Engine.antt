@@ -1,10 +1,7 @@
 -- Not to be believed: for proofs. What an engine does with octets, in steps.
 use Rattle.std.specs.Prelude.{◌≡◌, ℕ, ◌+◌, List, [], ◌++◌, length}
-use Rattle.ntp_service.specs.Registry.{Registry}
-use Rattle.labntp_jobs.specs.declared.engine.Engine.{Engine}
-use Rattle.labntp_jobs.specs.declared.faults.ReplayFaultKind.{ReplayFaultKind}
-use Rattle.ntp_service.specs.Headline.{StandsFor}
-use Rattle.labntp_jobs.specs.Script.{lines_of}
+use Rattle.ntp_service.specs.{Registry.Registry, Headline.StandsFor}
+use Rattle.labntp_jobs.specs.{declared.engine.Engine.Engine, declared.faults.ReplayFaultKind.ReplayFaultKind, Script.lines_of}
 use Rattle.labntp_jobs.specs.Replay.{Replays, Causes}
 
 -- whatever lines were replayed before, these then are too

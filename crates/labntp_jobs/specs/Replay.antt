@@ -1,19 +1,13 @@
 -- What a replay of a script's lines writes, and where it stops.
 use Rattle.std.specs.Prelude.{◌≡◌, ◌⊎◌, ℕ, ◌+◌, ◌-◌, ◌^◌, ◌≤◌, ◌<◌, false, List, [], ◌∷◌, ◌++◌, length, All, not, map, filter, flat_map, Ok, Err, IsUtf8}
 use Rattle.std.specs.List.{AllZip}
-use Rattle.ntp_service.specs.Registry.{Registry}
-use Rattle.ntp_service.specs.declared.event.Event.{Event}
-use Rattle.ntp_service.specs.declared.outcome.Outcome.{Outcome}
+use Rattle.ntp_service.specs.{Registry.Registry, declared.event.Event.Event, declared.outcome.Outcome.Outcome, Headline.Tells}
 use Rattle.ntp_service.specs.declared.line_fault.LineFault.TheVariants as line_fault
-use Rattle.ntp_admin.specs.Words.{words}
-use Rattle.ntp_admin.specs.Spells.{is_passed_over, event_in}
-use Rattle.ntp_admin.specs.Answers.{outcome_text}
-use Rattle.labntp_jobs.specs.declared.faults.ReplayFault.{ReplayFault}
-use Rattle.labntp_jobs.specs.declared.faults.ReplayFaultKind.{ReplayFaultKind}
-use Rattle.labntp_jobs.specs.declared.faults.ReplayFaultKind.TheVariants.{Line, Read, Write, NoMemory, LineLong, NotUtf8}
-use Rattle.ntp_service.specs.Headline.{Tells}
+use Rattle.ntp_admin.specs.{Words.words, Spells.is_passed_over, Spells.event_in, Answers.outcome_text}
 use Rattle.ntp_admin.specs.CommandsFile.{most_line_octets}
+use Rattle.labntp_jobs.specs.{declared.faults.ReplayFault.ReplayFault, declared.faults.ReplayFaultKind.ReplayFaultKind}
 use Rattle.labntp_jobs.specs.Script.{IsReadable}
+use Rattle.labntp_jobs.specs.declared.faults.ReplayFaultKind.TheVariants.{Line, Read, Write, NoMemory, LineLong, NotUtf8}
 
 -- how many reads of a text there are at most
 abbrev pub most_reads : ℕ

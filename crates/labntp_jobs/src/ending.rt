@@ -1,9 +1,7 @@
 //! What a replay ends with.
 ghost use Rattle.std.specs.Prelude.{◌≡◌, ◌⊎◌, ℕ, List, true, false, IfSome};
 ghost use Rattle.ntp_admin.specs.Starts.{status_code};
-ghost use Rattle.labntp_jobs.specs.Replay.{most_reads};
-ghost use Rattle.labntp_jobs.specs.Watched.{Wrote};
-ghost use Rattle.labntp_jobs.specs.Ends.{Ends, status_of};
+ghost use Rattle.labntp_jobs.specs.{Replay.most_reads, Watched.Wrote, Ends.Ends, Ends.status_of};
 
 use crate::{ReplayFault, ReplayFaultKind, Watched, replay};
 use ntp_admin::{Status, memory_status, write_status};

@@ -1,9 +1,7 @@
 //! The engine of a replay: octets in, answer lines out.
 ghost use Rattle.std.specs.Prelude.{◌≡◌, ◌≢◌, ℕ, ◌+◌, ◌≤◌, ◌<◌, ◌^◌, List, [], ◌∷◌, ◌++◌, length, vec_len, All, OnOk, IfOk, IfErr};
 ghost use Rattle.ntp_admin.specs.CommandsFile.{most_line_octets};
-ghost use Rattle.labntp_jobs.specs.Script.{lines_of};
-ghost use Rattle.labntp_jobs.specs.Lines.{IsPastReading};
-ghost use Rattle.labntp_jobs.specs.Watched.{Wrote};
+ghost use Rattle.labntp_jobs.specs.{Script.lines_of, Lines.IsPastReading, Watched.Wrote};
 
 use crate::faults::{ReplayFault, ReplayFaultKind};
 use crate::lines::{judge, write_answer};

@@ -1,11 +1,9 @@
 //! One line of a script, and one answer line.
 ghost use Rattle.std.specs.Prelude.{◌≡◌, ℕ, ◌≤◌, Bool, List, [], ◌∷◌, length, OnOk, IfOk, IfErr};
 ghost use Rattle.ntp_service.specs.declared.event.Event.{Event};
-ghost use Rattle.ntp_admin.specs.Answers.{outcome_text};
-ghost use Rattle.ntp_admin.specs.CommandsFile.{most_line_octets};
-ghost use Rattle.labntp_jobs.specs.Replay.{Causes};
+ghost use Rattle.ntp_admin.specs.{Answers.outcome_text, CommandsFile.most_line_octets};
+ghost use Rattle.labntp_jobs.specs.{Replay.Causes, Watched.Wrote};
 ghost use Rattle.labntp_jobs.specs.Lines.{Judges, CutsShort, IsPastReading};
-ghost use Rattle.labntp_jobs.specs.Watched.{Wrote};
 
 use crate::faults::ReplayFaultKind;
 use crate::watch::Watched;

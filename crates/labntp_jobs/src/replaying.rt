@@ -2,9 +2,8 @@
 ghost use Rattle.std.specs.Prelude.{◌≡◌, ◌⊎◌, ℕ, ◌+◌, ◌-◌, ◌≤◌, ◌<◌, ◌^◌, List, [], true, false, OnOk, IfErr, IfSome};
 ghost use Rattle.std.specs.Io.KnownBytes.{IsAtEnd};
 ghost use Rattle.ntp_service.specs.Registry.{Registry};
-ghost use Rattle.labntp_jobs.specs.Script.{lines_of};
+ghost use Rattle.labntp_jobs.specs.{Script.lines_of, Watched.Wrote};
 ghost use Rattle.labntp_jobs.specs.Replay.{most_reads, Replays, StopsAt};
-ghost use Rattle.labntp_jobs.specs.Watched.{Wrote};
 
 use crate::engine::Engine;
 use crate::faults::{ReplayFault, ReplayFaultKind};

@@ -1,8 +1,6 @@
 //! The words of the command line.
 ghost use Rattle.std.specs.Prelude.{◌≡◌, ◌≢◌, ℕ, List, [], ◌∷◌, map, string_bytes, IfSome, OnSome, IsNone, MatchOption};
-ghost use Rattle.labntp_jobs.specs.Asks.{Asks};
-ghost use Rattle.labntp_jobs.specs.Behind.{AsksToServe, AsksToLoop};
-ghost use Rattle.labntp_jobs.specs.declared.jobs.Serving.{Serving};
+ghost use Rattle.labntp_jobs.specs.{Asks.Asks, Behind.AsksToServe, Behind.AsksToLoop, declared.jobs.Serving.Serving};
 
 use crate::jobs::{Job, Serving};
 use ntp_admin::words::{decimal, number};

@@ -1,12 +1,10 @@
 -- Customers read one after another, in file order.
 use Rattle.std.proofs.Common.{◌≡◌, ℕ, ◌+◌, ◌<◌, List, [], ◌∷◌, ◌++◌, length, drop, get_or, Result, Ok, Err, refl, sym, ap, append_assoc, add-one}
-use Rattle.toml.specs.View.{view, items_view}
+use Rattle.toml.specs.{View.view, View.items_view, declared.value.Value.Value}
 use Rattle.toml.proofs.Views.{items_view-drop}
-use Rattle.toml.specs.declared.value.Value.{Value}
 use Rattle.ntp_service.specs.declared.command.Command.{Command}
-use Rattle.ntp_admin.specs.declared.fault.RegisterFault.{RegisterFault}
+use Rattle.ntp_admin.specs.{declared.fault.RegisterFault.RegisterFault, RegisterFile.customer_in, RegisterFile.customers_in}
 use Rattle.ntp_packet.specs.FirstCase.{◌>>=◌}
-use Rattle.ntp_admin.specs.RegisterFile.{customer_in, customers_in}
 
 -- the commands of the customers that are left, behind those that were read
 abbrev pub behind : List Command → Result (List Command) RegisterFault → Result (List Command) RegisterFault

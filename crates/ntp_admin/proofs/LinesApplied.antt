@@ -2,26 +2,17 @@
 use Rattle.std.proofs.Common.{◌≡◌, ℕ, ◌+◌, ◌<◌, ◌≤◌, ◌^◌, false, List, [], ◌∷◌, ◌++◌, length, Option, Some, None, Ok, Err, arith, refl, sym, ap, ◌∙◌, subst, append_assoc, append-nil}
 use Rattle.std.specs.Prelude.{Result, IfOk, IfErr, IsUtf8, nat_lt}
 use Rattle.std.specs.Str.{is_utf8}
-use Rattle.std.proofs.lemmas.Bool.{false_from_ne_true}
-use Rattle.std.proofs.lemmas.Bool.Decides.{nat_tests}
-use Rattle.std.proofs.lemmas.Str.{is_utf8-from_IsUtf8, IsUtf8-from_is_utf8}
-use Rattle.std.proofs.lemmas.List.{length-append}
-use Rattle.ntp_service.specs.declared.refusal.Refusal.{Refusal}
-use Rattle.ntp_service.specs.Registry.{Registry}
-use Rattle.ntp_service.specs.declared.command.Command.{Command}
-use Rattle.ntp_service.specs.declared.event.Event.{Event}
+use Rattle.std.proofs.{lemmas.Bool.false_from_ne_true, lemmas.Bool.Decides.nat_tests}
+use Rattle.std.proofs.{lemmas.Str.is_utf8-from_IsUtf8, lemmas.Str.IsUtf8-from_is_utf8, lemmas.List.length-append}
+use Rattle.ntp_service.specs.{declared.refusal.Refusal.Refusal, Registry.Registry, declared.command.Command.Command}
+use Rattle.ntp_service.specs.{declared.event.Event.Event, declared.line_fault.LineFault.LineFault}
+use Rattle.ntp_service.specs.{declared.line_fault.LineFault.TheVariants.NotUtf8, declared.observation.LineOutcome.LineOutcome}
+use Rattle.ntp_service.specs.{declared.observation.Observation.Observation, Sees.Sees}
 use Rattle.ntp_service.specs.declared.event.Event.TheVariants as event
-use Rattle.ntp_service.specs.declared.line_fault.LineFault.{LineFault}
-use Rattle.ntp_service.specs.declared.line_fault.LineFault.TheVariants.{NotUtf8}
-use Rattle.ntp_service.specs.declared.observation.LineOutcome.{LineOutcome}
-use Rattle.ntp_service.specs.declared.observation.Observation.{Observation}
 use Rattle.ntp_service.specs.declared.observation.Observation.TheVariants as observation
-use Rattle.ntp_service.specs.Sees.{Sees}
 use Rattle.ntp_service.proofs.PublicLaws.{Sees-nil, Sees-append, Tells-nil, Tells-one}
 use Rattle.ntp_service.specs.Headline.{StandsFor, TellsOne, command_outcome}
-use Rattle.ntp_admin.specs.Words.{words}
-use Rattle.ntp_admin.specs.Spells.{command_in, is_passed_over}
-use Rattle.ntp_admin.specs.FileText.{IsText}
+use Rattle.ntp_admin.specs.{Words.words, Spells.command_in, Spells.is_passed_over, FileText.IsText}
 use Rattle.ntp_admin.specs.CommandsFile.{complete_lines, line_reading, count_on, carried_out, CarriesOut, CarriesOutDue}
 use Rattle.ntp_admin.specs.Applying.{told_before, LeadsTo, AppliesLine}
 use Rattle.ntp_admin.proofs.LinesTaken.{count_on-none, CarriesOut-none, CarriesOut-more}
@@ -69,7 +60,7 @@ AppliesLine-read A most number line read o old new seen heard told taken c befor
     rw taken (c.0, subst (λ os. Sees seen told os) (sym (c.1 number)) (Sees-append seen heard told _ _ before behind), c.2)
 
 -- ---- the lines of octets
--- what was carried out of octets, of which some are still to be read
+-- what was carried out of octets, where `rest` is still to be read
 pub record Applied (A : Type 0) (most before : ℕ) (old : Registry) (seen : Option (List Observation)) (octets rest : List ℕ) (number : ℕ)
     (new : Registry) (told : Option (List Observation)) : Type 0 where
   pub done : List (List ℕ)

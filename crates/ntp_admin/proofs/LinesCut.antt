@@ -2,15 +2,13 @@
 use Rattle.std.proofs.Common.{◌≡◌, ℕ, ◌+◌, ◌-◌, ◌<◌, ◌≤◌, ◌==◌, List, [], ◌∷◌, length, take, drop, Option, Some, None, Bor, arith, false, suc, sym, ap, ◌∙◌, subst, lit<}
 use Rattle.std.specs.Prelude.{MatchOption}
 use Rattle.std.specs.List.{position, position_or_len}
-use Rattle.std.proofs.lemmas.Bool.Decides.{nat_tests}
-use Rattle.std.proofs.lemmas.List.{length-take, length-drop, drop-drop}
-use Rattle.std.proofs.lemmas.List.Elements.{All-from_get_or}
-use Rattle.std.proofs.lemmas.List.Splits.{length-slice_split, slice_split_none, slice_split_first}
+use Rattle.std.proofs.{lemmas.Bool.Decides.nat_tests, lemmas.List.Elements.All-from_get_or}
 use Rattle.std.proofs.lemmas.List.Sums.{fails_before_first, count_by-le-length}
 use Rattle.std.proofs.lemmas.Str.Pattern.{IsSplitOnceResult}
-use Rattle.ntp_admin.specs.Words.{parts}
+use Rattle.std.proofs.lemmas.List.{length-take, length-drop, drop-drop}
+use Rattle.std.proofs.lemmas.List.Splits.{length-slice_split, slice_split_none, slice_split_first}
+use Rattle.ntp_admin.specs.{Words.parts, CommandsFile.complete_lines}
 use Rattle.ntp_admin.proofs.Cuts.{parts-split}
-use Rattle.ntp_admin.specs.CommandsFile.{complete_lines}
 
 -- all but the last, where there are more than one
 abbrev all_but_last : {X : Type 0} → List X → List X

@@ -1,12 +1,8 @@
 -- Lists of lines that were taken.
 use Rattle.std.proofs.Common.{◌≡◌, ℕ, ◌+◌, ◌<◌, ◌^◌, List, [], ◌∷◌, ◌++◌, length, Option, arith, refl, sym, ap, ◌∙◌, subst, append_assoc, append-nil}
-use Rattle.std.proofs.lemmas.List.{length-map, map-append}
-use Rattle.std.proofs.lemmas.Grind.{flat_map-append}
-use Rattle.ntp_service.specs.Registry.{Registry}
-use Rattle.ntp_service.specs.declared.observation.Observation.{Observation}
-use Rattle.ntp_service.specs.Sees.{Sees}
+use Rattle.std.proofs.{lemmas.List.length-map, lemmas.List.map-append, lemmas.Grind.flat_map-append}
+use Rattle.ntp_service.specs.{Registry.Registry, declared.observation.Observation.Observation, Sees.Sees, Headline.Tells}
 use Rattle.ntp_service.proofs.PublicLaws.{Sees-nil, Sees-append, Tells-nil, Tells-append}
-use Rattle.ntp_service.specs.Headline.{Tells}
 use Rattle.ntp_admin.specs.CommandsFile.{line_reading, count_on, TakenLine, happened_read, observed_read, happened_at_lines, line_observations, CarriesOut}
 use Rattle.ntp_admin.specs.Applying.{AppliesLine}
 

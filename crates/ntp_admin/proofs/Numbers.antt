@@ -1,15 +1,10 @@
 -- Decimal words, as `parse` reads them.
 use Rattle.std.proofs.Common.{◌≡◌, ℕ, zero, suc, ◌^◌, ◌<◌, ◌&&◌, Bool, true, List, length, Option, Some, None, Result, Ok, Err, refl, ap, subst, arith, rules, inl, inr}
 use Rattle.std.specs.Prelude.{MatchOption, nat_le, if◌then◌else◌}
-use Rattle.std.specs.Char.{is_ascii_digit}
-use Rattle.std.specs.List.{list_all}
-use Rattle.std.specs.Str.Parse.{ParsesUnsigned, digits_value}
-use Rattle.std.proofs.lemmas.Bool.{and_parts, cases_lt}
-use Rattle.std.specs.Result.{result_ok}
-use Rattle.std.proofs.Math.Bridge.{le_prop}
-use Rattle.std.proofs.lemmas.Bool.Decides.{nat_tests}
-use Rattle.std.proofs.lemmas.Str.Parse.{IsNumeralModel, numerals_by_value, parse_digits}
+use Rattle.std.specs.{Char.is_ascii_digit, List.list_all, Str.Parse.ParsesUnsigned, Str.Parse.digits_value, Result.result_ok}
 use Rattle.std.specs.declared.num.NonZeroU16.{NonZeroU16}
+use Rattle.std.proofs.{lemmas.Bool.and_parts, lemmas.Bool.cases_lt, Math.Bridge.le_prop, lemmas.Bool.Decides.nat_tests}
+use Rattle.std.proofs.lemmas.Str.Parse.{IsNumeralModel, numerals_by_value, parse_digits}
 use Rattle.ntp_admin.specs.Words.{is_decimal, decimal_in, non_zero}
 
 -- the test of digits

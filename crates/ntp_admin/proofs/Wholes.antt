@@ -1,14 +1,10 @@
 -- Whole numbers of a file, as `try_from` and `NonZero::new` take them.
 use Rattle.std.proofs.Common.{◌≡◌, ℕ, ℤ, pos, negsuc, ◌<◌, ◌^◌, Option, Some, Result, Ok, Err, arith}
 use Rattle.std.specs.Prelude.{MatchOption}
-use Rattle.std.specs.Int.{FitsUnsignedBits}
-use Rattle.std.specs.Result.{OkIff, result_ok}
-use Rattle.std.proofs.Math.IntN.{nat_abs}
-use Rattle.std.proofs.lemmas.Bool.Decides.{nat_tests}
-use Rattle.std.specs.declared.num.NonZeroU16.{NonZeroU16}
-use Rattle.ntp_admin.specs.Words.{non_zero}
+use Rattle.std.specs.{Int.FitsUnsignedBits, Result.OkIff, Result.result_ok, declared.num.NonZeroU16.NonZeroU16}
+use Rattle.std.proofs.{Math.IntN.nat_abs, lemmas.Bool.Decides.nat_tests}
+use Rattle.ntp_admin.specs.{Words.non_zero, Enrolment.non_zero_whole}
 use Rattle.ntp_admin.proofs.Numbers.{new-non_zero}
-use Rattle.ntp_admin.specs.Enrolment.{non_zero_whole}
 
 -- a number that fits is looked at by itself alone
 within : (n : ℕ) (o : Option NonZeroU16) → n < 2 ^ 16 → o ≡ non_zero n → o ≡ non_zero_whole (pos n)

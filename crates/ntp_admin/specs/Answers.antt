@@ -1,17 +1,13 @@
 -- The line that is printed for what an event is answered.
 use Rattle.std.specs.Prelude.{ℕ, List, [], ◌∷◌, ◌++◌, codes}
-use Rattle.std.specs.Fmt.{decimal}
-use Rattle.std.specs.Int.{w64, to_be_bytes}
+use Rattle.std.specs.{Fmt.decimal, Int.w64, Int.to_be_bytes}
 use Rattle.hex.specs.Hex.{encode_lower}
-use Rattle.ntp_packet.specs.declared.stamp.Stamp.{Stamp}
-use Rattle.ntp_packet.specs.declared.malformed.Malformed.{Malformed}
+use Rattle.ntp_packet.specs.{declared.stamp.Stamp.Stamp, declared.malformed.Malformed.Malformed}
 use Rattle.ntp_packet.specs.declared.malformed.Malformed.TheVariants as malformed
-use Rattle.ntp_service.specs.Vocabulary.{refusal_word}
-use Rattle.ntp_reply.specs.declared.answers.Answer.{Answer}
+use Rattle.ntp_service.specs.{Vocabulary.refusal_word, declared.outcome.Outcome.Outcome}
+use Rattle.ntp_reply.specs.{declared.answers.Answer.Answer, declared.answers.Reason.Reason}
 use Rattle.ntp_reply.specs.declared.answers.Answer.TheVariants as answer
-use Rattle.ntp_reply.specs.declared.answers.Reason.{Reason}
 use Rattle.ntp_reply.specs.declared.answers.Reason.TheVariants as reason
-use Rattle.ntp_service.specs.declared.outcome.Outcome.{Outcome}
 use Rattle.ntp_service.specs.declared.outcome.Outcome.TheVariants as outcome
 
 -- a stamp: 16 digits

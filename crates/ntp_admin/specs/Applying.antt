@@ -1,15 +1,10 @@
 -- Not to be believed: for proofs. What becomes of a text, and of one line.
 use Rattle.std.specs.Prelude.{◌≡◌, ℕ, max, List, [], ◌∷◌, ◌++◌, length, drop, Option, Some, Result, Ok, Err}
-use Rattle.ntp_service.specs.declared.refusal.Refusal.{Refusal}
-use Rattle.ntp_service.specs.Registry.{Registry}
-use Rattle.ntp_service.specs.declared.command.Command.{Command}
-use Rattle.ntp_service.specs.declared.event.Event.{Event}
-use Rattle.ntp_service.specs.declared.line_fault.LineFault.{LineFault}
-use Rattle.ntp_service.specs.declared.observation.LineOutcome.{LineOutcome}
-use Rattle.ntp_service.specs.declared.observation.Observation.{Observation}
+use Rattle.ntp_service.specs.{declared.refusal.Refusal.Refusal, Registry.Registry, declared.command.Command.Command}
+use Rattle.ntp_service.specs.{declared.event.Event.Event, declared.line_fault.LineFault.LineFault}
+use Rattle.ntp_service.specs.{declared.observation.LineOutcome.LineOutcome, declared.observation.Observation.Observation}
+use Rattle.ntp_service.specs.{Sees.Sees, Headline.StandsFor, Headline.Tells}
 use Rattle.ntp_service.specs.declared.observation.Observation.TheVariants as observation
-use Rattle.ntp_service.specs.Sees.{Sees}
-use Rattle.ntp_service.specs.Headline.{StandsFor, Tells}
 use Rattle.ntp_admin.specs.FileText.{most_file_octets}
 use Rattle.ntp_admin.specs.CommandsFile.{complete_lines, line_reading, happened_read, observed_read, CarriesOut}
 

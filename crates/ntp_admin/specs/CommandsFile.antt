@@ -1,26 +1,18 @@
 -- What a commands file orders.
 use Rattle.std.specs.Prelude.{◌≡◌, ℕ, ◌+◌, ◌-◌, ◌^◌, min, max, nat_lt, List, [], ◌∷◌, ◌++◌, length, map, flat_map, take, drop, if◌then◌else◌, Option, None, Some, Result, Ok, Err, codes}
-use Rattle.std.specs.Fmt.{decimal}
-use Rattle.std.specs.Str.{is_utf8}
-use Rattle.ntp_service.specs.declared.refusal.Refusal.{Refusal}
-use Rattle.ntp_service.specs.Registry.{Registry}
-use Rattle.ntp_admin.specs.Words.{words, parts}
-use Rattle.ntp_admin.specs.Spells.{command_in, is_passed_over}
-use Rattle.ntp_admin.specs.Answers.{line_feed}
-use Rattle.ntp_service.specs.Vocabulary.{refusal_word, line_fault_word}
-use Rattle.ntp_service.specs.declared.command.Command.{Command}
-use Rattle.ntp_service.specs.declared.event.Event.{Event}
-use Rattle.ntp_service.specs.declared.event.Event.TheVariants as event
-use Rattle.ntp_service.specs.declared.line_fault.LineFault.{LineFault}
+use Rattle.std.specs.{Fmt.decimal, Str.is_utf8}
+use Rattle.ntp_service.specs.{declared.refusal.Refusal.Refusal, Registry.Registry}
+use Rattle.ntp_service.specs.{Vocabulary.refusal_word, Vocabulary.line_fault_word, declared.command.Command.Command}
+use Rattle.ntp_service.specs.{declared.event.Event.Event, declared.line_fault.LineFault.LineFault}
 use Rattle.ntp_service.specs.declared.line_fault.LineFault.TheVariants.{LineLong, NotUtf8}
-use Rattle.ntp_service.specs.declared.outcome.Outcome.{Outcome}
-use Rattle.ntp_service.specs.declared.observation.LineOutcome.{LineOutcome}
-use Rattle.ntp_service.specs.declared.observation.LineOutcome.TheVariants.{Done, Refused, Faulty}
-use Rattle.ntp_service.specs.declared.observation.Observation.{Observation}
-use Rattle.ntp_service.specs.declared.observation.Observation.TheVariants as observation
-use Rattle.ntp_service.specs.Sees.{Sees}
-use Rattle.ntp_service.specs.Headline.{StandsFor, Tells, command_outcome}
+use Rattle.ntp_service.specs.{declared.outcome.Outcome.Outcome, declared.observation.LineOutcome.LineOutcome}
+use Rattle.ntp_service.specs.{declared.observation.Observation.Observation, Sees.Sees}
+use Rattle.ntp_admin.specs.{Words.words, Words.parts, Spells.command_in, Spells.is_passed_over, Answers.line_feed}
 use Rattle.ntp_admin.specs.FileText.{most_file_octets, IsText}
+use Rattle.ntp_service.specs.declared.event.Event.TheVariants as event
+use Rattle.ntp_service.specs.declared.observation.LineOutcome.TheVariants.{Done, Refused, Faulty}
+use Rattle.ntp_service.specs.declared.observation.Observation.TheVariants as observation
+use Rattle.ntp_service.specs.Headline.{StandsFor, Tells, command_outcome}
 
 -- the lines that a line feed ends: what stands between line feeds, without the last such piece
 abbrev pub complete_lines : List ℕ → List (List ℕ)
@@ -60,7 +52,7 @@ observed_read number None result = []
 observed_read number (Some (Ok command)) result = observation.Command command ∷ observation.Line number (carried_out result) ∷ []
 observed_read number (Some (Err fault)) result = observation.Line number (Faulty fault) ∷ []
 
--- what happened at lines of so many octets at most, in their order
+-- what happened at lines of at most `most` octets, in their order
 abbrev pub happened_at_lines : {A : Type 0} → ℕ → List TakenLine → List (Event A × Outcome)
 happened_at_lines most taken = flat_map (λ t. happened_read (line_reading most t.line) t.result) taken
 

@@ -2,10 +2,8 @@
 use Rattle.std.specs.Prelude.{ℤ, pos, negsuc, nat_le, if◌then◌else◌, Option, None, Result}
 use Rattle.std.specs.declared.num.NonZeroU16.{NonZeroU16}
 use Rattle.ntp_admin.specs.Words.{non_zero, address_in, algorithm_in, key_in}
-use Rattle.ntp_admin.specs.Spells.{enrolment_from}
-use Rattle.ntp_service.specs.declared.command.Command.{Command}
-use Rattle.ntp_service.specs.declared.line_fault.LineFault.{LineFault}
-use Rattle.ntp_admin.specs.Form.{Entry}
+use Rattle.ntp_admin.specs.{Spells.enrolment_from, Form.Entry}
+use Rattle.ntp_service.specs.{declared.command.Command.Command, declared.line_fault.LineFault.LineFault}
 
 -- a key number or a budget: from 1 to 65,535
 abbrev pub non_zero_whole : ℤ → Option NonZeroU16

@@ -1,18 +1,14 @@
 -- What a register file that is loaded gives, and why one gives nothing.
 use Rattle.std.specs.Prelude.{◌≡◌, ◌⊎◌, ℕ, List, [], map, take, slice_get, Some, Ok, Err}
 use Rattle.std.specs.declared.alloc.Global.{Global}
-use Rattle.ntp_service.specs.Registry.{Registry}
-use Rattle.ntp_service.specs.declared.refusal.Refusal.{Refusal}
+use Rattle.ntp_service.specs.{Registry.Registry, declared.refusal.Refusal.Refusal, declared.command.Command.Command}
+use Rattle.ntp_service.specs.Headline.{Tells, TellsOne}
 use Rattle.ntp_reply.specs.Reference.{ReferenceState}
-use Rattle.ntp_admin.specs.RegisterFile.{state_in, register_in}
-use Rattle.ntp_admin.specs.declared.fault.RegisterFault.TheVariants.{NoMemory}
-use Rattle.ntp_service.specs.declared.command.Command.{Command}
+use Rattle.ntp_admin.specs.{RegisterFile.state_in, RegisterFile.register_in, declared.fault.RegisterFault.TheVariants.NoMemory}
+use Rattle.ntp_admin.specs.{declared.loading.LoadFault.LoadFault, FileText.IsText}
 use Rattle.ntp_service.specs.declared.event.Event.TheVariants as event
 use Rattle.ntp_service.specs.declared.outcome.Outcome.TheVariants as outcome
-use Rattle.ntp_service.specs.Headline.{Tells, TellsOne}
-use Rattle.ntp_admin.specs.declared.loading.LoadFault.{LoadFault}
 use Rattle.ntp_admin.specs.declared.loading.LoadFault.TheVariants as load_fault
-use Rattle.ntp_admin.specs.FileText.{IsText}
 
 -- a service was given commands and nothing before them, and each was done
 abbrev pub Enrols : List Command → Registry → Type 0

@@ -4,12 +4,10 @@ use Rattle.std.specs.Option.{ok_or}
 use Rattle.toml.specs.Data.{Data, Items, no_items, item}
 use Rattle.toml.specs.Parse.{parse_document}
 use Rattle.ntp_packet.specs.FirstCase.{◌>>=◌, map_err}
-use Rattle.ntp_admin.specs.Words.{reference_in}
+use Rattle.ntp_admin.specs.{Words.reference_in, Enrolment.enrolment_command, declared.fault.RegisterFault.RegisterFault}
 use Rattle.ntp_service.specs.declared.command.Command.{Command}
 use Rattle.ntp_reply.specs.Reference.{ReferenceState}
 use Rattle.ntp_admin.specs.Form.{Top, top_of, entry_of}
-use Rattle.ntp_admin.specs.Enrolment.{enrolment_command}
-use Rattle.ntp_admin.specs.declared.fault.RegisterFault.{RegisterFault}
 use Rattle.ntp_admin.specs.declared.fault.RegisterFault.TheVariants as fault
 
 -- the top level of the document that a text is (TOML 1.1)

@@ -1,17 +1,13 @@
 -- What a line of a script says, or the first fault in it: each step gives a part of it, or the line's fault.
 use Rattle.std.specs.Prelude.{◌==◌, ℕ, Bool, true, if◌then◌else◌, List, [], ◌∷◌, codes, Option, Result, Ok, Err}
-use Rattle.std.specs.Option.{ok_or}
-use Rattle.std.specs.Str.{bytes_eq}
-use Rattle.std.specs.declared.num.NonZeroU16.{NonZeroU16}
+use Rattle.std.specs.{Option.ok_or, Str.bytes_eq, declared.num.NonZeroU16.NonZeroU16}
 use Rattle.ntp_packet.specs.FirstCase.{◌>>=◌}
 use Rattle.ntp_admin.specs.Words.{address_in, number_in, algorithm_in, key_in, stamp_in, moment_in, reference_in, octets_in}
 use Rattle.ntp_mac.specs.declared.key.Algorithm.{Algorithm}
-use Rattle.ntp_service.specs.declared.address.Address.{Address}
-use Rattle.ntp_service.specs.declared.command.Command.{Command}
-use Rattle.ntp_service.specs.declared.command.Command.TheVariants as command
-use Rattle.ntp_service.specs.declared.event.Event.{Event}
-use Rattle.ntp_service.specs.declared.event.Event.TheVariants as event
+use Rattle.ntp_service.specs.{declared.address.Address.Address, declared.command.Command.Command, declared.event.Event.Event}
 use Rattle.ntp_service.specs.declared.line_fault.LineFault.{LineFault}
+use Rattle.ntp_service.specs.declared.command.Command.TheVariants as command
+use Rattle.ntp_service.specs.declared.event.Event.TheVariants as event
 use Rattle.ntp_service.specs.declared.line_fault.LineFault.TheVariants as fault
 
 -- whether a line is no event: it is empty, or begins with `#`

@@ -3,9 +3,8 @@ use Rattle.std.specs.Prelude.{ℕ}
 use Rattle.ntp_service.specs.declared.refusal.Refusal.TheVariants as refusal
 use Rattle.ntp_service.specs.declared.line_fault.LineFault.TheVariants as line_fault
 use Rattle.ntp_admin.specs.declared.fault.RegisterFault.TheVariants as register_fault
-use Rattle.ntp_admin.specs.declared.status.Status.{Status}
+use Rattle.ntp_admin.specs.{declared.status.Status.Status, declared.loading.LoadFault.LoadFault}
 use Rattle.ntp_admin.specs.declared.status.Status.TheVariants as status
-use Rattle.ntp_admin.specs.declared.loading.LoadFault.{LoadFault}
 use Rattle.ntp_admin.specs.declared.loading.LoadFault.TheVariants as load_fault
 
 -- the exit status of a program that ends so

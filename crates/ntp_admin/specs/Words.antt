@@ -2,19 +2,12 @@
 use Rattle.std.specs.Prelude.{ℕ, zero, suc, ◌-◌, ◌^◌, ◌==◌, ◌&&◌, ◌||◌, Bool, not, nat_le, nat_lt, if◌then◌else◌, List, [], ◌∷◌, ◌++◌, length, map, slice_index, codes, Option, Some, None}
 use Rattle.std.specs.List.{list_all, slice_split, slice_range, join_with_byte}
 use Rattle.std.specs.Option.{option_map, option_map_or, option_and_then}
-use Rattle.std.specs.Result.{result_ok}
-use Rattle.std.specs.Char.{is_ascii_digit}
-use Rattle.std.specs.Str.{bytes_eq}
-use Rattle.std.specs.Str.Parse.{digits_value}
+use Rattle.std.specs.{Result.result_ok, Char.is_ascii_digit, Str.bytes_eq, Str.Parse.digits_value, Int.NonZero.non_zero_u16_get}
+use Rattle.std.specs.{Fmt.decimal, declared.num.NonZeroU16.NonZeroU16}
 use Rattle.std.specs.Int.{w8, w32, w64, cast_signed, from_be_bytes}
-use Rattle.std.specs.Int.NonZero.{non_zero_u16_get}
-use Rattle.std.specs.Fmt.{decimal}
-use Rattle.std.specs.declared.num.NonZeroU16.{NonZeroU16}
 use Rattle.std.proofs.Math.Nat.{zero-lt-suc}
 use Rattle.hex.specs.Hex.{decode_of, decode_sized}
-use Rattle.ntp_packet.specs.declared.stamp.Stamp.{Stamp}
-use Rattle.ntp_packet.specs.declared.stamp.Short.{Short}
-use Rattle.ntp_packet.specs.declared.moment.Moment.{Moment}
+use Rattle.ntp_packet.specs.{declared.stamp.Stamp.Stamp, declared.stamp.Short.Short, declared.moment.Moment.Moment}
 use Rattle.ntp_mac.specs.declared.key.Algorithm.{Algorithm}
 use Rattle.ntp_mac.specs.declared.key.Algorithm.TheVariants.{Md5, Sha1}
 use Rattle.ntp_service.specs.declared.address.Address.{Address}

@@ -78,7 +78,7 @@ fn apply_text<A: Allocator + Copy, O: Observer>(
     }
 }
 
-// What stands behind so many complete lines, where there are so many.
+// Returns what stands behind the first `lines` complete lines, where there are as many.
 fn behind(octets: &[u8], lines: u64) -> Option<&[u8]>
     ensures behind { IfSome result (λ rest. (lines ≤ length (complete_lines octets.now))
         × (complete_lines rest.now ≡ drop lines (complete_lines octets.now))) }
@@ -109,8 +109,8 @@ fn line_feed(octets: &[u8]) -> Option<usize>
     octets.iter().position(|octet| *octet == b'\n')
 }
 
-// Carries out complete lines, of which each has `most` octets at most, with `before` lines in front of them. Returns how
-// many lines are applied then.
+// Carries out complete lines of at most `most` octets each, with `before` lines in front of them. Returns how many lines
+// are applied then.
 fn carry_out_lines<A: Allocator + Copy, O: Observer>(
     service: &mut Service<A>,
     octets: &[u8],

@@ -1,7 +1,6 @@
 //! An observer that writes what is wrong with a line of commands.
 ghost use Rattle.std.specs.Prelude.{◌≡◌, ◌≢◌, OnOk, OnErr, false};
-ghost use Rattle.std.specs.Bool.{OnFalse};
-ghost use Rattle.std.specs.Io.KnownBytes.{Appends};
+ghost use Rattle.std.specs.{Bool.OnFalse, Io.KnownBytes.Appends};
 ghost use Rattle.ntp_admin.specs.CommandsFile.{fault_line, line_text};
 
 use ntp_service::{Command, LineOutcome, Observer, TurnOutcome};

@@ -1,7 +1,6 @@
 //! Register files to commands and to a reference state.
 ghost use Rattle.std.specs.Prelude.{◌≡◌, ◌⊎◌, IfOk, IfErr};
-ghost use Rattle.toml.specs.View.{table_view};
-ghost use Rattle.toml.specs.Parse.{parse_document};
+ghost use Rattle.toml.specs.{View.table_view, Parse.parse_document};
 ghost use Rattle.ntp_admin.specs.RegisterFile.{register_in, state_in};
 
 use crate::customers::customers_in;

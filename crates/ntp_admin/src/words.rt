@@ -1,8 +1,6 @@
 //! What each kind of word says.
 ghost use Rattle.std.specs.Prelude.{◌≡◌, ◌+◌, ◌≤◌, ◌⊎◌, length, IfOk, IfErr, IfSome, None};
-ghost use Rattle.std.specs.Char.{is_ascii_digit};
-ghost use Rattle.std.specs.List.{list_all, slice_range};
-ghost use Rattle.std.specs.Option.{option_map};
+ghost use Rattle.std.specs.{Char.is_ascii_digit, List.list_all, List.slice_range, Option.option_map};
 ghost use Rattle.ntp_admin.specs.Words.{is_decimal, decimal_in, address_in, number_in, algorithm_in, key_in, octets_in, short_of, stamp_of, stamp_in, moment_in, reference_in};
 
 use crate::parts::TextParts;

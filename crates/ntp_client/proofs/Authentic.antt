@@ -1,29 +1,20 @@
 -- What only an authentic reply is taken for.
 use Rattle.std.proofs.Common.{◌≡◌, ◌≢◌, ℕ, ◌≤◌, Bool, true, false, ◌==◌, List, Some, Result, Ok, refl, ap, ◌∙◌, sym, subst, true≢false, arith}
 use Rattle.std.specs.Prelude.{not, nat_le, if◌then◌else◌}
-use Rattle.std.proofs.lemmas.Bool.{eqb-true, ne_eqb}
-use Rattle.std.proofs.lemmas.Bool.Decides.{nat_tests}
-use Rattle.ntp_packet.specs.declared.moment.Moment.{Moment}
-use Rattle.ntp_packet.specs.Header.{HeaderFields}
-use Rattle.ntp_packet.specs.Kiss.{rate_code}
+use Rattle.std.proofs.{lemmas.Bool.eqb-true, lemmas.Bool.ne_eqb, lemmas.Bool.Decides.nat_tests}
+use Rattle.ntp_packet.specs.{declared.moment.Moment.Moment, Header.HeaderFields, Kiss.rate_code}
+use Rattle.ntp_packet.specs.Request.{RequestValue, IsRequest}
 use Rattle.ntp_packet.specs.FirstCase.{◌>>◌, provided, decided}
 use Rattle.ntp_packet.specs.Tail.{TailValue, NoTail, BareTail, MacTail}
-use Rattle.ntp_packet.specs.Request.{RequestValue, IsRequest}
 use Rattle.ntp_packet.proofs.PublicLaws.{after-provided, after-ok_or, after-map_err, AreOctets}
-use Rattle.ntp_mac.specs.Reading.{reading_of}
-use Rattle.ntp_mac.specs.Signed.{IsSigned}
+use Rattle.ntp_mac.specs.{Reading.reading_of, Signed.IsSigned}
 use Rattle.ntp_mac.proofs.PublicLaws.{Reads, Reads-reading_of, is-signed}
-use Rattle.ntp_client.specs.declared.exchange.Outstanding.{Outstanding}
-use Rattle.ntp_client.specs.declared.pairing.Pairing.{Pairing}
-use Rattle.ntp_client.specs.declared.sample.Sample.{Sample}
-use Rattle.ntp_client.specs.declared.taken.Taken.{Taken}
+use Rattle.ntp_client.specs.{declared.exchange.Outstanding.Outstanding, declared.pairing.Pairing.Pairing}
+use Rattle.ntp_client.specs.{declared.sample.Sample.Sample, declared.taken.Taken.Taken, State.ClientState}
+use Rattle.ntp_client.specs.{Pairing.pairing_of, Pairing.sample_of, Sample.IsTimeReply, Judging.authentic_steps}
 use Rattle.ntp_client.specs.declared.taken.Taken.TheVariants as taken
 use Rattle.ntp_client.specs.declared.taken.Distrust.TheVariants as distrust
-use Rattle.ntp_client.specs.State.{ClientState}
-use Rattle.ntp_client.specs.Pairing.{pairing_of, sample_of}
-use Rattle.ntp_client.specs.Sample.{IsTimeReply}
 use Rattle.ntp_client.specs.Taking.{is_kiss, is_synchronised, lacks_stamp, with_mac, taken_for}
-use Rattle.ntp_client.specs.Judging.{authentic_steps}
 
 -- what is taken for this has a MAC that was found right
 abbrev pub is_told : Taken → Bool
@@ -92,10 +83,7 @@ none-applies : (kiss synchronised lacking : Bool) (x s : Sample)
     → decided (provided (not kiss) taken.Rate >> (provided synchronised (taken.Refused distrust.Unsynchronised)
     >> (provided (not lacking) (taken.Refused distrust.Stamps) >> Ok (taken.Sample x)))) ≡ taken.Sample s
     → (synchronised ≡ true) × (lacking ≡ false) × (x ≡ s)
-none-applies true u l x s is = absurd (cc)
-none-applies false false l x s is = absurd (cc)
-none-applies false true true x s is = absurd (cc)
-none-applies false true false x s is = (refl, refl, cc)
+none-applies kiss synchronised lacking x s e = grind arith
 
 -- a clock that is synchronised
 synchronised : (leap stratum : ℕ) → is_synchronised leap stratum ≡ true → (leap ≢ 3) × (1 ≤ stratum) × (stratum ≤ 15)
@@ -108,31 +96,8 @@ stamped h is = (grind (arith, nat_tests), grind (arith, nat_tests))
 -- where it is taken for a sample, it is a time reply
 pub authentic-sample : (p : Pairing) (h : HeaderFields) (x s : Sample) → h.mode ≡ 4 → h.version ≡ 4
     → decided (authentic_steps p h x) ≡ taken.Sample s → IsTimeReply h × (x ≡ s)
-authentic-sample p h x s mode version is =
-    let none = none-applies (is_kiss rate_code h p) (is_synchronised h.clock.leap h.clock.stratum) (lacks_stamp h) x s is in
-    let clock = synchronised h.clock.leap h.clock.stratum none.0 in
-    let stamps = stamped h none.1 in (
-      record {
-        mode = mode;
-        version = version;
-        leap = clock.0;
-        stratum_from = clock.1;
-        stratum_to = clock.2;
-        receive = stamps.0;
-        transmit = stamps.1;
-      },
-      none.2,
-    )
+authentic-sample p h x s mode version is = grind (arith, none-applies, synchronised, stamped)
 
 -- a time reply is taken for a sample
 pub time-taken : (p : Pairing) (h : HeaderFields) (x : Sample) → IsTimeReply h → decided (authentic_steps p h x) ≡ taken.Sample x
-time-taken p h x is =
-    let some = is.stratum_from in
-    let most = is.stratum_to in
-    let a : (h.clock.stratum == 0) ≡ false = grind (arith, nat_tests) in
-    let b : (h.clock.leap == 3) ≡ false = ne_eqb h.clock.leap 3 is.leap in
-    let c : nat_le 1 h.clock.stratum ≡ true = grind (arith, nat_tests) in
-    let f : nat_le h.clock.stratum 15 ≡ true = grind (arith, nat_tests) in
-    let d : (h.receive.0 == 0) ≡ false = ne_eqb h.receive.0 0 is.receive in
-    let e : (h.transmit.0 == 0) ≡ false = ne_eqb h.transmit.0 0 is.transmit in
-    simp (a, b, c, f, d, e)
+time-taken p h x is = grind (arith, nat_tests, ne_eqb)

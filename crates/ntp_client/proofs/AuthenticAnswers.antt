@@ -1,14 +1,11 @@
 -- Octets change what is learned only where they are an authentic reply.
 use Rattle.std.proofs.Common.{◌≡◌, ℕ, List, refl}
-use Rattle.ntp_packet.specs.declared.moment.Moment.{Moment}
-use Rattle.ntp_packet.specs.Request.{RequestValue, IsRequest}
+use Rattle.ntp_packet.specs.{declared.moment.Moment.Moment, Request.RequestValue, Request.IsRequest}
 use Rattle.ntp_packet.proofs.PublicLaws.{AreOctets}
 use Rattle.ntp_mac.specs.Signed.{IsSigned}
-use Rattle.ntp_client.specs.declared.taken.Taken.{Taken}
+use Rattle.ntp_client.specs.{declared.taken.Taken.Taken, State.ClientState, Taking.taken_for}
 use Rattle.ntp_client.specs.declared.taken.Taken.TheVariants as taken
 use Rattle.ntp_client.specs.declared.taken.Distrust.TheVariants as distrust
-use Rattle.ntp_client.specs.State.{ClientState}
-use Rattle.ntp_client.specs.Taking.{taken_for}
 use Rattle.ntp_client.proofs.Authentic.{authentic}
 
 -- what a client takes an authentic reply of an unsynchronised clock for

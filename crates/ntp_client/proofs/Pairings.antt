@@ -1,16 +1,12 @@
 -- The pairing of a reply with a request, and the sample of it.
-use Rattle.std.proofs.Common.{◌≡◌, ◌≢◌, Bool, true, false, ◌==◌, Option, Some, None, ◌⊎◌, inl, inr, refl, sym, ap, ◌∙◌}
+use Rattle.std.proofs.Common.{◌≡◌, ◌≢◌, Bool, true, false, ◌==◌, Option, Some, None, ◌⊎◌, inl, inr, refl, sym, ap, ◌∙◌, arith}
 use Rattle.std.specs.Prelude.{option_and_then, if◌then◌else◌}
 use Rattle.std.proofs.lemmas.Bool.{eqb-true, eq-eqb, ne_eqb}
-use Rattle.ntp_packet.specs.declared.stamp.Stamp.{Stamp}
-use Rattle.ntp_packet.specs.declared.moment.Moment.{Moment}
-use Rattle.ntp_packet.specs.Header.{HeaderFields}
-use Rattle.ntp_client.specs.declared.exchange.Exchange.{Exchange}
-use Rattle.ntp_client.specs.declared.exchange.Outstanding.{Outstanding}
+use Rattle.ntp_packet.specs.{declared.stamp.Stamp.Stamp, declared.moment.Moment.Moment, Header.HeaderFields}
+use Rattle.ntp_client.specs.{declared.exchange.Exchange.Exchange, declared.exchange.Outstanding.Outstanding}
 use Rattle.ntp_client.specs.declared.pairing.Pairing.{Pairing}
 use Rattle.ntp_client.specs.declared.pairing.Pairing.TheVariants.{Basic, Interleaved}
-use Rattle.ntp_client.specs.declared.sample.Sample.{Sample}
-use Rattle.ntp_client.specs.Pairing.{pairing_of, sample_of}
+use Rattle.ntp_client.specs.{declared.sample.Sample.Sample, Pairing.pairing_of, Pairing.sample_of}
 use Rattle.ntp_client.specs.Sample.{IsBasic, IsInterleaved}
 
 -- stamps of one number are one
@@ -24,23 +20,12 @@ earlier_pairing earlier origin = option_and_then (λ e. if origin.0 == e.arrival
 -- no pairing but with that, by its arrival
 earlier-found : (earlier : Option Exchange) (origin : Stamp) (p : Pairing) → earlier_pairing earlier origin ≡ Some p
     → (e : Exchange) × (earlier ≡ Some e) × (origin ≡ e.arrival) × (p ≡ Interleaved e)
-earlier-found None origin p is = absurd (cc)
-earlier-found (Some e) origin p is = tested (origin.0 == e.arrival.0) refl is
-  where
-    tested : (t : Bool) → (origin.0 == e.arrival.0) ≡ t → (if t then Some (Interleaved e) else None) ≡ Some p
-        → (e' : Exchange) × (Some e ≡ Some e') × (origin ≡ e'.arrival) × (p ≡ Interleaved e')
-    tested true test is = (e, refl, same-stamp origin e.arrival (eqb-true origin.0 e.arrival.0 test), cc)
-    tested false test is = absurd (cc)
+earlier-found earlier origin p f = grind (arith, same-stamp, eqb-true)
 
 -- what a pairing tells of the origin
 found-pairing : (q : Outstanding) (origin : Stamp) (p : Pairing) → pairing_of q origin ≡ Some p
     → ((origin ≡ q.transmit) × (p ≡ Basic)) ⊎ ((e : Exchange) × (q.earlier ≡ Some e) × (origin ≡ e.arrival) × (p ≡ Interleaved e))
-found-pairing q origin p is = tested (origin.0 == q.transmit.0) refl is
-  where
-    tested : (t : Bool) → (origin.0 == q.transmit.0) ≡ t → (if t then Some Basic else earlier_pairing q.earlier origin) ≡ Some p
-        → ((origin ≡ q.transmit) × (p ≡ Basic)) ⊎ ((e : Exchange) × (q.earlier ≡ Some e) × (origin ≡ e.arrival) × (p ≡ Interleaved e))
-    tested true test is = inl (same-stamp origin q.transmit (eqb-true origin.0 q.transmit.0 test), cc)
-    tested false test is = inr (earlier-found q.earlier origin p is)
+found-pairing q origin p is = grind (arith, same-stamp, eqb-true, earlier-found)
 
 -- the sample of a pairing is that of the request and the reply, or that of the earlier exchange
 pub sample-pairs : (q : Outstanding) (h : HeaderFields) (at : Moment) (p : Pairing) (s : Sample) → pairing_of q h.origin ≡ Some p

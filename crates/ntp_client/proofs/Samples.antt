@@ -1,17 +1,13 @@
 -- Octets are taken for a sample exactly where they give one.
 use Rattle.std.proofs.Common.{◌≡◌, ℕ, List, Some, Ok, inl, inr, refl, sym, ap, ◌∙◌}
-use Rattle.ntp_packet.specs.declared.moment.Moment.{Moment}
-use Rattle.ntp_packet.specs.FirstCase.{decided}
+use Rattle.ntp_packet.specs.{declared.moment.Moment.Moment, FirstCase.decided}
 use Rattle.ntp_packet.proofs.PublicLaws.{AreOctets}
 use Rattle.ntp_mac.proofs.PublicLaws.{only-reading_of}
 use Rattle.ntp_client.specs.declared.pairing.Pairing.{Pairing}
 use Rattle.ntp_client.specs.declared.pairing.Pairing.TheVariants.{Basic, Interleaved}
-use Rattle.ntp_client.specs.declared.sample.Sample.{Sample}
+use Rattle.ntp_client.specs.{declared.sample.Sample.Sample, State.ClientState, State.IsClient}
+use Rattle.ntp_client.specs.{Pairing.pairing_of, Pairing.sample_of, Sample.IsSample, Taking.taken_for, Taking.header_taken}
 use Rattle.ntp_client.specs.declared.taken.Taken.TheVariants as taken
-use Rattle.ntp_client.specs.State.{ClientState, IsClient}
-use Rattle.ntp_client.specs.Pairing.{pairing_of, sample_of}
-use Rattle.ntp_client.specs.Sample.{IsSample}
-use Rattle.ntp_client.specs.Taking.{taken_for, header_taken}
 use Rattle.ntp_client.proofs.Pairings.{sample-pairs, basic-pairing, interleaved-pairing}
 use Rattle.ntp_client.proofs.Authentic.{authentic, authentic-sample, time-taken}
 use Rattle.ntp_client.proofs.Takings.{read-taken, header-taken, paired-taken, signed-taken}

@@ -3,24 +3,15 @@ use Rattle.std.proofs.Common.{◌≡◌, ◌≢◌, ℕ, ◌<◌, List, [], ◌�
 use Rattle.std.specs.Prelude.{Contains}
 use Rattle.std.specs.Result.{result_ok}
 use Rattle.std.proofs.lemmas.Bool.{eq-eqb}
-use Rattle.ntp_packet.specs.declared.stamp.Stamp.{Stamp}
-use Rattle.ntp_packet.specs.declared.moment.Moment.{Moment}
+use Rattle.ntp_packet.specs.{declared.stamp.Stamp.Stamp, declared.moment.Moment.Moment, Header.HeaderFields}
+use Rattle.ntp_packet.specs.{FirstCase.◌>>◌, FirstCase.decided, Request.RequestValue, declared.malformed.Malformed.Malformed}
 use Rattle.ntp_packet.proofs.PublicLaws.{fresh-apart, fresh-nonzero}
-use Rattle.ntp_packet.specs.Header.{HeaderFields}
-use Rattle.ntp_packet.specs.FirstCase.{◌>>◌, decided}
-use Rattle.ntp_packet.specs.Request.{RequestValue}
-use Rattle.ntp_packet.specs.declared.malformed.Malformed.{Malformed}
-use Rattle.ntp_mac.specs.Key.{SymmetricKey}
-use Rattle.ntp_mac.specs.Reading.{reading_of}
-use Rattle.ntp_mac.specs.Signed.{IsSigned}
+use Rattle.ntp_mac.specs.{Key.SymmetricKey, Reading.reading_of, Signed.IsSigned}
 use Rattle.ntp_mac.proofs.PublicLaws.{is-signed}
-use Rattle.ntp_client.specs.declared.exchange.Exchange.{Exchange}
-use Rattle.ntp_client.specs.declared.exchange.Outstanding.{Outstanding}
-use Rattle.ntp_client.specs.declared.pairing.Pairing.{Pairing}
-use Rattle.ntp_client.specs.declared.sample.Sample.{Sample}
+use Rattle.ntp_client.specs.{declared.exchange.Exchange.Exchange, declared.exchange.Outstanding.Outstanding}
+use Rattle.ntp_client.specs.{declared.pairing.Pairing.Pairing, declared.sample.Sample.Sample, Query.transmit_of}
 use Rattle.ntp_client.specs.State.{ClientState, IsOutstanding, IsClient}
 use Rattle.ntp_client.specs.Pairing.{pairing_of, exchange_of, sample_of}
-use Rattle.ntp_client.specs.Query.{transmit_of}
 use Rattle.ntp_client.specs.Taking.{with_mac, taken_for, header_taken}
 use Rattle.ntp_client.specs.Judging.{authentic_steps, mac_steps, tail_steps, packet_steps}
 

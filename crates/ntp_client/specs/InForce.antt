@@ -1,19 +1,12 @@
 -- The reference state that replies tell, by the last answer of the host's clock daemon.
 use Rattle.std.specs.Prelude.{ℕ, ℤ, pos, neg_ℤ, ◌+◌, ◌-◌, ◌*◌, ◌^◌, ◌*ℤ◌, min, unsigned_abs, Bool, false, true, not, ◌&&◌, ◌==◌, nat_lt, nat_le, int_le, if◌then◌else◌, Option, Some, None, is_none}
-use Rattle.std.specs.Option.{option_map_or}
-use Rattle.std.specs.Int.{div_ceil}
-use Rattle.ntp_packet.specs.declared.moment.Moment.{Moment}
-use Rattle.ntp_packet.specs.Moment.{units}
-use Rattle.ntp_packet.specs.Difference.{difference}
-use Rattle.ntp_packet.specs.Header.{blank_clock}
+use Rattle.std.specs.{Option.option_map_or, Int.div_ceil}
+use Rattle.ntp_packet.specs.{declared.moment.Moment.Moment, Moment.units, Difference.difference, Header.blank_clock}
 use Rattle.ntp_reply.specs.Reference.{ReferenceState}
-use Rattle.ntp_client.specs.declared.answer.ClockAnswer.{ClockAnswer}
-use Rattle.ntp_client.specs.declared.doubt.Doubt.{Doubt}
-use Rattle.ntp_client.specs.declared.doubt.Doubt.TheVariants.{Old, Unsynchronised, ReferenceOld, ReferenceAhead, Far, Set}
-use Rattle.ntp_client.specs.declared.limits.ClockLimits.{ClockLimits}
-use Rattle.ntp_client.specs.declared.reading.Reading.{Reading}
-use Rattle.ntp_client.specs.Reading.{apart}
+use Rattle.ntp_client.specs.{declared.answer.ClockAnswer.ClockAnswer, declared.doubt.Doubt.Doubt}
+use Rattle.ntp_client.specs.{declared.limits.ClockLimits.ClockLimits, declared.reading.Reading.Reading, Reading.apart}
 use Rattle.ntp_client.specs.Taking.{is_synchronised}
+use Rattle.ntp_client.specs.declared.doubt.Doubt.TheVariants.{Old, Unsynchronised, ReferenceOld, ReferenceAhead, Far, Set}
 
 -- the state of an unsynchronised clock: leap 3, stratum 16 and the greatest dispersion, 16 seconds (RFC 5905, 7.2, 7.3; its precision
 -- of 2^-20 seconds: profile)

@@ -1,19 +1,12 @@
 -- Not to be believed: for proofs. The steps of `taken_for` from a packet on, from its tail on, from its MAC on, and the last ones.
 use Rattle.std.specs.Prelude.{ℕ, not, ◌==◌, ok_or, Result, Ok}
-use Rattle.ntp_packet.specs.declared.moment.Moment.{Moment}
-use Rattle.ntp_packet.specs.Header.{HeaderFields}
-use Rattle.ntp_packet.specs.Kiss.{rate_code}
+use Rattle.ntp_packet.specs.{declared.moment.Moment.Moment, Header.HeaderFields, Kiss.rate_code, Request.RequestValue}
 use Rattle.ntp_packet.specs.FirstCase.{◌>>=◌, ◌>>◌, provided}
-use Rattle.ntp_packet.specs.Request.{RequestValue}
-use Rattle.ntp_mac.specs.Key.{SymmetricKey}
-use Rattle.ntp_mac.specs.Signed.{is_signed}
-use Rattle.ntp_client.specs.declared.exchange.Outstanding.{Outstanding}
-use Rattle.ntp_client.specs.declared.pairing.Pairing.{Pairing}
-use Rattle.ntp_client.specs.declared.sample.Sample.{Sample}
-use Rattle.ntp_client.specs.declared.taken.Taken.{Taken}
+use Rattle.ntp_mac.specs.{Key.SymmetricKey, Signed.is_signed}
+use Rattle.ntp_client.specs.{declared.exchange.Outstanding.Outstanding, declared.pairing.Pairing.Pairing}
+use Rattle.ntp_client.specs.{declared.sample.Sample.Sample, declared.taken.Taken.Taken, Pairing.pairing_of, Pairing.sample_of}
 use Rattle.ntp_client.specs.declared.taken.Taken.TheVariants as taken
 use Rattle.ntp_client.specs.declared.taken.Distrust.TheVariants as distrust
-use Rattle.ntp_client.specs.Pairing.{pairing_of, sample_of}
 use Rattle.ntp_client.specs.Taking.{is_kiss, is_synchronised, lacks_stamp, with_mac}
 
 -- of an authentic reply (profile)

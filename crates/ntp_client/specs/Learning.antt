@@ -1,23 +1,14 @@
 -- What is learned from the answers of the host's clock daemon.
 use Rattle.std.specs.Prelude.{ℕ, ◌+◌, ◌-◌, ◌*◌, ◌^◌, min, unsigned_abs, Bool, false, ◌&&◌, ◌||◌, nat_lt, if◌then◌else◌, Option, Some, None, option_map, option_and_then}
 use Rattle.std.specs.Int.{div_ceil}
-use Rattle.ntp_packet.specs.declared.stamp.Stamp.{Stamp}
-use Rattle.ntp_packet.specs.declared.stamp.Short.{Short}
-use Rattle.ntp_packet.specs.Header.{HeaderFields, no_stamp}
+use Rattle.ntp_packet.specs.{declared.stamp.Stamp.Stamp, declared.stamp.Short.Short, Header.HeaderFields, Header.no_stamp}
 use Rattle.ntp_mac.specs.Key.{SymmetricKey}
-use Rattle.ntp_client.specs.declared.exchange.Outstanding.{Outstanding}
-use Rattle.ntp_client.specs.State.{ClientState, new_client}
-use Rattle.ntp_client.specs.Query.{transmit_of}
-use Rattle.ntp_client.specs.declared.sample.Sample.{Sample}
-use Rattle.ntp_client.specs.Sample.{offset_twice, delay}
-use Rattle.ntp_client.specs.declared.taken.Taken.{Taken}
+use Rattle.ntp_client.specs.{declared.exchange.Outstanding.Outstanding, State.ClientState, State.new_client, Query.transmit_of}
+use Rattle.ntp_client.specs.{declared.sample.Sample.Sample, Sample.offset_twice, Sample.delay, declared.taken.Taken.Taken}
+use Rattle.ntp_client.specs.{declared.answer.ClockAnswer.ClockAnswer, declared.limits.ClockLimits.ClockLimits}
+use Rattle.ntp_client.specs.{declared.reading.Reading.Reading, declared.watch.ClockWatch.ClockWatch, InForce.is_read}
 use Rattle.ntp_client.specs.declared.taken.Taken.TheVariants as taken
 use Rattle.ntp_client.specs.declared.taken.Distrust.TheVariants as distrust
-use Rattle.ntp_client.specs.declared.answer.ClockAnswer.{ClockAnswer}
-use Rattle.ntp_client.specs.declared.limits.ClockLimits.{ClockLimits}
-use Rattle.ntp_client.specs.declared.reading.Reading.{Reading}
-use Rattle.ntp_client.specs.declared.watch.ClockWatch.{ClockWatch}
-use Rattle.ntp_client.specs.InForce.{is_read}
 use Rattle.ntp_client.specs.Watching.{new_watch, is_set_since, after_set, shows_update}
 
 -- what a follower of the host's clock daemon knows: the client that asks it, the limits, how the host's clock was set, the last answer

@@ -1,14 +1,10 @@
 -- The request of a client.
 use Rattle.std.specs.Prelude.{ℕ, pos, Option, Some, None, List, [], ◌∷◌}
-use Rattle.ntp_packet.specs.declared.stamp.Stamp.{Stamp}
-use Rattle.ntp_packet.specs.declared.moment.Moment.{Moment}
-use Rattle.ntp_packet.specs.Fresh.{fresh}
+use Rattle.ntp_packet.specs.{declared.stamp.Stamp.Stamp, declared.moment.Moment.Moment, Fresh.fresh}
 use Rattle.ntp_packet.specs.Header.{HeaderFields, no_stamp, blank_header}
 use Rattle.ntp_mac.specs.Key.{SymmetricKey}
 use Rattle.ntp_reply.specs.Replies.{sealed}
-use Rattle.ntp_client.specs.declared.exchange.Exchange.{Exchange}
-use Rattle.ntp_client.specs.declared.exchange.Outstanding.{Outstanding}
-use Rattle.ntp_client.specs.State.{ClientState}
+use Rattle.ntp_client.specs.{declared.exchange.Exchange.Exchange, declared.exchange.Outstanding.Outstanding, State.ClientState}
 
 -- the origin stamp of a request: the receive stamp of the earlier exchange's reply, if there is one (RFC 9769, 2; profile)
 abbrev pub origin_of : Option Exchange → Stamp

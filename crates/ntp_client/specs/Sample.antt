@@ -1,15 +1,10 @@
 -- What gives a client a sample.
 use Rattle.std.specs.Prelude.{◌≡◌, ◌≢◌, ℕ, ℤ, ◌≤◌, ◌+ℤ◌, ◌-ℤ◌, ◌⊎◌, true, false, Some, List, []}
-use Rattle.ntp_packet.specs.declared.moment.Moment.{Moment}
-use Rattle.ntp_packet.specs.Difference.{difference}
-use Rattle.ntp_packet.specs.Fresh.{fresh}
-use Rattle.ntp_packet.specs.Header.{HeaderFields}
+use Rattle.ntp_packet.specs.{declared.moment.Moment.Moment, Difference.difference, Fresh.fresh, Header.HeaderFields}
 use Rattle.ntp_packet.specs.Request.{RequestValue, IsRequest}
 use Rattle.ntp_mac.specs.Signed.{IsSigned}
-use Rattle.ntp_client.specs.declared.exchange.Exchange.{Exchange}
-use Rattle.ntp_client.specs.declared.exchange.Outstanding.{Outstanding}
-use Rattle.ntp_client.specs.declared.sample.Sample.{Sample}
-use Rattle.ntp_client.specs.State.{ClientState}
+use Rattle.ntp_client.specs.{declared.exchange.Exchange.Exchange, declared.exchange.Outstanding.Outstanding}
+use Rattle.ntp_client.specs.{declared.sample.Sample.Sample, State.ClientState}
 
 -- twice the offset of the server's clock from the client's, in units of 2^-32 seconds (RFC 5905, 8)
 abbrev pub offset_twice : Sample → ℤ

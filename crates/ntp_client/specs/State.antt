@@ -1,8 +1,7 @@
 -- What a client knows.
 use Rattle.std.specs.Prelude.{◌≡◌, ◌≢◌, ℕ, ◌<◌, Option, Some, None}
 use Rattle.ntp_mac.specs.Key.{SymmetricKey}
-use Rattle.ntp_client.specs.declared.exchange.Exchange.{Exchange}
-use Rattle.ntp_client.specs.declared.exchange.Outstanding.{Outstanding}
+use Rattle.ntp_client.specs.{declared.exchange.Exchange.Exchange, declared.exchange.Outstanding.Outstanding}
 
 -- the key and its number, the request that waits for its reply, and the exchange that gave a sample since the last request; the code's
 -- `Client` hides them (profile)

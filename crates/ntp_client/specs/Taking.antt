@@ -1,20 +1,14 @@
 -- What a client makes of octets that arrive.
 use Rattle.std.specs.Prelude.{ℕ, List, Bool, not, ◌==◌, ◌&&◌, ◌||◌, nat_eq, nat_le, if◌then◌else◌, Option, None, ok_or, option_map, option_and_then, Result, Ok, Err}
-use Rattle.std.specs.Result.{result_ok}
-use Rattle.std.specs.Cmp.Lexicographic.{pointwise}
-use Rattle.ntp_packet.specs.declared.moment.Moment.{Moment}
-use Rattle.ntp_packet.specs.Header.{HeaderFields}
-use Rattle.ntp_packet.specs.Kiss.{rate_code, deny_code}
+use Rattle.std.specs.{Result.result_ok, Cmp.Lexicographic.pointwise}
+use Rattle.ntp_packet.specs.{declared.moment.Moment.Moment, Header.HeaderFields, Kiss.rate_code, Kiss.deny_code}
+use Rattle.ntp_packet.specs.Request.{RequestValue}
 use Rattle.ntp_packet.specs.FirstCase.{◌>>=◌, ◌>>◌, provided, map_err, decided}
 use Rattle.ntp_packet.specs.Tail.{TailValue, NoTail, BareTail, MacTail}
-use Rattle.ntp_packet.specs.Request.{RequestValue}
-use Rattle.ntp_mac.specs.Reading.{reading_of}
-use Rattle.ntp_mac.specs.Signed.{is_signed}
-use Rattle.ntp_client.specs.declared.pairing.Pairing.{Pairing}
-use Rattle.ntp_client.specs.declared.taken.Taken.{Taken}
+use Rattle.ntp_mac.specs.{Reading.reading_of, Signed.is_signed}
+use Rattle.ntp_client.specs.{declared.pairing.Pairing.Pairing, declared.taken.Taken.Taken, State.ClientState}
 use Rattle.ntp_client.specs.declared.taken.Taken.TheVariants as taken
 use Rattle.ntp_client.specs.declared.taken.Distrust.TheVariants as distrust
-use Rattle.ntp_client.specs.State.{ClientState}
 use Rattle.ntp_client.specs.Pairing.{pairing_of, is_basic, exchange_of, sample_of}
 
 -- whether a reply is a kiss-o'-death of this code, to this request (RFC 5905, 7.4; to this request: profile)

@@ -1,11 +1,7 @@
 -- Whether the host's clock was set, and whether the daemon shows an update since.
 use Rattle.std.specs.Prelude.{pos, ◌*◌, ◌^◌, Bool, true, false, not, ◌&&◌, ◌==◌, nat_lt, int_le, Option, Some, None}
-use Rattle.ntp_packet.specs.declared.stamp.Stamp.{Stamp}
-use Rattle.ntp_packet.specs.Difference.{difference}
-use Rattle.ntp_packet.specs.Header.{no_stamp}
-use Rattle.ntp_client.specs.declared.reading.Reading.{Reading}
-use Rattle.ntp_client.specs.declared.watch.ClockWatch.{ClockWatch}
-use Rattle.ntp_client.specs.Reading.{apart}
+use Rattle.ntp_packet.specs.{declared.stamp.Stamp.Stamp, Difference.difference, Header.no_stamp}
+use Rattle.ntp_client.specs.{declared.reading.Reading.Reading, declared.watch.ClockWatch.ClockWatch, Reading.apart}
 
 -- at a start nothing was seen, and the daemon told no reference time (profile)
 abbrev pub new_watch : ClockWatch

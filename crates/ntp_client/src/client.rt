@@ -2,11 +2,9 @@
 ghost use Rattle.std.specs.Prelude.{◌≡◌, ◌↔◌, ◌<◌, List, ℕ, Some, None, Ok};
 ghost use Rattle.ntp_packet.specs.FirstCase.{decided};
 ghost use Rattle.ntp_mac.specs.Reading.{reading_of};
-ghost use Rattle.ntp_client.specs.State.{new_client, IsClient};
+ghost use Rattle.ntp_client.specs.{State.new_client, State.IsClient, Sample.IsSample, Judging.packet_steps};
 ghost use Rattle.ntp_client.specs.Query.{query_octets, next_query, after_query};
 ghost use Rattle.ntp_client.specs.Taking.{taken_for, header_taken, after_taken};
-ghost use Rattle.ntp_client.specs.Sample.{IsSample};
-ghost use Rattle.ntp_client.specs.Judging.{packet_steps};
 
 use crate::exchange::{Exchange, Outstanding};
 use crate::judging::judge;

@@ -2,11 +2,9 @@
 ghost use Rattle.std.specs.Prelude.{◌≡◌, ◌<◌, Some, option_and_then, option_copied, option_map};
 ghost use Rattle.ntp_packet.specs.Request.{RequestValue, IsRequest};
 ghost use Rattle.ntp_mac.specs.Signed.{IsSigned};
-ghost use Rattle.ntp_client.specs.Query.{query_octets};
-ghost use Rattle.ntp_client.specs.Sample.{IsTimeReply};
+ghost use Rattle.ntp_client.specs.{Query.query_octets, Sample.IsTimeReply, Watching.is_set_since};
 ghost use Rattle.ntp_client.specs.Taking.{taken_for, header_taken, after_taken};
 ghost use Rattle.ntp_client.specs.InForce.{age, reference_age, root_distance_twice, is_followed, doubt_of, in_force};
-ghost use Rattle.ntp_client.specs.Watching.{is_set_since};
 ghost use Rattle.ntp_client.specs.Learning.{new_follower, looked, rests_before, has_to_read_anew, question, asked, root_delay_by, base_of, learned_of, learned_after, told_after, slowed_after, period};
 
 use crate::believing::{reference_age, root_distance_twice};

@@ -2,9 +2,7 @@
 //! nothing.
 ghost use Rattle.std.specs.Prelude.{◌≡◌, ◌↔◌, ℕ, ◌<◌, List, All};
 ghost use Rattle.ntp_packet.specs.declared.moment.Moment.{Moment};
-ghost use Rattle.ntp_client.specs.State.{ClientState, IsClient};
-ghost use Rattle.ntp_client.specs.Sample.{IsSample};
-ghost use Rattle.ntp_client.specs.Taking.{taken_for};
+ghost use Rattle.ntp_client.specs.{State.ClientState, State.IsClient, Sample.IsSample, Taking.taken_for};
 
 use crate::{Sample, Taken};
 

@@ -4,8 +4,7 @@ use Rattle.std.specs.Prelude.{find, position, slice_get, Contains}
 use Rattle.std.specs.List.{AllPairs}
 use Rattle.std.proofs.lemmas.Bool.{cases_Bool, cases_eq, cases_order, and_parts, eqb-true, false_from_ne_true, ltb-false}
 use Rattle.std.proofs.lemmas.List.{length-set, length-map, get_or-set_same, get_or-set_other, get_or-map, get_or_default, same_lists}
-use Rattle.std.proofs.lemmas.List.Folds.{find_at}
-use Rattle.std.proofs.lemmas.List.Quantifiers.{position-Some}
+use Rattle.std.proofs.{lemmas.List.Folds.find_at, lemmas.List.Quantifiers.position-Some}
 use Rattle.std.proofs.lemmas.Option.{slice_get_cases, get_or_from_slice_get}
 use Rattle.ntp_packet.specs.declared.stamp.Stamp.{Stamp}
 use Rattle.ntp_customer.specs.declared.slot.Slot.{Slot}

@@ -1,9 +1,7 @@
 -- A stamp is looked for among saved ones without a list of them.
 use Rattle.std.proofs.Common.{◌≡◌, ◌*◌, ◌≤◌, Bool, ◌||◌, List, [], ◌∷◌, ◌++◌, length, refl, sym, ap, ◌∙◌, ◌==◌, arith}
 use Rattle.std.specs.List.{list_any}
-use Rattle.std.proofs.Math.Bool.{or-false}
-use Rattle.std.proofs.lemmas.List.{length-map, length-append}
-use Rattle.std.proofs.lemmas.List.Folds.{list_any-append}
+use Rattle.std.proofs.{Math.Bool.or-false, lemmas.List.length-map, lemmas.List.length-append, lemmas.List.Folds.list_any-append}
 use Rattle.ntp_packet.specs.declared.stamp.Stamp.{Stamp}
 use Rattle.ntp_customer.specs.declared.slot.Slot.{Slot}
 use Rattle.ntp_customer.specs.Exchanges.{most_slots, receives, transmits, all_stamps, is_received_at, AreSaved}
@@ -25,7 +23,7 @@ pub any-receives : (p : Stamp → Bool) (xs : List Slot) → list_any (λ x. p x
 any-receives p [] = refl
 any-receives p (x ∷ xs) = ap (λ b. p x.receive || b) (any-receives p xs)
 
--- exchanges that are saved have at most so many receive stamps, and so many stamps
+-- exchanges that are saved have a bounded number of receive stamps, and of stamps
 pub few-receives : (xs : List Slot) → AreSaved xs → length (receives xs) ≤ most_slots
 few-receives xs are = omega (arith, are.few, length-map xs (λ x. x.receive))
 

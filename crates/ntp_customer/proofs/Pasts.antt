@@ -2,10 +2,9 @@
 use Rattle.std.proofs.Common.{◌≡◌, ℕ, List, [], ◌∷◌, ◌++◌, Some, None, refl, sym, arith}
 use Rattle.std.specs.Option.{option_map_or}
 use Rattle.ntp_customer.specs.Tally.{Tally, tally}
-use Rattle.ntp_customer.proofs.Tallies.{tally-nil}
+use Rattle.ntp_customer.proofs.{Tallies.tally-nil, Customers.by_customer, Customers.with_queries}
 use Rattle.ntp_customer.specs.Customer.{AccountOf, CustomerState, changing, enrolment_at}
 use Rattle.ntp_customer.specs.Past.{Past, queries_in, with_query, short}
-use Rattle.ntp_customer.proofs.Customers.{by_customer, with_queries}
 
 -- a past is that of an address that is not enrolled now, or of one that is
 pub by_past : (P : Past → Type 0) → ((refusals : List ℕ) → P (record { account = None; refusals = refusals }))

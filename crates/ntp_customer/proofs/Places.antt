@@ -3,14 +3,10 @@ use Rattle.std.proofs.Common.{◌≡◌, ◌≢◌, ℕ, ◌+◌, ◌<◌, Bool,
 use Rattle.std.specs.Prelude.{position, slice_get, All, not, Option, Some, None, IsSome, option_map}
 use Rattle.std.specs.List.{position_or_len}
 use Rattle.std.proofs.lemmas.Bool.{cases_Bool, and_parts, eqb-true, eq-eqb, ne_eqb, ltb-true, ltb-false, lt-ltb, le-ltb}
-use Rattle.std.proofs.lemmas.List.{length-append}
-use Rattle.std.proofs.lemmas.List.Folds.{prefix_len-append}
-use Rattle.std.proofs.lemmas.List.Sums.{prefix_len-le-length}
-use Rattle.std.proofs.lemmas.List.Quantifiers.{position-Some}
-use Rattle.std.proofs.lemmas.Option.{slice_get_cases}
+use Rattle.std.proofs.{lemmas.List.length-append, lemmas.List.Folds.prefix_len-append, lemmas.List.Sums.prefix_len-le-length}
+use Rattle.std.proofs.{lemmas.List.Quantifiers.position-Some, lemmas.Option.slice_get_cases}
 use Rattle.ntp_packet.specs.declared.stamp.Stamp.{Stamp}
-use Rattle.ntp_customer.specs.declared.slot.Slot.{Slot}
-use Rattle.ntp_customer.specs.Exchanges.{is_unused_at, is_received_at}
+use Rattle.ntp_customer.specs.{declared.slot.Slot.Slot, Exchanges.is_unused_at, Exchanges.is_received_at}
 
 -- a first place is counted from the front, and there is none where all were counted
 place-from_count : {X : Type 0} (p : X → Bool) (xs : List X) (n : ℕ) → position_or_len p xs ≡ n → n < length xs

@@ -1,12 +1,9 @@
 -- The recent exchanges are the last ones of a list, and what is put behind a list goes by them alone.
 use Rattle.std.proofs.Common.{◌≡◌, true, ℕ, ◌+◌, ◌-◌, ◌≤◌, min, List, ◌++◌, length, drop, refl, sym, ap, ◌∙◌, arith, append_assoc}
-use Rattle.std.proofs.lemmas.Grind.{common_steps}
-use Rattle.std.proofs.lemmas.Bool.{cases_lt}
+use Rattle.std.proofs.{lemmas.Grind.common_steps, lemmas.Bool.cases_lt}
 use Rattle.std.proofs.lemmas.List.{length-append, length-drop, length-take-le, take-append-drop, drop-drop, drop_at}
 use Rattle.ntp_customer.specs.declared.slot.Slot.{Slot}
-use Rattle.ntp_packet.specs.declared.stamp.Stamp.{Stamp}
-use Rattle.ntp_packet.specs.declared.moment.Moment.{Moment}
-use Rattle.ntp_packet.specs.Fresh.{fresh}
+use Rattle.ntp_packet.specs.{declared.stamp.Stamp.Stamp, declared.moment.Moment.Moment, Fresh.fresh}
 use Rattle.ntp_customer.specs.Exchanges.{most_slots, recent, with_recent, receives, spent, with_departure}
 use Rattle.ntp_customer.proofs.Changes.{length-with_unused}
 

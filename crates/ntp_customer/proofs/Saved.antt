@@ -6,8 +6,7 @@ use Rattle.std.proofs.lemmas.Bool.{cases_Bool, cases_order, and_from, and_right,
 use Rattle.std.proofs.lemmas.List.{length-map, length-drop, get_or-drop, get_or-map, get_or_default, map_push, drop-map, take-append-drop}
 use Rattle.std.proofs.lemmas.List.Elements.{All-contains, All-drop, All-map, All-push, All-weaker, All-nil, Contains-get_or, Contains-append_left, Contains-append_right, Contains-push_cases}
 use Rattle.std.proofs.lemmas.List.Quantifiers.{all_pairs_push}
-use Rattle.ntp_packet.specs.declared.stamp.Stamp.{Stamp}
-use Rattle.ntp_packet.specs.declared.moment.Moment.{Moment}
+use Rattle.ntp_packet.specs.{declared.stamp.Stamp.Stamp, declared.moment.Moment.Moment}
 use Rattle.ntp_packet.specs.Fresh.{is_free, fresh, IsFresh}
 use Rattle.ntp_packet.proofs.PublicLaws.{free-nonzero, free-apart, free-from_apart, IsFresh-fresh}
 use Rattle.ntp_customer.specs.declared.slot.Slot.{Slot}

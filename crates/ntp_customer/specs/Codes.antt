@@ -1,13 +1,10 @@
 -- Not to be believed: for proofs. How the values of a customer's model are stored, as a model's value has to be.
 use Rattle.std.specs.Prelude.{ℕ, refl, Bool, List, ◌≡◌, true, false, Option}
 use Rattle.std.specs.Coded.{Coded, code_by, coded×, coded_option, coded_ℕ, coded_list, coded_bool}
-use Rattle.ntp_customer.specs.Tally.{Tallied, Tally}
+use Rattle.ntp_customer.specs.{Tally.Tallied, Tally.Tally, declared.slot.Slot.Slot, declared.numbered_key.NumberedKey.NumberedKey}
 use Rattle.ntp_packet.specs.declared.stamp.Stamp.{Stamp}
-use Rattle.ntp_customer.specs.declared.slot.Slot.{Slot}
-use Rattle.ntp_mac.specs.Key.{SymmetricKey}
-use Rattle.ntp_mac.specs.declared.key.Algorithm.{Algorithm}
+use Rattle.ntp_mac.specs.{Key.SymmetricKey, declared.key.Algorithm.Algorithm}
 use Rattle.ntp_mac.specs.declared.key.Algorithm.TheVariants.{Md5, Sha1}
-use Rattle.ntp_customer.specs.declared.numbered_key.NumberedKey.{NumberedKey}
 use Rattle.ntp_customer.specs.Customer.{Enrolment, Account, CustomerState}
 
 -- a window and its count as the two numbers

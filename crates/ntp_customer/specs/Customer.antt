@@ -3,9 +3,7 @@
 use Rattle.std.specs.Prelude.{◌≢◌, ℕ, ◌<◌, ◌≤◌, Bool, not, ◌==◌, Option, Some, None, is_some, option_map, IfSome, List, [], ◌∷◌, ◌++◌, length, map, filter, find, slice_get, AllPairs}
 use Rattle.std.specs.Option.{option_map_or}
 use Rattle.ntp_customer.specs.Tally.{Tally, IsTally, tally}
-use Rattle.ntp_customer.specs.declared.slot.Slot.{Slot}
-use Rattle.ntp_customer.specs.Exchanges.{AreSaved}
-use Rattle.ntp_customer.specs.declared.numbered_key.NumberedKey.{NumberedKey}
+use Rattle.ntp_customer.specs.{declared.slot.Slot.Slot, Exchanges.AreSaved, declared.numbered_key.NumberedKey.NumberedKey}
 
 -- how many keys a customer can have (profile)
 abbrev pub most_keys : ℕ

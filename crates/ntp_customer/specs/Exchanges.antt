@@ -1,9 +1,7 @@
 -- Exchanges: what is saved of the time replies to one customer, oldest first.
 use Rattle.std.specs.Prelude.{◌≢◌, ℕ, ◌-◌, ◌≤◌, Bool, true, false, not, ◌&&◌, ◌==◌, if◌then◌else◌, IsTrue, List, ◌++◌, length, take, drop, map, find, Option, Some, None, All}
 use Rattle.std.specs.List.{AllPairs}
-use Rattle.ntp_packet.specs.declared.stamp.Stamp.{Stamp}
-use Rattle.ntp_packet.specs.declared.moment.Moment.{Moment}
-use Rattle.ntp_packet.specs.Fresh.{fresh, is_free}
+use Rattle.ntp_packet.specs.{declared.stamp.Stamp.Stamp, declared.moment.Moment.Moment, Fresh.fresh, Fresh.is_free}
 use Rattle.ntp_customer.specs.declared.slot.Slot.{Slot}
 
 -- how many exchanges are saved (profile)

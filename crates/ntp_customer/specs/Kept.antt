@@ -1,7 +1,6 @@
 -- Not to be believed: for proofs. The tally that the fields of a window say.
 use Rattle.std.specs.Prelude.{Option, option_map}
-use Rattle.ntp_customer.specs.declared.window.Counted.{Counted}
-use Rattle.ntp_customer.specs.Tally.{Tally}
+use Rattle.ntp_customer.specs.{declared.window.Counted.Counted, Tally.Tally}
 
 -- the same window and count, or nothing
 abbrev pub tally_of : Option Counted → Tally

@@ -2,11 +2,10 @@
 use Rattle.std.specs.Prelude.{List}
 use Rattle.std.specs.Borrow.{Lends, Fml, RattleType, MutBor}
 use Rattle.std.specs.declared.alloc.Allocator.{Ghosts}
-use Rattle.ntp_customer.specs.declared.slot.Slot.{Slot}
-use Rattle.ntp_customer.specs.contracts.slots.Slots.{the_row as slots_row}
-use Rattle.ntp_customer.specs.Customer.{Account, CustomerState, with_saved}
+use Rattle.ntp_customer.specs.{declared.slot.Slot.Slot, contracts.slots.Slots.the_row as slots_row}
 use Rattle.ntp_customer.specs.contracts.account.Account.{the_row as account_row}
 use Rattle.ntp_customer.specs.contracts.customer.Customer.{the_row as customer_row}
+use Rattle.ntp_customer.specs.Customer.{Account, CustomerState, with_saved}
 
 module _ (A : RattleType) (alloc : Ghosts A.Denot) where
   -- the account has the last exchanges written through s, and all else is as it was

@@ -1,8 +1,7 @@
 -- What an address had since it was enrolled last: all windows, and all exchanges; and what is kept of it.
 use Rattle.std.specs.Prelude.{ℕ, List, [], ◌∷◌, ◌++◌, option_map}
 use Rattle.std.specs.Option.{option_map_or}
-use Rattle.ntp_customer.specs.Tally.{tally}
-use Rattle.ntp_customer.specs.Exchanges.{recent}
+use Rattle.ntp_customer.specs.{Tally.tally, Exchanges.recent}
 use Rattle.ntp_customer.specs.Customer.{AccountOf, CustomerOf, Account, CustomerState, changing}
 
 -- the past of an address that was enrolled once: the windows of its refusals since it was enrolled last, and while it is enrolled its

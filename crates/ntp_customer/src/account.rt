@@ -1,7 +1,6 @@
 //! What a customer has while it is enrolled.
 ghost use Rattle.std.specs.Prelude.{◌≡◌, ◌≢◌, ◌↔◌, ◌<◌, ℕ, None, Some, IfSome, IsSome, Contains, List, [], ◌∷◌, ◌++◌, length, nat_lt, option_copied, option_map, ◌==◌, not, filter};
-ghost use Rattle.std.specs.Borrow.{sem};
-ghost use Rattle.std.specs.Option.{option_to_list};
+ghost use Rattle.std.specs.{Borrow.sem, Option.option_to_list};
 ghost use Rattle.ntp_customer.specs.Tally.{capped_count, tally};
 ghost use Rattle.ntp_customer.specs.Customer.{most_keys, enrolment_of, numbers_in, older_in, held_in, IsAccount};
 
@@ -26,9 +25,7 @@ pub(crate) struct Account<A: Allocator = Global> {
 impl<A: Allocator> Model for Account<A> {
     ghost use Rattle.std.specs.Prelude.{◌≢◌, ◌<◌, ◌∷◌, IfSome};
     ghost use Rattle.std.specs.Option.{option_to_list};
-    ghost use Rattle.ntp_customer.specs.Tally.{IsTally};
-    ghost use Rattle.ntp_customer.specs.Customer.{Account};
-    ghost use Rattle.ntp_customer.specs.Codes.{coded_account};
+    ghost use Rattle.ntp_customer.specs.{Tally.IsTally, Customer.Account, Codes.coded_account};
 
     ghost Value = { Account };
 

@@ -1,7 +1,6 @@
 //! One customer.
 ghost use Rattle.std.specs.Prelude.{◌≡◌, ◌≢◌, ◌↔◌, ◌<◌, [], ◌∷◌, None, Some, IfSome, IsSome, is_some, Contains, length, nat_lt, option_copied, option_map};
-ghost use Rattle.std.specs.Option.{option_to_list};
-ghost use Rattle.std.specs.Borrow.{sem};
+ghost use Rattle.std.specs.{Option.option_to_list, Borrow.sem};
 ghost use Rattle.ntp_customer.specs.Tally.{capped_count};
 ghost use Rattle.ntp_customer.specs.Customer.{most_keys, enrolment_of, new_customer, revoked, rebudgeted, rolled_over, retired, enrolment_at, is_enrolled, numbers_of, older_in, held_in, IsCustomer};
 ghost use Rattle.ntp_customer.specs.Past.{Past, queries_in, with_refusal, with_query, short};
@@ -21,9 +20,7 @@ pub struct Customer<A: Allocator = Global> {
 }
 
 impl<A: Allocator> Model for Customer<A> {
-    ghost use Rattle.ntp_customer.specs.Tally.{IsTally};
-    ghost use Rattle.ntp_customer.specs.Customer.{CustomerState};
-    ghost use Rattle.ntp_customer.specs.Codes.{coded_customer};
+    ghost use Rattle.ntp_customer.specs.{Tally.IsTally, Customer.CustomerState, Codes.coded_customer};
 
     ghost Value = { CustomerState };
 

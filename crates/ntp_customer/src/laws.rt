@@ -1,13 +1,9 @@
 //! What holds of tallies, whatever code keeps them. Each function is a law: a call of it does nothing.
 ghost use Rattle.std.specs.Prelude.{◌≡◌, ℕ, List, [], ◌∷◌, ◌++◌, ◌≢◌, length, Contains, IsTrue};
 ghost use Rattle.ntp_customer.specs.Tally.{Tally, IsTally, capped_count, tally};
-ghost use Rattle.ntp_packet.specs.declared.stamp.Stamp.{Stamp};
-ghost use Rattle.ntp_packet.specs.declared.moment.Moment.{Moment};
-ghost use Rattle.ntp_packet.specs.Fresh.{is_free};
-ghost use Rattle.ntp_customer.specs.declared.slot.Slot.{Slot};
+ghost use Rattle.ntp_packet.specs.{declared.stamp.Stamp.Stamp, declared.moment.Moment.Moment, Fresh.is_free};
+ghost use Rattle.ntp_customer.specs.{declared.slot.Slot.Slot, Customer.CustomerState, Customer.IsCustomer, Past.Past, Past.short};
 ghost use Rattle.ntp_customer.specs.Exchanges.{AreSaved, recent, with_recent, new_exchange, receives, all_stamps, spent, with_departure};
-ghost use Rattle.ntp_customer.specs.Customer.{CustomerState, IsCustomer};
-ghost use Rattle.ntp_customer.specs.Past.{Past, short};
 
 /// Lists with one tally have the same count in each window, and still one tally after one more event in
 /// the same window.

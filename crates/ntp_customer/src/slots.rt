@@ -23,8 +23,7 @@ pub struct Slots<A: Allocator = Global> {
 
 impl<A: Allocator> Model for Slots<A> {
     ghost use Rattle.std.specs.Prelude.{◌≡◌, List};
-    ghost use Rattle.ntp_customer.specs.declared.slot.Slot.{Slot};
-    ghost use Rattle.ntp_customer.specs.Exchanges.{most_slots, AreSaved};
+    ghost use Rattle.ntp_customer.specs.{declared.slot.Slot.Slot, Exchanges.most_slots, Exchanges.AreSaved};
     ghost use Rattle.ntp_customer.specs.Codes.{coded_exchanges};
 
     ghost Value = { List Slot };

@@ -22,9 +22,7 @@ pub struct Window {
 }
 
 impl Model for Window {
-    ghost use Rattle.ntp_customer.specs.Tally.{Tally, IsTally};
-    ghost use Rattle.ntp_customer.specs.Codes.{coded_tally};
-    ghost use Rattle.ntp_customer.specs.Kept.{tally_of, newest_of};
+    ghost use Rattle.ntp_customer.specs.{Tally.Tally, Tally.IsTally, Codes.coded_tally, Kept.tally_of, Kept.newest_of};
 
     ghost Value = { Tally };
 

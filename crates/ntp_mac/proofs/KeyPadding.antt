@@ -4,7 +4,7 @@ use Rattle.std.specs.Prelude.{replicate}
 use Rattle.std.proofs.Math.Seq.{take-append_seam}
 use Rattle.std.proofs.lemmas.List.{drop-replicate, length-append, length-replicate}
 
--- the places of a key with so many octets
+-- a key of n octets fills its places up with zeros
 abbrev IsPadded : ℕ → List ℕ → Type 0
 IsPadded n padded = (1 ≤ n) × (n ≤ 32) × (padded ≡ take n padded ++ replicate (32 - n) 0) × (length padded ≡ 32)
 

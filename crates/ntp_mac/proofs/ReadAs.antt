@@ -1,8 +1,6 @@
 -- What octets are read as.
 use Rattle.std.proofs.Common.{◌≡◌, ℕ, suc, ◌%◌, List, [], ◌∷◌, Result, Ok, Err, ◌⊎◌, refl, ap, ◌∙◌, arith}
-use Rattle.ntp_packet.specs.Request.{RequestValue, IsRequest}
-use Rattle.ntp_packet.specs.Faults.{Fails}
-use Rattle.ntp_packet.specs.declared.malformed.Malformed.{Malformed}
+use Rattle.ntp_packet.specs.{Request.RequestValue, Request.IsRequest, Faults.Fails, declared.malformed.Malformed.Malformed}
 use Rattle.ntp_packet.proofs.PublicLaws.{AreOctets, HasOneReading, HasOneFault, one-answer, low, AreOctets-low, the_one}
 use Rattle.ntp_mac.specs.Reading.{reading_of}
 

@@ -1,11 +1,8 @@
 -- A reply and the MAC behind it.
 use Rattle.std.proofs.Common.{◌≡◌, ℕ, List, ◌++◌, append_assoc, refl}
 use Rattle.std.specs.Int.{w32, to_be_bytes}
-use Rattle.ntp_packet.specs.declared.digests.Digest.{Digest}
-use Rattle.ntp_packet.specs.Tail.{digest_octets}
-use Rattle.ntp_mac.specs.Key.{SymmetricKey}
-use Rattle.ntp_mac.specs.Digest.{digest_of}
-use Rattle.ntp_mac.specs.Mac.{mac_of}
+use Rattle.ntp_packet.specs.{declared.digests.Digest.Digest, Tail.digest_octets}
+use Rattle.ntp_mac.specs.{Key.SymmetricKey, Digest.digest_of, Mac.mac_of}
 
 -- the number is put behind the reply, and the digest of what stood there behind the number
 pub seal-parts : (key : SymmetricKey) (number : ℕ) (reply covered numbered digest_part sealed : List ℕ) (digest : Digest)

@@ -2,12 +2,8 @@
 use Rattle.std.proofs.Common.{◌≡◌, ℕ, List, Bool, ◌==◌, ◌&&◌, ap, ◌∙◌, refl, nat_eq, eqb-true, eq-eqb, arith, rules}
 use Rattle.std.specs.Prelude.{◌↔◌, IsTrue}
 use Rattle.std.specs.Cmp.Lexicographic.{pointwise, bytes_decides}
-use Rattle.ntp_packet.specs.Tail.{TailValue}
-use Rattle.ntp_packet.specs.Tail.TailValue.{MacTail}
-use Rattle.ntp_packet.specs.Request.{RequestValue}
-use Rattle.ntp_packet.specs.declared.digests.Digest.{Digest}
-use Rattle.ntp_mac.specs.Key.{SymmetricKey}
-use Rattle.ntp_mac.specs.Digest.{digest_of}
+use Rattle.ntp_packet.specs.{Tail.TailValue, Tail.TailValue.MacTail, Request.RequestValue, declared.digests.Digest.Digest}
+use Rattle.ntp_mac.specs.{Key.SymmetricKey, Digest.digest_of}
 use Rattle.ntp_mac.specs.Signed.{IsSigned, is_mac, is_signed}
 
 both-hold : (a b : Bool) → IsTrue (a && b) → IsTrue a × IsTrue b

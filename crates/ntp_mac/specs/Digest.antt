@@ -2,8 +2,7 @@
 use Rattle.std.specs.Prelude.{ℕ, List, ◌++◌}
 use Rattle.md5.specs.Md5.{md5}
 use Rattle.sha1.specs.Sha1.{sha1}
-use Rattle.ntp_mac.specs.Key.{SymmetricKey}
-use Rattle.ntp_mac.specs.declared.key.Algorithm.{Algorithm}
+use Rattle.ntp_mac.specs.{Key.SymmetricKey, declared.key.Algorithm.Algorithm}
 use Rattle.ntp_mac.specs.declared.key.Algorithm.TheVariants as algorithm
 use Rattle.ntp_packet.specs.declared.digests.Digest.{Digest}
 use Rattle.ntp_packet.specs.declared.digests.Digest.TheVariants.{Md5, Sha1}

@@ -2,8 +2,7 @@
 use Rattle.std.specs.Prelude.{ℕ, List, [], ◌∷◌, ◌++◌}
 use Rattle.std.specs.Int.{w32, to_be_bytes}
 use Rattle.ntp_packet.specs.Tail.{digest_octets}
-use Rattle.ntp_mac.specs.Key.{SymmetricKey}
-use Rattle.ntp_mac.specs.Digest.{digest_of}
+use Rattle.ntp_mac.specs.{Key.SymmetricKey, Digest.digest_of}
 
 -- how many octets a reply has at most: a header, a key number and a digest of SHA-1 (profile)
 abbrev pub most_reply_octets : ℕ

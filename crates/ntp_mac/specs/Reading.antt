@@ -1,7 +1,6 @@
 -- The one answer to octets: the request that they are, or what is wrong with them.
 use Rattle.std.specs.Prelude.{ℕ, List, Result}
-use Rattle.ntp_packet.specs.Request.{RequestValue}
-use Rattle.ntp_packet.specs.declared.malformed.Malformed.{Malformed}
+use Rattle.ntp_packet.specs.{Request.RequestValue, declared.malformed.Malformed.Malformed}
 use Rattle.ntp_packet.proofs.PublicLaws.{the_reading}
 
 -- what octets are read as: the request that they are, or else the fault that they have (RFC 5905, 7.3; RFC 7822, 3; the split: profile).

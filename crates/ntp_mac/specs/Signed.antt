@@ -1,13 +1,9 @@
 -- That a request is signed.
 use Rattle.std.specs.Prelude.{◌≡◌, ℕ, Bool, false, ◌&&◌, ◌==◌, nat_eq}
 use Rattle.std.specs.Cmp.Lexicographic.{pointwise}
-use Rattle.ntp_packet.specs.Tail.{TailValue}
-use Rattle.ntp_packet.specs.Tail.TailValue.{MacTail}
-use Rattle.ntp_packet.specs.Request.{RequestValue}
-use Rattle.ntp_mac.specs.Key.{SymmetricKey}
-use Rattle.ntp_mac.specs.Digest.{digest_of}
-use Rattle.ntp_packet.specs.declared.digests.Digest.{Digest}
+use Rattle.ntp_packet.specs.{Tail.TailValue, Tail.TailValue.MacTail, Request.RequestValue, declared.digests.Digest.Digest}
 use Rattle.ntp_packet.specs.declared.digests.Digest.TheVariants.{Md5, Sha1}
+use Rattle.ntp_mac.specs.{Key.SymmetricKey, Digest.digest_of}
 
 -- a request is signed under a key with a key number: its tail is of the key's algorithm and has that number, and
 -- its digest is the hash of the key's octets followed by the header and the fields (RFC 5905, 7.3; with SHA-1: profile)

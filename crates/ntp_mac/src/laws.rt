@@ -1,9 +1,7 @@
 //! What holds of the definitions, whatever code meets them. Each function is a law: a call of it does
 //! nothing.
 ghost use Rattle.std.specs.Prelude.{◌≡◌, ◌↔◌, ℕ, ◌<◌, List, All, Ok, Err};
-ghost use Rattle.ntp_packet.specs.Request.{RequestValue, IsRequest};
-ghost use Rattle.ntp_packet.specs.Faults.{Fails};
-ghost use Rattle.ntp_packet.specs.declared.malformed.Malformed.{Malformed};
+ghost use Rattle.ntp_packet.specs.{Request.RequestValue, Request.IsRequest, Faults.Fails, declared.malformed.Malformed.Malformed};
 ghost use Rattle.ntp_mac.specs.Reading.{reading_of};
 
 /// Octets are what they are read as, and nothing else: a request, or what has this fault.

@@ -74,8 +74,7 @@ impl Reply {
 /// Two replies are equal where their octets are.
 impl PartialEq for Reply {
     ghost use Rattle.std.specs.Prelude.{nat_eq};
-    ghost use Rattle.std.specs.Cmp.{partial_equiv_from_equiv};
-    ghost use Rattle.std.specs.Cmp.Lexicographic.{pointwise, nat_list_eq_equiv};
+    ghost use Rattle.std.specs.{Cmp.partial_equiv_from_equiv, Cmp.Lexicographic.pointwise, Cmp.Lexicographic.nat_list_eq_equiv};
 
     ghost eq = { pointwise nat_eq };
 

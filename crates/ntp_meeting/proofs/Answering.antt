@@ -3,14 +3,11 @@ use Rattle.std.proofs.Common.{◌≡◌, ℕ, ◌+◌, ◌≤◌, Option, Result
 use Rattle.std.specs.Prelude.{option_map, is_err}
 use Rattle.std.specs.Result.{result_ok}
 use Rattle.ntp_reply.specs.Reference.{ReferenceState}
-use Rattle.ntp_service.specs.Registry.{Registry}
-use Rattle.ntp_service.specs.declared.observation.Arrival.{Arrival}
+use Rattle.ntp_service.specs.{Registry.Registry, declared.observation.Arrival.Arrival}
 use Rattle.ntp_service.specs.declared.observation.TurnOutcome.{TurnOutcome}
-use Rattle.ntp_port.specs.declared.port.PortCounts.{PortCounts}
-use Rattle.ntp_port.specs.declared.port.PortFault.{PortFault}
+use Rattle.ntp_port.specs.{declared.port.PortCounts.PortCounts, declared.port.PortFault.PortFault, Serving.TurnMakes}
 use Rattle.ntp_port.specs.Port.{Told, failed_calls, counted_send, CountsReceive}
 use Rattle.ntp_port.specs.Made.{Made, turn_of, arrival_of, is_unsent}
-use Rattle.ntp_port.specs.Serving.{TurnMakes}
 use Rattle.ntp_port.proofs.PublicLaws.{at-most-one}
 
 -- a call that received failed or not, and a turn fails once at most: in that call, or behind it

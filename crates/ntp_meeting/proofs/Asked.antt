@@ -1,17 +1,13 @@
 -- What a client's request is to the server.
 use Rattle.std.proofs.Common.{◌≡◌, ℕ, ◌^◌, ◌<◌, Some, IfSome, Ok, refl, ap, ◌∙◌, arith}
 use Rattle.ntp_packet.specs.declared.moment.Moment.{Moment}
-use Rattle.ntp_mac.specs.Key.{SymmetricKey}
-use Rattle.ntp_mac.specs.Reading.{reading_of}
+use Rattle.ntp_mac.specs.{Key.SymmetricKey, Reading.reading_of}
 use Rattle.ntp_mac.proofs.PublicLaws.{is-signed}
-use Rattle.ntp_client.specs.declared.exchange.Outstanding.{Outstanding}
-use Rattle.ntp_client.specs.State.{ClientState}
+use Rattle.ntp_client.specs.{declared.exchange.Outstanding.Outstanding, State.ClientState}
 use Rattle.ntp_client.specs.Query.{query_fields, next_query, after_query}
-use Rattle.ntp_customer.specs.Customer.{Enrolment, held_in}
-use Rattle.ntp_customer.specs.Past.{Past}
-use Rattle.ntp_reply.specs.declared.occasion.Occasion.{Occasion}
+use Rattle.ntp_customer.specs.{Customer.Enrolment, Customer.held_in, Past.Past}
+use Rattle.ntp_reply.specs.{declared.occasion.Occasion.Occasion, Verdict.kind_answer, Verdict.verdict}
 use Rattle.ntp_reply.specs.Kind.{Signed, octets_kind, kind_of}
-use Rattle.ntp_reply.specs.Verdict.{kind_answer, verdict}
 use Rattle.ntp_meeting.specs.Meeting.{WaitsForReply, SharesKey, request_octets}
 use Rattle.ntp_meeting.proofs.Headers.{IsHeader-query}
 use Rattle.ntp_meeting.proofs.Readings.{sealed_packet, signed-sealed, read-sealed}

@@ -1,36 +1,22 @@
 -- What a time reply leaves on both sides.
 use Rattle.std.proofs.Common.{◌≡◌, ℕ, ◌^◌, ◌<◌, List, [], Option, Some, None, Ok, refl, sym, ap, ◌∙◌, arith}
 use Rattle.std.specs.Prelude.{IfSome, option_map, option_and_then}
-use Rattle.ntp_packet.specs.declared.stamp.Stamp.{Stamp}
-use Rattle.ntp_packet.specs.declared.moment.Moment.{Moment}
-use Rattle.ntp_packet.specs.Fresh.{fresh}
+use Rattle.ntp_packet.specs.{declared.stamp.Stamp.Stamp, declared.moment.Moment.Moment, Fresh.fresh}
 use Rattle.ntp_packet.specs.Header.{HeaderFields, IsHeader}
 use Rattle.ntp_mac.specs.Reading.{reading_of}
-use Rattle.ntp_customer.specs.declared.slot.Slot.{Slot}
-use Rattle.ntp_customer.specs.Exchanges.{new_exchange, unused_at}
-use Rattle.ntp_client.specs.declared.exchange.Exchange.{Exchange}
-use Rattle.ntp_client.specs.declared.exchange.Outstanding.{Outstanding}
-use Rattle.ntp_client.specs.declared.sample.Sample.{Sample}
-use Rattle.ntp_client.specs.declared.taken.Taken.TheVariants as taken
-use Rattle.ntp_client.specs.State.{ClientState}
-use Rattle.ntp_client.specs.Query.{query_fields}
-use Rattle.ntp_client.specs.Pairing.{exchange_of}
+use Rattle.ntp_customer.specs.{declared.slot.Slot.Slot, Exchanges.new_exchange, Exchanges.unused_at, Past.Past}
+use Rattle.ntp_client.specs.{declared.exchange.Exchange.Exchange, declared.exchange.Outstanding.Outstanding}
+use Rattle.ntp_client.specs.{declared.sample.Sample.Sample, State.ClientState, Query.query_fields, Pairing.exchange_of}
 use Rattle.ntp_client.specs.Taking.{header_taken, after_taken}
-use Rattle.ntp_customer.specs.Past.{Past}
-use Rattle.ntp_reply.specs.Replies.{time_fields}
-use Rattle.ntp_reply.specs.declared.occasion.Occasion.{Occasion}
-use Rattle.ntp_reply.specs.Life.{recent_of, recent_in}
-use Rattle.ntp_reply.specs.Kind.{Signed}
+use Rattle.ntp_client.specs.declared.taken.Taken.TheVariants as taken
+use Rattle.ntp_reply.specs.{Replies.time_fields, declared.occasion.Occasion.Occasion, Life.recent_of, Life.recent_in, Kind.Signed}
 use Rattle.ntp_reply.specs.Exchanged.{matched, stamps_of}
 use Rattle.ntp_reply.specs.Verdict.{kind_answer, after_kind, verdict, after_datagram, window_at}
 use Rattle.ntp_reply.specs.declared.answers.Answer.TheVariants as answer
 use Rattle.ntp_meeting.specs.Meeting.{WaitsForReply, SharesKey, FitsPacket, request_octets}
-use Rattle.ntp_meeting.proofs.Readings.{sealed_packet, read-sealed}
-use Rattle.ntp_meeting.proofs.Stamps.{receive-fits, transmit-fits}
-use Rattle.ntp_meeting.proofs.Headers.{IsHeader-reply}
-use Rattle.ntp_meeting.proofs.Asked.{request-kind, request-answer}
-use Rattle.ntp_meeting.proofs.Served.{told-time, after-told_time}
-use Rattle.ntp_meeting.proofs.Saved.{time-found}
+use Rattle.ntp_meeting.proofs.{Readings.sealed_packet, Readings.read-sealed, Stamps.receive-fits, Stamps.transmit-fits}
+use Rattle.ntp_meeting.proofs.{Headers.IsHeader-reply, Asked.request-kind, Asked.request-answer}
+use Rattle.ntp_meeting.proofs.{Served.told-time, Served.after-told_time, Saved.time-found}
 
 -- the header of a time reply has the widths of the packet, and the new receive stamp
 time-header : (past : Past) (o : Occasion) (q : Outstanding) (found : Option Slot) → FitsPacket o.reference → IsHeader (query_fields q)

@@ -1,16 +1,11 @@
 -- The exchange that a report of a departure leaves at the server.
 use Rattle.std.proofs.Common.{◌≡◌, List, [], ◌∷◌, Some, inl, inr, arith}
-use Rattle.std.proofs.lemmas.Bool.{cases_Bool}
-use Rattle.std.proofs.lemmas.Option.{none-some}
-use Rattle.ntp_packet.specs.declared.stamp.Stamp.{Stamp}
-use Rattle.ntp_packet.specs.declared.moment.Moment.{Moment}
-use Rattle.ntp_packet.specs.Fresh.{fresh}
-use Rattle.ntp_customer.specs.declared.slot.Slot.{Slot}
+use Rattle.std.proofs.{lemmas.Bool.cases_Bool, lemmas.Option.none-some}
+use Rattle.ntp_packet.specs.{declared.stamp.Stamp.Stamp, declared.moment.Moment.Moment, Fresh.fresh}
+use Rattle.ntp_customer.specs.{declared.slot.Slot.Slot, Past.Past}
 use Rattle.ntp_customer.specs.Exchanges.{recent, receives, is_unused_at, unused_at, with_unused, with_departure}
 use Rattle.ntp_customer.proofs.PublicLaws.{recent-departed, by_past}
-use Rattle.ntp_reply.specs.Life.{recent_of}
-use Rattle.ntp_customer.specs.Past.{Past}
-use Rattle.ntp_reply.specs.Exchanged.{after_departure}
+use Rattle.ntp_reply.specs.{Life.recent_of, Exchanged.after_departure}
 
 -- where an exchange is found, it is found with its change
 change-found : (receive : Stamp) (change : Slot → Slot) → ((x : Slot) → is_unused_at receive (change x) ≡ is_unused_at receive x)

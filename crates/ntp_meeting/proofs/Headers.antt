@@ -2,16 +2,12 @@
 use Rattle.std.proofs.Common.{◌≡◌, ℕ, ◌^◌, ◌<◌, ◌≤◌, ◌==◌, Bool, Option, List, [], ◌∷◌, length, refl, arith}
 use Rattle.std.proofs.Math.Facts.{sfits_lit}
 use Rattle.std.specs.Prelude.{if◌then◌else◌, IfSome}
-use Rattle.ntp_packet.specs.declared.stamp.Stamp.{Stamp}
-use Rattle.ntp_packet.specs.declared.moment.Moment.{Moment}
+use Rattle.ntp_packet.specs.{declared.stamp.Stamp.Stamp, declared.moment.Moment.Moment, Header.IsHeader}
 use Rattle.ntp_packet.proofs.PublicLaws.{fresh-below}
-use Rattle.ntp_packet.specs.Header.{IsHeader}
-use Rattle.ntp_client.specs.declared.exchange.Exchange.{Exchange}
-use Rattle.ntp_client.specs.declared.exchange.Outstanding.{Outstanding}
+use Rattle.ntp_client.specs.{declared.exchange.Exchange.Exchange, declared.exchange.Outstanding.Outstanding}
 use Rattle.ntp_client.specs.Query.{query_fields, origin_of, receive_of, transmit_of}
-use Rattle.ntp_reply.specs.Reference.{ReferenceState}
+use Rattle.ntp_reply.specs.{Reference.ReferenceState, declared.kiss.Kiss.Kiss}
 use Rattle.ntp_reply.specs.Replies.{reply_fields, kiss_code, kiss_transmit, kiss_fields}
-use Rattle.ntp_reply.specs.declared.kiss.Kiss.{Kiss}
 use Rattle.ntp_meeting.specs.Meeting.{FitsPacket}
 use Rattle.ntp_meeting.proofs.Octets.{Octets, four}
 

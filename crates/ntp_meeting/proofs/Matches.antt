@@ -3,14 +3,10 @@ use Rattle.std.proofs.Common.{◌≡◌, ◌≢◌, Bool, ◌==◌, List, Option
 use Rattle.std.specs.Prelude.{Contains, if◌then◌else◌}
 use Rattle.std.specs.Option.{option_and_then}
 use Rattle.std.proofs.lemmas.Bool.{cases_Bool, ne_eqb, eqb-true, eqb-false, and_parts}
-use Rattle.ntp_packet.specs.declared.stamp.Stamp.{Stamp}
-use Rattle.ntp_packet.specs.Header.{HeaderFields, no_stamp}
-use Rattle.ntp_customer.specs.declared.slot.Slot.{Slot}
-use Rattle.ntp_customer.specs.Exchanges.{AreSaved, unused_at}
+use Rattle.ntp_packet.specs.{declared.stamp.Stamp.Stamp, Header.HeaderFields, Header.no_stamp}
+use Rattle.ntp_customer.specs.{declared.slot.Slot.Slot, Exchanges.AreSaved, Exchanges.unused_at}
 use Rattle.ntp_customer.proofs.PublicLaws.{find-member, stamps-apart}
-use Rattle.ntp_client.specs.declared.exchange.Exchange.{Exchange}
-use Rattle.ntp_client.specs.declared.exchange.Outstanding.{Outstanding}
-use Rattle.ntp_client.specs.State.{IsOutstanding}
+use Rattle.ntp_client.specs.{declared.exchange.Exchange.Exchange, declared.exchange.Outstanding.Outstanding, State.IsOutstanding}
 use Rattle.ntp_client.specs.Query.{query_fields}
 use Rattle.ntp_reply.specs.Exchanged.{matched}
 

@@ -7,11 +7,8 @@ use Rattle.std.proofs.lemmas.List.Elements.{All-nil, All-cons, All-append}
 use Rattle.md5.specs.Md5.{md5, digest_bytes as md5_octets}
 use Rattle.sha1.specs.Sha1.{sha1, digest_bytes as sha1_octets}
 use Rattle.ntp_packet.specs.Header.{HeaderFields, IsHeader, first_octets, header_octets}
-use Rattle.ntp_mac.specs.Key.{SymmetricKey}
+use Rattle.ntp_mac.specs.{Key.SymmetricKey, Digest.hash, Digest.digest_of, Mac.nak_octets, declared.key.Algorithm.Algorithm}
 use Rattle.ntp_packet.specs.Tail.{digest_octets}
-use Rattle.ntp_mac.specs.Digest.{hash, digest_of}
-use Rattle.ntp_mac.specs.Mac.{nak_octets}
-use Rattle.ntp_mac.specs.declared.key.Algorithm.{Algorithm}
 
 -- each member is an octet
 abbrev pub Octets : List ℕ → Type 0

@@ -5,12 +5,8 @@ use Rattle.ntp_packet.specs.Header.{HeaderFields, IsHeader, header_octets}
 use Rattle.ntp_packet.proofs.PublicLaws.{length-header_octets, AreOctets-all, length-tail}
 use Rattle.ntp_packet.specs.Tail.{TailValue, NoTail, BareTail, MacTail, tail_octets, IsTail}
 use Rattle.ntp_packet.specs.Request.{RequestValue, IsRequest, signed_octets}
-use Rattle.ntp_mac.specs.Key.{SymmetricKey}
-use Rattle.ntp_mac.specs.Digest.{hash, digest_of}
-use Rattle.ntp_mac.specs.Mac.{mac_of, nak_octets}
-use Rattle.ntp_mac.specs.Reading.{reading_of}
-use Rattle.ntp_mac.specs.Signed.{IsSigned}
-use Rattle.ntp_mac.specs.declared.key.Algorithm.{Algorithm}
+use Rattle.ntp_mac.specs.{Key.SymmetricKey, Digest.hash, Digest.digest_of, Mac.mac_of, Mac.nak_octets, Reading.reading_of}
+use Rattle.ntp_mac.specs.{Signed.IsSigned, declared.key.Algorithm.Algorithm}
 use Rattle.ntp_mac.proofs.PublicLaws.{only-reading_of}
 use Rattle.md5.proofs.StandardFacts.{length-md5}
 use Rattle.ntp_reply.proofs.PublicLaws.{length-sha1}

@@ -1,20 +1,15 @@
 -- What the answer to a datagram is that is refused.
 use Rattle.std.proofs.Common.{◌≡◌, ℕ, Bool, List, ◌++◌, Ok, ap, ◌∙◌, arith}
 use Rattle.std.specs.Prelude.{if◌then◌else◌}
-use Rattle.ntp_packet.specs.Header.{HeaderFields, header_octets}
-use Rattle.ntp_mac.specs.Mac.{nak_octets}
-use Rattle.ntp_packet.specs.Request.{RequestValue}
-use Rattle.ntp_mac.specs.Key.{SymmetricKey}
-use Rattle.ntp_mac.specs.Reading.{reading_of}
+use Rattle.ntp_packet.specs.{Header.HeaderFields, Header.header_octets, Request.RequestValue}
+use Rattle.ntp_mac.specs.{Mac.nak_octets, Key.SymmetricKey, Reading.reading_of}
 use Rattle.ntp_customer.specs.Past.{Past}
 use Rattle.ntp_reply.specs.declared.occasion.Occasion.{Occasion}
+use Rattle.ntp_reply.specs.{declared.kiss.Kiss.TheVariants.Rate, declared.kiss.Kiss.TheVariants.Deny, Life.Life, Life.recent_of}
+use Rattle.ntp_reply.specs.{Exchanged.stamps_of, declared.answers.Answer.Answer}
 use Rattle.ntp_reply.specs.Replies.{basic_fields, kiss_fields, sealed}
-use Rattle.ntp_reply.specs.declared.kiss.Kiss.TheVariants.{Rate, Deny}
-use Rattle.ntp_reply.specs.Life.{Life, recent_of}
-use Rattle.ntp_reply.specs.Exchanged.{stamps_of}
 use Rattle.ntp_reply.specs.Kind.{Kind, PassedOver, RefusedByDeny, RefusedByNak, Signed}
 use Rattle.ntp_reply.specs.Verdict.{kind_answer, verdict, timed}
-use Rattle.ntp_reply.specs.declared.answers.Answer.{Answer}
 use Rattle.ntp_reply.specs.declared.answers.Answer.TheVariants as answer
 use Rattle.ntp_reply.specs.declared.answers.Reason.TheVariants as reason
 use Rattle.ntp_meeting.proofs.Speaks.{SpeaksOf, kind-speaks}

@@ -1,32 +1,21 @@
 -- What a client takes a server's reply for.
 use Rattle.std.proofs.Common.{◌≡◌, ◌≢◌, ℕ, ◌^◌, ◌<◌, ◌≤◌, List, ◌++◌, Some, Ok, refl, ap, ◌∙◌, arith}
 use Rattle.std.proofs.lemmas.Bool.{eq-eqb, ne_eqb}
-use Rattle.ntp_packet.specs.declared.stamp.Stamp.{Stamp}
-use Rattle.ntp_packet.specs.declared.moment.Moment.{Moment}
+use Rattle.ntp_packet.specs.{declared.stamp.Stamp.Stamp, declared.moment.Moment.Moment, FirstCase.decided}
+use Rattle.ntp_packet.specs.{Tail.NoTail, Tail.BareTail, Request.RequestValue}
 use Rattle.ntp_packet.specs.Header.{HeaderFields, IsHeader, header_octets}
-use Rattle.ntp_mac.specs.Mac.{nak_octets}
-use Rattle.ntp_packet.specs.FirstCase.{decided}
-use Rattle.ntp_packet.specs.Tail.{NoTail, BareTail}
-use Rattle.ntp_packet.specs.Request.{RequestValue}
-use Rattle.ntp_mac.specs.Reading.{reading_of}
-use Rattle.ntp_client.specs.declared.exchange.Outstanding.{Outstanding}
-use Rattle.ntp_client.specs.declared.pairing.Pairing.{Pairing}
-use Rattle.ntp_client.specs.declared.pairing.Pairing.TheVariants.{Basic}
+use Rattle.ntp_mac.specs.{Mac.nak_octets, Reading.reading_of}
+use Rattle.ntp_client.specs.{declared.exchange.Outstanding.Outstanding, declared.pairing.Pairing.Pairing}
+use Rattle.ntp_client.specs.{declared.pairing.Pairing.TheVariants.Basic, State.ClientState, Query.query_fields}
+use Rattle.ntp_client.specs.{Pairing.pairing_of, Pairing.sample_of, Sample.IsTimeReply, Taking.taken_for}
+use Rattle.ntp_client.specs.Judging.{authentic_steps, tail_steps}
 use Rattle.ntp_client.specs.declared.taken.Taken.TheVariants as taken
 use Rattle.ntp_client.specs.declared.taken.Distrust.TheVariants as distrust
-use Rattle.ntp_client.specs.State.{ClientState}
-use Rattle.ntp_client.specs.Query.{query_fields}
-use Rattle.ntp_client.specs.Pairing.{pairing_of, sample_of}
-use Rattle.ntp_client.specs.Sample.{IsTimeReply}
-use Rattle.ntp_client.specs.Taking.{taken_for}
-use Rattle.ntp_client.specs.Judging.{authentic_steps, tail_steps}
 use Rattle.ntp_client.proofs.PublicLaws.{basic-pairing, time-taken, read-taken, paired-taken, signed-taken}
 use Rattle.ntp_customer.specs.Past.{Past}
-use Rattle.ntp_reply.specs.Reference.{ReferenceState, IsReference}
+use Rattle.ntp_reply.specs.{Reference.ReferenceState, Reference.IsReference, declared.occasion.Occasion.Occasion}
+use Rattle.ntp_reply.specs.{declared.kiss.Kiss.TheVariants.Rate, declared.kiss.Kiss.TheVariants.Deny, Exchanged.stamps_of}
 use Rattle.ntp_reply.specs.Replies.{reply_fields, basic_fields, kiss_fields, shown_stratum, sealed}
-use Rattle.ntp_reply.specs.declared.occasion.Occasion.{Occasion}
-use Rattle.ntp_reply.specs.declared.kiss.Kiss.TheVariants.{Rate, Deny}
-use Rattle.ntp_reply.specs.Exchanged.{stamps_of}
 use Rattle.ntp_meeting.specs.Meeting.{WaitsForReply, FitsPacket}
 use Rattle.ntp_meeting.proofs.Stamps.{receive-known, receive-fits, transmit-fits}
 use Rattle.ntp_meeting.proofs.Headers.{IsHeader-reply, IsHeader-kiss}

@@ -1,25 +1,19 @@
 -- The exchange that a time reply leaves at the server.
 use Rattle.std.proofs.Common.{◌≡◌, ◌≢◌, ℕ, ◌-◌, ◌≤◌, Some, None, Option, refl, sym, ap, subst, ◌∙◌, arith, List, [], ◌∷◌, ◌++◌, length, take, drop}
 use Rattle.std.specs.Prelude.{Contains}
-use Rattle.std.proofs.lemmas.Bool.{eq-eqb}
-use Rattle.std.proofs.lemmas.Option.{none-some}
-use Rattle.std.proofs.lemmas.List.{length-append, take-append-drop, drop-append-le}
+use Rattle.std.proofs.{lemmas.Bool.eq-eqb, lemmas.Option.none-some}
 use Rattle.std.proofs.lemmas.List.Elements.{Contains-append_left, Contains-append_right}
 use Rattle.std.proofs.lemmas.List.Folds.{find-append}
-use Rattle.ntp_packet.specs.declared.stamp.Stamp.{Stamp}
+use Rattle.std.proofs.lemmas.List.{length-append, take-append-drop, drop-append-le}
+use Rattle.ntp_packet.specs.{declared.stamp.Stamp.Stamp, Header.HeaderFields}
 use Rattle.ntp_packet.proofs.PublicLaws.{fresh-apart}
-use Rattle.ntp_packet.specs.Header.{HeaderFields}
-use Rattle.ntp_customer.specs.declared.slot.Slot.{Slot}
+use Rattle.ntp_customer.specs.{declared.slot.Slot.Slot, Customer.Enrolment, Customer.enrolment_at, Past.Past, Past.with_query}
 use Rattle.ntp_customer.specs.Exchanges.{most_slots, recent, new_exchange, receives, transmits, all_stamps, is_unused_at, unused_at}
 use Rattle.ntp_customer.proofs.PublicLaws.{receives-spent, Contains-map, by_past}
-use Rattle.ntp_customer.specs.Customer.{Enrolment, enrolment_at}
-use Rattle.ntp_customer.specs.Past.{Past, with_query}
-use Rattle.ntp_reply.specs.declared.occasion.Occasion.{Occasion}
-use Rattle.ntp_reply.specs.Life.{recent_of}
+use Rattle.ntp_reply.specs.{declared.occasion.Occasion.Occasion, Life.recent_of}
 use Rattle.ntp_reply.specs.Exchanged.{with_match_used, stamps_of, after_time}
 use Rattle.ntp_reply.proofs.PublicLaws.{kept-with_match_used, recent-time}
-use Rattle.ntp_meeting.proofs.Stamps.{receive-few}
-use Rattle.ntp_meeting.proofs.Matches.{found-member}
+use Rattle.ntp_meeting.proofs.{Stamps.receive-few, Matches.found-member}
 
 -- no exchange is found by a stamp that no receive stamp is
 none-found : (xs : List Slot) (receive : Stamp) → ((x : Slot) → Contains xs x → x.receive ≢ receive) → (o : Option Slot)

@@ -1,19 +1,14 @@
 -- What the answer to a signed query is, and what it leaves.
 use Rattle.std.proofs.Common.{◌≡◌, ℕ, Bool, true, ◌==◌, nat_lt, ◌<◌, lt-ltb, List, refl, arith}
 use Rattle.std.specs.Prelude.{if◌then◌else◌}
-use Rattle.ntp_packet.specs.declared.stamp.Stamp.{Stamp}
-use Rattle.ntp_packet.specs.Header.{HeaderFields}
+use Rattle.ntp_packet.specs.{declared.stamp.Stamp.Stamp, Header.HeaderFields}
 use Rattle.ntp_mac.specs.Key.{SymmetricKey}
-use Rattle.ntp_customer.specs.Customer.{budget_of}
-use Rattle.ntp_customer.specs.Past.{Past, with_query}
-use Rattle.ntp_reply.specs.declared.occasion.Occasion.{Occasion}
-use Rattle.ntp_reply.specs.Replies.{time_fields, kiss_fields, sealed}
-use Rattle.ntp_reply.specs.declared.kiss.Kiss.TheVariants.{Rate}
-use Rattle.ntp_reply.specs.Life.{recent_of}
-use Rattle.ntp_reply.specs.Exchanged.{matched, stamps_of, after_time}
-use Rattle.ntp_reply.specs.Kind.{Signed}
-use Rattle.ntp_reply.specs.Verdict.{kind_answer, after_kind, query_count, window_at, timed}
+use Rattle.ntp_customer.specs.{Customer.budget_of, Past.Past, Past.with_query}
+use Rattle.ntp_reply.specs.{declared.occasion.Occasion.Occasion, declared.kiss.Kiss.TheVariants.Rate, Life.recent_of, Kind.Signed}
 use Rattle.ntp_reply.specs.declared.answers.Answer.{Answer}
+use Rattle.ntp_reply.specs.Replies.{time_fields, kiss_fields, sealed}
+use Rattle.ntp_reply.specs.Exchanged.{matched, stamps_of, after_time}
+use Rattle.ntp_reply.specs.Verdict.{kind_answer, after_kind, query_count, window_at, timed}
 use Rattle.ntp_reply.specs.declared.answers.Answer.TheVariants as answer
 use Rattle.ntp_reply.specs.declared.answers.Reason.TheVariants as reason
 

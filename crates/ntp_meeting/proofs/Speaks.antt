@@ -1,10 +1,8 @@
 -- Which header the kind of a datagram speaks of.
 use Rattle.std.proofs.Common.{◌≡◌, ℕ, List, Option, Ok, arith}
-use Rattle.ntp_packet.specs.Header.{HeaderFields}
-use Rattle.ntp_packet.specs.Request.{RequestValue}
+use Rattle.ntp_packet.specs.{Header.HeaderFields, Request.RequestValue}
 use Rattle.ntp_mac.specs.Reading.{reading_of}
-use Rattle.ntp_customer.specs.Customer.{Enrolment, enrolment_at}
-use Rattle.ntp_customer.specs.Past.{Past}
+use Rattle.ntp_customer.specs.{Customer.Enrolment, Customer.enrolment_at, Past.Past}
 use Rattle.ntp_reply.specs.Kind.{Kind, PassedOver, RefusedByDeny, RefusedByNak, Signed, octets_kind, kind_of}
 
 -- the header that a kind speaks of, or this one, if of none

@@ -2,12 +2,9 @@
 use Rattle.std.proofs.Common.{◌≢◌, ◌^◌, ◌<◌, [], ◌∷◌, ◌++◌, length, arith}
 use Rattle.std.proofs.lemmas.List.{length-append, length-map}
 use Rattle.ntp_packet.proofs.PublicLaws.{fresh-nonzero, fresh-below}
-use Rattle.ntp_customer.specs.Exchanges.{receives, all_stamps}
+use Rattle.ntp_customer.specs.{Exchanges.receives, Exchanges.all_stamps, Past.Past}
 use Rattle.ntp_customer.proofs.PublicLaws.{length-recent}
-use Rattle.ntp_customer.specs.Past.{Past}
-use Rattle.ntp_reply.specs.declared.occasion.Occasion.{Occasion}
-use Rattle.ntp_reply.specs.Life.{recent_of}
-use Rattle.ntp_reply.specs.Exchanged.{stamps_of}
+use Rattle.ntp_reply.specs.{declared.occasion.Occasion.Occasion, Life.recent_of, Exchanged.stamps_of}
 
 module _ (past : Past) (o : Occasion) where
   -- few stamps are avoided

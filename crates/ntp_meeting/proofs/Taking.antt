@@ -3,37 +3,23 @@ use Rattle.std.proofs.Common.{◌≡◌, ◌≢◌, ℕ, ◌^◌, ◌<◌, List,
 use Rattle.std.specs.Prelude.{IfSome}
 use Rattle.std.specs.Option.{option_and_then}
 use Rattle.std.proofs.lemmas.Option.{none-some}
-use Rattle.ntp_packet.specs.declared.stamp.Stamp.{Stamp}
-use Rattle.ntp_packet.specs.declared.moment.Moment.{Moment}
-use Rattle.ntp_packet.specs.Header.{header_octets}
-use Rattle.ntp_customer.specs.declared.slot.Slot.{Slot}
-use Rattle.ntp_customer.specs.Exchanges.{AreSaved, unused_at}
+use Rattle.ntp_packet.specs.{declared.stamp.Stamp.Stamp, declared.moment.Moment.Moment, Header.header_octets}
+use Rattle.ntp_customer.specs.{declared.slot.Slot.Slot, Exchanges.AreSaved, Exchanges.unused_at, Past.Past}
 use Rattle.ntp_customer.proofs.PublicLaws.{stamps-apart}
-use Rattle.ntp_client.specs.declared.exchange.Exchange.{Exchange}
-use Rattle.ntp_client.specs.declared.exchange.Outstanding.{Outstanding}
+use Rattle.ntp_client.specs.{declared.exchange.Exchange.Exchange, declared.exchange.Outstanding.Outstanding}
 use Rattle.ntp_client.specs.declared.pairing.Pairing.TheVariants.{Basic, Interleaved}
+use Rattle.ntp_client.specs.{State.ClientState, State.IsOutstanding, Query.query_fields, Taking.taken_for}
 use Rattle.ntp_client.specs.declared.taken.Taken.TheVariants as taken
 use Rattle.ntp_client.specs.declared.taken.Distrust.TheVariants as distrust
-use Rattle.ntp_client.specs.State.{ClientState, IsOutstanding}
-use Rattle.ntp_client.specs.Query.{query_fields}
-use Rattle.ntp_client.specs.Taking.{taken_for}
 use Rattle.ntp_client.proofs.PublicLaws.{basic-pairing, interleaved-pairing}
-use Rattle.ntp_customer.specs.Past.{Past}
-use Rattle.ntp_reply.specs.Replies.{time_fields, sealed}
-use Rattle.ntp_reply.specs.declared.occasion.Occasion.{Occasion}
-use Rattle.ntp_reply.specs.Life.{Life, recent_of}
-use Rattle.ntp_reply.specs.Kind.{kind_of}
-use Rattle.ntp_reply.specs.Exchanged.{matched, stamps_of}
-use Rattle.ntp_reply.specs.Verdict.{verdict}
+use Rattle.ntp_reply.specs.{Replies.time_fields, Replies.sealed, declared.occasion.Occasion.Occasion, Life.Life, Life.recent_of}
+use Rattle.ntp_reply.specs.{Kind.kind_of, Exchanged.matched, Exchanged.stamps_of, Verdict.verdict}
 use Rattle.ntp_reply.specs.declared.answers.Answer.TheVariants as answer
 use Rattle.ntp_meeting.specs.Meeting.{WaitsForReply, SharesKey, FitsPacket, request_octets, basic_sample, interleaved_sample}
-use Rattle.ntp_meeting.proofs.Readings.{read-header, read-sealed}
-use Rattle.ntp_meeting.proofs.Asked.{request-answer}
-use Rattle.ntp_meeting.proofs.Speaks.{kind-speaks}
-use Rattle.ntp_meeting.proofs.Served.{told-time, told-rate}
-use Rattle.ntp_meeting.proofs.Refused.{told-nak, denied}
-use Rattle.ntp_meeting.proofs.Replies.{rate-taken, deny-taken, nak-taken, sample-taken, unsynchronised-taken}
+use Rattle.ntp_meeting.proofs.{Readings.read-header, Readings.read-sealed, Asked.request-answer, Speaks.kind-speaks}
+use Rattle.ntp_meeting.proofs.{Served.told-time, Served.told-rate, Refused.told-nak, Refused.denied}
 use Rattle.ntp_meeting.proofs.Stamps.{transmit-known, transmit-fits}
+use Rattle.ntp_meeting.proofs.Replies.{rate-taken, deny-taken, nak-taken, sample-taken, unsynchronised-taken}
 use Rattle.ntp_meeting.proofs.Matches.{found-member, matched-apart, asked-match}
 
 module _ (c : ClientState) (q : Outstanding) (past : Past) (o : Occasion) (at : Moment) (waits : WaitsForReply c q) where

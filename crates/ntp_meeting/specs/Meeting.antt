@@ -1,15 +1,9 @@
 -- A client and a server that meet.
 use Rattle.std.specs.Prelude.{◌≡◌, ℕ, ◌^◌, ◌<◌, true, false, Some, List, [], length, All, FitsSigned}
 use Rattle.std.specs.Int.{w8}
-use Rattle.ntp_packet.specs.declared.stamp.Stamp.{Stamp}
-use Rattle.ntp_packet.specs.declared.moment.Moment.{Moment}
-use Rattle.ntp_packet.specs.Fresh.{fresh}
-use Rattle.ntp_packet.specs.Header.{IsHeader}
-use Rattle.ntp_client.specs.declared.exchange.Exchange.{Exchange}
-use Rattle.ntp_client.specs.declared.exchange.Outstanding.{Outstanding}
-use Rattle.ntp_client.specs.declared.sample.Sample.{Sample}
-use Rattle.ntp_client.specs.State.{ClientState}
-use Rattle.ntp_client.specs.Query.{query_fields, query_octets}
+use Rattle.ntp_packet.specs.{declared.stamp.Stamp.Stamp, declared.moment.Moment.Moment, Fresh.fresh, Header.IsHeader}
+use Rattle.ntp_client.specs.{declared.exchange.Exchange.Exchange, declared.exchange.Outstanding.Outstanding}
+use Rattle.ntp_client.specs.{declared.sample.Sample.Sample, State.ClientState, Query.query_fields, Query.query_octets}
 use Rattle.ntp_customer.specs.Customer.{Enrolment, held_in, enrolment_at}
 use Rattle.ntp_customer.specs.Past.{Past}
 use Rattle.ntp_reply.specs.Reference.{ReferenceState, IsReference}

@@ -2,22 +2,14 @@
 //! it does nothing.
 ghost use Rattle.std.specs.Prelude.{◌≡◌, ◌≢◌, ◌^◌, ◌<◌, [], true, false, Some, None, IfSome, List, ℕ};
 ghost use Rattle.std.specs.Option.{option_and_then};
-ghost use Rattle.ntp_packet.specs.declared.stamp.Stamp.{Stamp};
-ghost use Rattle.ntp_packet.specs.declared.moment.Moment.{Moment};
-ghost use Rattle.ntp_packet.specs.Fresh.{fresh};
-ghost use Rattle.ntp_packet.specs.Header.{header_octets};
-ghost use Rattle.ntp_customer.specs.declared.slot.Slot.{Slot};
+ghost use Rattle.ntp_packet.specs.{declared.stamp.Stamp.Stamp, declared.moment.Moment.Moment, Fresh.fresh, Header.header_octets};
+ghost use Rattle.ntp_customer.specs.{declared.slot.Slot.Slot, Customer.budget_of, Past.Past};
 ghost use Rattle.ntp_customer.specs.Exchanges.{AreSaved, new_exchange, receives, unused_at};
-ghost use Rattle.ntp_client.specs.declared.exchange.Exchange.{Exchange};
-ghost use Rattle.ntp_client.specs.declared.exchange.Outstanding.{Outstanding};
-ghost use Rattle.ntp_client.specs.State.{ClientState, IsOutstanding};
+ghost use Rattle.ntp_client.specs.{declared.exchange.Exchange.Exchange, declared.exchange.Outstanding.Outstanding};
+ghost use Rattle.ntp_client.specs.{State.ClientState, State.IsOutstanding, Taking.taken_for, Taking.after_taken};
 ghost use Rattle.ntp_client.specs.Query.{query_fields, next_query, after_query};
-ghost use Rattle.ntp_client.specs.Taking.{taken_for, after_taken};
-ghost use Rattle.ntp_customer.specs.Customer.{budget_of};
-ghost use Rattle.ntp_customer.specs.Past.{Past};
-ghost use Rattle.ntp_reply.specs.declared.occasion.Occasion.{Occasion};
+ghost use Rattle.ntp_reply.specs.{declared.occasion.Occasion.Occasion, Kind.Signed, Kind.kind_of};
 ghost use Rattle.ntp_reply.specs.Life.{Life, recent_of, recent_in};
-ghost use Rattle.ntp_reply.specs.Kind.{Signed, kind_of};
 ghost use Rattle.ntp_reply.specs.Exchanged.{matched, stamps_of, after_departure};
 ghost use Rattle.ntp_reply.specs.Verdict.{verdict, after_datagram, query_count, timed};
 ghost use Rattle.ntp_meeting.specs.Meeting.{WaitsForReply, SharesKey, FitsPacket, request_octets, basic_sample, interleaved_sample};

@@ -1,24 +1,18 @@
 -- Octets have a reading or a fault.
 use Rattle.std.proofs.Common.{◌≡◌, ℕ, zero, suc, ◌+◌, ◌%◌, ◌^◌, ◌<◌, ◌≤◌, ◌⊎◌, List, ◌++◌, length, take, drop, refl, sym, ap, subst, arith, inl, inr}
 use Rattle.std.specs.Int.{w32, to_be_bytes, from_be_bytes}
-use Rattle.std.proofs.lemmas.Bool.{cases_lt, cases_eq}
-use Rattle.std.proofs.lemmas.Nat.{be_bytes_4}
+use Rattle.std.proofs.{lemmas.Bool.cases_lt, lemmas.Bool.cases_eq, lemmas.Nat.be_bytes_4}
 use Rattle.std.proofs.lemmas.List.{length-append, length-take, length-drop, nil_from_length}
-use Rattle.ntp_packet.specs.Field.{written_length}
-use Rattle.ntp_packet.specs.declared.digests.Digest.{Digest}
+use Rattle.ntp_packet.specs.{Field.written_length, declared.digests.Digest.Digest}
 use Rattle.ntp_packet.specs.declared.digests.Digest.TheVariants.{Md5, Sha1}
+use Rattle.ntp_packet.specs.{Faults.Stands, Faults.Fails, declared.malformed.Malformed.Malformed}
 use Rattle.ntp_packet.specs.Tail.{TailValue, NoTail, BareTail, MacTail, digest_octets, tail_octets, IsTail}
 use Rattle.ntp_packet.specs.Request.{RequestValue, IsRequest, request_of, signed_octets}
-use Rattle.ntp_packet.specs.Faults.{Stands, Fails}
 use Rattle.ntp_packet.proofs.RestFaults.{IsFieldShort, IsFieldUnaligned, IsFieldPastEnd, IsNoTail}
-use Rattle.ntp_packet.proofs.OneAnswer.{HasOneReading, HasOneFault}
-use Rattle.ntp_packet.specs.declared.malformed.Malformed.{Malformed}
+use Rattle.ntp_packet.proofs.{OneAnswer.HasOneReading, OneAnswer.HasOneFault, Octets.AreOctets, Octets.AreOctets-take}
+use Rattle.ntp_packet.proofs.{Headers.header-there, Tails.number-alone, Tails.number-and-digest, Composed.composed}
 use Rattle.ntp_packet.specs.declared.malformed.Malformed.TheVariants.{Short, Long, FieldShort, FieldUnaligned, FieldPastEnd, Rest}
-use Rattle.ntp_packet.proofs.Octets.{AreOctets, AreOctets-take}
-use Rattle.ntp_packet.proofs.Headers.{header-there}
 use Rattle.ntp_packet.proofs.Places.{Stands-first, Stands-next, Stands-octets, fails_at}
-use Rattle.ntp_packet.proofs.Tails.{number-alone, number-and-digest}
-use Rattle.ntp_packet.proofs.Composed.{composed}
 use Rattle.ntp_packet.proofs.Unique.{one-reading, one-fault, no-fault}
 
 -- the tail that a rest of octets is

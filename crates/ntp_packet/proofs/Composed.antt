@@ -1,8 +1,7 @@
 -- A header, fields and a tail, one behind another, are a request.
 use Rattle.std.proofs.Common.{ℕ, ◌+◌, ◌≤◌, List, [], ◌∷◌, ◌++◌, length, arith}
 use Rattle.std.specs.List.{flat_map, All, AllByRecursion}
-use Rattle.std.proofs.lemmas.List.{length-append}
-use Rattle.std.proofs.lemmas.List.Elements.{recursion_from_All}
+use Rattle.std.proofs.{lemmas.List.length-append, lemmas.List.Elements.recursion_from_All}
 use Rattle.ntp_packet.specs.Header.{HeaderFields, IsHeader}
 use Rattle.ntp_packet.specs.Field.{Field, field_octets, IsField, AreFields}
 use Rattle.ntp_packet.specs.Tail.{TailValue, tail_octets, IsTail}

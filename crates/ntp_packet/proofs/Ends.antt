@@ -3,8 +3,7 @@ use Rattle.std.proofs.Common.{◌≡◌, ℕ, ◌<◌, List, [], ◌∷◌, ◌+
 use Rattle.std.specs.List.{flat_map}
 use Rattle.std.proofs.lemmas.List.{length-append}
 use Rattle.ntp_packet.specs.Field.{Field, field_octets, IsField, AreFields, written_length}
-use Rattle.ntp_packet.specs.Fields.{first_field}
-use Rattle.ntp_packet.specs.Faults.{Stands}
+use Rattle.ntp_packet.specs.{Fields.first_field, Faults.Stands}
 use Rattle.ntp_packet.proofs.Headers.{take-signed, drop-signed, same-header}
 use Rattle.ntp_packet.proofs.Spelling.{IsWhole, length-field_octets, written_length-field, first_field-spelled, drop-field}
 

@@ -4,10 +4,8 @@ use Rattle.std.specs.List.{AllByRecursion}
 use Rattle.std.proofs.lemmas.List.{take_at, length-append}
 use Rattle.ntp_packet.specs.Header.{HeaderFields, header_octets, IsHeader}
 use Rattle.ntp_packet.specs.Field.{Field, IsField, AreFields}
-use Rattle.ntp_packet.specs.Fields.{fields_of, SpellFields}
+use Rattle.ntp_packet.specs.{Fields.fields_of, Fields.SpellFields, Request.IsRequest, Request.signed_octets, Faults.Stands}
 use Rattle.ntp_packet.specs.Tail.{TailValue, tail_octets, IsTail}
-use Rattle.ntp_packet.specs.Request.{IsRequest, signed_octets}
-use Rattle.ntp_packet.specs.Faults.{Stands}
 use Rattle.ntp_packet.proofs.Headers.{take-signed, drop-header, length-signed, same-header}
 use Rattle.ntp_packet.proofs.Spelled.{SpellFields-fields}
 

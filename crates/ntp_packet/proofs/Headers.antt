@@ -4,8 +4,7 @@ use Rattle.std.specs.List.{flat_map}
 use Rattle.std.proofs.lemmas.List.{take_at, drop_at, length-append, length-take}
 use Rattle.ntp_packet.specs.Header.{HeaderFields, header_octets, IsHeader}
 use Rattle.ntp_packet.proofs.Readings.{header_in, fits-in, spelled-again, only-header, length-header_octets}
-use Rattle.ntp_packet.specs.Field.{Field, field_octets}
-use Rattle.ntp_packet.specs.Request.{signed_octets}
+use Rattle.ntp_packet.specs.{Field.Field, Field.field_octets, Request.signed_octets}
 use Rattle.ntp_packet.proofs.Octets.{AreOctets, AreOctets-take}
 
 pub length-signed : (h : HeaderFields) (fs : List Field) → IsHeader h → length (signed_octets h fs) ≡ 48 + length (flat_map field_octets fs)

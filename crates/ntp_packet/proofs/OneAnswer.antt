@@ -1,8 +1,6 @@
 -- That octets are read in one way.
 use Rattle.std.specs.Prelude.{◌≡◌, ℕ, List}
-use Rattle.ntp_packet.specs.Request.{RequestValue, IsRequest}
-use Rattle.ntp_packet.specs.Faults.{Fails}
-use Rattle.ntp_packet.specs.declared.malformed.Malformed.{Malformed}
+use Rattle.ntp_packet.specs.{Request.RequestValue, Request.IsRequest, Faults.Fails, declared.malformed.Malformed.Malformed}
 
 -- the octets are one request, and nothing is wrong with them (profile)
 pub record HasOneReading (octets : List ℕ) : Type 0 where

@@ -1,8 +1,7 @@
 -- The zeros behind a value.
 use Rattle.std.proofs.Common.{◌≡◌, ℕ, ◌+◌, ◌%◌, ◌^◌, ◌<◌, ◌≤◌, List, ◌++◌, length, replicate, ap, ◌∙◌, append_assoc, arith, rules}
-use Rattle.std.proofs.lemmas.Grind.{common_steps}
+use Rattle.std.proofs.{lemmas.Grind.common_steps, lemmas.List.length-append, lemmas.List.length-replicate}
 use Rattle.std.specs.Int.{w16, to_be_bytes}
-use Rattle.std.proofs.lemmas.List.{length-append, length-replicate}
 use Rattle.ntp_packet.specs.Field.{field_octets, IsField, padding, padded_field}
 use Rattle.ntp_packet.proofs.Spelling.{length-field_octets}
 

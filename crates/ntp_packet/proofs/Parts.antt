@@ -1,10 +1,7 @@
 -- Octets as their parts, one after another.
 use Rattle.std.proofs.Common.{◌≡◌, ℕ, ℤ, ◌+◌, ◌*◌, ◌/◌, ◌%◌, ◌≤◌, ◌<◌, List, [], ◌∷◌, ◌++◌, length, get_or, take, drop, sym, ◌∙◌, arith}
-use Rattle.std.proofs.lemmas.Grind.{common_steps}
-use Rattle.std.proofs.Math.Seq.{take-add}
-use Rattle.std.proofs.lemmas.Int.{of_z-to_z}
+use Rattle.std.proofs.{lemmas.Grind.common_steps, Math.Seq.take-add, lemmas.Int.of_z-to_z, lemmas.List.take_all}
 use Rattle.std.specs.Int.{w8, w32, w64, cast_unsigned, cast_signed, to_be_bytes}
-use Rattle.std.proofs.lemmas.List.{take_all}
 use Rattle.ntp_packet.specs.Header.{HeaderFields, first_octets, header_octets}
 
 -- eight parts, each put behind those before it

@@ -4,11 +4,8 @@ use Rattle.std.specs.List.{flat_map}
 use Rattle.std.proofs.lemmas.List.{length-append, length-take, length-drop, drop-drop, append-nil, flat_map_more, take-append-drop}
 use Rattle.ntp_packet.specs.Header.{HeaderFields, header_octets, IsHeader}
 use Rattle.ntp_packet.specs.Field.{Field, field_octets, IsField, AreFields, written_length}
-use Rattle.ntp_packet.specs.Fields.{first_field}
-use Rattle.ntp_packet.specs.Request.{signed_octets}
-use Rattle.ntp_packet.specs.Faults.{Stands, FailsAt}
-use Rattle.ntp_packet.proofs.Headers.{length-signed}
-use Rattle.ntp_packet.proofs.Octets.{AreOctets, AreOctets-behind}
+use Rattle.ntp_packet.specs.{Fields.first_field, Request.signed_octets, Faults.Stands, Faults.FailsAt}
+use Rattle.ntp_packet.proofs.{Headers.length-signed, Octets.AreOctets, Octets.AreOctets-behind}
 use Rattle.ntp_packet.proofs.Spelling.{length-field_octets, IsWhole, length-first_field, IsField-first_field, first_field-octets}
 
 -- one more field at the end

@@ -2,13 +2,10 @@
 use Rattle.std.proofs.Common.{◌≡◌, ℕ, ◌+◌, ◌*◌, ◌/◌, ◌%◌, ◌^◌, ◌≤◌, ◌<◌, List, [], ◌∷◌, length, get_or, take, drop, refl, sym, ap, subst, ◌∙◌, arith, rules}
 use Rattle.std.specs.Prelude.{All}
 use Rattle.std.specs.Int.{w8, w32, w64, cast_signed, to_be_bytes, from_be_bytes}
-use Rattle.std.proofs.lemmas.Int.{of_z-to_z, to_z-of_z}
-use Rattle.std.proofs.Math.Facts.{sfits_to_z}
+use Rattle.std.proofs.{lemmas.Int.of_z-to_z, lemmas.Int.to_z-of_z, Math.Facts.sfits_to_z, lemmas.Bool.cases_lt}
 use Rattle.std.proofs.lemmas.List.{take_all, length-take, length-drop, get_or-take, get_or-drop, get_or_past, get_or_default}
-use Rattle.std.proofs.lemmas.Bool.{cases_lt}
 use Rattle.std.proofs.lemmas.Nat.{be_bytes_4, be_bytes_8, from_be_bytes-to_be_bytes_4, from_be_bytes-to_be_bytes_8}
-use Rattle.ntp_packet.specs.declared.stamp.Stamp.{Stamp}
-use Rattle.ntp_packet.specs.declared.stamp.Short.{Short}
+use Rattle.ntp_packet.specs.{declared.stamp.Stamp.Stamp, declared.stamp.Short.Short}
 use Rattle.ntp_packet.specs.Header.{HeaderFields, first_octets, header_octets, IsHeader}
 use Rattle.ntp_packet.proofs.Parts.{read-parts, first-fields, four-cells}
 

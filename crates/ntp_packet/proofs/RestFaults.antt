@@ -1,8 +1,7 @@
 -- The four faults of what is left behind a header and whole fields, as `Fails` comes to them by unfolding.
 use Rattle.std.proofs.Common.{◌≡◌, ◌≢◌, ℕ, ◌<◌, ◌≤◌, List}
 use Rattle.std.specs.Prelude.{◌%◌, length}
-use Rattle.ntp_packet.specs.Field.{written_length}
-use Rattle.ntp_packet.specs.Tail.{most_tail_octets}
+use Rattle.ntp_packet.specs.{Field.written_length, Tail.most_tail_octets}
 
 abbrev pub IsFieldShort : List ℕ → Type 0
 IsFieldShort rest = (most_tail_octets < length rest) × (written_length rest < 16)

@@ -1,12 +1,9 @@
 -- Numbers modulo 2^64, read as signed ones.
 use Rattle.std.proofs.Common.{◌≡◌, ℕ, ◌+◌, ◌-◌, ◌%◌, ◌^◌, ◌<◌, ◌≤◌, ℤ, pos, negsuc, ◌+ℤ◌, ◌-ℤ◌, ◌*ℤ◌, inl, inr, suc, refl, ◌∙◌, rules, arith}
 use Rattle.std.specs.Prelude.{FitsSigned}
-use Rattle.std.proofs.lemmas.Bool.{cases_lt}
-use Rattle.std.proofs.Math.Facts.{sfits_to_z, to_z-neg}
+use Rattle.std.proofs.{lemmas.Bool.cases_lt, Math.Facts.sfits_to_z, Math.Facts.to_z-neg, lemmas.Int.ints, lemmas.Int.to_z_pos}
 use Rattle.std.specs.Int.{w64, cast_signed}
-use Rattle.std.proofs.lemmas.Int.{ints, to_z_pos}
-use Rattle.ntp_packet.specs.declared.stamp.Stamp.{Stamp}
-use Rattle.ntp_packet.specs.Difference.{difference, IsDifference}
+use Rattle.ntp_packet.specs.{declared.stamp.Stamp.Stamp, Difference.difference, Difference.IsDifference}
 
 -- a number below 2^64 is one as a signed number
 signed-fits : (n : ℕ) → n < 2 ^ 64 → FitsSigned w64 (cast_signed w64 n)

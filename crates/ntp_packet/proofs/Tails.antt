@@ -1,8 +1,7 @@
 -- A tail that is read is spelled so, and what is spelled is read again.
 use Rattle.std.proofs.Common.{◌≡◌, ℕ, ◌^◌, ◌<◌, ◌≤◌, List, ◌++◌, length, take, drop, sym, ap, ◌∙◌, arith}
 use Rattle.std.specs.Int.{w32, to_be_bytes, from_be_bytes}
-use Rattle.std.proofs.lemmas.List.{take_all, take-append-drop}
-use Rattle.std.proofs.lemmas.Nat.{from_be_bytes-to_be_bytes_4}
+use Rattle.std.proofs.{lemmas.List.take_all, lemmas.List.take-append-drop, lemmas.Nat.from_be_bytes-to_be_bytes_4}
 use Rattle.ntp_packet.specs.Tail.{TailValue, tail_octets, IsTail}
 
 -- the key number alone

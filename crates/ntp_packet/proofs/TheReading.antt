@@ -1,11 +1,8 @@
 -- The reading or the fault that octets have, as a value.
 use Rattle.std.specs.Prelude.{ℕ, zero, suc, ◌%◌, List, [], ◌∷◌, map, Result, Ok, Err}
 use Rattle.std.proofs.Common.{◌⊎◌, inl, inr, arith}
-use Rattle.ntp_packet.specs.Request.{RequestValue}
-use Rattle.ntp_packet.proofs.OneAnswer.{HasOneReading, HasOneFault}
-use Rattle.ntp_packet.specs.declared.malformed.Malformed.{Malformed}
-use Rattle.ntp_packet.proofs.Octets.{AreOctets}
-use Rattle.ntp_packet.proofs.Answered.{one-answer}
+use Rattle.ntp_packet.specs.{Request.RequestValue, declared.malformed.Malformed.Malformed}
+use Rattle.ntp_packet.proofs.{OneAnswer.HasOneReading, OneAnswer.HasOneFault, Octets.AreOctets, Answered.one-answer}
 
 -- the low eight bits of each number; octets are their own
 abbrev pub low : List ℕ → List ℕ

@@ -2,18 +2,14 @@
 use Rattle.std.proofs.Common.{◌≡◌, ℕ, ◌%◌, ◌<◌, ◌≤◌, ◌⊎◌, cond, leb, ltb, eqb, List, length, refl, sym, ap, subst, ◌∙◌, arith, inl, inr}
 use Rattle.std.proofs.lemmas.Bool.{cond-true, cond-false, lt-ltb, le-ltb, le-leb, lt-leb, eq-eqb, ne_eqb}
 use Rattle.std.proofs.lemmas.List.{length-append}
-use Rattle.ntp_packet.specs.Header.{HeaderFields}
-use Rattle.ntp_packet.specs.Field.{Field, written_length}
+use Rattle.ntp_packet.specs.{Header.HeaderFields, Field.Field, Field.written_length}
 use Rattle.ntp_packet.specs.declared.digests.Digest.TheVariants.{Md5, Sha1}
+use Rattle.ntp_packet.specs.{Request.RequestValue, Request.IsRequest, declared.malformed.Malformed.Malformed}
 use Rattle.ntp_packet.specs.Tail.{TailValue, NoTail, BareTail, MacTail, tail_octets, IsTail}
-use Rattle.ntp_packet.specs.Request.{RequestValue, IsRequest}
 use Rattle.ntp_packet.specs.Faults.{Stands, FailsAt, Fails}
 use Rattle.ntp_packet.proofs.RestFaults.{IsFieldShort, IsFieldUnaligned, IsFieldPastEnd, IsNoTail}
-use Rattle.ntp_packet.specs.declared.malformed.Malformed.{Malformed}
 use Rattle.ntp_packet.specs.declared.malformed.Malformed.TheVariants.{Short, Long, FieldShort, FieldUnaligned, FieldPastEnd, Rest}
-use Rattle.ntp_packet.proofs.Places.{Stands-long}
-use Rattle.ntp_packet.proofs.Tails.{length-tail, same-tail}
-use Rattle.ntp_packet.proofs.Ends.{Begins, same-end}
+use Rattle.ntp_packet.proofs.{Places.Stands-long, Tails.length-tail, Tails.same-tail, Ends.Begins, Ends.same-end}
 
 -- behind its fields stands the tail of a request
 pub IsRequest-stands : (octets : List ℕ) (r : RequestValue) → IsRequest octets r → Stands octets (length r.signed) (tail_octets r.tail)

@@ -1,9 +1,7 @@
 -- Differences of stamps, and the moment of a stamp near another moment.
 use Rattle.std.specs.Prelude.{◌≡◌, ℤ, pos, ◌+◌, ◌-◌, ◌%◌, ◌^◌, ◌+ℤ◌, ◌-ℤ◌, ◌*ℤ◌, FitsSigned}
 use Rattle.std.specs.Int.{w64, cast_signed}
-use Rattle.ntp_packet.specs.declared.stamp.Stamp.{Stamp}
-use Rattle.ntp_packet.specs.declared.moment.Moment.{Moment}
-use Rattle.ntp_packet.specs.Moment.{units}
+use Rattle.ntp_packet.specs.{declared.stamp.Stamp.Stamp, declared.moment.Moment.Moment, Moment.units}
 
 -- one stamp minus another, modulo 2^64 and read as a signed number (RFC 5905, 6)
 unfoldable pub difference : Stamp → Stamp → ℤ

@@ -2,8 +2,7 @@
 use Rattle.std.specs.Prelude.{◌≡◌, ◌≢◌, ℕ, ◌%◌, ◌<◌, ◌≤◌, List, ◌++◌, length}
 use Rattle.ntp_packet.specs.Header.{header_length, HeaderFields, IsHeader}
 use Rattle.ntp_packet.specs.Field.{Field, AreFields, written_length}
-use Rattle.ntp_packet.specs.Tail.{most_tail_octets}
-use Rattle.ntp_packet.specs.Request.{most_datagram_octets, signed_octets}
+use Rattle.ntp_packet.specs.{Tail.most_tail_octets, Request.most_datagram_octets, Request.signed_octets}
 use Rattle.ntp_packet.specs.declared.malformed.Malformed.{Malformed}
 use Rattle.ntp_packet.specs.declared.malformed.Malformed.TheVariants.{Short, Long, FieldShort, FieldUnaligned, FieldPastEnd, Rest}
 

@@ -1,7 +1,6 @@
 -- The fields that octets spell.
 use Rattle.std.specs.Prelude.{◌≡◌, ℕ, zero, suc, ◌-◌, List, [], ◌∷◌, length, take, drop}
-use Rattle.std.specs.List.{flat_map, AllByRecursion}
-use Rattle.std.specs.Borrow.{Bor}
+use Rattle.std.specs.{List.flat_map, List.AllByRecursion, Borrow.Bor}
 use Rattle.ntp_packet.specs.Field.{Field, field_octets, IsField, written_kind, written_length}
 
 -- the field at the front of the octets: its length counts the four octets before its value (RFC 7822, 3)

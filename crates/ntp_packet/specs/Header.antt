@@ -1,8 +1,7 @@
 -- The header of a packet, and its octets.
 use Rattle.std.specs.Prelude.{◌≡◌, ℕ, ℤ, pos, ◌+◌, ◌*◌, ◌^◌, ◌<◌, List, [], ◌∷◌, ◌++◌, length, All, FitsSigned}
 use Rattle.std.specs.Int.{w8, w32, w64, cast_unsigned, to_be_bytes}
-use Rattle.ntp_packet.specs.declared.stamp.Stamp.{Stamp}
-use Rattle.ntp_packet.specs.declared.stamp.Short.{Short}
+use Rattle.ntp_packet.specs.{declared.stamp.Stamp.Stamp, declared.stamp.Short.Short}
 use Rattle.ntp_packet.specs.declared.clock_fields.ClockFields.{ClockFields}
 
 -- how many octets a header has (RFC 5905, 7.3)

@@ -1,9 +1,8 @@
 -- What follows the header and the fields of a packet.
 use Rattle.std.specs.Prelude.{◌≡◌, ℕ, ◌^◌, ◌<◌, List, [], ◌++◌, length}
 use Rattle.std.specs.Int.{w32, to_be_bytes}
-use Rattle.ntp_packet.specs.declared.digests.Digest.{Digest}
+use Rattle.ntp_packet.specs.{declared.digests.Digest.Digest, declared.tail.Tail.Tail}
 use Rattle.ntp_packet.specs.declared.digests.Digest.TheVariants as digest
-use Rattle.ntp_packet.specs.declared.tail.Tail.{Tail}
 use Rattle.ntp_packet.specs.declared.tail.Tail.TheVariants.{Absent, Bare, Md5, Sha1}
 
 -- the octets of a digest (RFC 1321; FIPS 180-4)

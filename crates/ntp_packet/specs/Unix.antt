@@ -1,7 +1,6 @@
 -- Moments, from the count of Unix.
 use Rattle.std.specs.Prelude.{◌≡◌, ℕ, ℤ, pos, ◌*◌, ◌/◌, ◌^◌, ◌+ℤ◌, ◌*ℤ◌}
-use Rattle.ntp_packet.specs.declared.moment.Moment.{Moment}
-use Rattle.ntp_packet.specs.Moment.{units}
+use Rattle.ntp_packet.specs.{declared.moment.Moment.Moment, Moment.units}
 
 -- the second of era 0 that is 1970-01-01 at 00:00 UTC, from which Unix counts (RFC 5905, 6)
 abbrev pub unix_epoch : ℕ

@@ -15,8 +15,7 @@ pub struct Fields<'a> {
 
 impl<'a> Model for Fields<'a> {
     ghost use Rattle.std.specs.Prelude.{List};
-    ghost use Rattle.ntp_packet.specs.Field.{Field};
-    ghost use Rattle.ntp_packet.specs.Fields.{fields_of, SpellFields};
+    ghost use Rattle.ntp_packet.specs.{Field.Field, Fields.fields_of, Fields.SpellFields};
 
     ghost Value = { List Field };
 

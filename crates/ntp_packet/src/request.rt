@@ -24,8 +24,7 @@ pub struct Request<'a> {
 }
 
 impl<'a> Model for Request<'a> {
-    ghost use Rattle.ntp_packet.specs.Request.{RequestValue, IsReading};
-    ghost use Rattle.ntp_packet.specs.Tail.{tail_value};
+    ghost use Rattle.ntp_packet.specs.{Request.RequestValue, Request.IsReading, Tail.tail_value};
 
     ghost Value = { RequestValue };
 

@@ -1,11 +1,9 @@
 //! A datagram to a request.
 ghost use Rattle.std.specs.Prelude.{◌≡◌, ◌≢◌, ℕ, ◌+◌, ◌%◌, ◌<◌, ◌≤◌, List, length, take, drop, IfOk, IfErr, IfSome, IfNone};
 ghost use Rattle.std.specs.Int.{w32, to_be_bytes};
-ghost use Rattle.ntp_packet.specs.Header.{header_length};
+ghost use Rattle.ntp_packet.specs.{Header.header_length, Field.written_length as length_of, Faults.Stands, Faults.Fails};
 ghost use Rattle.ntp_packet.specs.Request.{most_datagram_octets, RequestValue, IsRequest};
 ghost use Rattle.ntp_packet.specs.Tail.{most_tail_octets, tail_octets, tail_value, IsTail};
-ghost use Rattle.ntp_packet.specs.Field.{written_length as length_of};
-ghost use Rattle.ntp_packet.specs.Faults.{Stands, Fails};
 
 use crate::fields::written_length;
 use crate::{Fields, HEADER_OCTETS, MOST_DATAGRAM_OCTETS, Malformed, Request, Tail, read_header};

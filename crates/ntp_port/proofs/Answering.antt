@@ -2,23 +2,17 @@
 use Rattle.std.proofs.Common.{◌≡◌, ℕ, ◌≤◌, false, Option, None, Some, Ok, Err, List, [], ◌∷◌, length, get_or, take, drop, refl, sym, ap, ◌∙◌, subst, append-nil, length-take, arith}
 use Rattle.std.proofs.lemmas.List.{take_all}
 use Rattle.ntp_packet.specs.declared.moment.Moment.{Moment}
-use Rattle.ntp_service.specs.Registry.{Registry}
-use Rattle.ntp_reply.specs.Reference.{ReferenceState}
-use Rattle.ntp_reply.specs.declared.answers.Answer.{Answer}
-use Rattle.ntp_service.specs.declared.observation.Arrival.{Arrival}
-use Rattle.ntp_service.specs.declared.observation.Sending.{Sending}
+use Rattle.ntp_service.specs.{Registry.Registry, declared.observation.Arrival.Arrival, declared.observation.Sending.Sending}
 use Rattle.ntp_service.specs.declared.observation.TurnOutcome.TheVariants.{NothingReceived, Answered}
-use Rattle.ntp_service.specs.declared.event.Event.{Event}
+use Rattle.ntp_service.specs.{declared.event.Event.Event, Headline.StandsFor, Headline.TellsOne}
+use Rattle.ntp_reply.specs.{Reference.ReferenceState, declared.answers.Answer.Answer}
 use Rattle.ntp_service.specs.declared.event.Event.TheVariants as event
 use Rattle.ntp_service.specs.declared.outcome.Outcome.TheVariants as outcome
-use Rattle.ntp_service.specs.Headline.{StandsFor, TellsOne}
 use Rattle.ntp_service.proofs.PublicLaws.{Tells-nil, Tells-one, Tells-append}
-use Rattle.ntp_port.specs.declared.memory_port.Sent.{Sent}
-use Rattle.ntp_port.specs.declared.port.PortCounts.{PortCounts}
-use Rattle.ntp_port.specs.declared.port.PortFault.{PortFault}
+use Rattle.ntp_port.specs.{declared.memory_port.Sent.Sent, declared.port.PortCounts.PortCounts, declared.port.PortFault.PortFault}
+use Rattle.ntp_port.specs.Serving.{TurnMakes}
 use Rattle.ntp_port.specs.Port.{IncomingValue, Readings, TurnValue, no_turn, Told, Arrives, Begins, ReceiveTells, NowTells, later, received, counted_send}
 use Rattle.ntp_port.specs.Made.{Missed, Received, turn_of, arrival_of, sending_of, is_unsent}
-use Rattle.ntp_port.specs.Serving.{TurnMakes}
 use Rattle.ntp_port.specs.Sending.{turn_with, IsInTurn, SendingMakes}
 use Rattle.ntp_port.proofs.OneTurn.{FollowsOne, follows-one, counted-none}
 

@@ -1,17 +1,13 @@
 -- Datagrams that are dropped, and what is passed on in the end.
 use Rattle.std.proofs.Common.{◌≡◌, ℕ, ◌+◌, ◌-◌, ◌^◌, ◌≤◌, true, false, List, [], ◌∷◌, ◌++◌, Option, None, Result, refl, subst, ◌∙◌, arith, length-append}
 use Rattle.ntp_service.specs.declared.observation.Arrival.{Arrival}
-use Rattle.ntp_port.specs.declared.port.PortFault.{PortFault}
-use Rattle.ntp_port.specs.Port.{Told, TellsOn, DropTells}
-use Rattle.ntp_port.specs.declared.queue_event.QueueEvent.{QueueEvent}
-use Rattle.ntp_port.specs.declared.queue_event.QueueEvent.TheVariants.{Taken}
-use Rattle.ntp_port.specs.declared.queue_watch.QueueWatch.{QueueWatch}
-use Rattle.ntp_port.specs.declared.fresh_port.Next.{Next}
-use Rattle.ntp_port.specs.declared.fresh_port.Next.TheVariants.{Stale}
-use Rattle.ntp_port.specs.Freshness.{MayBeAnswered, IsInOrder}
-use Rattle.ntp_port.specs.Queue.{TellsEvents, seen_in_drop}
-use Rattle.ntp_port.specs.Watch.{Watches, Counts, IsWaiting, longest_of}
+use Rattle.ntp_port.specs.{declared.port.PortFault.PortFault, declared.queue_event.QueueEvent.QueueEvent}
+use Rattle.ntp_port.specs.{declared.queue_event.QueueEvent.TheVariants.Taken, declared.queue_watch.QueueWatch.QueueWatch}
+use Rattle.ntp_port.specs.{declared.fresh_port.Next.Next, declared.fresh_port.Next.TheVariants.Stale}
+use Rattle.ntp_port.specs.{Freshness.MayBeAnswered, Freshness.IsInOrder, Queue.TellsEvents, Queue.seen_in_drop}
 use Rattle.ntp_port.specs.Passing.{HandsOnTurn}
+use Rattle.ntp_port.specs.Port.{Told, TellsOn, DropTells}
+use Rattle.ntp_port.specs.Watch.{Watches, Counts, IsWaiting, longest_of}
 use Rattle.ntp_port.specs.Fresh.{Stands, InHand, Swept, AreStale, most_sweeps, counted_on, IsSeenFrom, WasAsked, PassesOn, Kept, PassesOnInTime}
 use Rattle.ntp_port.specs.Next.{ComesTo, drops_in, TakesNext, Drops}
 use Rattle.ntp_port.proofs.Seeing.{IsSeenFrom-same, IsSeenFrom-more, seen-in_call}

@@ -1,9 +1,8 @@
 -- What is kept goes on to be that of a history.
 use Rattle.std.proofs.Common.{◌≡◌, ℕ, ◌+◌, ◌-◌, ◌≤◌, ◌⊎◌, inl, inr, List, [], ◌∷◌, ◌++◌, refl, sym, ap, subst, ◌∙◌, arith}
 use Rattle.std.specs.Prelude.{All}
-use Rattle.ntp_port.specs.declared.queue_event.QueueEvent.{QueueEvent}
+use Rattle.ntp_port.specs.{declared.queue_event.QueueEvent.QueueEvent, declared.queue_watch.QueueWatch.QueueWatch}
 use Rattle.ntp_port.specs.declared.queue_event.QueueEvent.TheVariants.{Held, Looked, Taken, Read}
-use Rattle.ntp_port.specs.declared.queue_watch.QueueWatch.{QueueWatch}
 use Rattle.ntp_port.specs.Freshness.{takes, moment_of, IsInOrder, AreCounted}
 use Rattle.ntp_port.specs.Watch.{Watches, Counts, IsWaiting, longest_of}
 use Rattle.ntp_port.specs.Fresh.{KeepsHistory, LooksAgain, Dropped, InHand, Swept, AreStale, history_dropped, in_hand, counted_on}
@@ -95,7 +94,7 @@ AreStale-append longest h k m [] second a b = subst (λ xs. AreStale longest xs 
 AreStale-append longest h k m (one ∷ first) second a b =
     (a.0, AreStale-append longest (history_dropped one h) k m first second a.1 b)
 
--- are so many in hand
+-- those in hand are counted one list after the other
 pub in_hand-append : (first second : List Dropped) → in_hand (first ++ second) ≡ in_hand first + in_hand second
 in_hand-append [] second = omega arith
 in_hand-append (InHand take ∷ first) second = omega (arith, in_hand-append first second)

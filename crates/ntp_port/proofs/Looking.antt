@@ -1,14 +1,12 @@
 -- Looks at a queue.
 use Rattle.std.proofs.Common.{◌≡◌, ℕ, ◌+◌, ◌/◌, ◌<◌, ◌≤◌, ◌⊎◌, inr, List, [], ◌∷◌, ◌++◌, Option, Some, false, refl, sym, subst, ◌∙◌, arith, append_assoc}
-use Rattle.ntp_port.specs.Port.{Told}
-use Rattle.ntp_port.specs.declared.queue_event.QueueEvent.{QueueEvent}
+use Rattle.ntp_port.specs.{Port.Told, declared.queue_event.QueueEvent.QueueEvent}
 use Rattle.ntp_port.specs.declared.queue_event.QueueEvent.TheVariants.{Held, Looked}
-use Rattle.ntp_port.specs.declared.queue_watch.QueueWatch.{QueueWatch}
+use Rattle.ntp_port.specs.{declared.queue_watch.QueueWatch.QueueWatch, Next.Unsaid, Next.LooksAtQueue}
 use Rattle.ntp_port.specs.Freshness.{takes, WasLookedAt, WasWatched}
 use Rattle.ntp_port.specs.Queue.{TellsEvents, seen_in_count, seen_in_look}
 use Rattle.ntp_port.specs.Watch.{Watches, Counts, IsWaiting, IsCounted, longest_of}
 use Rattle.ntp_port.specs.Fresh.{KeepsHistory, LooksAgain, Stands, IsSeenFrom, Kept}
-use Rattle.ntp_port.specs.Next.{Unsaid, LooksAtQueue}
 use Rattle.ntp_port.proofs.Seeing.{IsSeenFrom-same, IsSeenFrom-more, seen-in_call}
 use Rattle.ntp_port.proofs.Watching.{looked-later, looked-by, kept-looked, kept-watched, watched-by}
 use Rattle.ntp_port.proofs.Keeping.{StandsFor-Held, StandsFor-Looked, StandsFor-next}

@@ -2,18 +2,14 @@
 use Rattle.std.proofs.Common.{◌≡◌, ℕ, ◌+◌, ◌≤◌, Bool, Option, None, Some, List, [], ◌∷◌, ◌++◌, length, filter, sym, ap, subst, ◌∙◌, append_assoc, append-nil, length-append, arith}
 use Rattle.std.specs.Prelude.{flat_map, Result, is_err, option_map, if◌then◌else◌}
 use Rattle.std.specs.Result.{result_ok}
-use Rattle.std.proofs.lemmas.List.{map-append, drop-drop}
-use Rattle.std.proofs.lemmas.List.Elements.{filter-append}
+use Rattle.std.proofs.{lemmas.List.map-append, lemmas.List.drop-drop, lemmas.List.Elements.filter-append}
 use Rattle.std.proofs.lemmas.Grind.{flat_map-append}
-use Rattle.ntp_port.specs.declared.memory_port.Sent.{Sent}
+use Rattle.ntp_port.specs.{declared.memory_port.Sent.Sent, declared.port.PortCounts.PortCounts, declared.port.PortFault.PortFault}
 use Rattle.ntp_service.specs.declared.observation.Arrival.{Arrival}
-use Rattle.ntp_port.specs.declared.port.PortCounts.{PortCounts}
-use Rattle.ntp_port.specs.declared.port.PortFault.{PortFault}
 use Rattle.ntp_port.specs.Port.{Told, TurnValue, failed_calls, counted_send, CountsReceive}
 use Rattle.ntp_port.specs.Made.{Made, turn_of, sent_in, arrival_of, is_missed, is_unsent}
 use Rattle.ntp_port.specs.Serving.{FollowsList, Follows, PassesOver, AreBegun, Makes, begun_in, made_of, dropped_in}
-use Rattle.ntp_port.proofs.Sequences.{firsts-add}
-use Rattle.ntp_port.proofs.Dropping.{CountsMore-nil, CountsMore-append}
+use Rattle.ntp_port.proofs.{Sequences.firsts-add, Dropping.CountsMore-nil, Dropping.CountsMore-append}
 
 -- what turns send, and how many turns are such
 abbrev pub sent_of : List Made → List Sent

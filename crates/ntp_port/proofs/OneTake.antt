@@ -1,18 +1,13 @@
 -- One take, by the calls that were made in it.
 use Rattle.std.proofs.Common.{◌≡◌, ℕ, max, List, ◌∷◌, ◌++◌, Option, Result, sym, subst, ◌∙◌, arith}
 use Rattle.ntp_service.specs.declared.observation.Arrival.{Arrival}
-use Rattle.ntp_port.specs.declared.port.PortFault.{PortFault}
-use Rattle.ntp_port.specs.Port.{Told}
-use Rattle.ntp_port.specs.declared.queue_event.QueueEvent.{QueueEvent}
-use Rattle.ntp_port.specs.declared.queue_event.QueueEvent.TheVariants.{Read}
-use Rattle.ntp_port.specs.declared.fresh_port.Next.{Next}
-use Rattle.ntp_port.specs.Freshness.{WasWatched}
-use Rattle.ntp_port.specs.Queue.{ReadsClock, TellsEvents, seen_in_wait}
+use Rattle.ntp_port.specs.{declared.port.PortFault.PortFault, Port.Told, declared.queue_event.QueueEvent.QueueEvent}
+use Rattle.ntp_port.specs.{declared.queue_event.QueueEvent.TheVariants.Read, declared.fresh_port.Next.Next, Freshness.WasWatched}
 use Rattle.ntp_port.specs.Watch.{longest_of}
+use Rattle.ntp_port.specs.Queue.{ReadsClock, TellsEvents, seen_in_wait}
 use Rattle.ntp_port.specs.Fresh.{KeepsHistory, Stands, counted_on, Kept}
 use Rattle.ntp_port.specs.Next.{ComesTo, NextTells, drops_in, LooksOn, LooksAtQueue, TakesNext}
-use Rattle.ntp_port.proofs.Seeing.{seen-in_take}
-use Rattle.ntp_port.proofs.Keeping.{StandsFor-Read}
+use Rattle.ntp_port.proofs.{Seeing.seen-in_take, Keeping.StandsFor-Read}
 
 -- a look, a wait and a reading of the clock, one after another, are a take
 pub takes-next : (a b d : Kept) (s : Option (List QueueEvent)) (v : Option Told) (shows : ℕ) (received given : Option (Result Arrival PortFault))

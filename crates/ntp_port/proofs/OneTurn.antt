@@ -1,27 +1,20 @@
 -- One turn, by the calls that were made in it.
 use Rattle.std.proofs.Common.{◌≡◌, ℕ, ◌+◌, ◌≤◌, Bool, true, false, Option, None, Some, Result, Ok, Err, List, [], ◌∷◌, ◌++◌, length, refl, sym, ap, ◌∙◌, subst, append-nil, arith}
 use Rattle.std.specs.Prelude.{nat_le, not, is_err, is_some, option_to_list, map, if◌then◌else◌}
-use Rattle.ntp_packet.specs.declared.moment.Moment.{Moment}
-use Rattle.ntp_packet.specs.declared.stamp.Stamp.{Stamp}
+use Rattle.ntp_packet.specs.{declared.moment.Moment.Moment, declared.stamp.Stamp.Stamp}
 use Rattle.ntp_mac.specs.Mac.{most_reply_octets}
-use Rattle.ntp_service.specs.declared.address.Address.{Address}
-use Rattle.ntp_service.specs.Registry.{Registry}
+use Rattle.ntp_service.specs.{declared.address.Address.Address, Registry.Registry, declared.observation.Sending.Sending}
+use Rattle.ntp_service.specs.{declared.event.Event.Event, Model.departure_outcome}
 use Rattle.ntp_reply.specs.declared.answers.Answer.{Answer}
 use Rattle.ntp_reply.specs.declared.answers.Answer.TheVariants as answer
-use Rattle.ntp_service.specs.declared.observation.Sending.{Sending}
 use Rattle.ntp_service.specs.declared.observation.Sending.TheVariants.{NoReply, NotSent, Sent as WasSent, Noted, NotNoted}
-use Rattle.ntp_service.specs.declared.event.Event.{Event}
 use Rattle.ntp_service.specs.declared.event.Event.TheVariants as event
-use Rattle.ntp_service.specs.Model.{departure_outcome}
 use Rattle.ntp_service.specs.Headline.{StandsFor, Tells, TellsOne}
 use Rattle.ntp_service.proofs.PublicLaws.{Tells-nil, Tells-one}
-use Rattle.ntp_port.specs.declared.memory_port.Sent.{Sent}
-use Rattle.ntp_port.specs.declared.port.PortCounts.{PortCounts}
-use Rattle.ntp_port.specs.declared.port.PortFault.{PortFault}
-use Rattle.ntp_port.specs.declared.port.PortFault.TheVariants.{Send}
+use Rattle.ntp_port.specs.{declared.memory_port.Sent.Sent, declared.port.PortCounts.PortCounts, declared.port.PortFault.PortFault}
+use Rattle.ntp_port.specs.{declared.port.PortFault.TheVariants.Send, Serving.FollowsList, Serving.Follows}
 use Rattle.ntp_port.specs.Port.{IncomingValue, Readings, later, TurnValue, Told, counted_send, NowTells, SendTells}
 use Rattle.ntp_port.specs.Made.{Made, Received, turn_of, reply_in, departing, sent_in, sending_of, is_unsent}
-use Rattle.ntp_port.specs.Serving.{FollowsList, Follows}
 use Rattle.ntp_port.specs.Sending.{saved_in, turn_with, HasBegun, IsInTurn, SendingMakes}
 
 -- one turn, at any port

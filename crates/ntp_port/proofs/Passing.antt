@@ -2,8 +2,7 @@
 use Rattle.std.proofs.Common.{◌≡◌, ℕ, ◌+◌, List, Option, None, Some, Result, Err, true, false, refl, subst, arith}
 use Rattle.std.specs.Prelude.{IfSome, IfNone}
 use Rattle.ntp_service.specs.declared.observation.Arrival.{Arrival}
-use Rattle.ntp_port.specs.declared.port.PortFault.{PortFault}
-use Rattle.ntp_port.specs.declared.port.PortFault.TheVariants.{Receive}
+use Rattle.ntp_port.specs.{declared.port.PortFault.PortFault, declared.port.PortFault.TheVariants.Receive}
 use Rattle.ntp_port.specs.Port.{Told, TellsOn, DropsTurns, CountsMore, DropsAny, Receives}
 use Rattle.ntp_port.proofs.Dropping.{DropsTurns-append}
 use Rattle.ntp_port.specs.Fresh.{Kept, PassesOnFresh, counted_on}

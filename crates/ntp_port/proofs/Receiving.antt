@@ -1,16 +1,13 @@
 -- A port in memory begins its next turn.
 use Rattle.std.proofs.Common.{◌-◌, get_or, length-take, ◌≡◌, ℕ, ◌+◌, ◌<◌, min, Option, Some, Result, Ok, List, ◌++◌, length, take, drop, map, refl, sym, subst, arith}
 use Rattle.std.proofs.lemmas.List.{take_all, take-take, take-append-le, drop_more}
-use Rattle.std.proofs.lemmas.Bool.Decides.{eqb_tells}
-use Rattle.std.proofs.lemmas.Option.{slice_get_read}
+use Rattle.std.proofs.{lemmas.Bool.Decides.eqb_tells, lemmas.Option.slice_get_read}
 use Rattle.std.specs.Prelude.{false, true, is_none, option_map, slice_get}
 use Rattle.std.specs.Option.{option_map_or}
-use Rattle.ntp_port.specs.declared.turn.Turn.{Turn}
-use Rattle.ntp_service.specs.declared.observation.Arrival.{Arrival}
-use Rattle.ntp_port.specs.declared.port.PortFault.{PortFault}
-use Rattle.ntp_port.specs.Port.{TurnValue, no_turn, Told, received, Arrives, Begins, BeginsDropped}
-use Rattle.ntp_port.specs.Made.{arrival_of}
+use Rattle.ntp_port.specs.{declared.turn.Turn.Turn, declared.port.PortFault.PortFault, Made.arrival_of}
 use Rattle.ntp_port.specs.Memory.{turn_told, incoming_told}
+use Rattle.ntp_service.specs.declared.observation.Arrival.{Arrival}
+use Rattle.ntp_port.specs.Port.{TurnValue, no_turn, Told, received, Arrives, Begins, BeginsDropped}
 
 shortest : (xs : List ℕ) (n m : ℕ) → n ≡ min (length xs) m → take n xs ≡ take m xs
 shortest xs n m e = grind (arith, eqb_tells, take_all)

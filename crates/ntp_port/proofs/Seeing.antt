@@ -1,11 +1,9 @@
 -- What a port tells over several calls.
 use Rattle.std.proofs.Common.{◌≡◌, ℕ, ◌≤◌, max, List, [], ◌∷◌, ◌++◌, Option, None, Some, Result, refl, sym, ap, ◌∙◌, arith, append_assoc}
 use Rattle.ntp_service.specs.declared.observation.Arrival.{Arrival}
-use Rattle.ntp_port.specs.declared.port.PortFault.{PortFault}
-use Rattle.ntp_port.specs.declared.queue_event.QueueEvent.{QueueEvent}
-use Rattle.ntp_port.specs.declared.queue_event.QueueEvent.TheVariants.{Read}
+use Rattle.ntp_port.specs.{declared.port.PortFault.PortFault, declared.queue_event.QueueEvent.QueueEvent}
+use Rattle.ntp_port.specs.{declared.queue_event.QueueEvent.TheVariants.Read, Fresh.IsSeenFrom}
 use Rattle.ntp_port.specs.Queue.{last_reading, SeesMore, ReadsClock, TellsEvents, seen_in_wait}
-use Rattle.ntp_port.specs.Fresh.{IsSeenFrom}
 
 -- nothing was seen
 SeesMore-none : (q : Option (List QueueEvent)) → SeesMore q q []

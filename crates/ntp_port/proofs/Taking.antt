@@ -3,17 +3,14 @@ use Rattle.std.proofs.Common.{inl, inr, ◌⊎◌, ◌≡◌, ℕ, zero, suc, Bo
 use Rattle.std.specs.Prelude.{IfErr, is_err, flat_map, option_map}
 use Rattle.std.specs.Result.{result_ok}
 use Rattle.std.proofs.lemmas.Grind.{flat_map-append}
-use Rattle.ntp_service.specs.Registry.{Registry}
-use Rattle.ntp_reply.specs.Reference.{ReferenceState}
-use Rattle.ntp_service.specs.declared.observation.Arrival.{Arrival}
+use Rattle.ntp_service.specs.{Registry.Registry, declared.observation.Arrival.Arrival}
 use Rattle.ntp_service.specs.declared.observation.TurnOutcome.{TurnOutcome}
-use Rattle.ntp_port.specs.declared.port.PortCounts.{PortCounts}
-use Rattle.ntp_port.specs.declared.port.PortFault.{PortFault}
-use Rattle.ntp_port.specs.Sequence.{firsts}
+use Rattle.ntp_reply.specs.Reference.{ReferenceState}
+use Rattle.ntp_port.specs.{declared.port.PortCounts.PortCounts, declared.port.PortFault.PortFault, Sequence.firsts}
+use Rattle.ntp_port.specs.Sending.{turn_with}
 use Rattle.ntp_port.specs.Port.{IncomingValue, Readings, TurnValue, no_turn, Told, Arrives, Begins, ReceiveTells, DropTells, TellsOn, DropsTurns, CountsMore, CountsReceive, Receives, GivesUp}
 use Rattle.ntp_port.specs.Made.{Made, Missed, Received, turn_of, arrival_of}
 use Rattle.ntp_port.specs.Serving.{Follows, Step, InTurn, Skipped, GivenUp, begun_in, made_of, dropped_in, PassesOver, AreBegun, Makes, TurnMakes}
-use Rattle.ntp_port.specs.Sending.{turn_with}
 use Rattle.ntp_port.proofs.ManyTurns.{Follows-nil, Follows-append, Makes-one}
 use Rattle.ntp_port.proofs.Dropping.{CountsMore-nil, CountsMore-append}
 
@@ -53,7 +50,7 @@ drops-one (Some old) (Some new) p = by_turns old.coming refl p.2
               };
             }
 
--- ---- so many
+-- ---- n datagrams dropped, one after another
 record DropsMany (n : ℕ) (t u : Option Told) : Type 0 where
   steps : List Step
   none : flat_map made_of steps ≡ []

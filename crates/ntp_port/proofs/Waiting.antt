@@ -1,15 +1,12 @@
 -- Calls that pass on nothing, and then one more.
 use Rattle.std.proofs.Common.{◌≡◌, ℕ, ◌+◌, ◌<◌, ◌⊎◌, inl, inr, List, [], ◌∷◌, ◌++◌, length, Option, None, Some, Result, Ok, Err, refl, sym, ap, subst, ◌∙◌, arith, append_assoc, length-append}
 use Rattle.ntp_service.specs.declared.observation.Arrival.{Arrival}
-use Rattle.ntp_port.specs.declared.port.PortFault.{PortFault}
-use Rattle.ntp_port.specs.declared.queue_event.QueueEvent.{QueueEvent}
+use Rattle.ntp_port.specs.{declared.port.PortFault.PortFault, declared.queue_event.QueueEvent.QueueEvent, Watch.longest_of}
 use Rattle.ntp_port.specs.declared.queue_event.QueueEvent.TheVariants.{Held, Looked, Taken, Read}
 use Rattle.ntp_port.specs.Freshness.{takes, MayBeAnswered, AreCounted, WasWatched}
-use Rattle.ntp_port.specs.Watch.{longest_of}
 use Rattle.ntp_port.specs.Fresh.{Take, history_before, history_after, Dropped, InHand, Swept, history_dropped, IsStale, AreStale, in_hand, WasAsked, PassesOn, Kept, ReceivesFresh, PassesOnFresh}
-use Rattle.ntp_port.proofs.Seeing.{IsSeenFrom-more}
+use Rattle.ntp_port.proofs.{Seeing.IsSeenFrom-more, Dropping.DropsTurns-on, Dropping.DropsTurns-append}
 use Rattle.ntp_port.proofs.Keeping.{AreStale-append, in_hand-append, counted-append}
-use Rattle.ntp_port.proofs.Dropping.{DropsTurns-on, DropsTurns-append}
 
 takes-append : (xs ys : List QueueEvent) → takes (xs ++ ys) ≡ takes xs + takes ys
 takes-append [] ys = omega arith
@@ -175,7 +172,7 @@ Passes-more a b c result datagram later first second = record {
       (y.0, y.1, more);
 }
 
--- after so many calls nothing was passed on: nothing yet, after none
+-- calls were made and passed nothing on; before the first call all is as it was
 abbrev pub HasWaited : ℕ → Kept → Kept → List ℕ → Type 0
 HasWaited count old new datagram = ((count ≡ 0) × (old ≡ new)) ⊎ PassesOnFresh old new None datagram
 

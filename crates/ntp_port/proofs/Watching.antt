@@ -3,13 +3,12 @@ use Rattle.std.proofs.Common.{◌≡◌, ℕ, suc, ◌+◌, ◌/◌, ◌<◌, �
 use Rattle.std.specs.Prelude.{nat_le, ◌&&◌, if◌then◌else◌, All, Contains}
 use Rattle.std.proofs.lemmas.Bool.{le-leb, lt-leb, leb-true}
 use Rattle.std.proofs.lemmas.List.Elements.{All-contains, Contains-append_right}
-use Rattle.ntp_port.specs.declared.queue_event.QueueEvent.{QueueEvent}
+use Rattle.ntp_port.specs.{declared.queue_event.QueueEvent.QueueEvent, declared.queue_watch.QueueWatch.QueueWatch}
 use Rattle.ntp_port.specs.declared.queue_event.QueueEvent.TheVariants.{Held, Looked, Taken, Read}
-use Rattle.ntp_port.specs.declared.queue_watch.QueueWatch.{QueueWatch}
 use Rattle.ntp_port.specs.Freshness.{takes, moment_of, IsInOrder, MayBeAnswered, WasLookedAt, WasCounted, oldest_look, oldest_count, WasWatched}
 use Rattle.ntp_port.specs.Watch.{Watches, Counts, IsCounted, longest_of, known_after, kept_after}
 
--- what is taken next after so many more takes came after this moment
+-- what is taken next, after `more` more takes, came after this moment
 CameAfterMore : ℕ → List QueueEvent → ℕ → Type 0
 CameAfterMore more history at =
     (since : List QueueEvent) × (before : List QueueEvent) × (count : ℕ) × (history ≡ since ++ Held count at ∷ before) × (count ≤ takes since + more)

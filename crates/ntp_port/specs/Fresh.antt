@@ -1,19 +1,15 @@
 -- What a port does that passes on only what may be answered.
 use Rattle.std.specs.Prelude.{◌≡◌, ℕ, suc, ◌+◌, ◌-◌, ◌^◌, ◌<◌, ◌≤◌, ◌⊎◌, min, Option, None, Some, Result, Ok, Err, List, [], ◌∷◌, ◌++◌, length, All}
 use Rattle.ntp_service.specs.declared.observation.Arrival.{Arrival}
-use Rattle.ntp_port.specs.declared.port.PortFault.{PortFault}
-use Rattle.ntp_port.specs.Port.{Told}
-use Rattle.ntp_port.specs.declared.queue_event.QueueEvent.{QueueEvent}
+use Rattle.ntp_port.specs.{declared.port.PortFault.PortFault, Port.Told, declared.queue_event.QueueEvent.QueueEvent}
+use Rattle.ntp_port.specs.{declared.queue_watch.QueueWatch.QueueWatch, declared.fresh_port.FreshPort.FreshPort}
+use Rattle.ntp_port.specs.{Queue.last_reading, Queue.SeesMore, Passing.PassesTurns}
 use Rattle.ntp_port.specs.declared.queue_event.QueueEvent.TheVariants.{Held, Taken, Read}
-use Rattle.ntp_port.specs.declared.queue_watch.QueueWatch.{QueueWatch}
-use Rattle.ntp_port.specs.declared.fresh_port.FreshPort.{FreshPort}
 use Rattle.ntp_port.specs.declared.queued_port.QueuedPort as queued
 use Rattle.ntp_port.specs.declared.port.TimedPort as timed
 use Rattle.ntp_port.specs.declared.port.Port as port
 use Rattle.ntp_port.specs.Freshness.{takes, moment_of, IsInOrder, MayBeAnswered, AreCounted, WasWatched}
-use Rattle.ntp_port.specs.Queue.{last_reading, SeesMore}
 use Rattle.ntp_port.specs.Watch.{Watches, Counts, longest_of}
-use Rattle.ntp_port.specs.Passing.{PassesTurns}
 
 -- when the queue may be looked at again: at once (0), or while the last look and the last count are in time
 abbrev pub LooksAgain : ℕ → List QueueEvent → ℕ → Type 0

@@ -37,8 +37,8 @@ moment_of (Looked at) = at
 moment_of (Taken at) = at
 moment_of (Read at) = at
 
--- the `more` datagrams that are taken next after the history may be of those that a look counted: it counted so many more than were
--- taken since
+-- the `more` datagrams that are taken next after the history may be of those that a look counted: it counted at least
+-- as many as were taken since, and `more`
 abbrev pub AreCounted : ℕ → List QueueEvent → Type 0
 AreCounted more history =
     (since : List QueueEvent) × (before : List QueueEvent) × (count : ℕ) × (at : ℕ) × (history ≡ since ++ Held count at ∷ before) × (takes since + more ≤ count)

@@ -2,9 +2,7 @@
 use Rattle.std.specs.Prelude.{zero, suc, ◌-◌, option_map, map, drop, slice_get, if◌then◌else◌}
 use Rattle.std.specs.Option.{option_map_or}
 use Rattle.ntp_packet.specs.declared.moment.Moment.{Moment}
-use Rattle.ntp_port.specs.declared.turn.Incoming.{Incoming}
-use Rattle.ntp_port.specs.declared.turn.Turn.{Turn}
-use Rattle.ntp_port.specs.declared.memory_port.MemoryPort.{MemoryPort}
+use Rattle.ntp_port.specs.{declared.turn.Incoming.Incoming, declared.turn.Turn.Turn, declared.memory_port.MemoryPort.MemoryPort}
 use Rattle.ntp_port.specs.declared.port.PortCounts.{PortCounts}
 use Rattle.ntp_port.specs.Port.{IncomingValue, Readings, later, TurnValue, no_turn, Told}
 

@@ -1,12 +1,9 @@
 -- Not to be believed: for proofs. What one take comes to.
 use Rattle.std.specs.Prelude.{◌≡◌, ℕ, ◌+◌, true, Option, Ok, Err, List, length, ◌++◌}
-use Rattle.ntp_port.specs.declared.port.PortCounts.{PortCounts}
+use Rattle.ntp_port.specs.{declared.port.PortCounts.PortCounts, declared.queue_event.QueueEvent.QueueEvent}
+use Rattle.ntp_port.specs.{declared.fresh_port.Next.Next, Freshness.takes, Freshness.MayBeAnswered, Watch.longest_of}
 use Rattle.ntp_port.specs.Port.{Told, ReceiveTells, TellsOn, DropTells, DropsTurns}
-use Rattle.ntp_port.specs.declared.queue_event.QueueEvent.{QueueEvent}
-use Rattle.ntp_port.specs.declared.fresh_port.Next.{Next}
 use Rattle.ntp_port.specs.declared.fresh_port.Next.TheVariants.{Nothing, Fault, Fresh, Stale}
-use Rattle.ntp_port.specs.Freshness.{takes, MayBeAnswered}
-use Rattle.ntp_port.specs.Watch.{longest_of}
 use Rattle.ntp_port.specs.Fresh.{Stands, Take, Dropped, InHand, IsStale, history_before, history_after, AreStale, in_hand, NothingTaken, FoundEmpty, counted_on, IsSeenFrom, Kept}
 
 -- what was taken
@@ -85,7 +82,7 @@ pub record DropsOn (old new : Kept) (count from_hand : ℕ) (history : List Queu
   pub as_many : length dropped ≡ count
   pub hands : in_hand dropped ≡ from_hand
 
--- datagrams were dropped, so many of them from hand
+-- datagrams were dropped, `from_hand` of them from hand
 pub record Drops (from_hand : ℕ) (old new : Kept) : Type 0 where
   pub count : ℕ
   pub counted : new.stale ≡ counted_on old.stale count

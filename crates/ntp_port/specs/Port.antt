@@ -2,11 +2,8 @@
 use Rattle.std.specs.Prelude.{◌≡◌, ℕ, zero, suc, ◌+◌, ◌^◌, ◌<◌, ◌⊎◌, Bool, false, true, not, ◌&&◌, Option, None, Some, IfSome, IsSomeAnd, Result, Ok, Err, is_err, List, [], ◌∷◌, ◌++◌, length, get_or, take, drop, nat_le, if◌then◌else◌}
 use Rattle.ntp_packet.specs.declared.moment.Moment.{Moment}
 use Rattle.ntp_mac.specs.Mac.{most_reply_octets}
-use Rattle.ntp_service.specs.declared.address.Address.{Address}
-use Rattle.ntp_port.specs.declared.memory_port.Sent.{Sent}
-use Rattle.ntp_service.specs.declared.observation.Arrival.{Arrival}
-use Rattle.ntp_port.specs.declared.port.PortCounts.{PortCounts}
-use Rattle.ntp_port.specs.declared.port.PortFault.{PortFault}
+use Rattle.ntp_service.specs.{declared.address.Address.Address, declared.observation.Arrival.Arrival}
+use Rattle.ntp_port.specs.{declared.memory_port.Sent.Sent, declared.port.PortCounts.PortCounts, declared.port.PortFault.PortFault}
 use Rattle.ntp_port.specs.declared.port.PortFault.TheVariants.{Receive, Send}
 
 -- how many octets of a datagram are taken

@@ -1,23 +1,17 @@
 -- Not to be believed: for proofs. What becomes of the reply of an answer, and how a turn is counted.
 use Rattle.std.specs.Prelude.{◌≡◌, ◌+◌, Bool, false, true, Option, None, Some, IfSome, IsSomeAnd, List, ◌∷◌, [], map, if◌then◌else◌}
-use Rattle.ntp_packet.specs.declared.moment.Moment.{Moment}
-use Rattle.ntp_packet.specs.declared.stamp.Stamp.{Stamp}
-use Rattle.ntp_service.specs.Registry.{Registry}
-use Rattle.ntp_reply.specs.declared.answers.Answer.{Answer}
-use Rattle.ntp_reply.specs.declared.answers.Answer.TheVariants as answer
-use Rattle.ntp_service.specs.declared.observation.Sending.{Sending}
+use Rattle.ntp_packet.specs.{declared.moment.Moment.Moment, declared.stamp.Stamp.Stamp}
+use Rattle.ntp_service.specs.{Registry.Registry, declared.observation.Sending.Sending}
 use Rattle.ntp_service.specs.declared.observation.TurnOutcome.{TurnOutcome}
 use Rattle.ntp_service.specs.declared.observation.TurnOutcome.TheVariants.{NothingReceived, Answered}
-use Rattle.ntp_service.specs.declared.event.Event.{Event}
-use Rattle.ntp_service.specs.declared.event.Event.TheVariants as event
-use Rattle.ntp_service.specs.Model.{departure_outcome}
-use Rattle.ntp_service.specs.Sending.{was_sent, was_noted}
+use Rattle.ntp_service.specs.{declared.event.Event.Event, Model.departure_outcome, Sending.was_sent, Sending.was_noted}
 use Rattle.ntp_service.specs.Headline.{StandsFor, Tells}
-use Rattle.ntp_port.specs.declared.port.PortCounts.{PortCounts}
-use Rattle.ntp_port.specs.declared.serving.Served.{Served}
+use Rattle.ntp_reply.specs.declared.answers.Answer.{Answer}
+use Rattle.ntp_reply.specs.declared.answers.Answer.TheVariants as answer
+use Rattle.ntp_service.specs.declared.event.Event.TheVariants as event
+use Rattle.ntp_port.specs.{declared.port.PortCounts.PortCounts, declared.serving.Served.Served, Serving.Follows}
 use Rattle.ntp_port.specs.Port.{IncomingValue, Readings, later, TurnValue, Told, counted_send}
 use Rattle.ntp_port.specs.Made.{Received, departing, sending_of, is_unsent}
-use Rattle.ntp_port.specs.Serving.{Follows}
 
 -- the receive stamp of a time reply
 abbrev pub saved_in : Answer → Option Stamp

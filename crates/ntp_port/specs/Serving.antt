@@ -1,15 +1,11 @@
 -- What a server does at a port.
 use Rattle.std.specs.Prelude.{◌≡◌, ℕ, ◌+◌, Bool, false, true, Option, Some, IfSome, IsSomeAnd, option_map, Result, List, [], ◌∷◌, ◌++◌, length, take, drop, map, filter, flat_map}
 use Rattle.std.specs.Result.{result_ok}
-use Rattle.ntp_service.specs.Registry.{Registry}
-use Rattle.ntp_reply.specs.Reference.{ReferenceState}
-use Rattle.ntp_service.specs.declared.observation.Arrival.{Arrival}
-use Rattle.ntp_service.specs.declared.observation.TurnOutcome.{TurnOutcome}
-use Rattle.ntp_service.specs.declared.event.Event.{Event}
+use Rattle.ntp_service.specs.{Registry.Registry, declared.observation.Arrival.Arrival}
+use Rattle.ntp_service.specs.{declared.observation.TurnOutcome.TurnOutcome, declared.event.Event.Event}
 use Rattle.ntp_service.specs.Headline.{StandsFor, Tells}
-use Rattle.ntp_port.specs.declared.port.PortCounts.{PortCounts}
-use Rattle.ntp_port.specs.declared.port.PortFault.{PortFault}
-use Rattle.ntp_port.specs.declared.serving.Served.{Served}
+use Rattle.ntp_reply.specs.Reference.{ReferenceState}
+use Rattle.ntp_port.specs.{declared.port.PortCounts.PortCounts, declared.port.PortFault.PortFault, declared.serving.Served.Served}
 use Rattle.ntp_port.specs.Sequence.{firsts}
 use Rattle.ntp_port.specs.Port.{IncomingValue, Readings, TurnValue, no_turn, Told, received, CountsMore, counted_send}
 use Rattle.ntp_port.specs.Made.{Made, Missed, turn_of, happened_in_turn, sent_in, has_arrived, has_departed, is_missed, is_unsent, arrival_of, turn_outcome}

@@ -2,9 +2,8 @@
 ghost use Rattle.std.specs.Prelude.{◌≡◌, ◌+◌, ◌-◌, ◌/◌, ◌≤◌, ◌<◌, ◌^◌, List, All, Option, None, Some, Result, Err, IfOk, IfErr, IfSome, IfNone, false, true, option_map, is_err, if◌then◌else◌};
 ghost use Rattle.std.specs.Option.{option_map_or};
 ghost use Rattle.ntp_port.specs.Port.{most_received_octets, failed_calls, counted_send, CountsReceive, CountsWait, Receives, DropsAny, NowTells, SendTells};
-ghost use Rattle.ntp_port.specs.declared.queue_event.QueueEvent.{QueueEvent};
+ghost use Rattle.ntp_port.specs.{declared.queue_event.QueueEvent.QueueEvent, Queue.ReadsClock};
 ghost use Rattle.ntp_port.specs.Freshness.{moment_of, IsInOrder, WasLookedAt, WasWatched};
-ghost use Rattle.ntp_port.specs.Queue.{ReadsClock};
 ghost use Rattle.ntp_port.specs.Watch.{Watches, Counts, longest_of, IsCounted, kept_after};
 
 use crate::queue_watch::QueueWatch;

@@ -44,8 +44,7 @@ pub struct MemoryPort<A: Allocator = Global> {
 }
 
 impl<A: Allocator + Copy> MemoryPort<A> {
-    ghost use Rattle.ntp_port.specs.Port.{no_turn};
-    ghost use Rattle.ntp_port.specs.Port.{failed_calls};
+    ghost use Rattle.ntp_port.specs.{Port.no_turn, Port.failed_calls};
     ghost use Rattle.ntp_port.specs.Memory.{turn_told, told_by, memory_counts};
 
     /// A port that will make these turns. The room for all that can be sent is taken from `alloc` here, so that

@@ -52,8 +52,7 @@ pub struct MemoryQueue<A: Allocator = Global> {
 }
 
 impl<A: Allocator> MemoryQueue<A> {
-    ghost use Rattle.ntp_port.specs.Memory.{told_by};
-    ghost use Rattle.ntp_port.specs.MemoryQueue.{history_in};
+    ghost use Rattle.ntp_port.specs.{Memory.told_by, MemoryQueue.history_in};
 
     /// A queue to which the datagrams of the port's turns come at these moments, and a clock that shows these readings, all in
     /// nanoseconds. The room for `room` events is taken from `alloc` here, so that no call of the port takes memory: `NoMemory` only

@@ -1,7 +1,6 @@
 //! What is kept of a queue, to know after which moment its next datagram came.
 ghost use Rattle.std.specs.Prelude.{◌≡◌, ℕ, ◌+◌, ◌*◌, ◌/◌, ◌<◌, ◌↔◌, ◌⊎◌, List, [], ◌∷◌, Some, IsTrue, false};
-ghost use Rattle.ntp_port.specs.declared.queue_event.QueueEvent.{QueueEvent};
-ghost use Rattle.ntp_port.specs.Freshness.{MayBeAnswered, IsInOrder};
+ghost use Rattle.ntp_port.specs.{declared.queue_event.QueueEvent.QueueEvent, Freshness.MayBeAnswered, Freshness.IsInOrder};
 ghost use Rattle.ntp_port.specs.Watch.{Watches, Counts, IsWaiting, IsKnownWithin, longest_of, kept_after};
 
 /// Parts of the longest time that a datagram may wait. What is known of the queue is renewed: at an age of one part by a look

@@ -5,10 +5,8 @@ use Rattle.ntp_packet.specs.Request.{RequestValue}
 use Rattle.ntp_mac.specs.Signed.{is_signed}
 use Rattle.ntp_customer.specs.declared.numbered_key.NumberedKey.{NumberedKey}
 use Rattle.ntp_customer.specs.Customer.{CustomerState, Enrolment, held_in}
-use Rattle.ntp_reply.specs.declared.occasion.Occasion.{Occasion}
+use Rattle.ntp_reply.specs.{declared.occasion.Occasion.Occasion, Answered.Answers, declared.answers.Answer.Answer}
 use Rattle.ntp_reply.specs.Kind.{Kind, RefusedByNak, Signed, mac_number, octets_kind}
-use Rattle.ntp_reply.specs.Answered.{Answers}
-use Rattle.ntp_reply.specs.declared.answers.Answer.{Answer}
 
 -- an answer to one kind is one to the same kind, and no longer than more octets
 pub as-kind : (o : Occasion) (kind other : Kind) (most more : ℕ) (old new : CustomerState) (reply : Answer)

@@ -2,18 +2,12 @@
 use Rattle.std.proofs.Common.{◌≡◌, Bool, true, false, List, [], ◌∷◌, ◌++◌, Option, None, IfSome, Contains, sym, subst, arith}
 use Rattle.std.proofs.lemmas.Grind.{common_steps}
 use Rattle.std.specs.Prelude.{if◌then◌else◌, is_some, nat_lt, ◌==◌}
-use Rattle.ntp_packet.specs.declared.stamp.Stamp.{Stamp}
-use Rattle.ntp_packet.specs.declared.moment.Moment.{Moment}
-use Rattle.ntp_packet.specs.Header.{HeaderFields}
-use Rattle.ntp_customer.specs.declared.slot.Slot.{Slot}
+use Rattle.ntp_packet.specs.{declared.stamp.Stamp.Stamp, declared.moment.Moment.Moment, Header.HeaderFields}
+use Rattle.ntp_customer.specs.{declared.slot.Slot.Slot, Customer.budget_of, Past.Past, Past.with_query}
 use Rattle.ntp_customer.specs.Exchanges.{AreSaved, recent, new_exchange, unused_at, spent}
 use Rattle.ntp_customer.proofs.PublicLaws.{find-member, receives-spent, all_stamps-spent, recent-departed, AreSaved-nil, AreSaved-push, AreSaved-spent, AreSaved-departed, by_past}
-use Rattle.ntp_reply.specs.declared.occasion.Occasion.{Occasion}
-use Rattle.ntp_reply.specs.Replies.{new_stamps}
+use Rattle.ntp_reply.specs.{declared.occasion.Occasion.Occasion, Replies.new_stamps, Life.recent_of}
 use Rattle.ntp_reply.proofs.DistinctStamps.{receive-free, transmit-free}
-use Rattle.ntp_customer.specs.Customer.{budget_of}
-use Rattle.ntp_customer.specs.Past.{Past, with_query}
-use Rattle.ntp_reply.specs.Life.{recent_of}
 use Rattle.ntp_reply.specs.Exchanged.{matched, with_match_used, after_time, after_departure}
 use Rattle.ntp_reply.specs.Kind.{Kind, PassedOver, RefusedByDeny, RefusedByNak, Signed}
 use Rattle.ntp_reply.specs.Verdict.{after_kind, query_count, window_at}

@@ -1,11 +1,9 @@
 -- The receive and the transmit stamp of a reply.
 use Rattle.std.proofs.Common.{◌^◌, ◌<◌, List, [], ◌∷◌, ◌++◌, length, Option, Some, None, IfSome, Contains, sym, arith}
 use Rattle.std.specs.Prelude.{IsTrue}
-use Rattle.std.proofs.lemmas.List.{length-append, length-map}
-use Rattle.std.proofs.lemmas.List.Elements.{Contains-append_right}
-use Rattle.ntp_packet.specs.Fresh.{is_free}
+use Rattle.std.proofs.{lemmas.List.length-append, lemmas.List.length-map, lemmas.List.Elements.Contains-append_right}
+use Rattle.ntp_packet.specs.{Fresh.is_free, Header.HeaderFields}
 use Rattle.ntp_packet.proofs.PublicLaws.{free-nonzero, free-apart, IsFresh-fresh}
-use Rattle.ntp_packet.specs.Header.{HeaderFields}
 use Rattle.ntp_customer.specs.declared.slot.Slot.{Slot}
 use Rattle.ntp_customer.specs.Exchanges.{AreSaved, receives, transmits, all_stamps}
 use Rattle.ntp_customer.proofs.PublicLaws.{Contains-map, stamps-apart}

@@ -1,17 +1,13 @@
 -- What is kept of the exchanges of a past.
 use Rattle.std.proofs.Common.{◌≡◌, ℕ, Bool, false, List, [], ◌∷◌, ◌++◌, length, IsSome, IfSome, is_some, refl, sym, ap, ◌∙◌, arith}
 use Rattle.std.specs.Prelude.{if◌then◌else◌}
-use Rattle.ntp_packet.specs.declared.stamp.Stamp.{Stamp}
-use Rattle.ntp_packet.specs.declared.moment.Moment.{Moment}
-use Rattle.ntp_packet.specs.Header.{HeaderFields}
+use Rattle.ntp_packet.specs.{declared.stamp.Stamp.Stamp, declared.moment.Moment.Moment, Header.HeaderFields}
 use Rattle.ntp_customer.specs.declared.slot.Slot.{Slot}
 use Rattle.ntp_customer.specs.Exchanges.{recent, with_recent, new_exchange, unused_at, spent, with_departure}
 use Rattle.ntp_customer.proofs.PublicLaws.{recent-all, recent-append, recent-with_recent, recent-departed, length-spent, by_customer, revoked-absent, by_past}
 use Rattle.ntp_customer.specs.Customer.{Enrolment, CustomerState, new_customer, customer_from, enrolment_at, is_enrolled, exchanges_of, with_saved}
 use Rattle.ntp_customer.specs.Past.{Past, with_query, short}
-use Rattle.ntp_reply.specs.declared.occasion.Occasion.{Occasion}
-use Rattle.ntp_reply.specs.declared.occasion.NewStamps.{NewStamps}
-use Rattle.ntp_reply.specs.Replies.{new_stamps}
+use Rattle.ntp_reply.specs.{declared.occasion.Occasion.Occasion, declared.occasion.NewStamps.NewStamps, Replies.new_stamps}
 use Rattle.ntp_reply.specs.Life.{recent_of}
 use Rattle.ntp_reply.specs.Exchanged.{matched, with_match_used, stamps_of, after_time, is_noted, after_departure}
 

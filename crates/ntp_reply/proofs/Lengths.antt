@@ -4,13 +4,9 @@ use Rattle.ntp_packet.specs.Tail.{TailValue, MacTail, tail_octets, IsTail}
 use Rattle.ntp_packet.specs.Request.{RequestValue, IsReading}
 use Rattle.ntp_packet.specs.declared.digests.Digest.TheVariants as digest
 use Rattle.ntp_packet.proofs.PublicLaws.{length-signed}
-use Rattle.ntp_mac.specs.Key.{SymmetricKey}
-use Rattle.ntp_mac.specs.Digest.{digest_length, hash}
-use Rattle.ntp_mac.specs.Signed.{IsSigned}
-use Rattle.ntp_mac.specs.declared.key.Algorithm.{Algorithm}
+use Rattle.ntp_mac.specs.{Key.SymmetricKey, Digest.digest_length, Digest.hash, Signed.IsSigned, declared.key.Algorithm.Algorithm}
 use Rattle.ntp_mac.specs.declared.key.Algorithm.TheVariants.{Md5, Sha1}
-use Rattle.ntp_reply.specs.Kind.{mac_number}
-use Rattle.ntp_reply.specs.Verdict.{request_length}
+use Rattle.ntp_reply.specs.{Kind.mac_number, Verdict.request_length}
 
 -- a request has a header
 pub signed-long : (r : RequestValue) → IsReading r → 48 ≤ length r.signed

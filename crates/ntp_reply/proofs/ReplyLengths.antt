@@ -5,29 +5,20 @@ use Rattle.std.specs.Prelude.{if◌then◌else◌, ok_or, slice_index}
 use Rattle.std.specs.Int.{w32, to_be_bytes}
 use Rattle.md5.proofs.StandardFacts.{length-md5}
 use Rattle.sha1.specs.Sha1.{sha1, digest_bytes as sha1_octets}
-use Rattle.ntp_packet.specs.Header.{HeaderFields, header_octets}
-use Rattle.ntp_packet.proofs.PublicLaws.{four-cells}
-use Rattle.ntp_customer.specs.declared.slot.Slot.{Slot}
-use Rattle.ntp_packet.specs.FirstCase.{◌>>=◌, ◌>>◌, provided, decided}
-use Rattle.ntp_packet.specs.Tail.{TailValue, digest_octets}
-use Rattle.ntp_packet.specs.Request.{RequestValue, IsReading, IsRequest}
+use Rattle.ntp_packet.specs.{Header.HeaderFields, Header.header_octets, Tail.TailValue, Tail.digest_octets}
 use Rattle.ntp_packet.specs.declared.malformed.Malformed.{Malformed}
-use Rattle.ntp_mac.specs.Key.{SymmetricKey}
-use Rattle.ntp_mac.specs.Digest.{digest_length, hash}
-use Rattle.ntp_mac.specs.Mac.{mac_of}
-use Rattle.ntp_mac.specs.Reading.{reading_of}
+use Rattle.ntp_packet.proofs.PublicLaws.{four-cells}
+use Rattle.ntp_customer.specs.{declared.slot.Slot.Slot, Customer.Enrolment, Past.Past}
+use Rattle.ntp_packet.specs.FirstCase.{◌>>=◌, ◌>>◌, provided, decided}
+use Rattle.ntp_packet.specs.Request.{RequestValue, IsReading, IsRequest}
+use Rattle.ntp_mac.specs.{Key.SymmetricKey, Digest.digest_length, Digest.hash, Mac.mac_of, Reading.reading_of}
 use Rattle.ntp_mac.specs.declared.key.Algorithm.{Algorithm}
 use Rattle.ntp_mac.proofs.PublicLaws.{is-signed}
-use Rattle.ntp_customer.specs.Customer.{Enrolment}
-use Rattle.ntp_customer.specs.Past.{Past}
 use Rattle.ntp_reply.specs.declared.kiss.Kiss.TheVariants as kiss
-use Rattle.ntp_reply.specs.declared.occasion.Occasion.{Occasion}
-use Rattle.ntp_reply.specs.declared.occasion.NewStamps.{NewStamps}
-use Rattle.ntp_reply.specs.Replies.{time_fields, sealed}
-use Rattle.ntp_reply.specs.Life.{Life}
+use Rattle.ntp_reply.specs.{declared.occasion.Occasion.Occasion, declared.occasion.NewStamps.NewStamps}
+use Rattle.ntp_reply.specs.{Replies.time_fields, Replies.sealed, Life.Life, declared.answers.Answer.Answer}
 use Rattle.ntp_reply.specs.Kind.{Kind, PassedOver, RefusedByDeny, RefusedByNak, Signed, mac_number, octets_kind}
 use Rattle.ntp_reply.specs.Verdict.{kind_answer, verdict, reply_length, request_length, most_octets}
-use Rattle.ntp_reply.specs.declared.answers.Answer.{Answer}
 use Rattle.ntp_reply.specs.declared.answers.Answer.TheVariants as answer
 use Rattle.ntp_reply.specs.declared.answers.Reason.TheVariants as reason
 use Rattle.ntp_reply.proofs.Lengths.{signed-long, mac-fits, signed-fits}
@@ -76,7 +67,7 @@ most_of (RefusedByDeny request) = 48
 most_of (RefusedByNak request) = 52
 most_of (Signed key number request) = 52 + digest_length key.algorithm
 
--- a reply has at most the octets of its answer, and so many
+-- a reply has at most the octets of its answer, and `most`
 abbrev IsWithin : ℕ → Answer → Type 0
 IsWithin most a = (reply_length a ≤ most_octets a) × (reply_length a ≤ most)
 

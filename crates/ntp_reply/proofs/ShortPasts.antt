@@ -9,10 +9,8 @@ use Rattle.ntp_packet.specs.Header.{HeaderFields}
 use Rattle.ntp_mac.specs.Reading.{reading_of}
 use Rattle.ntp_customer.specs.Customer.{enrolment_at, budget_of, changing}
 use Rattle.ntp_customer.specs.Past.{Past, queries_in, with_refusal, with_query, short}
-use Rattle.ntp_reply.specs.declared.occasion.Occasion.{Occasion}
-use Rattle.ntp_reply.specs.Life.{recent_of}
+use Rattle.ntp_reply.specs.{declared.occasion.Occasion.Occasion, Life.recent_of, Exchanged.after_time}
 use Rattle.ntp_reply.specs.Kind.{Kind, PassedOver, RefusedByDeny, RefusedByNak, Signed, octets_kind, kind_of}
-use Rattle.ntp_reply.specs.Exchanged.{after_time}
 use Rattle.ntp_reply.specs.Verdict.{kind_answer, after_kind, window_at, query_count, refusals_sent}
 use Rattle.ntp_reply.specs.declared.answers.Answer.TheVariants as answer
 use Rattle.ntp_reply.specs.declared.answers.Reason.TheVariants as reason

@@ -1,11 +1,8 @@
 -- Not to be believed: for proofs. What the private functions give that answer a datagram.
 use Rattle.std.specs.Prelude.{◌≡◌, ◌≤◌, ℕ}
-use Rattle.ntp_customer.specs.Customer.{CustomerState, numbers_of}
-use Rattle.ntp_customer.specs.Past.{Past, short}
-use Rattle.ntp_reply.specs.declared.occasion.Occasion.{Occasion}
-use Rattle.ntp_reply.specs.Kind.{Kind}
+use Rattle.ntp_customer.specs.{Customer.CustomerState, Customer.numbers_of, Past.Past, Past.short}
+use Rattle.ntp_reply.specs.{declared.occasion.Occasion.Occasion, Kind.Kind, declared.answers.Answer.Answer}
 use Rattle.ntp_reply.specs.Verdict.{kind_answer, after_kind, reply_length}
-use Rattle.ntp_reply.specs.declared.answers.Answer.{Answer}
 
 -- for each past that shortens to the stored customer, the answer is the model's to a datagram of this kind, and the new customer is the
 -- shortened new past; the key numbers stay, and a reply has at most `most` octets

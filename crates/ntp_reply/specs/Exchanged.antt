@@ -1,15 +1,9 @@
 -- Exchanges: which one a request asks about, and what a time reply and a departure leave of them.
 use Rattle.std.specs.Prelude.{Bool, List, [], ◌∷◌, ◌++◌, ◌==◌, if◌then◌else◌, Option, None, is_some}
-use Rattle.ntp_packet.specs.declared.stamp.Stamp.{Stamp}
-use Rattle.ntp_packet.specs.declared.moment.Moment.{Moment}
-use Rattle.ntp_packet.specs.Header.{HeaderFields}
-use Rattle.ntp_customer.specs.declared.slot.Slot.{Slot}
+use Rattle.ntp_packet.specs.{declared.stamp.Stamp.Stamp, declared.moment.Moment.Moment, Header.HeaderFields}
+use Rattle.ntp_customer.specs.{declared.slot.Slot.Slot, Customer.exchanges_of, Customer.with_saved, Past.Past}
 use Rattle.ntp_customer.specs.Exchanges.{with_recent, new_exchange, unused_at, spent, with_departure}
-use Rattle.ntp_reply.specs.declared.occasion.Occasion.{Occasion}
-use Rattle.ntp_reply.specs.declared.occasion.NewStamps.{NewStamps}
-use Rattle.ntp_reply.specs.Replies.{new_stamps}
-use Rattle.ntp_customer.specs.Customer.{exchanges_of, with_saved}
-use Rattle.ntp_customer.specs.Past.{Past}
+use Rattle.ntp_reply.specs.{declared.occasion.Occasion.Occasion, declared.occasion.NewStamps.NewStamps, Replies.new_stamps}
 use Rattle.ntp_reply.specs.Life.{recent_of}
 
 -- the saved exchange that a request asks about: the unused one whose receive stamp is the request's origin, where the request's

@@ -1,13 +1,9 @@
 -- What a datagram is to the address from which it came.
 use Rattle.std.specs.Prelude.{ℕ, List, ◌==◌, ◌||◌, Option, ok_or, Result, Ok, Err}
-use Rattle.ntp_packet.specs.Header.{HeaderFields}
+use Rattle.ntp_packet.specs.{Header.HeaderFields, Request.RequestValue, declared.malformed.Malformed.Malformed}
 use Rattle.ntp_packet.specs.FirstCase.{◌>>=◌, ◌>>◌, provided, decided}
 use Rattle.ntp_packet.specs.Tail.{TailValue, NoTail, BareTail, MacTail}
-use Rattle.ntp_packet.specs.Request.{RequestValue}
-use Rattle.ntp_packet.specs.declared.malformed.Malformed.{Malformed}
-use Rattle.ntp_mac.specs.Key.{SymmetricKey}
-use Rattle.ntp_mac.specs.Reading.{reading_of}
-use Rattle.ntp_mac.specs.Signed.{is_signed}
+use Rattle.ntp_mac.specs.{Key.SymmetricKey, Reading.reading_of, Signed.is_signed}
 use Rattle.ntp_customer.specs.Customer.{Enrolment, held_in, enrolment_at}
 use Rattle.ntp_customer.specs.Past.{Past}
 use Rattle.ntp_reply.specs.declared.answers.Reason.{Reason}

@@ -1,10 +1,8 @@
 -- The life of one address: what its own events leave of it.
 use Rattle.std.specs.Prelude.{ℕ, List, [], Option, None}
 use Rattle.std.specs.Option.{option_map_or}
-use Rattle.ntp_customer.specs.declared.slot.Slot.{Slot}
-use Rattle.ntp_customer.specs.Exchanges.{recent}
+use Rattle.ntp_customer.specs.{declared.slot.Slot.Slot, Exchanges.recent, Past.Past}
 use Rattle.ntp_customer.specs.Customer.{Enrolment, enrolment_at, budget_of, exchanges_of}
-use Rattle.ntp_customer.specs.Past.{Past}
 
 -- the last exchanges of a past, or all where there are fewer than are saved (profile)
 abbrev pub recent_of : Past → List Slot

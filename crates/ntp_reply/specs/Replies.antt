@@ -1,20 +1,12 @@
 -- The headers of replies, and the octets of a signed one.
 use Rattle.std.specs.Prelude.{◌≢◌, ℕ, List, [], ◌∷◌, ◌++◌, ◌==◌, if◌then◌else◌, Option, Some, None}
-use Rattle.ntp_packet.specs.declared.stamp.Stamp.{Stamp}
-use Rattle.ntp_packet.specs.declared.moment.Moment.{Moment}
-use Rattle.ntp_packet.specs.Fresh.{fresh}
-use Rattle.ntp_customer.specs.declared.slot.Slot.{Slot}
-use Rattle.ntp_customer.specs.Exchanges.{receives, all_stamps}
-use Rattle.ntp_packet.specs.declared.clock_fields.ClockFields.{ClockFields}
+use Rattle.ntp_packet.specs.{declared.stamp.Stamp.Stamp, declared.moment.Moment.Moment, Fresh.fresh}
+use Rattle.ntp_packet.specs.{declared.clock_fields.ClockFields.ClockFields, Kiss.rate_code, Kiss.deny_code}
+use Rattle.ntp_customer.specs.{declared.slot.Slot.Slot, Exchanges.receives, Exchanges.all_stamps}
 use Rattle.ntp_packet.specs.Header.{HeaderFields, blank_clock, blank_header, header_octets}
-use Rattle.ntp_packet.specs.Kiss.{rate_code, deny_code}
-use Rattle.ntp_mac.specs.Key.{SymmetricKey}
-use Rattle.ntp_mac.specs.Mac.{mac_of}
-use Rattle.ntp_reply.specs.Reference.{ReferenceState}
-use Rattle.ntp_reply.specs.declared.occasion.Occasion.{Occasion}
-use Rattle.ntp_reply.specs.declared.occasion.NewStamps.{NewStamps}
-use Rattle.ntp_reply.specs.declared.kiss.Kiss.{Kiss}
-use Rattle.ntp_reply.specs.declared.kiss.Kiss.TheVariants.{Rate, Deny}
+use Rattle.ntp_mac.specs.{Key.SymmetricKey, Mac.mac_of}
+use Rattle.ntp_reply.specs.{Reference.ReferenceState, declared.occasion.Occasion.Occasion, declared.occasion.NewStamps.NewStamps}
+use Rattle.ntp_reply.specs.{declared.kiss.Kiss.Kiss, declared.kiss.Kiss.TheVariants.Rate, declared.kiss.Kiss.TheVariants.Deny}
 
 -- the occasion of these: when a datagram came, the transmit moment of the reply to it, and the state of the clock (profile)
 abbrev pub occasion_of : Moment → Moment → ReferenceState → Occasion

@@ -1,22 +1,14 @@
 -- What a datagram is answered, and what it leaves of the life of the address from which it came.
 use Rattle.std.specs.Prelude.{ℕ, List, ◌++◌, Some, None, option_map, length, ◌+◌, ◌==◌, nat_lt, if◌then◌else◌}
-use Rattle.ntp_packet.specs.Moment.{window_of}
-use Rattle.ntp_customer.specs.Tally.{count_in}
-use Rattle.ntp_packet.specs.Header.{HeaderFields, header_octets}
-use Rattle.ntp_packet.specs.Tail.{tail_octets}
-use Rattle.ntp_packet.specs.Request.{RequestValue}
-use Rattle.ntp_mac.specs.Key.{SymmetricKey}
-use Rattle.ntp_mac.specs.Mac.{nak_octets}
-use Rattle.ntp_customer.specs.declared.slot.Slot.{Slot}
-use Rattle.ntp_customer.specs.Customer.{budget_of}
+use Rattle.ntp_packet.specs.{Moment.window_of, Header.HeaderFields, Header.header_octets, Tail.tail_octets, Request.RequestValue}
+use Rattle.ntp_customer.specs.{Tally.count_in, declared.slot.Slot.Slot, Customer.budget_of}
+use Rattle.ntp_mac.specs.{Key.SymmetricKey, Mac.nak_octets}
 use Rattle.ntp_customer.specs.Past.{Past, queries_in, with_refusal, with_query}
-use Rattle.ntp_reply.specs.Life.{Life, recent_of}
+use Rattle.ntp_reply.specs.{Life.Life, Life.recent_of, declared.kiss.Kiss.TheVariants.Rate, declared.kiss.Kiss.TheVariants.Deny}
+use Rattle.ntp_reply.specs.{declared.occasion.Occasion.Occasion, declared.answers.Answer.Answer}
 use Rattle.ntp_reply.specs.Exchanged.{matched, stamps_of, after_time}
 use Rattle.ntp_reply.specs.Kind.{Kind, PassedOver, RefusedByDeny, RefusedByNak, Signed, kind_of}
 use Rattle.ntp_reply.specs.Replies.{new_stamps, basic_fields, time_fields, kiss_fields, sealed}
-use Rattle.ntp_reply.specs.declared.kiss.Kiss.TheVariants.{Rate, Deny}
-use Rattle.ntp_reply.specs.declared.occasion.Occasion.{Occasion}
-use Rattle.ntp_reply.specs.declared.answers.Answer.{Answer}
 use Rattle.ntp_reply.specs.declared.answers.Answer.TheVariants as answer
 use Rattle.ntp_reply.specs.declared.answers.Reason.TheVariants as reason
 

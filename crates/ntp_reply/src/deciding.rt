@@ -1,11 +1,9 @@
 //! The decision, in its order.
 ghost use Rattle.std.specs.Prelude.{◌≡◌, ◌≤◌, ◌||◌, ◌==◌, true, length, IsSome, Ok};
-ghost use Rattle.ntp_customer.specs.Customer.{enrolment_at, numbers_of};
-ghost use Rattle.ntp_customer.specs.Past.{Past, short};
+ghost use Rattle.ntp_customer.specs.{Customer.enrolment_at, Customer.numbers_of, Past.Past, Past.short};
 ghost use Rattle.ntp_reply.specs.Kind.{mac_number, octets_kind, kind_of};
-ghost use Rattle.ntp_reply.specs.Replies.{occasion_of};
+ghost use Rattle.ntp_reply.specs.{Replies.occasion_of, Answered.Answers};
 ghost use Rattle.ntp_reply.specs.Verdict.{kind_answer, after_kind, reply_length, request_length};
-ghost use Rattle.ntp_reply.specs.Answered.{Answers};
 
 use crate::occasion::Occasion;
 use crate::refusing::{deny, nak};

@@ -1,8 +1,7 @@
 //! Reports of departures.
 ghost use Rattle.std.specs.Prelude.{◌≡◌};
 ghost use Rattle.std.specs.Bool.{OnFalse};
-ghost use Rattle.ntp_customer.specs.Customer.{numbers_of};
-ghost use Rattle.ntp_customer.specs.Past.{Past, short};
+ghost use Rattle.ntp_customer.specs.{Customer.numbers_of, Past.Past, Past.short};
 ghost use Rattle.ntp_reply.specs.Exchanged.{is_noted, after_departure};
 
 use ntp_customer::Customer;

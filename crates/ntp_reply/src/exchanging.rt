@@ -2,8 +2,7 @@
 ghost use Rattle.std.specs.Prelude.{◌≡◌, [], ◌∷◌, ◌++◌, IsTrue};
 ghost use Rattle.ntp_packet.specs.Fresh.{is_free};
 ghost use Rattle.ntp_customer.specs.Exchanges.{recent, new_exchange, receives, all_stamps};
-ghost use Rattle.ntp_reply.specs.Replies.{new_stamps};
-ghost use Rattle.ntp_reply.specs.Exchanged.{matched, with_match_used};
+ghost use Rattle.ntp_reply.specs.{Replies.new_stamps, Exchanged.matched, Exchanged.with_match_used};
 
 use crate::occasion::{NewStamps, Occasion};
 use ntp_customer::{Slot, Slots};

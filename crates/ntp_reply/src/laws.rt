@@ -1,12 +1,9 @@
 //! What holds of the definitions, whatever code meets them. Each function is a law: a call of it does nothing.
 ghost use Rattle.std.specs.Prelude.{◌≡◌, ℕ, ◌<◌, ◌≤◌, IfSome, Option, List, All, Contains, length};
 ghost use Rattle.ntp_packet.specs.Header.{HeaderFields};
-ghost use Rattle.ntp_customer.specs.declared.slot.Slot.{Slot};
-ghost use Rattle.ntp_customer.specs.Exchanges.{AreSaved};
-ghost use Rattle.ntp_reply.specs.declared.kiss.Kiss.{Kiss};
-ghost use Rattle.ntp_reply.specs.declared.occasion.Occasion.{Occasion};
+ghost use Rattle.ntp_customer.specs.{declared.slot.Slot.Slot, Exchanges.AreSaved};
+ghost use Rattle.ntp_reply.specs.{declared.kiss.Kiss.Kiss, declared.occasion.Occasion.Occasion, Life.Life};
 ghost use Rattle.ntp_reply.specs.Replies.{HasDistinctStamps, new_stamps, basic_fields, time_fields, kiss_fields};
-ghost use Rattle.ntp_reply.specs.Life.{Life};
 ghost use Rattle.ntp_reply.specs.Verdict.{verdict, reply_length, most_octets};
 
 use ntp_mac::octets_are_what_they_are_read_as;

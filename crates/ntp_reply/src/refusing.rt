@@ -1,11 +1,8 @@
 //! Refusals: each is counted, and few of a window are sent.
 ghost use Rattle.std.specs.Prelude.{◌≡◌, IsSome, nat_lt};
-ghost use Rattle.ntp_customer.specs.Tally.{count_in};
-ghost use Rattle.ntp_customer.specs.Customer.{enrolment_at};
+ghost use Rattle.ntp_customer.specs.{Tally.count_in, Customer.enrolment_at};
 ghost use Rattle.ntp_customer.specs.Past.{Past, with_refusal, short};
-ghost use Rattle.ntp_reply.specs.Kind.{RefusedByDeny, RefusedByNak};
-ghost use Rattle.ntp_reply.specs.Verdict.{refusals_sent};
-ghost use Rattle.ntp_reply.specs.Answered.{Answers};
+ghost use Rattle.ntp_reply.specs.{Kind.RefusedByDeny, Kind.RefusedByNak, Verdict.refusals_sent, Answered.Answers};
 
 use crate::exchanging::new_stamps;
 use crate::occasion::Occasion;

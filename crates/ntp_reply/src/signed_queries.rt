@@ -1,14 +1,9 @@
 //! Signed queries: each is counted, and as many of a window as the budget get the time.
 ghost use Rattle.std.specs.Prelude.{◌≡◌, ◌+◌, IsSome};
 ghost use Rattle.ntp_mac.specs.Digest.{digest_length};
-ghost use Rattle.ntp_customer.specs.Customer.{enrolment_at};
-ghost use Rattle.ntp_customer.specs.Past.{Past, short};
-ghost use Rattle.ntp_reply.specs.Life.{recent_of};
-ghost use Rattle.ntp_reply.specs.Exchanged.{after_time};
-ghost use Rattle.ntp_reply.specs.Kind.{Signed};
-ghost use Rattle.ntp_reply.specs.Replies.{kiss_fields, sealed};
-ghost use Rattle.ntp_reply.specs.Verdict.{timed, reply_length};
-ghost use Rattle.ntp_reply.specs.Answered.{Answers};
+ghost use Rattle.ntp_customer.specs.{Customer.enrolment_at, Past.Past, Past.short};
+ghost use Rattle.ntp_reply.specs.{Life.recent_of, Exchanged.after_time, Kind.Signed, Replies.kiss_fields, Replies.sealed};
+ghost use Rattle.ntp_reply.specs.{Verdict.timed, Verdict.reply_length, Answered.Answers};
 
 use crate::exchanging::exchange;
 use crate::occasion::Occasion;

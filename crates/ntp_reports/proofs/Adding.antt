@@ -1,19 +1,14 @@
 -- Counts, after some kinds more were counted.
 use Rattle.std.proofs.Common.{◌≡◌, ◌+◌, ◌-◌, ◌^◌, cond, List, [], ◌∷◌, ◌++◌, sym, ap, ◌∙◌, append-nil, arith}
 use Rattle.std.specs.Prelude.{min, count_by, flat_map}
-use Rattle.std.proofs.lemmas.Grind.{flat_map-append}
-use Rattle.std.proofs.lemmas.List.Sums.{sum_by-append}
+use Rattle.std.proofs.{lemmas.Grind.flat_map-append, lemmas.List.Sums.sum_by-append}
 use Rattle.ntp_reply.specs.declared.answers.Answer.{Answer}
-use Rattle.ntp_service.specs.declared.observation.Arrival.{Arrival}
-use Rattle.ntp_service.specs.declared.observation.Observation.{Observation}
-use Rattle.ntp_service.specs.declared.command.Command.{Command}
-use Rattle.ntp_service.specs.declared.observation.Observation.TheVariants as observation
-use Rattle.ntp_service.specs.declared.observation.Sending.{Sending}
+use Rattle.ntp_service.specs.{declared.observation.Arrival.Arrival, declared.observation.Observation.Observation}
+use Rattle.ntp_service.specs.{declared.command.Command.Command, declared.observation.Sending.Sending}
 use Rattle.ntp_service.specs.declared.observation.TurnOutcome.TheVariants.{Answered}
-use Rattle.ntp_reports.specs.declared.kind.Kind.{Kind}
-use Rattle.ntp_reports.specs.declared.counts.Counts.{Counts}
+use Rattle.ntp_service.specs.declared.observation.Observation.TheVariants as observation
+use Rattle.ntp_reports.specs.{declared.kind.Kind.Kind, declared.counts.Counts.Counts, Counted.CountsOneMore, Counted.Adds}
 use Rattle.ntp_reports.specs.Kinds.{is_kind, kinds_of, answer_kind, sending_kinds}
-use Rattle.ntp_reports.specs.Counted.{CountsOneMore, Adds}
 
 -- two lists of kinds were counted, one behind the other
 pub Adds-append : (a b c : Counts) (xs ys : List Kind) → Adds a b xs → Adds b c ys → Adds a c (xs ++ ys)

@@ -1,20 +1,14 @@
 -- The pieces of lines of the log, in the order in which they are written.
 use Rattle.std.proofs.Common.{◌≡◌, ℕ, List, [], ◌∷◌, ◌++◌, length, map, Option, Some, None, sym, ap, ◌∙◌, subst, append_assoc, append-nil}
 use Rattle.std.specs.Prelude.{codes, slice_index}
-use Rattle.std.specs.List.{join_with_byte}
-use Rattle.std.specs.Option.{option_map_or}
-use Rattle.std.specs.Fmt.{decimal}
-use Rattle.std.specs.Int.NonZero.{non_zero_u16_get}
-use Rattle.std.specs.declared.num.NonZeroU16.{NonZeroU16}
-use Rattle.std.specs.Io.KnownBytes.{Appends}
+use Rattle.std.specs.{List.join_with_byte, Option.option_map_or, Fmt.decimal, Int.NonZero.non_zero_u16_get}
+use Rattle.std.specs.{declared.num.NonZeroU16.NonZeroU16, Io.KnownBytes.Appends}
 use Rattle.std.proofs.KnownBytes.{Appends-trans}
 use Rattle.ntp_packet.proofs.PublicLaws.{four-cells}
-use Rattle.ntp_service.specs.declared.address.Address.{Address}
-use Rattle.ntp_service.specs.declared.command.Command.{Command}
+use Rattle.ntp_service.specs.{declared.address.Address.Address, declared.command.Command.Command}
 use Rattle.ntp_service.specs.declared.observation.LineOutcome.{LineOutcome}
 use Rattle.ntp_admin.specs.Words.{address_text, number_behind}
-use Rattle.ntp_reports.specs.AnswerText.{line_outcome_text}
-use Rattle.ntp_reports.specs.Logging.{logged_command, logged_line}
+use Rattle.ntp_reports.specs.{AnswerText.line_outcome_text, Logging.logged_command, Logging.logged_line}
 
 -- four numbers with dots, between two texts
 dotted : (v a b c d tail : List ℕ) → v ++ (32 ∷ (a ++ (46 ∷ (b ++ (46 ∷ (c ++ (46 ∷ (d ++ tail))))))))

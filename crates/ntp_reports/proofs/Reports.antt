@@ -1,28 +1,17 @@
 -- What is reported of a customer after a turn.
 use Rattle.std.proofs.Common.{◌≡◌, ◌==◌, ℕ, Bool, true, false, cond, List, [], ◌∷◌, ◌++◌, Option, Some, None, refl, sym, ap, ◌∙◌, subst, append-nil, arith, reverse}
 use Rattle.std.specs.Prelude.{IfSome, option_map, option_and_then, find, filter_map, slice_get, is_some}
-use Rattle.std.specs.Option.{option_or, option_to_list}
-use Rattle.std.specs.List.{cons_option}
-use Rattle.std.specs.Cmp.Lexicographic.{same_text}
-use Rattle.std.proofs.lemmas.Bool.Decides.{nat_tests}
-use Rattle.std.proofs.lemmas.List.{reverse-append}
-use Rattle.std.proofs.lemmas.List.Elements.{filter-append}
+use Rattle.std.specs.{Option.option_or, Option.option_to_list, List.cons_option, Cmp.Lexicographic.same_text}
+use Rattle.std.proofs.{lemmas.Bool.Decides.nat_tests, lemmas.List.reverse-append, lemmas.List.Elements.filter-append}
 use Rattle.ntp_packet.specs.declared.moment.Moment.{Moment}
-use Rattle.ntp_service.specs.declared.address.Address.{Address}
-use Rattle.ntp_service.specs.Address.{address_eq}
-use Rattle.ntp_reply.specs.declared.answers.Answer.{Answer}
-use Rattle.ntp_service.specs.declared.observation.Arrival.{Arrival}
-use Rattle.ntp_service.specs.declared.observation.Observation.{Observation}
-use Rattle.ntp_service.specs.declared.observation.Observation.TheVariants.{Turn}
-use Rattle.ntp_service.specs.declared.observation.Sending.{Sending}
-use Rattle.ntp_service.specs.declared.observation.TurnOutcome.{TurnOutcome}
+use Rattle.ntp_service.specs.{declared.address.Address.Address, Address.address_eq, declared.observation.Arrival.Arrival}
+use Rattle.ntp_service.specs.{declared.observation.Observation.Observation, declared.observation.Observation.TheVariants.Turn}
+use Rattle.ntp_service.specs.{declared.observation.Sending.Sending, declared.observation.TurnOutcome.TurnOutcome}
 use Rattle.ntp_service.specs.declared.observation.TurnOutcome.TheVariants.{Answered}
-use Rattle.ntp_reports.specs.declared.signing.Signing.{Signing}
-use Rattle.ntp_reports.specs.declared.customer_report.KeyUse.{KeyUse}
+use Rattle.ntp_reply.specs.declared.answers.Answer.{Answer}
+use Rattle.ntp_reports.specs.{declared.signing.Signing.Signing, declared.customer_report.KeyUse.KeyUse}
 use Rattle.ntp_reports.specs.declared.customer_report.CustomerReport.{CustomerReport}
-use Rattle.ntp_reports.specs.declared.customer_counts.CustomerCounts.{CustomerCounts}
-use Rattle.ntp_reports.specs.Counted.{AreCounts}
-use Rattle.ntp_reports.specs.Signing.{signing_in}
+use Rattle.ntp_reports.specs.{declared.customer_counts.CustomerCounts.CustomerCounts, Counted.AreCounts, Signing.signing_in}
 use Rattle.ntp_reports.specs.Customers.{used_by, key_numbered}
 use Rattle.ntp_reports.specs.Reported.{comes_from, told_of, signed_at, report_at, IsTakenInto, TakesTurn, CountsOf, SignsAs}
 

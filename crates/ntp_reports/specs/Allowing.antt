@@ -1,9 +1,8 @@
 -- How many lines of a kind may be written. Asks for a line are told by their minutes, the newest first.
 use Rattle.std.specs.Prelude.{◌≡◌, ℕ, ◌-◌, ◌^◌, min, ◌==◌, List, [], ◌∷◌, nat_lt, slice_get, IfSome, if◌then◌else◌}
 use Rattle.std.specs.List.{prefix_len}
-use Rattle.ntp_reports.specs.declared.line_allowance.Ask.{Ask}
+use Rattle.ntp_reports.specs.{declared.line_allowance.Ask.Ask, declared.line_allowance.LineAllowance.LineAllowance}
 use Rattle.ntp_reports.specs.declared.line_allowance.Ask.TheVariants.{Say, Hold, SayWithMore}
-use Rattle.ntp_reports.specs.declared.line_allowance.LineAllowance.{LineAllowance}
 
 -- how many lines of a kind are written in a minute
 abbrev pub most_lines : ℕ

@@ -2,9 +2,8 @@
 use Rattle.std.specs.Prelude.{ℕ, List, ◌++◌, codes}
 use Rattle.std.specs.Fmt.{decimal}
 use Rattle.ntp_admin.specs.Answers.{line_feed}
-use Rattle.ntp_service.specs.declared.observation.LineOutcome.{LineOutcome}
+use Rattle.ntp_service.specs.{declared.observation.LineOutcome.LineOutcome, Vocabulary.refusal_word, Vocabulary.line_fault_word}
 use Rattle.ntp_service.specs.declared.observation.LineOutcome.TheVariants.{Done, Refused, Faulty}
-use Rattle.ntp_service.specs.Vocabulary.{refusal_word, line_fault_word}
 
 -- what became of a line of commands: in the words of a replay where it is a command
 abbrev pub line_outcome_text : LineOutcome → List ℕ

@@ -2,8 +2,7 @@
 use Rattle.std.specs.Prelude.{◌≡◌, ℕ, ◌+◌, ◌-◌, ◌^◌, min, List, [], ◌∷◌, ◌++◌, flat_map, count_by, slice_index}
 use Rattle.std.proofs.Math.ListN.{replicate}
 use Rattle.ntp_service.specs.declared.observation.Observation.{Observation}
-use Rattle.ntp_reports.specs.declared.kind.Kind.{Kind}
-use Rattle.ntp_reports.specs.declared.counts.Counts.{Counts}
+use Rattle.ntp_reports.specs.{declared.kind.Kind.Kind, declared.counts.Counts.Counts}
 use Rattle.ntp_reports.specs.Kinds.{is_kind, kinds_of, place_of}
 
 -- the counts of nothing

@@ -1,16 +1,12 @@
 -- What is reported of each customer.
 use Rattle.std.specs.Prelude.{◌≡◌, ℕ, ◌==◌, if◌then◌else◌, Option, None, Some, is_some, option_map, List, ◌++◌, find, filter, not, slice_get}
-use Rattle.std.specs.Option.{option_map_or, option_to_list}
-use Rattle.std.specs.Int.NonZero.{non_zero_u16_get}
-use Rattle.ntp_service.specs.declared.command.Command.{Command}
-use Rattle.ntp_service.specs.declared.command.Command.TheVariants.{Enrol, Revoke, Rollover, Retire}
-use Rattle.ntp_service.specs.declared.observation.Observation.TheVariants.{Turn}
+use Rattle.std.specs.{Option.option_map_or, Option.option_to_list, Int.NonZero.non_zero_u16_get}
+use Rattle.ntp_service.specs.{declared.command.Command.Command, declared.observation.Observation.TheVariants.Turn}
 use Rattle.ntp_service.specs.declared.observation.TurnOutcome.{TurnOutcome}
-use Rattle.ntp_reports.specs.declared.signing.Signing.{Signing}
-use Rattle.ntp_reports.specs.declared.customer_report.KeyUse.{KeyUse}
+use Rattle.ntp_service.specs.declared.command.Command.TheVariants.{Enrol, Revoke, Rollover, Retire}
+use Rattle.ntp_reports.specs.{declared.signing.Signing.Signing, declared.customer_report.KeyUse.KeyUse}
 use Rattle.ntp_reports.specs.declared.customer_report.CustomerReport.{CustomerReport}
-use Rattle.ntp_reports.specs.Counted.{CountsOneMore, nothing_counted}
-use Rattle.ntp_reports.specs.Signing.{signing_in}
+use Rattle.ntp_reports.specs.{Counted.CountsOneMore, Counted.nothing_counted, Signing.signing_in}
 
 -- a key that has signed nothing
 abbrev pub new_key : ℕ → KeyUse

@@ -1,8 +1,7 @@
 -- Which time replies are interleaved.
 use Rattle.std.specs.Prelude.{ℕ, Bool, ◌&&◌, List, length, take, drop, nat_le}
 use Rattle.std.specs.Int.{is_negative}
-use Rattle.ntp_packet.specs.Difference.{difference}
-use Rattle.ntp_packet.specs.Header.{header_length}
+use Rattle.ntp_packet.specs.{Difference.difference, Header.header_length}
 use Rattle.ntp_admin.specs.Words.{stamp_of}
 
 -- whether a time reply tells the departure of an earlier one (RFC 9769, 2): it has the octets of a header, and its transmit stamp, at

@@ -3,23 +3,18 @@ use Rattle.std.specs.Prelude.{ℕ, Bool, ◌==◌, List, [], ◌∷◌, if◌the
 use denote.Enum.Declared.{tag_of}
 use Rattle.ntp_packet.specs.declared.malformed.Malformed.{Malformed}
 use Rattle.ntp_packet.specs.declared.malformed.Malformed.TheVariants as malformed
-use Rattle.ntp_service.specs.declared.refusal.Refusal.{Refusal}
-use Rattle.ntp_service.specs.declared.refusal.Refusal.TheVariants as refusal
-use Rattle.ntp_reply.specs.declared.answers.Answer.{Answer}
-use Rattle.ntp_reply.specs.declared.answers.Answer.TheVariants as answer
-use Rattle.ntp_reply.specs.declared.answers.Reason.{Reason}
-use Rattle.ntp_reply.specs.declared.answers.Reason.TheVariants as reason
-use Rattle.ntp_service.specs.declared.observation.LineOutcome.{LineOutcome}
-use Rattle.ntp_service.specs.declared.observation.LineOutcome.TheVariants as line
-use Rattle.ntp_service.specs.declared.observation.Observation.{Observation}
-use Rattle.ntp_service.specs.declared.observation.Observation.TheVariants.{Command, Line, Turn}
-use Rattle.ntp_service.specs.declared.observation.Sending.{Sending}
-use Rattle.ntp_service.specs.declared.observation.Sending.TheVariants as sending
+use Rattle.ntp_service.specs.{declared.refusal.Refusal.Refusal, declared.observation.LineOutcome.LineOutcome}
+use Rattle.ntp_service.specs.{declared.observation.Observation.Observation, declared.observation.Sending.Sending}
 use Rattle.ntp_service.specs.declared.observation.TurnOutcome.TheVariants.{NothingReceived, Answered}
-use Rattle.ntp_reports.specs.contracts.kind.Kind.{the_type}
-use Rattle.ntp_reports.specs.declared.kind.Kind.{Kind}
+use Rattle.ntp_service.specs.declared.refusal.Refusal.TheVariants as refusal
+use Rattle.ntp_reply.specs.{declared.answers.Answer.Answer, declared.answers.Reason.Reason}
+use Rattle.ntp_reply.specs.declared.answers.Answer.TheVariants as answer
+use Rattle.ntp_reply.specs.declared.answers.Reason.TheVariants as reason
+use Rattle.ntp_service.specs.declared.observation.LineOutcome.TheVariants as line
+use Rattle.ntp_service.specs.declared.observation.Observation.TheVariants.{Command, Line, Turn}
+use Rattle.ntp_service.specs.declared.observation.Sending.TheVariants as sending
+use Rattle.ntp_reports.specs.{contracts.kind.Kind.the_type, declared.kind.Kind.Kind, Interleaving.tells_departure}
 use Rattle.ntp_reports.specs.declared.kind.Kind.TheVariants as kind
-use Rattle.ntp_reports.specs.Interleaving.{tells_departure}
 
 -- the place of a kind in the order of their declaration, counted from 0: what Rust gives for `kind as usize`
 abbrev pub place_of : Kind → ℕ

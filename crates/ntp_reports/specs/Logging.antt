@@ -1,13 +1,10 @@
 -- What the log tells of lines of commands.
 use Rattle.std.specs.Prelude.{ℕ, ◌+◌, ◌-◌, ◌^◌, min, List, [], ◌++◌, Option, Some, codes}
-use Rattle.std.specs.Option.{option_map_or}
-use Rattle.std.specs.Fmt.{decimal}
+use Rattle.std.specs.{Option.option_map_or, Fmt.decimal}
 use Rattle.ntp_service.specs.declared.command.Command.{Command}
 use Rattle.ntp_service.specs.declared.command.Command.TheVariants.{Enrol, Revoke}
-use Rattle.ntp_service.specs.Commands.{address_named, number_named}
-use Rattle.ntp_service.specs.Vocabulary.{command_word}
-use Rattle.ntp_service.specs.declared.observation.LineOutcome.{LineOutcome}
-use Rattle.ntp_service.specs.declared.observation.LineOutcome.TheVariants.{Done}
+use Rattle.ntp_service.specs.{Commands.address_named, Commands.number_named, Vocabulary.command_word}
+use Rattle.ntp_service.specs.{declared.observation.LineOutcome.LineOutcome, declared.observation.LineOutcome.TheVariants.Done}
 use Rattle.ntp_admin.specs.Words.{address_text, number_behind}
 use Rattle.ntp_reports.specs.AnswerText.{line_outcome_text}
 

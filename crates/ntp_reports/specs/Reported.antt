@@ -2,21 +2,13 @@
 use Rattle.std.specs.Prelude.{◌≡◌, ℕ, ◌⊎◌, Bool, false, true, ◌==◌, if◌then◌else◌, Option, None, Some, option_and_then, IfSome, List, filter, filter_map, reverse, slice_get}
 use Rattle.std.specs.Map.{lookup}
 use Rattle.ntp_packet.specs.declared.moment.Moment.{Moment}
-use Rattle.ntp_service.specs.declared.address.Address.{Address}
-use Rattle.ntp_service.specs.Address.{address_eq}
-use Rattle.ntp_service.specs.declared.command.Command.{Command}
-use Rattle.ntp_service.specs.declared.observation.LineOutcome.{LineOutcome}
-use Rattle.ntp_service.specs.declared.observation.LineOutcome.TheVariants.{Done}
-use Rattle.ntp_service.specs.declared.observation.Observation.{Observation}
-use Rattle.ntp_service.specs.declared.observation.Observation.TheVariants.{Turn}
-use Rattle.ntp_service.specs.declared.observation.TurnOutcome.{TurnOutcome}
-use Rattle.ntp_service.specs.declared.observation.TurnOutcome.TheVariants.{Answered}
+use Rattle.ntp_service.specs.{declared.address.Address.Address, Address.address_eq, declared.command.Command.Command}
+use Rattle.ntp_service.specs.{declared.observation.LineOutcome.LineOutcome, declared.observation.LineOutcome.TheVariants.Done}
+use Rattle.ntp_service.specs.{declared.observation.Observation.Observation, declared.observation.Observation.TheVariants.Turn}
+use Rattle.ntp_service.specs.{declared.observation.TurnOutcome.TurnOutcome, declared.observation.TurnOutcome.TheVariants.Answered}
 use Rattle.ntp_service.specs.Commands.{address_named}
-use Rattle.ntp_reports.specs.declared.signing.Signing.{Signing}
-use Rattle.ntp_reports.specs.declared.customer_report.CustomerReport.{CustomerReport}
-use Rattle.ntp_reports.specs.declared.customer_counts.CustomerCounts.{CustomerCounts}
-use Rattle.ntp_reports.specs.Counted.{AreCounts}
-use Rattle.ntp_reports.specs.Signing.{signing_in}
+use Rattle.ntp_reports.specs.{declared.signing.Signing.Signing, declared.customer_report.CustomerReport.CustomerReport}
+use Rattle.ntp_reports.specs.{declared.customer_counts.CustomerCounts.CustomerCounts, Counted.AreCounts, Signing.signing_in}
 use Rattle.ntp_reports.specs.Customers.{key_numbered, report_after, Takes}
 
 -- the command that a line carried out, if it did: the one that was heard of before

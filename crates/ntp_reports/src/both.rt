@@ -1,7 +1,6 @@
 //! Two observers as one.
 ghost use Rattle.std.specs.Prelude.{[], ◌∷◌};
-ghost use Rattle.ntp_service.specs.Sees.{Sees};
-ghost use Rattle.ntp_service.specs.declared.observation.Observation.{Observation};
+ghost use Rattle.ntp_service.specs.{Sees.Sees, declared.observation.Observation.Observation};
 
 use ntp_service::{Command, LineOutcome, Observer, TurnOutcome};
 

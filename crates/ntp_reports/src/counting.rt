@@ -1,7 +1,6 @@
 //! An observer that counts.
 ghost use Rattle.std.specs.Prelude.{◌≡◌, [], ◌∷◌};
-ghost use Rattle.ntp_service.specs.Sees.{Sees};
-ghost use Rattle.ntp_service.specs.declared.observation.Observation.{Observation};
+ghost use Rattle.ntp_service.specs.{Sees.Sees, declared.observation.Observation.Observation};
 ghost use Rattle.ntp_reports.specs.Counted.{CountsOneMore};
 
 use crate::counts::Counts;

@@ -1,9 +1,7 @@
 //! An observer that reports of each customer.
 ghost use Rattle.std.specs.Prelude.{◌≡◌, ℕ, false, Some, None, is_some, option_copied, option_map, OnOk, OnErr, List, [], ◌∷◌, ◌++◌, length, slice_get};
-ghost use Rattle.std.specs.Map.Iter.{deref_pair};
-ghost use Rattle.std.specs.Bool.{OnFalse};
-ghost use Rattle.ntp_service.specs.declared.address.Address.{Address};
-ghost use Rattle.ntp_service.specs.declared.observation.Observation.{Observation};
+ghost use Rattle.std.specs.{Map.Iter.deref_pair, Bool.OnFalse};
+ghost use Rattle.ntp_service.specs.{declared.address.Address.Address, declared.observation.Observation.Observation};
 ghost use Rattle.ntp_service.specs.Commands.{address_named};
 ghost use Rattle.ntp_reports.specs.Reported.{report_at, done_in, AreSame, HasReport, CarriedOut, IsTold, CarriedOutOrMissed, IsToldOrMissed, TakesTurn, CountsOf, SignsAs};
 

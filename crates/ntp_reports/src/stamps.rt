@@ -1,8 +1,7 @@
 //! What the stamps of a time reply tell.
 ghost use Rattle.std.specs.Prelude.{◌≡◌, ◌+◌, ◌≤◌, length, take, drop};
 ghost use Rattle.std.specs.Int.{is_negative};
-ghost use Rattle.ntp_packet.specs.Difference.{difference};
-ghost use Rattle.ntp_packet.specs.Header.{header_length};
+ghost use Rattle.ntp_packet.specs.{Difference.difference, Header.header_length};
 ghost use Rattle.ntp_admin.specs.Words.{stamp_of};
 ghost use Rattle.ntp_reports.specs.Interleaving.{tells_departure};
 

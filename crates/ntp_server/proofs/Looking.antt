@@ -2,15 +2,12 @@
 use Rattle.std.proofs.Common.{◌≡◌, ℕ, ◌+◌, ◌-◌, ◌<◌, ◌^◌, Bool, true, false, Option, None, Some, List, [], ◌∷◌, ◌++◌, length, map, refl, sym, ap, ◌∙◌, subst, append-nil, length-append, arith, inl, inr}
 use Rattle.std.specs.Prelude.{is_none, is_some, flat_map}
 use Rattle.std.proofs.lemmas.List.{map-append, length-map}
-use Rattle.std.proofs.lemmas.List.Elements.{filter-append, filter_map-append}
-use Rattle.std.proofs.lemmas.Grind.{flat_map-append}
+use Rattle.std.proofs.{lemmas.List.Elements.filter-append, lemmas.List.Elements.filter_map-append, lemmas.Grind.flat_map-append}
 use Rattle.ntp_packet.specs.declared.moment.Moment.{Moment}
-use Rattle.ntp_service.specs.Sees.{Sees}
+use Rattle.ntp_service.specs.{Sees.Sees, Headline.Tells}
 use Rattle.ntp_service.proofs.PublicLaws.{Sees-nil, Sees-append, Tells-nil, Tells-append}
-use Rattle.ntp_service.specs.Headline.{Tells}
-use Rattle.ntp_port.specs.Port.{CountsMore}
+use Rattle.ntp_port.specs.{Port.CountsMore, Sources.Gives, Sources.CountsOn}
 use Rattle.ntp_port.proofs.PublicLaws.{CountsMore-nil, CountsMore-append}
-use Rattle.ntp_port.specs.Sources.{Gives, CountsOn}
 use Rattle.ntp_admin.specs.CommandsFile.{most_line_octets, count_on, complete_lines, CarriesOut, line_observations, happened_at_lines}
 use Rattle.ntp_server.specs.declared.server.Server.{Server}
 use Rattle.ntp_server.specs.Rounds.{Round, PartsTell, AreDueInTurn, given_in, turns_in, asked_in, happened_in_round, round_observations}
@@ -98,7 +95,7 @@ Orders-look {p = p} {q = q} {t = t} l =
     }
 
 -- ---- the start
--- so many looks gave something
+-- `many` looks gave something
 pub record Starting {P C R O A : Type 0} (before after : Server P C R O A) (t : PartsTell P C R O) (many : ℕ) : Type 0 where
   pub start : List Round
   pub at_start : turns_in start ≡ []

@@ -1,32 +1,24 @@
 -- One turn after another.
 use Rattle.std.proofs.Common.{◌≡◌, ℕ, ◌+◌, ◌-◌, ◌≤◌, Bool, Option, None, Some, Result, List, [], ◌∷◌, ◌++◌, length, map, cond, refl, sym, ap, ◌∙◌, subst, append-nil, length-append, arith}
 use Rattle.std.specs.Prelude.{option_map, is_none, IsSome, IfSome, slice_get}
-use Rattle.std.specs.List.{cons_option}
-use Rattle.std.specs.Result.{result_ok}
+use Rattle.std.specs.{List.cons_option, Result.result_ok}
 use Rattle.std.proofs.lemmas.List.{append_assoc, map-append, length-map}
-use Rattle.std.proofs.lemmas.List.Elements.{filter-append, filter_map-append}
-use Rattle.std.proofs.lemmas.Grind.{flat_map-append}
+use Rattle.std.proofs.{lemmas.List.Elements.filter-append, lemmas.List.Elements.filter_map-append, lemmas.Grind.flat_map-append}
 use Rattle.std.proofs.lemmas.List.Sums.{length-filter, count_by-le-length}
 use Rattle.ntp_packet.specs.declared.moment.Moment.{Moment}
 use Rattle.ntp_reply.specs.Reference.{ReferenceState}
-use Rattle.ntp_service.specs.declared.observation.Arrival.{Arrival}
-use Rattle.ntp_service.specs.declared.observation.Observation.TheVariants.{Turn}
+use Rattle.ntp_service.specs.{declared.observation.Arrival.Arrival, declared.observation.Observation.TheVariants.Turn}
 use Rattle.ntp_service.specs.declared.observation.TurnOutcome.{TurnOutcome}
 use Rattle.ntp_service.specs.declared.observation.TurnOutcome.TheVariants.{NothingReceived, Answered}
-use Rattle.ntp_service.specs.Sees.{Sees}
-use Rattle.ntp_service.specs.Sending.{was_sent}
+use Rattle.ntp_service.specs.{Sees.Sees, Sending.was_sent, Headline.Tells}
 use Rattle.ntp_service.proofs.PublicLaws.{Sees-nil, Sees-append, Tells-append}
-use Rattle.ntp_service.specs.Headline.{Tells}
-use Rattle.ntp_port.specs.declared.port.PortCounts.{PortCounts}
-use Rattle.ntp_port.specs.declared.port.PortFault.{PortFault}
+use Rattle.ntp_port.specs.{declared.port.PortCounts.PortCounts, declared.port.PortFault.PortFault, Serving.Makes}
+use Rattle.ntp_port.specs.Sources.{Gives, CountsOn}
 use Rattle.ntp_port.specs.Port.{IncomingValue, failed_calls, counted_send, CountsMore}
 use Rattle.ntp_port.specs.Made.{Made, Missed, Received, turn_of, arrival_of, happened_in_turn, sent_in, has_arrived, has_departed, is_unsent, turn_outcome}
-use Rattle.ntp_port.specs.Serving.{Makes}
-use Rattle.ntp_port.specs.Sources.{Gives, CountsOn}
 use Rattle.ntp_port.proofs.PublicLaws.{CountsMore-nil, CountsMore-append, TakesTurn, sent_of, count_of, if_so, count-more, Makes-nil, Makes-append, Makes-few, at-most-one, sent-one, noted-one}
 use Rattle.ntp_admin.specs.CommandsFile.{most_line_octets, line_observations, happened_at_lines}
-use Rattle.ntp_server.specs.declared.server.Server.{Server}
-use Rattle.ntp_server.specs.declared.server.Totals.{Totals}
+use Rattle.ntp_server.specs.{declared.server.Server.Server, declared.server.Totals.Totals}
 use Rattle.ntp_server.specs.Rounds.{Round, PartsTell, ServesRounds, turns_in, made_in, waits_in, receipt_in, asked_in}
 use Rattle.ntp_server.specs.Steps.{Looks, Orders, Starts, Waits, MakesTurn, arrivals_in, replies_of_turn, departures_in}
 use Rattle.ntp_server.proofs.Telling.{Gives-nil, Gives-append, CountsOn-nil, CountsOn-append}
@@ -160,7 +152,7 @@ last-of {X = X} xs x =
     there [] = refl
     there (y ∷ ys) = there ys
 
--- rounds of which the last alone has a turn, behind others
+-- rounds behind others; the last one alone has a turn
 module _ (rounds earlier : List Round) (round : Round) (reference : ReferenceState) (made : Made) (no_turn : turns_in earlier ≡ [])
     (waiting : waits_in earlier ≡ earlier) (turn : round.turn ≡ Some (reference, made)) where
   abbrev with_turn : List Round

@@ -2,11 +2,9 @@
 use Rattle.std.specs.Prelude.{ℕ, ◌<◌, Option, None, Some, option_map, List, length, map, drop, vec_len, vec_capacity, if◌then◌else◌}
 use Rattle.ntp_reply.specs.Reference.{ReferenceState}
 use Rattle.ntp_service.specs.declared.observation.Observation.{Observation}
-use Rattle.ntp_server.specs.declared.memory.MemoryCommands.{MemoryCommands}
-use Rattle.ntp_server.specs.declared.memory.MemoryStates.{MemoryStates}
+use Rattle.ntp_server.specs.{declared.memory.MemoryCommands.MemoryCommands, declared.memory.MemoryStates.MemoryStates}
 use Rattle.ntp_server.specs.declared.memory.MemoryObserver.{MemoryObserver}
-use Rattle.ntp_port.specs.Sequence.{firsts}
-use Rattle.ntp_port.specs.Sources.{Coming}
+use Rattle.ntp_port.specs.{Sequence.firsts, Sources.Coming}
 
 -- these and then nothing more, whatever is asked with
 abbrev pub commands_coming : List (Option (List ℕ)) → Coming (Option (List ℕ))

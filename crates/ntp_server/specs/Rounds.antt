@@ -1,25 +1,18 @@
 -- What a server with its commands does.
 use Rattle.std.specs.Prelude.{◌≡◌, ◌⊎◌, ℕ, ◌-◌, ◌^◌, Bool, true, is_none, Option, None, Some, IfSome, IsSome, option_map, List, [], ◌∷◌, ◌++◌, length, map, filter, flat_map, slice_get}
-use Rattle.std.specs.List.{filter_map}
-use Rattle.std.specs.Option.{option_map_or, option_and_then}
+use Rattle.std.specs.{List.filter_map, Option.option_map_or, Option.option_and_then}
 use Rattle.ntp_packet.specs.declared.moment.Moment.{Moment}
 use Rattle.ntp_reply.specs.Reference.{ReferenceState}
-use Rattle.ntp_service.specs.declared.event.Event.{Event}
-use Rattle.ntp_service.specs.declared.outcome.Outcome.{Outcome}
-use Rattle.ntp_service.specs.declared.observation.Observation.{Observation}
-use Rattle.ntp_service.specs.declared.observation.Observation.TheVariants.{Turn}
-use Rattle.ntp_service.specs.Sees.{Sees}
-use Rattle.ntp_service.specs.Headline.{StandsFor, Tells}
-use Rattle.ntp_port.specs.declared.port.PortCounts.{PortCounts}
-use Rattle.ntp_port.specs.Port.{Told, CountsMore}
+use Rattle.ntp_service.specs.{declared.event.Event.Event, declared.outcome.Outcome.Outcome}
+use Rattle.ntp_service.specs.{declared.observation.Observation.Observation, declared.observation.Observation.TheVariants.Turn}
+use Rattle.ntp_service.specs.{Sees.Sees, Headline.StandsFor, Headline.Tells}
+use Rattle.ntp_port.specs.{declared.port.PortCounts.PortCounts, Port.Told, Port.CountsMore, Serving.Makes}
 use Rattle.ntp_port.specs.Made.{Made, turn_of, happened_in_turn, sent_in, has_arrived, has_departed, turn_outcome}
-use Rattle.ntp_port.specs.Serving.{Makes}
 use Rattle.ntp_port.specs.Sources.{Coming, Gives, CountsOn}
 use Rattle.ntp_admin.specs.CommandsFile.{most_line_octets, count_on, complete_lines, TakenLine, happened_at_lines, line_observations}
-use Rattle.ntp_server.specs.declared.server.Server.{Server}
-use Rattle.ntp_server.specs.declared.server.Totals.{Totals}
+use Rattle.ntp_server.specs.{declared.server.Server.Server, declared.server.Totals.Totals}
 
--- a round: a look at the commands, before which so many lines were applied, with the octets that their source gave, if any, and the lines
+-- a round: a look at the commands, before which `applied` lines were applied, with the octets that their source gave, if any, and the lines
 -- that were taken; and the turn behind it, if one was made, with the state of the clock that was in force
 pub record Round : Type 0 where
   pub applied : ℕ
@@ -82,7 +75,7 @@ pub record ServesRounds {P C R O A : Type 0} (before after : Server P C R O A) (
   pub at_start : turns_in start ≡ []
   pub gave : List (List ℕ)
   pub until : (given_in start ≡ map Some gave ++ None ∷ []) ⊎ (given_in start ≡ map Some gave) × (length gave ≡ 2 ^ 64 - 1)
-  -- the rounds behind them, of which the last one has a turn
+  -- the rounds behind them; the last one has a turn
   pub rounds : List Round
   pub each : length (turns_in rounds) ≡ turns
   pub last : IfSome (slice_get rounds (length rounds - 1)) (λ r. IsSome r.turn)

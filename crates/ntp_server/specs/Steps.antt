@@ -3,16 +3,10 @@ use Rattle.std.specs.Prelude.{◌≡◌, ◌⊎◌, ℕ, ◌-◌, ◌^◌, Bool,
 use Rattle.std.specs.Option.{option_map_or}
 use Rattle.ntp_packet.specs.declared.moment.Moment.{Moment}
 use Rattle.ntp_reply.specs.Reference.{ReferenceState}
-use Rattle.ntp_service.specs.declared.event.Event.{Event}
-use Rattle.ntp_service.specs.declared.observation.TurnOutcome.{TurnOutcome}
+use Rattle.ntp_service.specs.{declared.event.Event.Event, declared.observation.TurnOutcome.TurnOutcome}
 use Rattle.ntp_service.specs.declared.observation.TurnOutcome.TheVariants.{NothingReceived, Answered}
-use Rattle.ntp_service.specs.Sees.{Sees}
-use Rattle.ntp_service.specs.Sending.{was_sent, was_noted}
-use Rattle.ntp_service.specs.Headline.{StandsFor, Tells}
-use Rattle.ntp_port.specs.Port.{CountsMore}
-use Rattle.ntp_port.specs.Made.{Made, turn_outcome}
-use Rattle.ntp_port.specs.Serving.{Makes}
-use Rattle.ntp_port.specs.Sources.{Gives, CountsOn}
+use Rattle.ntp_service.specs.{Sees.Sees, Sending.was_sent, Sending.was_noted, Headline.StandsFor, Headline.Tells}
+use Rattle.ntp_port.specs.{Port.CountsMore, Made.Made, Made.turn_outcome, Serving.Makes, Sources.Gives, Sources.CountsOn}
 use Rattle.ntp_admin.specs.CommandsFile.{most_line_octets, count_on, complete_lines, TakenLine, happened_at_lines, line_observations}
 use Rattle.ntp_server.specs.declared.server.Server.{Server}
 use Rattle.ntp_server.specs.Rounds.{Round, PartsTell, AreDueInTurn, given_in, turns_in, waits_in, receipt_in, asked_in, happened_in_round, round_observations}
@@ -58,7 +52,7 @@ pub record Waits {P C R O A : Type 0} (before after : Server P C R O A) (t : Par
   pub tended : CountsOn (t.tended before.reference) (t.tended after.reference) (length rounds)
   pub reported : Sees shown later (map asked_in rounds)
 
--- rounds were made, of which the last alone has a turn, which came to this
+-- rounds were made; the last one alone has a turn, which came to this
 pub record MakesTurn {P C R O A : Type 0} (before after : Server P C R O A) (t : PartsTell P C R O)
     (shown later : Option (List (Option Moment))) (prompt may_drop : Bool) (outcome : TurnOutcome) : Type 0 where
   pub earlier : List Round

@@ -2,14 +2,11 @@
 use Rattle.std.proofs.Common.{◌≡◌, ◌≢◌, ◌⊎◌, ℕ, List, nat_eq, ap, arith}
 use Rattle.std.proofs.lemmas.Bool.Decides.{nat_tests}
 use Rattle.std.proofs.lemmas.Cmp.{on_total, nat_list_cmp_total, nat_cmp_total}
-use Rattle.std.specs.Ordering.{nat_cmp}
-use Rattle.std.specs.Cmp.{IsTotalOrder, IsEquivalence}
+use Rattle.std.specs.{Ordering.nat_cmp, Cmp.IsTotalOrder, Cmp.IsEquivalence}
 use Rattle.std.specs.Cmp.Lexicographic.{texts_ties, on_texts_equal}
 use Rattle.std.specs.FinMap.{IsAntisymmetric, slice_cmp-IsAntisymmetric, nat_cmp-IsAntisymmetric}
-use Rattle.ntp_service.specs.declared.address.Address.{Address}
-use Rattle.ntp_service.specs.Address.{address_cmp, address_eq}
-use Rattle.ntp_service.proofs.Keys.{same_or_other}
-use Rattle.ntp_service.proofs.Entries.{IsKeyOrder}
+use Rattle.ntp_service.specs.{declared.address.Address.Address, Address.address_cmp, Address.address_eq}
+use Rattle.ntp_service.proofs.{Keys.same_or_other, Entries.IsKeyOrder}
 
 -- the address of these octets
 abbrev address_of : List ℕ → Address

@@ -1,24 +1,18 @@
 -- What the changes of a register do to the agreement of its customers and its holders.
 use Rattle.std.proofs.Common.{◌≡◌, ◌≢◌, ℕ, true, false, List, [], ◌∷◌, ◌++◌, Option, Some, None, Contains, refl, sym, ap, ◌∙◌, subst, ⊎_elim, unwrap_or, is_some, arith}
 use Rattle.std.specs.Prelude.{◌↔◌}
-use Rattle.std.proofs.lemmas.Option.{none-some}
+use Rattle.std.proofs.{lemmas.Option.none-some, lemmas.Bool.Decides.nat_tests}
 use Rattle.std.proofs.lemmas.List.Elements.{Contains-append_left, Contains-append_right, Contains-append_cases}
-use Rattle.std.specs.Ordering.{nat_cmp}
-use Rattle.std.specs.Option.{option_map_or}
-use Rattle.std.specs.Int.NonZero.{non_zero_u16_get}
-use Rattle.std.specs.declared.num.NonZeroU16.{NonZeroU16}
-use Rattle.std.proofs.lemmas.Bool.Decides.{nat_tests}
-use Rattle.ntp_mac.specs.Key.{SymmetricKey}
+use Rattle.std.specs.{Ordering.nat_cmp, Option.option_map_or, Int.NonZero.non_zero_u16_get, declared.num.NonZeroU16.NonZeroU16}
 use Rattle.std.specs.FinMap.{get-empty}
-use Rattle.ntp_service.specs.declared.address.Address.{Address}
-use Rattle.ntp_service.specs.Address.{address_cmp}
+use Rattle.ntp_mac.specs.Key.{SymmetricKey}
+use Rattle.ntp_service.specs.{declared.address.Address.Address, Address.address_cmp}
+use Rattle.ntp_service.specs.{declared.refusal.Refusal.TheVariants.NotEnrolled, declared.command.Command.Command}
+use Rattle.ntp_service.specs.Commands.{numbered, refusal_of}
 use Rattle.ntp_customer.specs.declared.numbered_key.NumberedKey.{NumberedKey}
 use Rattle.ntp_customer.specs.Customer.{Enrolment, CustomerState, enrolment_of, enrolment_at, new_customer, revoked, rebudgeted, rolled_over, retired, is_enrolled, numbers_in, numbers_of}
 use Rattle.ntp_customer.proofs.PublicLaws.{revoked-absent, numbers-rebudgeted}
-use Rattle.ntp_service.specs.declared.refusal.Refusal.TheVariants.{NotEnrolled}
-use Rattle.ntp_service.specs.declared.command.Command.{Command}
 use Rattle.ntp_service.specs.declared.command.Command.TheVariants.{Enrol, Revoke, Budget, Rollover, Retire}
-use Rattle.ntp_service.specs.Commands.{numbered, refusal_of}
 use Rattle.ntp_service.specs.Registry.{Registry, Agrees, empty_registry, customer_at, is_enrolled_at, numbers_at, holder_of, with_customer, with_holder, without_holder, without_holders, after_command, own_refusal, holder_in_way}
 use Rattle.ntp_service.proofs.AddressLaws.{same_or_other_address, same_or_other_number}
 use Rattle.ntp_service.proofs.Members.{Contains-here, Contains-none, Contains-one, is_member}

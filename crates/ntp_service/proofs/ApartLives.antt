@@ -2,17 +2,14 @@
 use Rattle.std.proofs.Common.{◌≡◌, Bool, List, [], ◌∷◌, Some, None, is_some, option_map, refl, arith}
 use Rattle.std.proofs.lemmas.Grind.{common_steps}
 use Rattle.std.specs.Prelude.{if◌then◌else◌}
-use Rattle.ntp_customer.specs.Exchanges.{AreSaved}
+use Rattle.ntp_customer.specs.{Exchanges.AreSaved, Customer.Enrolment, Customer.with_terms}
 use Rattle.ntp_customer.proofs.PublicLaws.{AreSaved-nil, with_key, without_key}
-use Rattle.ntp_customer.specs.Customer.{Enrolment, with_terms}
 use Rattle.ntp_reply.specs.Life.{Life, enrolment_in, recent_in}
-use Rattle.ntp_reply.specs.Kind.{kind_of}
-use Rattle.ntp_reply.specs.Replies.{occasion_of}
+use Rattle.ntp_reply.specs.{Kind.kind_of, Replies.occasion_of}
 use Rattle.ntp_reply.proofs.PublicLaws.{AreSaved-none, AreSaved-after_kind, AreSaved-after_departure}
-use Rattle.ntp_service.specs.declared.command.Command.{Command}
-use Rattle.ntp_service.specs.declared.event.Event.{Event}
-use Rattle.ntp_service.specs.declared.event.Event.TheVariants as event
+use Rattle.ntp_service.specs.{declared.command.Command.Command, declared.event.Event.Event}
 use Rattle.ntp_service.specs.Commands.{refusal_of, once_done}
+use Rattle.ntp_service.specs.declared.event.Event.TheVariants as event
 use Rattle.ntp_service.specs.Model.{after, life_after, life_of}
 use Rattle.ntp_service.proofs.Lives.{by_life}
 

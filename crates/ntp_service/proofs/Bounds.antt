@@ -1,34 +1,23 @@
 -- What one event takes of the replies that an address has left in a window.
 use Rattle.std.proofs.Common.{◌≡◌, ◌≢◌, ℕ, suc, ◌+◌, ◌-◌, ◌≤◌, cond, Bool, true, false, is_some, List, [], ◌∷◌, ◌++◌, Some, None, Option, option_map, Result, Ok, refl, sym, ap, ◌∙◌, true≢false, arith}
 use Rattle.std.specs.Option.{option_map_or}
-use Rattle.std.proofs.lemmas.Bool.{eq-eqb}
-use Rattle.std.proofs.lemmas.Bool.Decides.{nat_tests}
-use Rattle.std.proofs.lemmas.Option.{none-some}
-use Rattle.ntp_customer.specs.Tally.{count_in}
+use Rattle.std.proofs.{lemmas.Bool.eq-eqb, lemmas.Bool.Decides.nat_tests, lemmas.Option.none-some}
+use Rattle.ntp_customer.specs.{Tally.count_in, Past.Past, Past.with_refusal}
 use Rattle.ntp_customer.proofs.PublicLaws.{count_in-append, by_past}
-use Rattle.ntp_packet.specs.Header.{HeaderFields, header_octets}
-use Rattle.ntp_mac.specs.Mac.{nak_octets}
-use Rattle.ntp_mac.specs.Key.{SymmetricKey}
-use Rattle.ntp_mac.specs.Reading.{reading_of}
-use Rattle.ntp_packet.specs.Request.{RequestValue}
+use Rattle.ntp_packet.specs.{Header.HeaderFields, Header.header_octets, Request.RequestValue}
 use Rattle.ntp_packet.specs.declared.malformed.Malformed.{Malformed}
+use Rattle.ntp_mac.specs.{Mac.nak_octets, Key.SymmetricKey, Reading.reading_of}
 use Rattle.ntp_customer.specs.Customer.{Enrolment, AccountOf, enrolment_at, is_enrolled}
-use Rattle.ntp_customer.specs.Past.{Past, with_refusal}
-use Rattle.ntp_reply.specs.Life.{Life, enrolment_in}
-use Rattle.ntp_reply.specs.Replies.{basic_fields, kiss_fields}
-use Rattle.ntp_reply.specs.declared.kiss.Kiss.TheVariants.{Deny}
+use Rattle.ntp_reply.specs.{Life.Life, Life.enrolment_in, Replies.basic_fields, Replies.kiss_fields}
+use Rattle.ntp_reply.specs.{declared.kiss.Kiss.TheVariants.Deny, Exchanged.stamps_of, Exchanged.after_departure}
+use Rattle.ntp_reply.specs.{declared.answers.Answer.Answer, declared.occasion.Occasion.Occasion}
 use Rattle.ntp_reply.specs.Kind.{Kind, PassedOver, RefusedByDeny, RefusedByNak, Signed, octets_kind, kind_of}
-use Rattle.ntp_reply.specs.Exchanged.{stamps_of, after_departure}
 use Rattle.ntp_reply.specs.Verdict.{window_at, refused, refusals_sent, signed_answer, after_signed, kind_answer, after_kind, verdict, after_datagram}
-use Rattle.ntp_reply.specs.declared.answers.Answer.{Answer}
 use Rattle.ntp_reply.specs.declared.answers.Answer.TheVariants as answer
-use Rattle.ntp_reply.specs.declared.occasion.Occasion.{Occasion}
-use Rattle.ntp_service.specs.declared.event.Event.{Event}
-use Rattle.ntp_service.specs.declared.event.Event.TheVariants as event
-use Rattle.ntp_service.specs.declared.outcome.Outcome.{Outcome}
-use Rattle.ntp_service.specs.declared.outcome.Outcome.TheVariants as outcome
-use Rattle.ntp_service.specs.Model.{answer_to, after}
+use Rattle.ntp_service.specs.{declared.event.Event.Event, declared.outcome.Outcome.Outcome, Model.answer_to, Model.after}
 use Rattle.ntp_service.specs.Forgery.{is_signed_query}
+use Rattle.ntp_service.specs.declared.event.Event.TheVariants as event
+use Rattle.ntp_service.specs.declared.outcome.Outcome.TheVariants as outcome
 use Rattle.ntp_service.specs.Bound.{is_query_reply, is_refusal_reply, receipt_window, most_query_replies}
 use Rattle.ntp_service.proofs.Lives.{by_life, undone}
 

@@ -3,28 +3,21 @@ use Rattle.std.proofs.Common.{◌≡◌, ◌≢◌, ℕ, Bool, true, false, Opti
 use Rattle.std.specs.Prelude.{◌↔◌, OnErr, if◌then◌else◌, option_and_then}
 use Rattle.std.specs.Option.{option_map_or}
 use Rattle.std.specs.FinMap as map
-use Rattle.ntp_customer.specs.Tally.{tally}
-use Rattle.ntp_customer.specs.Customer.{Enrolment, CustomerState}
-use Rattle.ntp_customer.specs.Past.{short}
-use Rattle.ntp_service.specs.declared.address.Address.{Address}
-use Rattle.ntp_service.specs.declared.refusal.Refusal.{Refusal}
-use Rattle.ntp_service.specs.declared.refusal.Refusal.TheVariants.{KeyTaken}
-use Rattle.ntp_service.specs.declared.command.Command.{Command}
+use Rattle.ntp_customer.specs.{Tally.tally, Customer.Enrolment, Customer.CustomerState, Past.short}
+use Rattle.ntp_service.specs.{declared.address.Address.Address, declared.refusal.Refusal.Refusal}
+use Rattle.ntp_service.specs.{declared.refusal.Refusal.TheVariants.KeyTaken, declared.command.Command.Command}
+use Rattle.ntp_service.specs.declared.event.Event.{Event}
+use Rattle.ntp_service.specs.{declared.outcome.Outcome.TheVariants.Done, declared.outcome.Outcome.TheVariants.Refused, Events.own}
+use Rattle.ntp_service.specs.Model.{life_of}
 use Rattle.ntp_service.specs.declared.command.Command.TheVariants.{Enrol, Rollover, Retire}
 use Rattle.ntp_service.specs.Commands.{address_named, number_wanted, refusal_of, is_foreign, once_done}
 use Rattle.ntp_service.specs.Registry.{Registry, Agrees, AnswersCommand, customer_at, terms_at, holder_of, holders_after, after_command, own_refusal, holder_in_way}
-use Rattle.ntp_service.proofs.Lookups.{customer_at-with_customer, customer_at-with_customer-other}
+use Rattle.ntp_service.proofs.{Lookups.customer_at-with_customer, Lookups.customer_at-with_customer-other, Lives.undone}
+use Rattle.ntp_service.proofs.{KeptLives.kept-done, Holders.taken-so, Holders.terms-are}
 use Rattle.ntp_reply.specs.Life.{Life, enrolment_in}
-use Rattle.ntp_service.specs.declared.event.Event.{Event}
 use Rattle.ntp_service.specs.declared.event.Event.TheVariants as event
-use Rattle.ntp_service.specs.declared.outcome.Outcome.TheVariants.{Done, Refused}
-use Rattle.ntp_service.specs.Events.{own}
-use Rattle.ntp_service.specs.Model.{life_of}
 use Rattle.ntp_service.specs.Headline.{StandsFor, TellsOne, IsTaken, command_outcome}
-use Rattle.ntp_service.proofs.Lives.{undone}
-use Rattle.ntp_service.proofs.KeptLives.{kept-done}
 use Rattle.ntp_service.proofs.Histories.{stands-step, stands-same, tells-one}
-use Rattle.ntp_service.proofs.Holders.{taken-so, terms-are}
 
 -- ---- the register after a command that is done
 -- no command that is done takes a customer away

@@ -2,15 +2,12 @@
 use Rattle.std.proofs.Common.{◌≡◌, Bool, false, Some, None, option_map, List, sym, ap, ◌∙◌, arith}
 use Rattle.std.specs.Bool.{OnFalse}
 use Rattle.std.proofs.lemmas.Option.{none-some}
-use Rattle.ntp_service.specs.declared.address.Address.{Address}
-use Rattle.ntp_customer.specs.Customer.{CustomerState}
-use Rattle.ntp_customer.specs.Past.{Past, short}
+use Rattle.ntp_service.specs.{declared.address.Address.Address, declared.event.Event.Event, declared.outcome.Outcome.Outcome}
+use Rattle.ntp_service.specs.Events.{address_of, own}
+use Rattle.ntp_customer.specs.{Customer.CustomerState, Past.Past, Past.short}
 use Rattle.ntp_service.specs.Registry.{Registry, Agrees, customer_at, with_customer}
 use Rattle.ntp_service.proofs.Lookups.{customer_at-with_customer, customer_at-with_customer-other, with_customer-present}
 use Rattle.ntp_reply.specs.Life.{Life}
-use Rattle.ntp_service.specs.declared.event.Event.{Event}
-use Rattle.ntp_service.specs.declared.outcome.Outcome.{Outcome}
-use Rattle.ntp_service.specs.Events.{address_of, own}
 use Rattle.ntp_service.specs.Model.{life_of, after, answer_to, departure_outcome}
 use Rattle.ntp_service.specs.Headline.{StandsFor, TellsOne, IsTaken, is_struck, number_asked}
 use Rattle.ntp_service.proofs.Lives.{by_kept, never-enrolled}

@@ -3,17 +3,13 @@ use Rattle.std.proofs.Common.{◌≡◌, false, Option, Some, None, option_map, 
 use Rattle.std.specs.Int.NonZero.{non_zero_u16_get}
 use Rattle.ntp_customer.specs.Customer.{Enrolment, enrolment_of}
 use Rattle.ntp_customer.proofs.PublicLaws.{with_key, without_key}
-use Rattle.ntp_service.specs.declared.address.Address.{Address}
+use Rattle.ntp_service.specs.{declared.address.Address.Address, declared.command.Command.Command, declared.event.Event.Event}
+use Rattle.ntp_service.specs.{Events.address_of, Events.own, Commands.numbered, Commands.once_done}
+use Rattle.ntp_service.specs.{Headline.IsTaken, Headline.number_asked, Split.is_command}
 use Rattle.ntp_reply.specs.Life.{Life, enrolment_in}
-use Rattle.ntp_service.specs.declared.command.Command.{Command}
 use Rattle.ntp_service.specs.declared.command.Command.TheVariants.{Enrol, Revoke, Budget, Rollover, Retire}
-use Rattle.ntp_service.specs.declared.event.Event.{Event}
 use Rattle.ntp_service.specs.declared.event.Event.TheVariants as event
-use Rattle.ntp_service.specs.Events.{address_of, own}
-use Rattle.ntp_service.specs.Commands.{numbered, once_done}
 use Rattle.ntp_service.specs.Model.{answer_to, after, life_of}
-use Rattle.ntp_service.specs.Headline.{IsTaken, number_asked}
-use Rattle.ntp_service.specs.Split.{is_command}
 use Rattle.ntp_service.proofs.Lives.{by_life, command_answer, life_after_command}
 use Rattle.ntp_service.proofs.Bounds.{same-enrolment}
 

@@ -1,9 +1,6 @@
 -- A list of entries, as the finite map that it makes.
 use Rattle.std.proofs.Common.{◌≡◌, Bool, cond, List, [], ◌∷◌, Some, None, refl, sym, ap, ◌∙◌}
-use Rattle.std.specs.declared.cmp.Ordering.{Ordering}
-use Rattle.std.specs.Ordering.{eq_by_cmp}
-use Rattle.std.specs.Cmp.{IsTotalOrder, eq_by_cmp_equiv}
-use Rattle.std.specs.Map.{lookup}
+use Rattle.std.specs.{declared.cmp.Ordering.Ordering, Ordering.eq_by_cmp, Cmp.IsTotalOrder, Cmp.eq_by_cmp_equiv, Map.lookup}
 use Rattle.std.specs.FinMap.{IsAntisymmetric, find, get, insert, remove, from_entries, get-from_entries, get-insert, get-remove, same_map}
 
 -- keys in a total order, in which nothing but one and the same key ties, and in which a tie is their `==`

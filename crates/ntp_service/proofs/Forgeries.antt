@@ -1,29 +1,19 @@
 -- Forged datagrams change no answer to a genuine event.
 use Rattle.std.proofs.Common.{◌≡◌, ℕ, true, false, Some, None, List, [], ◌∷◌, map, refl, sym, ap, ◌∙◌, arith}
-use Rattle.ntp_packet.specs.declared.moment.Moment.{Moment}
-use Rattle.ntp_packet.specs.Header.{HeaderFields}
-use Rattle.ntp_service.specs.declared.address.Address.{Address}
-use Rattle.ntp_service.specs.Registry.{Registry}
+use Rattle.ntp_packet.specs.{declared.moment.Moment.Moment, Header.HeaderFields}
+use Rattle.ntp_service.specs.{declared.address.Address.Address, Registry.Registry, declared.command.Command.Command}
+use Rattle.ntp_service.specs.{declared.event.Event.Event, declared.outcome.Outcome.Outcome, Events.own, Commands.once_done}
 use Rattle.ntp_customer.proofs.PublicLaws.{with_refusals}
 use Rattle.ntp_customer.specs.Past.{Past}
-use Rattle.ntp_reply.specs.Life.{Life}
-use Rattle.ntp_reply.specs.Reference.{ReferenceState}
-use Rattle.ntp_reply.specs.declared.answers.Answer.{Answer}
-use Rattle.ntp_reply.specs.Kind.{Kind}
-use Rattle.ntp_reply.specs.Verdict.{after_signed, kind_answer, after_kind}
+use Rattle.ntp_reply.specs.{Life.Life, Reference.ReferenceState, declared.answers.Answer.Answer, Kind.Kind}
 use Rattle.ntp_reply.specs.declared.occasion.Occasion.{Occasion}
-use Rattle.ntp_service.specs.declared.command.Command.{Command}
-use Rattle.ntp_service.specs.declared.event.Event.{Event}
+use Rattle.ntp_reply.specs.Verdict.{after_signed, kind_answer, after_kind}
 use Rattle.ntp_service.specs.declared.event.Event.TheVariants as event
-use Rattle.ntp_service.specs.declared.outcome.Outcome.{Outcome}
 use Rattle.ntp_service.specs.declared.outcome.Outcome.TheVariants as outcome
-use Rattle.ntp_service.specs.Events.{own}
-use Rattle.ntp_service.specs.Commands.{once_done}
 use Rattle.ntp_service.specs.Model.{answer_to, after, life_after, life_of, says_after}
 use Rattle.ntp_service.specs.Headline.{Tells, TellsOne, happened_to}
 use Rattle.ntp_service.specs.Forgery.{is_signed_query, is_genuine, genuine, at_genuine, without_refusals, TellsWithoutForgeries}
-use Rattle.ntp_service.proofs.Histories.{events_of}
-use Rattle.ntp_service.proofs.Lives.{life_after_command}
+use Rattle.ntp_service.proofs.{Histories.events_of, Lives.life_after_command}
 
 -- ---- one datagram
 -- a signed query is answered alike with no refusals counted

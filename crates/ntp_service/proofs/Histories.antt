@@ -1,20 +1,14 @@
 -- What one more event does to a history.
 use Rattle.std.proofs.Common.{◌≡◌, ◌≢◌, Bool, true, false, option_map, List, [], ◌∷◌, ◌++◌, map, refl, sym, ap, ◌∙◌, subst, append-nil, ⊎_elim, arith}
-use Rattle.std.proofs.lemmas.Grind.{common_steps}
-use Rattle.std.specs.Ordering.{is_eq}
-use Rattle.std.specs.declared.cmp.Ordering.{Ordering}
-use Rattle.std.specs.declared.cmp.Ordering.TheVariants.{Equal}
-use Rattle.std.specs.FinMap.{get-empty}
-use Rattle.std.proofs.lemmas.List.Elements.{filter-append}
-use Rattle.ntp_service.specs.declared.address.Address.{Address}
-use Rattle.ntp_service.specs.Address.{address_eq, address_cmp}
+use Rattle.std.proofs.{lemmas.Grind.common_steps, lemmas.List.Elements.filter-append}
+use Rattle.std.specs.{Ordering.is_eq, declared.cmp.Ordering.Ordering, declared.cmp.Ordering.TheVariants.Equal, FinMap.get-empty}
+use Rattle.ntp_service.specs.{declared.address.Address.Address, Address.address_eq, Address.address_cmp}
+use Rattle.ntp_service.specs.{declared.event.Event.Event, declared.outcome.Outcome.Outcome}
 use Rattle.ntp_service.specs.Registry.{Registry, Agrees, customer_at, empty_registry}
 use Rattle.ntp_service.proofs.AddressLaws.{address_eq_equiv, addresses, same_or_other_address}
 use Rattle.ntp_service.proofs.Agreement.{agrees-empty}
 use Rattle.ntp_customer.specs.Past.{short}
 use Rattle.ntp_reply.specs.Life.{Life}
-use Rattle.ntp_service.specs.declared.event.Event.{Event}
-use Rattle.ntp_service.specs.declared.outcome.Outcome.{Outcome}
 use Rattle.ntp_service.specs.Events.{address_of, names, own}
 use Rattle.ntp_service.specs.Model.{answer_to, after, life_after, life_of}
 use Rattle.ntp_service.specs.Headline.{StandsFor, TellsOne, IsTaken, is_struck}

@@ -3,22 +3,15 @@ use Rattle.std.proofs.Common.{◌≡◌, ℕ, zero, suc, ◌==◌, Option, Some,
 use Rattle.std.specs.Prelude.{◌↔◌}
 use Rattle.std.specs.Option.{option_map_or}
 use Rattle.std.proofs.lemmas.Bool.Decides.{nat_tests}
-use Rattle.ntp_customer.specs.declared.numbered_key.NumberedKey.{NumberedKey}
+use Rattle.ntp_customer.specs.{declared.numbered_key.NumberedKey.NumberedKey, Past.short}
 use Rattle.ntp_customer.specs.Customer.{Enrolment, enrolment_at, numbers_in}
-use Rattle.ntp_customer.specs.Past.{short}
-use Rattle.ntp_service.specs.declared.address.Address.{Address}
+use Rattle.ntp_service.specs.{declared.address.Address.Address, declared.command.Command.Command, declared.event.Event.Event}
+use Rattle.ntp_service.specs.{Events.address_of, Events.own, Commands.number_wanted, Commands.refusal_of, Model.life_of}
 use Rattle.ntp_service.specs.Registry.{Registry, terms_at, numbers_at, holder_of}
-use Rattle.ntp_service.proofs.Agreement.{one-holder}
-use Rattle.ntp_service.proofs.Lookups.{numbers_held}
+use Rattle.ntp_service.proofs.{Agreement.one-holder, Lookups.numbers_held, Lives.by_life, Lives.enrolment-kept}
 use Rattle.ntp_reply.specs.Life.{Life, enrolment_in}
-use Rattle.ntp_service.specs.declared.command.Command.{Command}
-use Rattle.ntp_service.specs.declared.event.Event.{Event}
 use Rattle.ntp_service.specs.declared.event.Event.TheVariants as event
-use Rattle.ntp_service.specs.Events.{address_of, own}
-use Rattle.ntp_service.specs.Commands.{number_wanted, refusal_of}
-use Rattle.ntp_service.specs.Model.{life_of}
 use Rattle.ntp_service.specs.Headline.{StandsFor, IsEnrolledWith, IsTaken}
-use Rattle.ntp_service.proofs.Lives.{by_life, enrolment-kept}
 
 -- the numbers are kept
 numbers-kept : (life : Life) → numbers_held (option_map short life) ≡ option_map_or numbers_in (enrolment_in life) []

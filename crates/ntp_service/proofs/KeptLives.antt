@@ -1,20 +1,15 @@
 -- An event in lives that leave the same.
 use Rattle.std.proofs.Common.{◌≡◌, ◌<◌, [], Option, Some, None, is_some, option_map, refl, sym, ap, ◌∙◌, arith}
 use Rattle.std.specs.Prelude.{if◌then◌else◌}
-use Rattle.std.specs.Option.{option_map_or}
-use Rattle.std.specs.Int.NonZero.{non_zero_u16_get}
+use Rattle.std.specs.{Option.option_map_or, Int.NonZero.non_zero_u16_get}
 use Rattle.std.proofs.lemmas.Option.{none-some, same_Some}
-use Rattle.ntp_customer.specs.Tally.{most_counted, tally}
+use Rattle.ntp_customer.specs.{Tally.most_counted, Tally.tally, Past.Past, Past.short}
 use Rattle.ntp_customer.specs.Customer.{CustomerState, enrolment_of, enrolment_at, budget_of}
-use Rattle.ntp_customer.specs.Past.{Past, short}
-use Rattle.ntp_reply.specs.Life.{Life, budget_in}
-use Rattle.ntp_reply.specs.Replies.{occasion_of}
+use Rattle.ntp_reply.specs.{Life.Life, Life.budget_in, Replies.occasion_of}
 use Rattle.ntp_reply.proofs.PublicLaws.{short-new, departure-alike, datagram-alike}
-use Rattle.ntp_service.specs.declared.command.Command.{Command}
-use Rattle.ntp_service.specs.declared.command.Command.TheVariants.{Enrol}
-use Rattle.ntp_service.specs.declared.event.Event.{Event}
+use Rattle.ntp_service.specs.{declared.command.Command.Command, declared.command.Command.TheVariants.Enrol}
+use Rattle.ntp_service.specs.{declared.event.Event.Event, declared.outcome.Outcome.Outcome}
 use Rattle.ntp_service.specs.declared.event.Event.TheVariants as event
-use Rattle.ntp_service.specs.declared.outcome.Outcome.{Outcome}
 use Rattle.ntp_service.specs.declared.outcome.Outcome.TheVariants as outcome
 use Rattle.ntp_service.specs.Commands.{numbered, refusal_of, once_done}
 use Rattle.ntp_service.specs.Model.{departure_outcome, answer_to, after}

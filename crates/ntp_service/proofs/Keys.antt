@@ -1,8 +1,6 @@
 -- A finite map that was changed at one key, by cases on the key that is asked for.
 use Rattle.std.proofs.Common.{◌≡◌, ◌≢◌, false, cond, Some, None, refl, sym, ap, ◌∙◌, subst, true≢false, ◌⊎◌, inl, inr, ⊎_elim, arith}
-use Rattle.std.specs.declared.cmp.Ordering.{Ordering}
-use Rattle.std.specs.Ordering.{eq_by_cmp}
-use Rattle.std.specs.Cmp.{IsTotalOrder, eq_by_cmp_equiv}
+use Rattle.std.specs.{declared.cmp.Ordering.Ordering, Ordering.eq_by_cmp, Cmp.IsTotalOrder, Cmp.eq_by_cmp_equiv}
 use Rattle.std.specs.FinMap.{FinMap, IsAntisymmetric, get, insert, remove, get-insert, get-remove, same_map}
 
 module _ {K : Type 0} {R : K → K → Ordering} (total : IsTotalOrder R) (same : IsAntisymmetric R) where

@@ -1,25 +1,18 @@
 -- While an address is enrolled it has one key or two, told apart by their numbers, whatever events it had.
 use Rattle.std.proofs.Common.{◌≡◌, ◌≢◌, ℕ, ◌+◌, ◌<◌, ◌==◌, false, not, List, [], ◌∷◌, ◌++◌, map, filter, find, length, Contains, AllPairs, Option, Some, None, IfSome, is_some, option_map, refl, sym, ◌∙◌, subst, true≢false, arith}
 use Rattle.std.specs.Prelude.{if◌then◌else◌}
-use Rattle.std.proofs.lemmas.Bool.Decides.{nat_tests}
-use Rattle.std.proofs.lemmas.List.{map-append, length-append}
-use Rattle.std.proofs.lemmas.List.Filters.{length-filter_both}
-use Rattle.std.proofs.lemmas.List.Elements.{Contains-get_or}
-use Rattle.std.proofs.lemmas.List.Kept.{AllPairs-filter}
-use Rattle.std.proofs.lemmas.List.Quantifiers.{all_pairs_push}
+use Rattle.std.proofs.{lemmas.Bool.Decides.nat_tests, lemmas.List.map-append, lemmas.List.length-append}
+use Rattle.std.proofs.{lemmas.List.Filters.length-filter_both, lemmas.List.Elements.Contains-get_or}
+use Rattle.std.proofs.{lemmas.List.Kept.AllPairs-filter, lemmas.List.Quantifiers.all_pairs_push}
 use Rattle.ntp_customer.specs.declared.numbered_key.NumberedKey.{NumberedKey}
 use Rattle.ntp_customer.specs.Customer.{Enrolment, HasKeys, enrolment_of, with_terms, numbers_in, most_keys}
 use Rattle.ntp_customer.proofs.PublicLaws.{with_key, without_key}
-use Rattle.ntp_service.specs.declared.refusal.Refusal.{Refusal}
+use Rattle.ntp_service.specs.{declared.refusal.Refusal.Refusal, declared.command.Command.Command, declared.event.Event.Event}
 use Rattle.ntp_reply.specs.Life.{Life, enrolment_in}
-use Rattle.ntp_service.specs.declared.command.Command.{Command}
-use Rattle.ntp_service.specs.declared.event.Event.{Event}
 use Rattle.ntp_service.specs.declared.event.Event.TheVariants as event
 use Rattle.ntp_service.specs.Commands.{rollover_refusal, retire_refusal, refusal_of, once_done}
 use Rattle.ntp_service.specs.Model.{after, life_after, life_of}
-use Rattle.ntp_service.proofs.Lives.{by_life}
-use Rattle.ntp_service.proofs.Holders.{held-number}
-use Rattle.ntp_service.proofs.Bounds.{same-enrolment}
+use Rattle.ntp_service.proofs.{Lives.by_life, Holders.held-number, Bounds.same-enrolment}
 
 -- ---- an enrolment that is new
 HasKeys-one : (key : NumberedKey) (budget : ℕ) → HasKeys (enrolment_of key budget)

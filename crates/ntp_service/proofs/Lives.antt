@@ -6,12 +6,11 @@ use Rattle.std.proofs.lemmas.Option.{none-some, same_Some}
 use Rattle.ntp_customer.specs.Customer.{AccountOf, CustomerState, enrolment_at}
 use Rattle.ntp_customer.specs.Past.{Past, short}
 use Rattle.ntp_customer.proofs.PublicLaws.{by_past}
-use Rattle.ntp_service.specs.declared.refusal.Refusal.{Refusal}
-use Rattle.ntp_reply.specs.Life.{Life, enrolment_in}
-use Rattle.ntp_service.specs.declared.command.Command.{Command}
+use Rattle.ntp_service.specs.{declared.refusal.Refusal.Refusal, declared.command.Command.Command}
 use Rattle.ntp_service.specs.declared.outcome.Outcome.{Outcome}
 use Rattle.ntp_service.specs.declared.outcome.Outcome.TheVariants.{Done, Refused}
 use Rattle.ntp_service.specs.Commands.{refusal_of, once_done}
+use Rattle.ntp_reply.specs.Life.{Life, enrolment_in}
 
 -- a life is that of an address that was never enrolled, of one that is not enrolled now, or of one that is
 module _ (P : Life → Type 0) (never : P None) (out : (refusals : List ℕ) → P (Some (record { account = None; refusals = refusals })))

@@ -1,7 +1,6 @@
 -- Loans that come back.
 use Rattle.std.proofs.Common.{◌≡◌, Option, IsSome, arith}
-use Rattle.std.specs.Borrow.{MutBor}
-use Rattle.std.specs.Option.{ghost_name_of, option_copied_mut}
+use Rattle.std.specs.{Borrow.MutBor, Option.ghost_name_of, Option.option_copied_mut}
 use borrow.Follows.Closed.{read_of}
 
 -- a loan that may be none comes back by one function, and by another that is equal wherever there is a value

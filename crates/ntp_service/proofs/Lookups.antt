@@ -1,8 +1,7 @@
 -- What a register answers after each change: at the address or the number that was changed, and at all others.
 use Rattle.std.proofs.Common.{◌≡◌, ◌≢◌, ℕ, List, [], ◌∷◌, Option, Some, None, Contains, refl, sym, ap, ◌∙◌, ⊎_elim, arith, rules}
-use Rattle.std.specs.Option.{option_map_or}
+use Rattle.std.specs.{Option.option_map_or, FinMap.nat_cmp-IsAntisymmetric}
 use Rattle.std.proofs.lemmas.Cmp.{nat_cmp_total}
-use Rattle.std.specs.FinMap.{nat_cmp-IsAntisymmetric}
 use Rattle.ntp_service.specs.declared.address.Address.{Address}
 use Rattle.ntp_customer.specs.Customer.{CustomerState, numbers_of}
 use Rattle.ntp_service.specs.Registry.{Registry, customer_at, numbers_at, holder_of, with_customer, with_holder, without_holder, without_holders}

@@ -1,8 +1,7 @@
 -- The key numbers of a customer.
 use Rattle.std.proofs.Common.{◌≡◌, ◌≢◌, ◌==◌, ℕ, Bool, true, false, not, cond, List, [], ◌∷◌, ◌++◌, Contains, is_some, map, filter, find, refl, sym, ◌∙◌, ⊎_elim, true≢false, arith}
 use Rattle.std.specs.Prelude.{◌↔◌}
-use Rattle.std.proofs.lemmas.Bool.Decides.{nat_tests}
-use Rattle.std.proofs.lemmas.List.{map-append}
+use Rattle.std.proofs.{lemmas.Bool.Decides.nat_tests, lemmas.List.map-append}
 use Rattle.ntp_customer.specs.declared.numbered_key.NumberedKey.{NumberedKey}
 use Rattle.ntp_customer.specs.Customer.{CustomerState, rolled_over, retired, is_enrolled, numbers_of}
 use Rattle.ntp_customer.proofs.PublicLaws.{by_customer}

@@ -3,17 +3,13 @@ use Rattle.std.proofs.Common.{◌≡◌, ◌&&◌, Bool, true, false, not, List,
 use Rattle.std.specs.Prelude.{if◌then◌else◌}
 use Rattle.std.proofs.lemmas.Bool.{cases_Bool}
 use Rattle.std.proofs.lemmas.List.Elements.{filter-append, All-head, All-tail}
-use Rattle.ntp_service.specs.declared.address.Address.{Address}
-use Rattle.ntp_service.specs.Registry.{Registry}
-use Rattle.ntp_service.proofs.AddressLaws.{address_eq_equiv}
-use Rattle.ntp_service.specs.declared.event.Event.{Event}
+use Rattle.ntp_service.specs.{declared.address.Address.Address, Registry.Registry, declared.event.Event.Event}
 use Rattle.ntp_service.specs.declared.outcome.Outcome.{Outcome}
+use Rattle.ntp_service.proofs.{AddressLaws.address_eq_equiv, Histories.events_of, Stretches.follows-behind}
 use Rattle.ntp_service.specs.Events.{address_of, names, own}
 use Rattle.ntp_service.specs.Model.{answer_to, life_of, FollowsModel}
 use Rattle.ntp_service.specs.Headline.{HasCause, Tells, is_struck, not_struck, happened_to}
-use Rattle.ntp_service.proofs.Histories.{events_of}
 use Rattle.ntp_service.proofs.Runs.{AreCaused, regrouped, life-behind}
-use Rattle.ntp_service.proofs.Stretches.{follows-behind}
 
 module _ {A : Type 0} where
   -- ---- what a service tells, whatever it stands for afterwards

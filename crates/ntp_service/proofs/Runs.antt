@@ -1,15 +1,11 @@
 -- A list of events, one after another.
 use Rattle.std.proofs.Common.{◌≡◌, Bool, not, List, [], ◌∷◌, ◌++◌, map, zip, cond, length, refl, sym, ap, ap₂, ◌∙◌, subst, append_assoc, append-nil, arith, rules}
 use Rattle.std.specs.Prelude.{◌&&◌, if◌then◌else◌}
-use Rattle.std.proofs.lemmas.List.{map-append}
-use Rattle.std.proofs.lemmas.List.Elements.{filter-append}
-use Rattle.ntp_service.specs.declared.address.Address.{Address}
-use Rattle.ntp_service.specs.Registry.{Registry}
+use Rattle.std.proofs.{lemmas.List.map-append, lemmas.List.Elements.filter-append}
+use Rattle.ntp_service.specs.{declared.address.Address.Address, Registry.Registry, declared.event.Event.Event}
+use Rattle.ntp_service.specs.{declared.outcome.Outcome.Outcome, Events.names, Events.own}
 use Rattle.ntp_service.proofs.AddressLaws.{address_eq_equiv, same_or_other_address}
 use Rattle.ntp_reply.specs.Life.{Life}
-use Rattle.ntp_service.specs.declared.event.Event.{Event}
-use Rattle.ntp_service.specs.declared.outcome.Outcome.{Outcome}
-use Rattle.ntp_service.specs.Events.{names, own}
 use Rattle.ntp_service.specs.Model.{answer_to, after, life_after, life_of, FollowsModel}
 use Rattle.ntp_service.specs.Headline.{StandsFor, HasCause, TellsOne, Tells, is_struck, not_struck, happened_to}
 use Rattle.ntp_service.proofs.Histories.{events_of, own-append, life_after-append, other-address}

@@ -1,21 +1,15 @@
 -- Stretches of events with their outcomes, and how many replies they hold.
 use Rattle.std.proofs.Common.{◌≡◌, ◌≢◌, ℕ, suc, ◌+◌, ◌≤◌, ◌==◌, ◌&&◌, nat_lt, cond, Bool, List, [], ◌∷◌, ◌++◌, filter_map, All, AllPairs, refl, ap, ap₂, ◌∙◌, subst, append_assoc, arith}
-use Rattle.std.proofs.lemmas.Bool.Decides.{nat_tests}
-use Rattle.std.proofs.lemmas.List.Elements.{All-head, All-tail}
+use Rattle.std.proofs.{lemmas.Bool.Decides.nat_tests, lemmas.List.Elements.All-head, lemmas.List.Elements.All-tail}
 use Rattle.std.proofs.lemmas.List.Sums.{sum_by-cons}
 use Rattle.std.specs.Prelude.{if◌then◌else◌}
 use Rattle.ntp_packet.specs.Moment.{window_of}
-use Rattle.ntp_service.specs.Registry.{Registry}
-use Rattle.ntp_reply.specs.Life.{Life}
-use Rattle.ntp_reply.specs.Replies.{occasion_of}
-use Rattle.ntp_reply.specs.Verdict.{refusals_sent}
-use Rattle.ntp_service.specs.declared.event.Event.{Event}
-use Rattle.ntp_service.specs.declared.event.Event.TheVariants as event
-use Rattle.ntp_service.specs.declared.outcome.Outcome.{Outcome}
-use Rattle.ntp_service.specs.declared.outcome.Outcome.TheVariants as outcome
-use Rattle.ntp_service.specs.Events.{own}
-use Rattle.ntp_service.specs.Model.{answer_to, after, life_after, life_of, FollowsModel}
+use Rattle.ntp_service.specs.{Registry.Registry, declared.event.Event.Event, declared.outcome.Outcome.Outcome, Events.own}
 use Rattle.ntp_service.specs.Headline.{Tells, happened_to}
+use Rattle.ntp_reply.specs.{Life.Life, Replies.occasion_of, Verdict.refusals_sent}
+use Rattle.ntp_service.specs.declared.event.Event.TheVariants as event
+use Rattle.ntp_service.specs.declared.outcome.Outcome.TheVariants as outcome
+use Rattle.ntp_service.specs.Model.{answer_to, after, life_after, life_of, FollowsModel}
 use Rattle.ntp_service.specs.Bound.{is_query_reply, is_refusal_reply, receipt_window, is_received_in, IsUnbroken, replies_in, most_query_replies, HasFewReplies, RepliesAreFew, TellsFew}
 use Rattle.ntp_service.proofs.Histories.{events_of}
 use Rattle.ntp_service.proofs.Bounds.{queries_left, refusals_left, one_if, Spends, spends-datagram, same-counts, same-most, left-at-most}

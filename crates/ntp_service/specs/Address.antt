@@ -1,8 +1,6 @@
 -- Addresses: their order, by which a finite map tells them apart.
 use Rattle.std.specs.Prelude.{Bool, nat_eq}
-use Rattle.std.specs.declared.cmp.Ordering.{Ordering}
-use Rattle.std.specs.Ordering.{nat_cmp}
-use Rattle.std.specs.Cmp.Lexicographic.{slice_cmp, pointwise}
+use Rattle.std.specs.{declared.cmp.Ordering.Ordering, Ordering.nat_cmp, Cmp.Lexicographic.slice_cmp, Cmp.Lexicographic.pointwise}
 use Rattle.ntp_service.specs.declared.address.Address.{Address}
 
 -- by the octets, the first one first

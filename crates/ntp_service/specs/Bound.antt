@@ -2,17 +2,12 @@
 use Rattle.std.specs.Prelude.{◌≡◌, ◌≢◌, ℕ, ◌+◌, ◌≤◌, ◌==◌, ◌&&◌, Bool, true, false, Option, Some, None, List, ◌++◌, map, All, AllPairs, filter_map, count_by}
 use Rattle.std.specs.Option.{option_map_or}
 use Rattle.ntp_packet.specs.Moment.{window_of}
-use Rattle.ntp_service.specs.declared.address.Address.{Address}
-use Rattle.ntp_reply.specs.Life.{Life, enrolment_in}
-use Rattle.ntp_reply.specs.Verdict.{refusals_sent}
+use Rattle.ntp_service.specs.{declared.address.Address.Address, declared.event.Event.Event, declared.outcome.Outcome.Outcome}
+use Rattle.ntp_service.specs.{Events.own, Model.life_after, Model.life_of, Headline.happened_to}
+use Rattle.ntp_reply.specs.{Life.Life, Life.enrolment_in, Verdict.refusals_sent}
 use Rattle.ntp_reply.specs.declared.answers.Answer.TheVariants as answer
-use Rattle.ntp_service.specs.declared.event.Event.{Event}
 use Rattle.ntp_service.specs.declared.event.Event.TheVariants as event
-use Rattle.ntp_service.specs.declared.outcome.Outcome.{Outcome}
 use Rattle.ntp_service.specs.declared.outcome.Outcome.TheVariants as outcome
-use Rattle.ntp_service.specs.Events.{own}
-use Rattle.ntp_service.specs.Model.{life_after, life_of}
-use Rattle.ntp_service.specs.Headline.{happened_to}
 
 -- whether an outcome is a reply to a signed query: the time, or RATE
 abbrev pub is_query_reply : Outcome → Bool

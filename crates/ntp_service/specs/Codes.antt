@@ -3,11 +3,8 @@ use Rattle.std.specs.Prelude.{ℕ, List, refl}
 use Rattle.std.specs.Ordering.{nat_cmp}
 use Rattle.std.specs.Coded.{Coded, code_by, coded×, coded_list, coded_ℕ}
 use Rattle.std.specs.FinMap as map
-use Rattle.ntp_customer.specs.Customer.{CustomerState}
-use Rattle.ntp_customer.specs.Codes.{coded_customer}
-use Rattle.ntp_service.specs.declared.address.Address.{Address}
-use Rattle.ntp_service.specs.Address.{address_cmp}
-use Rattle.ntp_service.specs.Registry.{Registry}
+use Rattle.ntp_customer.specs.{Customer.CustomerState, Codes.coded_customer}
+use Rattle.ntp_service.specs.{declared.address.Address.Address, Address.address_cmp, Registry.Registry}
 
 -- an address as the list of its octets
 abbrev pub coded_address : Coded Address

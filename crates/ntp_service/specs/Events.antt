@@ -1,8 +1,6 @@
 -- The events of one address.
 use Rattle.std.specs.Prelude.{Bool, List, filter}
-use Rattle.ntp_service.specs.declared.address.Address.{Address}
-use Rattle.ntp_service.specs.Address.{address_eq}
-use Rattle.ntp_service.specs.Commands.{address_named}
+use Rattle.ntp_service.specs.{declared.address.Address.Address, Address.address_eq, Commands.address_named}
 use Rattle.ntp_service.specs.declared.event.Event.{Event}
 use Rattle.ntp_service.specs.declared.event.Event.TheVariants as event
 

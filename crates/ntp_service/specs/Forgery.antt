@@ -1,16 +1,13 @@
 -- What others forge in a customer's name, and what the customer is told without it.
 use Rattle.std.specs.Prelude.{Bool, true, false, None, option_map, List, [], map, filter, zip, scan}
 use Rattle.std.specs.Option.{option_map_or}
-use Rattle.ntp_service.specs.declared.address.Address.{Address}
+use Rattle.ntp_service.specs.{declared.address.Address.Address, declared.event.Event.Event, declared.outcome.Outcome.Outcome}
+use Rattle.ntp_service.specs.{Events.own, Headline.happened_to}
 use Rattle.ntp_customer.specs.Past.{Past}
 use Rattle.ntp_reply.specs.Life.{Life}
 use Rattle.ntp_reply.specs.Kind.{Kind, Signed, kind_of}
-use Rattle.ntp_service.specs.declared.event.Event.{Event}
 use Rattle.ntp_service.specs.declared.event.Event.TheVariants as event
-use Rattle.ntp_service.specs.declared.outcome.Outcome.{Outcome}
-use Rattle.ntp_service.specs.Events.{own}
 use Rattle.ntp_service.specs.Model.{after, life_of, FollowsModel}
-use Rattle.ntp_service.specs.Headline.{happened_to}
 
 -- whether a datagram of a kind is a signed query: its MAC is under one of the customer's keys
 abbrev pub is_signed_query : Kind → Bool

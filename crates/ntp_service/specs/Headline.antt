@@ -1,17 +1,14 @@
 -- What a service is, and what it tells each address.
 use Rattle.std.specs.Prelude.{◌≡◌, ◌≢◌, ◌↔◌, ℕ, Contains, Option, Some, None, option_map, Bool, false, not, ◌&&◌, if◌then◌else◌, Result, Ok, Err, List, [], ◌∷◌, ◌++◌, map, filter}
 use Rattle.std.specs.Option.{option_map_or}
-use Rattle.ntp_service.specs.declared.address.Address.{Address}
-use Rattle.ntp_service.specs.declared.refusal.Refusal.{Refusal}
+use Rattle.ntp_service.specs.{declared.address.Address.Address, declared.refusal.Refusal.Refusal}
 use Rattle.ntp_service.specs.declared.refusal.Refusal.TheVariants.{KeyTaken, NoMemory}
-use Rattle.ntp_service.specs.Commands.{number_wanted, is_foreign}
-use Rattle.ntp_service.specs.Registry.{Registry, Agrees, customer_at}
-use Rattle.ntp_customer.specs.Customer.{numbers_in}
-use Rattle.ntp_customer.specs.Past.{short}
-use Rattle.ntp_reply.specs.Life.{enrolment_in}
-use Rattle.ntp_service.specs.declared.event.Event.{Event}
-use Rattle.ntp_service.specs.declared.event.Event.TheVariants as event
+use Rattle.ntp_service.specs.{Commands.number_wanted, Commands.is_foreign, declared.event.Event.Event}
 use Rattle.ntp_service.specs.declared.outcome.Outcome.{Outcome}
+use Rattle.ntp_service.specs.Registry.{Registry, Agrees, customer_at}
+use Rattle.ntp_customer.specs.{Customer.numbers_in, Past.short}
+use Rattle.ntp_reply.specs.Life.{enrolment_in}
+use Rattle.ntp_service.specs.declared.event.Event.TheVariants as event
 use Rattle.ntp_service.specs.declared.outcome.Outcome.TheVariants as outcome
 use Rattle.ntp_service.specs.Events.{address_of, names, own}
 use Rattle.ntp_service.specs.Model.{life_of, answer_to, FollowsModel}

@@ -2,10 +2,8 @@
 use Rattle.std.specs.Prelude.{Option}
 use Rattle.std.specs.Borrow.{LendsIf, Fml, RattleType, MutBor}
 use Rattle.std.specs.declared.alloc.Allocator.{Ghosts}
-use Rattle.ntp_customer.specs.Customer.{CustomerState}
-use Rattle.ntp_customer.specs.contracts.customer.Customer.{the_row as customer_row}
-use Rattle.ntp_service.specs.declared.address.Address.{Address}
-use Rattle.ntp_service.specs.Registry.{Registry, with_customer}
+use Rattle.ntp_customer.specs.{Customer.CustomerState, contracts.customer.Customer.the_row as customer_row}
+use Rattle.ntp_service.specs.{declared.address.Address.Address, Registry.Registry, Registry.with_customer}
 use Rattle.ntp_service.specs.contracts.store.Register.{the_row}
 
 module _ (A : RattleType) (alloc : Ghosts A.Denot) where

@@ -1,14 +1,11 @@
 -- The model of one customer: what the events of one address are answered. There is no table and no neighbour in it.
 use Rattle.std.specs.Prelude.{◌≡◌, Bool, false, List, [], map, fold, scan, if◌then◌else◌, None, is_some, option_map}
 use Rattle.std.specs.Option.{option_map_or}
-use Rattle.ntp_service.specs.Commands.{refusal_of, once_done}
-use Rattle.ntp_reply.specs.Life.{Life, enrolment_in}
-use Rattle.ntp_reply.specs.Replies.{occasion_of}
-use Rattle.ntp_reply.specs.Exchanged.{is_noted, after_departure}
-use Rattle.ntp_reply.specs.Verdict.{verdict, after_datagram}
-use Rattle.ntp_service.specs.declared.event.Event.{Event}
-use Rattle.ntp_service.specs.declared.event.Event.TheVariants as event
+use Rattle.ntp_service.specs.{Commands.refusal_of, Commands.once_done, declared.event.Event.Event}
 use Rattle.ntp_service.specs.declared.outcome.Outcome.{Outcome}
+use Rattle.ntp_reply.specs.{Life.Life, Life.enrolment_in, Replies.occasion_of, Exchanged.is_noted, Exchanged.after_departure}
+use Rattle.ntp_reply.specs.Verdict.{verdict, after_datagram}
+use Rattle.ntp_service.specs.declared.event.Event.TheVariants as event
 use Rattle.ntp_service.specs.declared.outcome.Outcome.TheVariants as outcome
 
 -- the outcome of a report of a departure, which was noted or not

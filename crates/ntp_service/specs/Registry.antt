@@ -1,15 +1,11 @@
 -- A register, as contracts see it: two finite maps.
 use Rattle.std.specs.Prelude.{◌≡◌, ℕ, Bool, false, Option, Some, None, IsSome, option_and_then, Result, Err, OnOk, OnErr, IfErr, List, [], fold, Contains}
-use Rattle.std.specs.Option.{option_map_or}
-use Rattle.std.specs.Int.NonZero.{non_zero_u16_get}
-use Rattle.std.specs.Ordering.{nat_cmp}
+use Rattle.std.specs.{Option.option_map_or, Int.NonZero.non_zero_u16_get, Ordering.nat_cmp}
 use Rattle.std.specs.FinMap as map
-use Rattle.ntp_service.specs.declared.address.Address.{Address}
-use Rattle.ntp_service.specs.Address.{address_cmp}
-use Rattle.ntp_service.specs.declared.command.Command.{Command}
-use Rattle.ntp_service.specs.declared.command.Command.TheVariants.{Enrol, Revoke, Rollover, Retire}
+use Rattle.ntp_service.specs.{declared.address.Address.Address, Address.address_cmp, declared.command.Command.Command}
 use Rattle.ntp_service.specs.declared.refusal.Refusal.{Refusal}
 use Rattle.ntp_service.specs.declared.refusal.Refusal.TheVariants.{KeyTaken, NoMemory}
+use Rattle.ntp_service.specs.declared.command.Command.TheVariants.{Enrol, Revoke, Rollover, Retire}
 use Rattle.ntp_service.specs.Commands.{address_named, number_wanted, refusal_of, once_done}
 use Rattle.ntp_customer.specs.Tally.{tally}
 use Rattle.ntp_customer.specs.Customer.{Enrolment, CustomerState, enrolment_at, is_enrolled, numbers_of}

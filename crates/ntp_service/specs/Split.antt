@@ -1,13 +1,9 @@
 -- Customers split over services by their addresses.
 use Rattle.std.specs.Prelude.{◌≡◌, ◌≢◌, ◌||◌, Bool, true, false, List, All}
-use Rattle.ntp_service.specs.declared.address.Address.{Address}
-use Rattle.ntp_service.specs.declared.refusal.Refusal.TheVariants.{NoMemory}
-use Rattle.ntp_service.specs.declared.event.Event.{Event}
+use Rattle.ntp_service.specs.{declared.address.Address.Address, declared.refusal.Refusal.TheVariants.NoMemory}
+use Rattle.ntp_service.specs.{declared.event.Event.Event, declared.outcome.Outcome.Outcome, Events.address_of, Headline.is_struck}
 use Rattle.ntp_service.specs.declared.event.Event.TheVariants as event
-use Rattle.ntp_service.specs.declared.outcome.Outcome.{Outcome}
 use Rattle.ntp_service.specs.declared.outcome.Outcome.TheVariants as outcome
-use Rattle.ntp_service.specs.Events.{address_of}
-use Rattle.ntp_service.specs.Headline.{is_struck}
 
 -- whether an event is a command
 abbrev pub is_command : {A : Type 0} → Event A → Bool

@@ -1,10 +1,9 @@
 -- The words for commands, for why they are refused, and for what is wrong with a line.
 use Rattle.std.specs.Prelude.{ℕ, List, codes}
-use Rattle.ntp_service.specs.declared.command.Command.{Command}
-use Rattle.ntp_service.specs.declared.command.Command.TheVariants.{Enrol, Revoke, Budget, Rollover, Retire}
-use Rattle.ntp_service.specs.declared.refusal.Refusal.{Refusal}
-use Rattle.ntp_service.specs.declared.refusal.Refusal.TheVariants as refusal
+use Rattle.ntp_service.specs.{declared.command.Command.Command, declared.refusal.Refusal.Refusal}
 use Rattle.ntp_service.specs.declared.line_fault.LineFault.{LineFault}
+use Rattle.ntp_service.specs.declared.command.Command.TheVariants.{Enrol, Revoke, Budget, Rollover, Retire}
+use Rattle.ntp_service.specs.declared.refusal.Refusal.TheVariants as refusal
 use Rattle.ntp_service.specs.declared.line_fault.LineFault.TheVariants as line_fault
 
 -- the first word of a command's line

@@ -2,9 +2,7 @@
 //! the holders agree: a customer is enrolled with a number exactly where that number's holder is its
 //! address. Each keeps that.
 ghost use Rattle.std.specs.Prelude.{◌≡◌, ◌<◌, Some, None, Err, OnOk, OnErr, IfSome, IsSome, is_some, if◌then◌else◌, option_copied};
-ghost use Rattle.std.specs.Option.{option_map_or};
-ghost use Rattle.std.specs.Int.NonZero.{non_zero_u16_get};
-ghost use Rattle.std.specs.declared.num.NonZeroU16.{NonZeroU16};
+ghost use Rattle.std.specs.{Option.option_map_or, Int.NonZero.non_zero_u16_get, declared.num.NonZeroU16.NonZeroU16};
 ghost use Rattle.ntp_customer.specs.Customer.{enrolment_at};
 ghost use Rattle.ntp_service.specs.Commands.{number_wanted, rollover_refusal, retire_refusal};
 ghost use Rattle.ntp_service.specs.Registry.{Agrees, AnswersCommand, terms_at, is_enrolled_at, holder_of, after_command, own_refusal, holder_in_way};

@@ -1,24 +1,16 @@
 //! What holds of the definitions, whatever code meets them. Each function is a law: a call of it does
 //! nothing.
 ghost use Rattle.std.specs.Prelude.{◌≡◌, ℕ, ◌<◌, Bool, None, option_map, IfSome, List, map, filter};
-ghost use Rattle.ntp_customer.specs.Tally.{most_counted};
+ghost use Rattle.ntp_customer.specs.{Tally.most_counted, Exchanges.AreSaved, Customer.HasKeys, Past.short};
 ghost use Rattle.ntp_packet.specs.Header.{HeaderFields};
-ghost use Rattle.ntp_customer.specs.Exchanges.{AreSaved};
-ghost use Rattle.ntp_customer.specs.Customer.{HasKeys};
-ghost use Rattle.ntp_customer.specs.Past.{short};
-ghost use Rattle.ntp_service.specs.Registry.{Registry};
-ghost use Rattle.ntp_service.specs.declared.address.Address.{Address};
-ghost use Rattle.ntp_reply.specs.declared.occasion.Occasion.{Occasion};
+ghost use Rattle.ntp_service.specs.{Registry.Registry, declared.address.Address.Address, declared.event.Event.Event};
+ghost use Rattle.ntp_service.specs.{declared.outcome.Outcome.Outcome, Events.own, Bound.RepliesAreFew, Bound.TellsFew};
+ghost use Rattle.ntp_reply.specs.{declared.occasion.Occasion.Occasion, Exchanged.matched};
 ghost use Rattle.ntp_reply.specs.Replies.{HasDistinctStamps, new_stamps, basic_fields, time_fields};
 ghost use Rattle.ntp_reply.specs.Life.{Life, enrolment_in, budget_in, recent_in};
-ghost use Rattle.ntp_reply.specs.Exchanged.{matched};
-ghost use Rattle.ntp_service.specs.declared.event.Event.{Event};
-ghost use Rattle.ntp_service.specs.declared.outcome.Outcome.{Outcome};
-ghost use Rattle.ntp_service.specs.Events.{own};
 ghost use Rattle.ntp_service.specs.Model.{life_of, answer_to, after, says_after, FollowsModel};
 ghost use Rattle.ntp_service.specs.Headline.{StandsFor, Tells, IsEnrolledWith, happened_to};
 ghost use Rattle.ntp_service.specs.Forgery.{at_genuine, genuine, without_refusals, TellsWithoutForgeries};
-ghost use Rattle.ntp_service.specs.Bound.{RepliesAreFew, TellsFew};
 ghost use Rattle.ntp_service.specs.Split.{names_any, comes_to, HadMemory, NoneStruck};
 
 use std::alloc::Allocator;

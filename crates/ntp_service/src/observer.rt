@@ -1,7 +1,6 @@
 //! Who is told what a server does.
 ghost use Rattle.std.specs.Prelude.{Option, None, option_and_then, List, [], ◌∷◌};
-ghost use Rattle.ntp_service.specs.Sees.{Sees, SeesIfThere};
-ghost use Rattle.ntp_service.specs.declared.observation.Observation.{Observation};
+ghost use Rattle.ntp_service.specs.{Sees.Sees, Sees.SeesIfThere, declared.observation.Observation.Observation};
 
 use crate::{Command, LineOutcome, TurnOutcome};
 

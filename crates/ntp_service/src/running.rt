@@ -1,9 +1,7 @@
 //! A service over a list of events, and what no neighbour can change.
 ghost use Rattle.std.specs.Prelude.{◌≡◌, List, zip, length, IfOk, OnErr};
-ghost use Rattle.ntp_service.specs.declared.event.Event.{Event};
-ghost use Rattle.ntp_service.specs.Headline.{StandsFor, Tells};
-ghost use Rattle.ntp_service.specs.Forgery.{TellsWithoutForgeries};
-ghost use Rattle.ntp_service.specs.Bound.{TellsFew};
+ghost use Rattle.ntp_service.specs.{declared.event.Event.Event, Headline.StandsFor, Headline.Tells};
+ghost use Rattle.ntp_service.specs.{Forgery.TellsWithoutForgeries, Bound.TellsFew};
 
 use crate::{Event, NoMemory, Outcome, Service};
 use std::alloc::Allocator;

@@ -2,13 +2,11 @@
 ghost use Rattle.std.specs.Prelude.{◌≡◌, ◌↔◌, ◌≤◌, List, [], length, Contains, IsNone, IsSome, IsTrue, IfOk, OnErr, option_copied};
 ghost use Rattle.std.specs.Bool.{OnFalse};
 ghost use Rattle.ntp_service.specs.Registry.{customer_at, Agrees, AnswersCommand};
-ghost use Rattle.ntp_service.specs.declared.address.Address.{Address};
+ghost use Rattle.ntp_service.specs.{declared.address.Address.Address, declared.event.Event.Event, Events.own};
+ghost use Rattle.ntp_service.specs.Forgery.{is_genuine, genuine};
 ghost use Rattle.ntp_reply.specs.Verdict.{reply_length};
-ghost use Rattle.ntp_service.specs.declared.event.Event.{Event};
-ghost use Rattle.ntp_service.specs.Events.{own};
 ghost use Rattle.ntp_service.specs.Model.{departure_outcome, life_of, answer_to};
 ghost use Rattle.ntp_service.specs.Headline.{StandsFor, TellsOne, IsTaken, command_outcome};
-ghost use Rattle.ntp_service.specs.Forgery.{is_genuine, genuine};
 
 use crate::{Address, Command, Customer, Event, Outcome, Refusal, Register};
 use ntp_packet::{Moment, Stamp};
@@ -24,8 +22,7 @@ pub struct Service<A: Allocator = Global> {
 }
 
 impl<A: Allocator> Model for Service<A> {
-    ghost use Rattle.ntp_service.specs.Registry.{Registry, Agrees};
-    ghost use Rattle.ntp_service.specs.Codes.{coded_registry};
+    ghost use Rattle.ntp_service.specs.{Registry.Registry, Registry.Agrees, Codes.coded_registry};
 
     ghost Value = { Registry };
 

@@ -1,7 +1,6 @@
 //! The two tables of a register: its customers, and the holders of key numbers. Nothing else opens them.
 ghost use Rattle.std.specs.Prelude.{◌≡◌, ◌↔◌, ◌∷◌, None, Contains, IsSome, IfOk, IsOk, OnOk, OnErr, option_copied};
-ghost use Rattle.std.specs.Option.{option_copied_mut, option_to_list};
-ghost use Rattle.std.specs.Borrow.{sem};
+ghost use Rattle.std.specs.{Option.option_copied_mut, Option.option_to_list, Borrow.sem};
 
 use crate::{Address, Customer};
 use indexmap::IndexMap;
@@ -21,8 +20,7 @@ pub struct Register<A: Allocator = Global> {
 
 impl<A: Allocator> Model for Register<A> {
     ghost use Rattle.std.specs.FinMap as map;
-    ghost use Rattle.ntp_service.specs.Registry.{Registry};
-    ghost use Rattle.ntp_service.specs.Codes.{coded_registry};
+    ghost use Rattle.ntp_service.specs.{Registry.Registry, Codes.coded_registry};
 
     ghost Value = { Registry };
 
@@ -36,8 +34,7 @@ impl<A: Allocator> Model for Register<A> {
 
 impl<A: Allocator + Copy> Register<A> {
     ghost use Rattle.ntp_service.specs.Registry.{Agrees, empty_registry, customer_at, holder_of, with_customer, with_holder, without_holder, without_holders};
-    ghost use Rattle.ntp_service.specs.declared.address.Address.{Address};
-    ghost use Rattle.ntp_service.specs.Lends.{lends_customer};
+    ghost use Rattle.ntp_service.specs.{declared.address.Address.Address, Lends.lends_customer};
 
     /// An empty register, which will take its memory from `alloc`.
     pub fn new(alloc: A) -> Self

@@ -14,8 +14,7 @@ pub struct Agreeing<A: Allocator = Global> {
 }
 
 impl<A: Allocator> Model for Agreeing<A> {
-    ghost use Rattle.ntp_service.specs.Registry.{Registry, Agrees};
-    ghost use Rattle.ntp_service.specs.Codes.{coded_registry};
+    ghost use Rattle.ntp_service.specs.{Registry.Registry, Registry.Agrees, Codes.coded_registry};
 
     ghost Value = { Registry };
 

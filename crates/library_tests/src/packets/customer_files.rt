@@ -285,7 +285,7 @@ fn a_number_of_a_line_stays_at_the_most(rt: HostRuntime) {
     assert!(rt; heard.lines.as_slice() == [(u64::MAX, word), (u64::MAX, word)].as_slice());
 }
 
-// Adds a line of so many octets, whose first one is followed by the other one alone.
+// Adds a line of `length` octets: the first one, and then the other one alone.
 fn add_line(lines: &mut Vec<u8>, first: u8, other: u8, length: usize) -> Result<(), AllocError> {
     lines.push(first)?;
     for _ in 1..length {

@@ -1,8 +1,6 @@
 use Rattle.std.proofs.Common.{◌≡◌, ◌≤◌, ◌*◌, false, List, ℕ}
 use Rattle.std.specs.Io.KnownBytes.{Consumes}
-use Rattle.labntp_jobs.specs.declared.replaying.TheConstants.{CHUNK}
-use Rattle.labntp_jobs.specs.Engine.{IsUnfed, Fed}
-use Rattle.labntp_jobs.specs.Watched.{Wrote}
+use Rattle.labntp_jobs.specs.{declared.replaying.TheConstants.CHUNK, Engine.IsUnfed, Engine.Fed, Watched.Wrote}
 use Rattle.labntp_jobs.proofs.replaying.replay.Given as goal
 
 abbrev pub invariant-loop-turn : goal.invariant-loop-turn

@@ -1,9 +1,7 @@
 use Rattle.std.proofs.Common.{length, arith, ap}
 use Rattle.std.proofs.lemmas.List.{length-drop, drop_all}
-use Rattle.ntp_admin.specs.FileText.{most_file_octets}
-use Rattle.ntp_admin.specs.CommandsFile.{complete_lines}
-use Rattle.ntp_admin.proofs.LinesCut.{complete_lines-few}
-use Rattle.ntp_admin.proofs.LinesTaken.{CarriesOut-none}
+use Rattle.ntp_admin.specs.{FileText.most_file_octets, CommandsFile.complete_lines}
+use Rattle.ntp_admin.proofs.{LinesCut.complete_lines-few, LinesTaken.CarriesOut-none}
 use Rattle.ntp_admin.proofs.commands.apply_text.Goals as goal
 
 pub returns-in-Some : goal.returns-in-Some

@@ -1,6 +1,5 @@
 use Rattle.std.proofs.Common.{ap, ◌∙◌, arith}
-use Rattle.ntp_packet.specs.Request.{RequestValue}
-use Rattle.ntp_packet.specs.FirstCase.{decided}
+use Rattle.ntp_packet.specs.{Request.RequestValue, FirstCase.decided}
 use Rattle.ntp_client.proofs.Takings.{judged-taken}
 use Rattle.ntp_client.proofs.judging.judge.Goals as goal
 

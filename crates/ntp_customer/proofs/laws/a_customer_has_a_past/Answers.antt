@@ -1,9 +1,6 @@
 use Rattle.std.proofs.Common.{◌≡◌, Option, Some, None, IfSome}
-use Rattle.ntp_customer.specs.Tally.{Tally, IsTally}
-use Rattle.ntp_customer.proofs.Tallies.{tally-of_some_list}
-use Rattle.ntp_customer.proofs.Recents.{recent-all}
-use Rattle.ntp_customer.specs.Customer.{Account, IsAccount}
-use Rattle.ntp_customer.specs.Past.{Past, short}
+use Rattle.ntp_customer.specs.{Tally.Tally, Tally.IsTally, Customer.Account, Customer.IsAccount, Past.Past, Past.short}
+use Rattle.ntp_customer.proofs.{Tallies.tally-of_some_list, Recents.recent-all}
 use Rattle.ntp_customer.proofs.laws.a_customer_has_a_past.Goals as goal
 
 -- a customer, by its account

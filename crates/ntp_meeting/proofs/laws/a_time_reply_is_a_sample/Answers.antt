@@ -1,5 +1,4 @@
-use Rattle.ntp_meeting.proofs.Matches.{asked-match}
-use Rattle.ntp_meeting.proofs.Taking.{basic-met, interleaved-met}
+use Rattle.ntp_meeting.proofs.{Matches.asked-match, Taking.basic-met, Taking.interleaved-met}
 use Rattle.ntp_meeting.proofs.laws.a_time_reply_is_a_sample.Goals as goal
 
 pub returns-clause-asked : goal.returns-clause-asked

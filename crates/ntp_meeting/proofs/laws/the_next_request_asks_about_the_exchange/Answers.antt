@@ -1,5 +1,4 @@
-use Rattle.ntp_meeting.proofs.Carried.{carried-after, saved-after}
-use Rattle.ntp_meeting.proofs.Departures.{departure-found}
+use Rattle.ntp_meeting.proofs.{Carried.carried-after, Carried.saved-after, Departures.departure-found}
 use Rattle.ntp_meeting.proofs.laws.the_next_request_asks_about_the_exchange.Goals as goal
 
 pub returns-clause-carried : goal.returns-clause-carried

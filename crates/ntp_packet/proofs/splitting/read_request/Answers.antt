@@ -1,17 +1,12 @@
 use Rattle.std.proofs.Common.{rules, ◌≡◌, ◌≤◌, length, drop, arith, refl, ap, ◌∙◌, Ok, Err, inl, inr}
-use Rattle.std.proofs.lemmas.Bool.{cases_lt}
-use Rattle.std.proofs.lemmas.List.{take_rest, length-drop}
-use Rattle.std.proofs.lemmas.Result.{err_from_is_err_and}
-use Rattle.ntp_packet.specs.Request.{IsRequest}
-use Rattle.ntp_packet.specs.Tail.{tail_value}
-use Rattle.ntp_packet.specs.Faults.{Fails}
-use Rattle.ntp_packet.proofs.RestFaults.{IsNoTail}
+use Rattle.std.proofs.{lemmas.Bool.cases_lt, lemmas.List.take_rest, lemmas.List.length-drop, lemmas.Result.err_from_is_err_and}
+use Rattle.ntp_packet.specs.{Request.IsRequest, Tail.tail_value, Faults.Fails}
 use Rattle.ntp_packet.specs.declared.malformed.Malformed.TheVariants.{Short, Rest}
-use Rattle.ntp_packet.proofs.Places.{Stands-first, fails_at}
+use Rattle.ntp_packet.proofs.{RestFaults.IsNoTail, Places.Stands-first, Places.fails_at}
+use Rattle.ntp_packet.proofs.splitting.read_request.Goals.{After-new-fields, In_default-read_tail}
 use Rattle.ntp_packet.proofs.Found.{place-behind, fields-behind, is-request}
 use Rattle.ntp_packet.proofs.Unique.{one-reading, one-fault, no-fault}
 use Rattle.ntp_packet.proofs.splitting.read_request.Goals as goal
-use Rattle.ntp_packet.proofs.splitting.read_request.Goals.{After-new-fields, In_default-read_tail}
 
 pub returns-in_default-clause-only : goal.returns-in_default-clause-only
 returns-in_default-clause-only c = λ r is. absurd (no-fault c.args.octets.now r Short is (c.in_default.ensures.none.0 refl))

@@ -1,6 +1,5 @@
 use Rattle.std.proofs.Common.{◌≤◌, ◌+◌}
-use Rattle.ntp_port.specs.Port.{failed_calls}
-use Rattle.ntp_port.specs.Serving.{ServeMakes}
+use Rattle.ntp_port.specs.{Port.failed_calls, Serving.ServeMakes}
 use Rattle.ntp_port.proofs.serving.serve.Given as goal
 
 abbrev pub invariant-loop-turn : goal.invariant-loop-turn

@@ -1,5 +1,4 @@
-use Rattle.ntp_reply.specs.Life.{recent_in}
-use Rattle.ntp_reply.specs.Exchanged.{matched}
+use Rattle.ntp_reply.specs.{Life.recent_in, Exchanged.matched}
 use Rattle.ntp_reply.proofs.PublicLaws.{matched-saved, basic-distinct, time-distinct}
 use Rattle.ntp_service.specs.Model.{life_of}
 use Rattle.ntp_service.proofs.ApartLives.{AreSaved-life_of}

@@ -1,6 +1,5 @@
 use Rattle.std.proofs.Common.{[]}
-use Rattle.std.proofs.KnownBytes.{Appends-nil}
-use Rattle.std.proofs.lemmas.Result.{on_ok_weaker, IfErr-weaker}
+use Rattle.std.proofs.{KnownBytes.Appends-nil, lemmas.Result.on_ok_weaker, lemmas.Result.IfErr-weaker}
 use Rattle.labntp_jobs.proofs.LinesReplayed.{Answers-passed, Answers-event, Halts-event}
 use Rattle.labntp_jobs.proofs.engine.Engine.answer.Goals as goal
 

@@ -1,7 +1,5 @@
 use Rattle.std.proofs.Common.{refl, ◌∙◌, arith, ◌++◌, ◌+◌, [], drop}
-use Rattle.std.proofs.KnownBytes.{Appends-nil, Appends-trans}
-use Rattle.std.proofs.lemmas.List.{take_more}
-use Rattle.std.proofs.lemmas.Result.{err_from_is_err_and}
+use Rattle.std.proofs.{KnownBytes.Appends-nil, KnownBytes.Appends-trans, lemmas.List.take_more, lemmas.Result.err_from_is_err_and}
 use Rattle.labntp_jobs.proofs.Feeding.{Fed-nil, Fed-trans, Fed-stops, Stops-more, octets_whole}
 use Rattle.labntp_jobs.proofs.engine.Engine.feed.Goals as goal
 

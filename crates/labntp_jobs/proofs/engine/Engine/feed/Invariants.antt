@@ -1,6 +1,5 @@
 use Rattle.std.proofs.Common.{◌≡◌, ◌≤◌, ◌+◌, List, ℕ, take}
-use Rattle.labntp_jobs.specs.Engine.{Fed}
-use Rattle.labntp_jobs.specs.Watched.{Wrote}
+use Rattle.labntp_jobs.specs.{Engine.Fed, Watched.Wrote}
 use Rattle.labntp_jobs.proofs.engine.Engine.feed.Given as goal
 
 abbrev pub invariant-loop-octet : goal.invariant-loop-octet

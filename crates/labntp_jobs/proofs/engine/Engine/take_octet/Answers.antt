@@ -1,6 +1,5 @@
 use Rattle.std.proofs.Common.{refl, rules, [], ap, ◌+◌}
-use Rattle.std.proofs.KnownBytes.{Appends-nil}
-use Rattle.std.proofs.lemmas.Result.{err_from_is_err_and}
+use Rattle.std.proofs.{KnownBytes.Appends-nil, lemmas.Result.err_from_is_err_and}
 use Rattle.labntp_jobs.proofs.Feeding.{Fed-octet, Fed-line, Stops-line, Stops-long, Stops-memory}
 use Rattle.labntp_jobs.proofs.engine.Engine.take_octet.Goals as goal
 

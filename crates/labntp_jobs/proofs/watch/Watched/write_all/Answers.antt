@@ -1,7 +1,5 @@
 use Rattle.std.proofs.Common.{take, drop, rules, sym, take-append-drop, append-nil}
-use Rattle.std.proofs.lemmas.List.{take_rest}
-use Rattle.std.proofs.lemmas.Result.{err_from_is_err_and}
-use Rattle.std.proofs.KnownBytes.{Appends-trans}
+use Rattle.std.proofs.{lemmas.List.take_rest, lemmas.Result.err_from_is_err_and, KnownBytes.Appends-trans}
 use lib.Seq.{take-add}
 use Rattle.labntp_jobs.proofs.watch.Watched.write_all.Goals as goal
 

@@ -2,8 +2,7 @@ use Rattle.std.proofs.Common.{◌≡◌, Some, sym, ap, ◌∙◌, arith}
 use Rattle.ntp_mac.proofs.PublicLaws.{answers-so}
 use Rattle.ntp_packet.proofs.PublicLaws.{AreOctets}
 use Rattle.ntp_client.specs.State.{IsClient}
-use Rattle.ntp_client.proofs.Takings.{read-taken, header-taken}
-use Rattle.ntp_client.proofs.Samples.{sample-given, given-taken}
+use Rattle.ntp_client.proofs.{Takings.read-taken, Takings.header-taken, Samples.sample-given, Samples.given-taken}
 use Rattle.ntp_client.proofs.client.Client.take_packet.Goals as goal
 
 pub returns-in-Ok-clause-first : goal.returns-in-Ok-clause-first

@@ -3,11 +3,9 @@ use Rattle.ntp_packet.proofs.PublicLaws.{AreOctets}
 use Rattle.std.specs.Prelude.{is_some, option_map, option_and_then}
 use Rattle.ntp_client.specs.declared.taken.Taken.TheVariants as taken
 use Rattle.ntp_client.specs.declared.taken.Distrust.TheVariants as distrust
-use Rattle.ntp_client.proofs.Samples.{sample-read}
+use Rattle.ntp_client.proofs.{Samples.sample-read, AuthenticAnswers.unsynchronised-signed}
 use Rattle.ntp_client.specs.Learning.{learned_of, learned_after, told_after}
-use Rattle.ntp_client.specs.Taking.{header_taken}
-use Rattle.ntp_client.specs.Sample.{IsTimeReply}
-use Rattle.ntp_client.proofs.AuthenticAnswers.{unsynchronised-signed}
+use Rattle.ntp_client.specs.{Taking.header_taken, Sample.IsTimeReply}
 use Rattle.ntp_client.proofs.follower.Follower.take_seen.Goals as goal
 
 -- a sample has a header

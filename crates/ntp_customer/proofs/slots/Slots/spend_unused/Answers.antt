@@ -4,8 +4,7 @@ use Rattle.std.specs.Option.{option_copied_mut}
 use Rattle.ntp_customer.specs.declared.slot.Slot.{Slot}
 use Rattle.ntp_customer.specs.Exchanges.{AreSaved, is_unused_at, spent}
 use Rattle.ntp_customer.proofs.Changes.{find-at_position, find-from_no_position, written-at_place, unchanged-from_none}
-use Rattle.ntp_customer.proofs.Places.{lent-at_place}
-use Rattle.ntp_customer.proofs.Saved.{AreSaved-spent}
+use Rattle.ntp_customer.proofs.{Places.lent-at_place, Saved.AreSaved-spent}
 use Rattle.ntp_customer.proofs.slots.Slots.spend_unused.Goals as goal
 
 -- the place that is given is that of the first unused exchange of what is seen as the saved ones

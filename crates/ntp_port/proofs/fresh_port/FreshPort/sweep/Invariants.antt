@@ -1,6 +1,4 @@
-use Rattle.ntp_port.specs.Fresh.{kept_by}
-use Rattle.ntp_port.specs.declared.fresh_port.Next.TheVariants.{Stale}
-use Rattle.ntp_port.specs.Next.{CountsNext, Drops}
+use Rattle.ntp_port.specs.{Fresh.kept_by, declared.fresh_port.Next.TheVariants.Stale, Next.CountsNext, Next.Drops}
 use Rattle.ntp_port.proofs.fresh_port.FreshPort.sweep.Given as goal
 
 abbrev pub invariant-loop : goal.invariant-loop

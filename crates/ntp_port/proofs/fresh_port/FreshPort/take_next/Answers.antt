@@ -1,11 +1,9 @@
 use Rattle.std.proofs.Common.{inl, ◌≡◌, [], ◌∷◌, ◌++◌, None, Some, Ok, Err, true, false, refl, sym, ap, subst, ◌∙◌, arith}
 use Rattle.ntp_port.specs.declared.queue_event.QueueEvent.TheVariants.{Held, Taken, Read}
 use Rattle.ntp_port.specs.declared.fresh_port.Next.TheVariants.{Nothing, Fault, Fresh, Stale}
-use Rattle.ntp_port.specs.Watch.{longest_of}
-use Rattle.ntp_port.specs.Freshness.{MayBeAnswered, WasWatched}
-use Rattle.ntp_port.proofs.Dropping.{TellsOn-is, DropTells-received}
+use Rattle.ntp_port.specs.{Watch.longest_of, Freshness.MayBeAnswered, Freshness.WasWatched}
+use Rattle.ntp_port.proofs.{Dropping.TellsOn-is, Dropping.DropTells-received, OneTake.takes-next}
 use Rattle.ntp_port.proofs.Keeping.{StandsFor-Held, StandsFor-Taken, StandsFor-next}
-use Rattle.ntp_port.proofs.OneTake.{takes-next}
 use Rattle.ntp_port.proofs.fresh_port.FreshPort.take_next.Goals as goal
 
 pub returns-in_default-clause-next : goal.returns-in_default-clause-next

@@ -1,6 +1,5 @@
 use Rattle.std.proofs.Common.{rules, inl, inr, None, Some, refl, arith}
-use Rattle.ntp_port.proofs.Waiting.{Passes-after, Passes-nothing}
-use Rattle.ntp_port.proofs.Passing.{passes-received, passes-given_up}
+use Rattle.ntp_port.proofs.{Waiting.Passes-after, Waiting.Passes-nothing, Passing.passes-received, Passing.passes-given_up}
 use Rattle.ntp_port.proofs.fresh_port.FreshPortPort.receive.Goals as goal
 
 pub loop-wait-init : goal.loop-wait-init

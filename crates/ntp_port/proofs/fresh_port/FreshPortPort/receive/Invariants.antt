@@ -1,6 +1,5 @@
 use Rattle.std.proofs.Common.{false}
-use Rattle.ntp_port.specs.Port.{CountsReceive}
-use Rattle.ntp_port.specs.Fresh.{kept_by}
+use Rattle.ntp_port.specs.{Port.CountsReceive, Fresh.kept_by}
 use Rattle.ntp_port.proofs.Waiting.{HasWaited}
 use Rattle.ntp_port.proofs.fresh_port.FreshPortPort.receive.Given as goal
 

@@ -1,8 +1,8 @@
 use Rattle.std.proofs.Common.{◌≡◌, ap, arith}
 use Rattle.ntp_port.specs.declared.queue_watch.QueueWatch.{QueueWatch}
 use Rattle.ntp_port.proofs.Keeping.{Counts-took}
-use Rattle.ntp_port.proofs.queue_watch.QueueWatch.took.Goals as goal
 use Rattle.ntp_port.proofs.queue_watch.QueueWatch.took.Goals.{then-self-eq1, else-self-eq1}
+use Rattle.ntp_port.proofs.queue_watch.QueueWatch.took.Goals as goal
 
 pub returns-clause-counts : goal.returns-clause-counts
 returns-clause-counts c =

@@ -1,6 +1,5 @@
 use Rattle.std.proofs.Common.{rules, ap, sym, subst, ◌∙◌, arith, length}
-use Rattle.ntp_port.specs.declared.port.PortCounts.{PortCounts}
-use Rattle.ntp_port.specs.Port.{CountsMore, DropsAny}
+use Rattle.ntp_port.specs.{declared.port.PortCounts.PortCounts, Port.CountsMore, Port.DropsAny}
 use Rattle.ntp_port.proofs.PublicLaws.{DropsAny-none, DropsAny-append, Receives-after}
 use Rattle.ntp_server.proofs.Looking.{Waits-none, Waits-more, Waits-port}
 use Rattle.ntp_server.proofs.server.Server.wait.Goals as goal
@@ -38,7 +37,7 @@ returns-in-Some-clause-waits g c =
 pub returns-clause-turns : goal.returns-clause-turns
 returns-clause-turns g c = Receives-after _ _ _ _ _ _ _ _ _ c.loop-wait.invariant.port c.receive.ensures.turns
 
--- so many waits are not counted
+-- a bounded number of waits is not counted
 pub returns-clause-waits : goal.returns-clause-waits
 returns-clause-waits g c =
     let w = c.loop-wait.invariant.waits.0 in

@@ -1,8 +1,7 @@
 use Rattle.std.proofs.Common.{Some, refl, sym, ap}
-use Rattle.ntp_service.proofs.Agreement.{agrees-with_customer}
-use Rattle.ntp_service.specs.declared.outcome.Outcome.TheVariants.{Datagram}
-use Rattle.ntp_service.proofs.Datagrams.{unregistered-tells, customer-tells}
+use Rattle.ntp_service.proofs.{Agreement.agrees-with_customer, Datagrams.unregistered-tells, Datagrams.customer-tells}
 use Rattle.ntp_service.proofs.Forgeries.{answered-alone}
+use Rattle.ntp_service.specs.declared.outcome.Outcome.TheVariants.{Datagram}
 use Rattle.ntp_service.proofs.service.Service.datagram.Goals as goal
 
 pub returns-in_default-clause-tells : goal.returns-in_default-clause-tells

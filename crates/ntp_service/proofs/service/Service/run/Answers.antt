@@ -3,8 +3,7 @@ use Rattle.std.proofs.lemmas.List.{length-append, length-take-le, take_more, tak
 use Rattle.std.specs.Prelude.{zip}
 use Rattle.ntp_service.specs.Headline.{Tells}
 use Rattle.ntp_service.proofs.Runs.{Tells-nil, Tells-push, zip-push}
-use Rattle.ntp_service.proofs.Forgeries.{without-forgeries}
-use Rattle.ntp_service.proofs.Stretches.{tells-few}
+use Rattle.ntp_service.proofs.{Forgeries.without-forgeries, Stretches.tells-few}
 use Rattle.ntp_service.proofs.service.Service.run.Goals as goal
 
 pub loop-event-init : goal.loop-event-init

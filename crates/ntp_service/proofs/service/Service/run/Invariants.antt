@@ -1,7 +1,6 @@
 use Rattle.std.proofs.Common.{List, take, ◌≤◌, ◌≡◌, length}
 use Rattle.std.specs.Prelude.{zip, vec_len, vec_capacity}
-use Rattle.ntp_service.specs.declared.event.Event.{Event}
-use Rattle.ntp_service.specs.Headline.{StandsFor, Tells}
+use Rattle.ntp_service.specs.{declared.event.Event.Event, Headline.StandsFor, Headline.Tells}
 use Rattle.ntp_service.proofs.service.Service.run.Given as goal
 
 abbrev pub invariant-loop-event : goal.invariant-loop-event

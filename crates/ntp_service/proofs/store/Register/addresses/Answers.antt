@@ -2,11 +2,8 @@ use Rattle.std.proofs.Common.{◌≡◌, ◌++◌, ap, sym, ◌∙◌, subst, ap
 use Rattle.std.specs.Prelude.{IsSome, Contains}
 use Rattle.std.specs.Map.{keys_of, lookup}
 use Rattle.std.proofs.lemmas.Map.Views.{Contains-keys_from_lookup, IsSome-lookup_from_Contains}
-use Rattle.ntp_service.specs.Address.{address_eq}
-use Rattle.ntp_service.specs.Registry.{customer_at}
-use Rattle.ntp_service.proofs.AddressLaws.{addresses, address_eq_equiv}
-use Rattle.ntp_service.proofs.Histories.{same-address}
-use Rattle.ntp_service.proofs.Entries.{get-lookup}
+use Rattle.ntp_service.specs.{Address.address_eq, Registry.customer_at}
+use Rattle.ntp_service.proofs.{AddressLaws.addresses, AddressLaws.address_eq_equiv, Histories.same-address, Entries.get-lookup}
 use Rattle.ntp_service.proofs.store.Register.addresses.Goals as goal
 
 pub returns : goal.returns

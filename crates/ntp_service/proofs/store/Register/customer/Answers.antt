@@ -1,6 +1,5 @@
 use Rattle.std.proofs.Common.{sym, ◌∙◌}
-use Rattle.ntp_service.proofs.AddressLaws.{addresses}
-use Rattle.ntp_service.proofs.Entries.{get-lookup}
+use Rattle.ntp_service.proofs.{AddressLaws.addresses, Entries.get-lookup}
 use Rattle.ntp_service.proofs.store.Register.customer.Goals as goal
 
 pub returns : goal.returns

@@ -1,8 +1,6 @@
 use Rattle.std.proofs.Common.{sym, ◌∙◌}
 use Rattle.std.specs.FinMap.{from_entries}
-use Rattle.ntp_service.proofs.Loans.{same_return_if}
-use Rattle.ntp_service.proofs.AddressLaws.{addresses}
-use Rattle.ntp_service.proofs.Entries.{get-lookup, from_entries-insert}
+use Rattle.ntp_service.proofs.{Loans.same_return_if, AddressLaws.addresses, Entries.get-lookup, Entries.from_entries-insert}
 use Rattle.ntp_service.proofs.store.Register.customer_mut.Goals as goal
 
 pub returns : goal.returns

@@ -1,6 +1,5 @@
 use Rattle.std.proofs.Common.{sym, ◌∙◌}
-use Rattle.ntp_service.proofs.AddressLaws.{numbers}
-use Rattle.ntp_service.proofs.Entries.{get-lookup}
+use Rattle.ntp_service.proofs.{AddressLaws.numbers, Entries.get-lookup}
 use Rattle.ntp_service.proofs.store.Register.holder.Goals as goal
 
 pub returns : goal.returns

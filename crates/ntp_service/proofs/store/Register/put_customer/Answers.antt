@@ -1,8 +1,7 @@
 use Rattle.std.proofs.Common.{◌≡◌, None, is_some, true≢false, ap, sym, ◌∙◌}
 use Rattle.std.specs.FinMap.{from_entries}
 use Rattle.ntp_service.specs.Registry.{customer_at}
-use Rattle.ntp_service.proofs.AddressLaws.{addresses}
-use Rattle.ntp_service.proofs.Entries.{get-lookup, from_entries-insert}
+use Rattle.ntp_service.proofs.{AddressLaws.addresses, Entries.get-lookup, Entries.from_entries-insert}
 use Rattle.ntp_service.proofs.store.Register.put_customer.Goals as goal
 
 pub returns-clause-ok : goal.returns-clause-ok

@@ -1,6 +1,5 @@
 use Rattle.std.specs.FinMap.{from_entries}
-use Rattle.ntp_service.proofs.AddressLaws.{numbers}
-use Rattle.ntp_service.proofs.Entries.{from_entries-remove}
+use Rattle.ntp_service.proofs.{AddressLaws.numbers, Entries.from_entries-remove}
 use Rattle.ntp_service.proofs.store.Register.take_holder.Goals as goal
 
 pub returns : goal.returns

@@ -3,8 +3,9 @@
 use clap::builder::ValueParser;
 use clap::error::ErrorKind;
 use clap::{Arg, ArgAction, ArgMatches, Command, Error};
-use ntp_query::{Limits, Server, server_in};
+use ntp_query::{Limits, host_in};
 use std::alloc::{AllocError, Global};
+use std::net::Ipv4Addr;
 use std::num::{self, NonZero};
 
 /// The program's version.
@@ -15,30 +16,34 @@ const SECOND_NANOS: f64 = 1_000_000_000.0;
 
 /// What stands at the end of the help.
 const AFTER_HELP: &str = "\
-Each query has a line: how it was answered, the offset of the server's clock from this host's, the delay, and what the server tells of its \
-clock. No clock is set, and no key is shown. The key file is chrony's: lines NUMBER [MD5|SHA1] [ASCII:|HEX:]KEY.
+Each query has a line: how it was answered, the offset of the server's clock from this host's, the delay, and what the server \
+tells of its clock. No clock is set, and no key is shown. The key file is chrony's: lines NUMBER [MD5|SHA1] [ASCII:|HEX:]KEY. \
+Without a key the time is unauthenticated. Stamps have no era: an offset of more than 34 years may be one that differs by 136 years.
 
 With --max-.. or --warn-.. it is a check for monitoring, with one line (with --json its objects).
 
 Examples:
   labntp-query --key-file keys --number 7 192.0.2.1
-  labntp-query --key-file keys --number 7 --count 4 --json 192.0.2.1:20123
+  labntp-query --key-file keys --number 7 --count 4 --json ntp.example:20123
   labntp-query --key-file keys --number 7 --max-offset 0.1 --warn-offset 0.01 192.0.2.1
 
-Exit status: 0 a query gave a sample; 1 none did; 2 other words; 3 a word is no text, or the key file, the socket or a write failed; 4 want of memory.
+Exit status: 0 a query gave a sample; 1 none did; 2 other words; 3 a word is no text, or the key file, the server's name, the \
+socket or a write failed; 4 want of memory.
 Of a check: 0 well; 1 a warning; 2 critical; 3 unknown: other words, or anything failed.";
 
 /// What the words of a command line ask for. Times are in nanoseconds.
 #[derive(Clone, Copy)]
 pub struct Asked<'a> {
-    /// The server.
-    pub server: Server,
-    /// The word that names it.
+    /// The server's address or name.
+    pub host: &'a str,
+    /// Its UDP port.
+    pub port: u16,
+    /// The word that names both.
     pub server_word: &'a str,
-    /// The path of the key file.
-    pub key_file: &'a str,
-    /// The number of the key.
-    pub number: NonZero<u16>,
+    /// The IPv4 address that requests are sent from.
+    pub source: &'a str,
+    /// The path of the key file and the number of the key; without these it asks unsigned.
+    pub key: Option<(&'a str, NonZero<u16>)>,
     /// How many queries there are.
     pub count: u32,
     /// How long it waits before the next query, in nanoseconds.
@@ -67,27 +72,33 @@ pub fn parse<'a>(alloc: Global, words: &'a [String]) -> Result<Asked<'a>, Error>
 
 // What the matches ask for; else what is wrong with them.
 fn asked_in<'a>(matches: &ArgMatches<'a>) -> Result<Asked<'a>, &'static str> {
-    let server_word = matches
-        .get_str("server")
-        .ok_or("ADDRESS[:PORT] is missing")?;
-    let server = server_in(server_word).ok_or(
-        "ADDRESS[:PORT]: an IPv4 address, with a port or without, is wanted",
+    let server_word = matches.get_str("server").ok_or("HOST[:PORT] is missing")?;
+    let (host, port) = host_in(server_word).ok_or(
+        "HOST[:PORT]: an IPv4 address or a name, with a port or without, is wanted",
     )?;
+    let source = matches.get_str("source").unwrap_or("0.0.0.0");
+    if source.parse::<Ipv4Addr>().is_err() {
+        return Err("--source ADDRESS: an IPv4 address is wanted");
+    }
     let number = matches
         .get_one::<u16>("number")
         .and_then(NonZero::<u16>::new);
+    let key = match (matches.get_str("key-file"), number) {
+        (Some(file), Some(number)) => Some((file, number)),
+        (None, None) => None,
+        _ => return Err("--key-file FILE and --number N: both are wanted, or neither"),
+    };
     let most = limits(matches, ["max-offset", "max-stratum", "max-root-distance"])?;
     let warn = limits(
         matches,
         ["warn-offset", "warn-stratum", "warn-root-distance"],
     )?;
     Ok(Asked {
-        server,
+        host,
+        port,
         server_word,
-        key_file: matches
-            .get_str("key-file")
-            .ok_or("--key-file FILE is missing")?,
-        number: number.ok_or("--number N is missing")?,
+        source,
+        key,
         count: matches.get_one::<u32>("count").unwrap_or(1),
         interval: nanos_at(matches, "interval", 100_000_000, 3_600_000_000_000)
             .ok_or("--interval S: 0.1 to 3600 seconds are wanted")?
@@ -138,10 +149,21 @@ fn nanos_at(matches: &ArgMatches<'_>, name: &str, least: u64, most: u64) -> Opti
 fn command<'a>(alloc: Global) -> Result<Command<'a>, AllocError> {
     let command = Command::new(alloc, "labntp-query")
         .version(VERSION)
-        .about("Asks an NTP server for the time under a key, and tells what came of it")
+        .about("Asks an NTP server for the time, and tells what came of it")
         .after_help(AFTER_HELP)
-        .arg(value(alloc, "key-file", "FILE", "The key file").required(true))?
-        .arg(number(alloc, "number", "N", (1, 65_535), "The number of the key").required(true))?
+        .arg(value(
+            alloc,
+            "key-file",
+            "FILE",
+            "The key file; without it the query is not signed",
+        ))?
+        .arg(number(alloc, "number", "N", (1, 65_535), "The number of the key"))?
+        .arg(value(
+            alloc,
+            "source",
+            "ADDRESS",
+            "The IPv4 address that it asks from",
+        ))?
         .arg(number(
             alloc,
             "count",
@@ -167,10 +189,10 @@ fn command<'a>(alloc: Global) -> Result<Command<'a>, AllocError> {
         )?;
     limited(alloc, command)?.arg(
         Arg::new(alloc, "server")
-            .value_name("ADDRESS[:PORT]")
+            .value_name("HOST[:PORT]")
             .required(true)
             .action(ArgAction::Set)
-            .help("The server; port 123 where none is given"),
+            .help("The server's IPv4 address or name; port 123 where none is given"),
     )
 }
 

@@ -1,18 +1,22 @@
 //! The key, from its file.
 
-use crate::command_line::Asked;
 use crate::faults::Faults;
 use ntp_admin::Escaped;
 use ntp_host::read_regular_file;
 use ntp_mac::Key;
 use ntp_query::{KeyFileFault, KeyLineFault, key_in_text, spaced};
+use std::num::NonZero;
 
 /// How many octets a key file has at most.
 const MOST_OCTETS: u32 = 65_536;
 
-/// The key that is asked for. A fault is told in one line, and gives the exit status.
-pub fn read_key(rt: &HostRuntime, asked: &Asked<'_>, faults: Faults) -> Result<Key, u8> {
-    let path = asked.key_file;
+/// The key with a number in the file at a path. A fault is told in one line, and gives the exit status.
+pub fn read_key(
+    rt: &HostRuntime,
+    path: &str,
+    number: NonZero<u16>,
+    faults: Faults,
+) -> Result<Key, u8> {
     let octets = match read_regular_file(rt, rt.alloc(), path, MOST_OCTETS) {
         Ok(octets) => octets,
         Err(error) => return Err(faults.of_system(rt, path, &error)),
@@ -30,8 +34,7 @@ pub fn read_key(rt: &HostRuntime, asked: &Asked<'_>, faults: Faults) -> Result<K
     let Ok(text) = str::from_utf8(&octets) else {
         return Err(faults.told(rt, format_args!("{path}: this is no UTF-8")));
     };
-    let number = asked.number.get();
-    match key_in_text(text, number) {
+    match key_in_text(text, number.get()) {
         Ok(key) => Ok(key),
         Err(KeyFileFault::Missing) => {
             Err(faults.told(rt, format_args!("{path}: there is no key {number}")))

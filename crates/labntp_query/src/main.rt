@@ -1,4 +1,4 @@
-//! The client for people: `labntp-query` asks a server under a key, and tells what came of it.
+//! The client for people: `labntp-query` asks a server, and tells what came of it.
 #![tactic(auto)]
 
 mod command_line;

@@ -6,7 +6,8 @@ use crate::json::outcome_line;
 use crate::key::read_key;
 use crate::udp_link::UdpLink;
 use ntp_client::Client;
-use ntp_query::{Check, Least, Outcome, ask, check_status, least_delay, verdict_of};
+use ntp_packet::Stamp;
+use ntp_query::{Asker, Check, Least, Outcome, ask, check_status, least_delay, verdict_of};
 use std::io::{self, Write};
 
 /// A query gave a sample.
@@ -26,14 +27,23 @@ pub fn query_status(rt: &HostRuntime, asked: &Asked<'_>) -> u8 {
 
 // What came of each query; else the exit status.
 fn outcomes(rt: &HostRuntime, asked: &Asked<'_>, faults: Faults) -> Result<Vec<Outcome>, u8> {
-    let mut client = Client::new(read_key(rt, asked, faults)?, asked.number.get());
-    let mut link = match UdpLink::open(rt, asked.server, asked.timeout) {
-        Ok(link) => link,
-        Err(error) => return Err(faults.of_system(rt, asked.server_word, &error)),
+    let mut asker = match asked.key {
+        Some((path, number)) => {
+            let key = read_key(rt, path, number, faults)?;
+            Asker::Signed(Client::new(key, number.get()))
+        }
+        None => Asker::Unsigned(Stamp(0)),
     };
+    let mut link = match UdpLink::bind(rt, asked.source, asked.timeout) {
+        Ok(link) => link,
+        Err(error) => return Err(faults.of_system(rt, asked.source, &error)),
+    };
+    if let Err(error) = link.connect(asked.host, asked.port) {
+        return Err(faults.of_system(rt, asked.server_word, &error));
+    }
     let mut outcomes = Vec::new(rt.alloc());
     for place in 0..asked.count {
-        let outcome = match next_outcome(&mut client, &mut link, asked, place) {
+        let outcome = match next_outcome(&mut asker, &mut link, asked, place) {
             Ok(outcome) => outcome,
             Err(error) => return Err(faults.of_system(rt, asked.server_word, &error)),
         };
@@ -47,7 +57,7 @@ fn outcomes(rt: &HostRuntime, asked: &Asked<'_>, faults: Faults) -> Result<Vec<O
 
 // What comes of the query at a place, counted from 0, before which the interval is waited for; else why the socket failed.
 fn next_outcome(
-    client: &mut Client,
+    asker: &mut Asker,
     link: &mut UdpLink<'_, HostRuntime>,
     asked: &Asked<'_>,
     place: u32,
@@ -55,10 +65,10 @@ fn next_outcome(
     if place > 0 {
         link.pause(asked.interval)?;
     }
-    let outcome = ask(client, link)?;
+    let outcome = ask(asker, link)?;
     match link.take_fault() {
         Some(error) => Err(error),
-        None => Ok(outcome),
+        None => Ok(outcome.or_unreachable(link.said())),
     }
 }
 

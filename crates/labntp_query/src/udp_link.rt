@@ -3,15 +3,16 @@ ghost use Rattle.std.specs.Prelude.{◌≤◌, IfOk, IfSome};
 
 use ntp_host::moment_now;
 use ntp_packet::Moment;
-use ntp_query::{Link, Received, Room, Server, empty_room};
-use ntp_service::Address;
+use ntp_query::{Link, Received, Room, Unreached, empty_room};
 use std::io::{self, ErrorKind};
-use std::net::{Ipv4Addr, Net, SocketAddrV4, UdpSocket};
+use std::net::{Net, SocketAddr, ToSocketAddrs, UdpSocket};
 use std::time::{Clock, Duration, Instant};
 
-/// The errors that Linux makes of ICMP's messages (icmp(7)), by their numbers: ENETUNREACH, EHOSTUNREACH, EHOSTDOWN, ENONET, ENOPROTOOPT,
-/// ECONNREFUSED, EMSGSIZE and EPROTO.
-const ICMP_ERRORS: [i32; 8] = [101, 113, 112, 64, 92, 111, 90, 71];
+/// The error that Linux makes of ICMP's message that nobody listens at a port (icmp(7)).
+const ECONNREFUSED: i32 = 111;
+
+/// Those that it makes of ICMP's other messages: ENETUNREACH, EHOSTUNREACH, EHOSTDOWN, ENONET, ENOPROTOOPT, EMSGSIZE and EPROTO.
+const OTHER_ICMP_ERRORS: [i32; 7] = [101, 113, 112, 64, 92, 90, 71];
 
 /// A socket that is joined to a server, so that the system passes on what comes from its address and port alone.
 #[derive(Drop)]
@@ -25,22 +26,34 @@ pub struct UdpLink<'a, R: Clock> {
     left: u64,
     // Why the last receive failed, if it did.
     fault: Option<io::Error>,
+    // What the network said last of the present request.
+    said: Option<Unreached>,
 }
 
 impl<'a, R: Net + Clock> UdpLink<'a, R> {
-    /// A link to a server, with a time limit in nanoseconds for each request.
-    pub fn open(rt: &'a R, server: Server, timeout: u64) -> io::Result<UdpLink<'a, R>> {
-        let Address(octets) = server.address;
-        let socket = UdpSocket::bind(rt, SocketAddrV4::new(Ipv4Addr::UNSPECIFIED, 0))?;
-        socket.connect(SocketAddrV4::new(Ipv4Addr::from(octets), server.port))?;
+    /// A link from an IPv4 address of this host, `0.0.0.0` for any, with a time limit in nanoseconds for each request.
+    pub fn bind(rt: &'a R, source: &str, timeout: u64) -> io::Result<UdpLink<'a, R>> {
         Ok(UdpLink {
-            socket,
+            socket: UdpSocket::bind(rt, (source, 0))?,
             clock: rt,
             timeout: Duration::from_nanos(timeout),
             end: None,
             left: 0,
             fault: None,
+            said: None,
         })
+    }
+
+    /// Joins it to the first IPv4 address of a host, at a UDP port. The system looks names up.
+    pub fn connect(&self, host: &str, port: u16) -> io::Result<()> {
+        let mut addresses = (host, port).to_socket_addrs(self.clock)?;
+        match addresses.find(SocketAddr::is_ipv4) {
+            Some(address) => self.socket.connect(address),
+            None => Err(io::Error::new(
+                ErrorKind::AddrNotAvailable,
+                "the name has no IPv4 address",
+            )),
+        }
     }
 }
 
@@ -64,6 +77,11 @@ impl<'a, R: Clock> UdpLink<'a, R> {
     /// Takes why the last receive failed, if it did, which ended the query.
     pub fn take_fault(&mut self) -> Option<io::Error> {
         self.fault.take()
+    }
+
+    /// What the network said last of the present request, if it did.
+    pub fn said(&self) -> Option<Unreached> {
+        self.said
     }
 
     // Receives for `time` from now on.
@@ -91,8 +109,8 @@ impl<'a, R: Clock> UdpLink<'a, R> {
         self.socket.recv(room)
     }
 
-    // The next datagram; nothing where none came in time. What the network says of the server is not authentic, and is passed over.
-    fn received(&self, room: &mut Room) -> io::Result<Option<Received>>
+    // The next datagram; nothing where none came in time. What the network says of the server is not authentic, and ends no wait.
+    fn received(&mut self, room: &mut Room) -> io::Result<Option<Received>>
         ensures { IfOk result (λ received. IfSome received (λ it. it.length ≤ 1025)) }
     {
         for _ in 0..u64::MAX {
@@ -104,8 +122,11 @@ impl<'a, R: Clock> UdpLink<'a, R> {
                     let at = moment_now(&self.clock);
                     return Ok(Some(Received { length, at }));
                 }
-                Err(error) if is_passed_over(&error) => {}
-                Err(error) => return Err(error),
+                Err(error) => match said_in(&error) {
+                    Some(said) => self.said = Some(said),
+                    None if is_passed_over(&error) => {}
+                    None => return Err(error),
+                },
             }
         }
         Ok(None)
@@ -122,20 +143,20 @@ impl<'a, R: Clock> Link for UdpLink<'a, R> {
     /// Sends it. What the network said of an earlier one, as that nobody listens, is told of this one and no fault of it.
     fn send(&mut self, request: &[u8]) -> io::Result<()> {
         let sent = match self.socket.send(request) {
-            Err(error) if is_of_network(&error) => self.socket.send(request),
+            Err(error) if said_in(&error).is_some() => self.socket.send(request),
             sent => sent,
         };
+        self.said = None;
         self.begin(self.timeout);
         sent?;
         Ok(())
     }
 
     fn receive(&mut self, room: &mut Room) -> Option<Received> {
-        if self.left == 0 {
-            return None;
-        }
-        self.left -= 1;
-        match self.received(room) {
+        let left = self.left.checked_sub(1)?;
+        let received = self.received(room);
+        self.left = left;
+        match received {
             Ok(received) => received,
             Err(error) => {
                 self.fault = Some(error);
@@ -145,17 +166,19 @@ impl<'a, R: Clock> Link for UdpLink<'a, R> {
     }
 }
 
-// Whether a receive may be tried again: nothing came, a signal did, or the network says something of the server.
+// Whether a receive may be tried again: nothing came, or a signal did.
 fn is_passed_over(error: &io::Error) -> bool {
     matches!(
         error.kind(),
         ErrorKind::WouldBlock | ErrorKind::TimedOut | ErrorKind::Interrupted
-    ) || is_of_network(error)
+    )
 }
 
-// Whether an error is what the network says of an earlier datagram, which anybody can forge (icmp(7)).
-fn is_of_network(error: &io::Error) -> bool {
-    error
-        .raw_os_error()
-        .is_some_and(|number| ICMP_ERRORS.contains(&number))
+// What the network says of an earlier datagram, which anybody can forge, where an error is that (icmp(7)).
+fn said_in(error: &io::Error) -> Option<Unreached> {
+    match error.raw_os_error()? {
+        ECONNREFUSED => Some(Unreached::Port),
+        number if OTHER_ICMP_ERRORS.contains(&number) => Some(Unreached::Network),
+        _ => None,
+    }
 }

@@ -7,7 +7,7 @@ use Rattle.std.proofs.lemmas.Int.{ints}
 use Rattle.ntp_client.specs.Sample.{delay}
 use Rattle.ntp_query.specs.declared.answer.Answer.{Answer}
 use Rattle.ntp_query.specs.declared.outcome.Outcome.{Outcome}
-use Rattle.ntp_query.specs.declared.outcome.Outcome.TheVariants.{Answered, Rate, Deny, Nak, Refused, Silence}
+use Rattle.ntp_query.specs.declared.outcome.Outcome.TheVariants.{Answered, Rate, Deny, Nak, Kiss, Refused, Silence, Unreachable}
 use Rattle.ntp_query.specs.Outcome.{answer_in}
 
 -- an answer is among the first outcomes
@@ -60,8 +60,10 @@ the-answer (Answered x) a is = let same : x ≡ a = cc in ap Answered same
 the-answer Rate a is = cc
 the-answer Deny a is = cc
 the-answer Nak a is = cc
+the-answer (Kiss code) a is = cc
 the-answer (Refused why) a is = cc
 the-answer Silence a is = cc
+the-answer (Unreachable why) a is = cc
 
 -- one outcome more, which is no answer, or is one that takes longer than another or not
 pub IsLeast-without : (outcomes : List Outcome) (n : ℕ) (d : Outcome) (least : Option Answer) → n < length outcomes

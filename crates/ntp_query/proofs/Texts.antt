@@ -6,32 +6,28 @@ use Rattle.ntp_query.specs.declared.answer.Answer.{Answer}
 use Rattle.ntp_query.specs.declared.outcome_text.Least.{Least}
 use Rattle.ntp_query.specs.Nanos.{seconds_text}
 use Rattle.ntp_query.specs.Answer.{offset_of, delay_of, root_distance_of}
-use Rattle.ntp_query.specs.Text.{figures, least_text}
+use Rattle.ntp_query.specs.Text.{trust_text, times_text, figures, least_text}
 use Rattle.ntp_query.specs.Check.{performance}
 
--- pieces; some are one
-five-five : (a b c d e f g h i j : List ℕ) → a ++ (b ++ (c ++ (d ++ (e ++ (f ++ (g ++ (h ++ (i ++ j))))))))
-    ≡ (a ++ b ++ c ++ d ++ e) ++ f ++ g ++ h ++ i ++ j
-five-five a b c d e f g h i j = simp append_assoc
+-- pieces
+six : (a b c d e f : List ℕ) → a ++ (b ++ (c ++ (d ++ (e ++ f)))) ≡ a ++ b ++ c ++ d ++ e ++ f
+six a b c d e f = simp append_assoc
 
-five-of-five : (a b c d e f g h i j : List ℕ) → a ++ (b ++ (c ++ (d ++ (e ++ (f ++ (g ++ (h ++ (i ++ j))))))))
-    ≡ a ++ b ++ c ++ d ++ e ++ (f ++ g ++ h ++ i ++ j)
-five-of-five a b c d e f g h i j = simp append_assoc
+seven : (a b c d e f g : List ℕ) → a ++ (b ++ (c ++ (d ++ (e ++ (f ++ g))))) ≡ a ++ b ++ c ++ d ++ e ++ f ++ g
+seven a b c d e f g = simp append_assoc
 
 nine : (a b c d e f g h i : List ℕ) → a ++ (b ++ (c ++ (d ++ (e ++ (f ++ (g ++ (h ++ i))))))) ≡ a ++ b ++ c ++ d ++ e ++ f ++ g ++ h ++ i
 nine a b c d e f g h i = simp append_assoc
 
--- the figures of an answer, with these times
-abbrev pub figures_by : Answer → ℤ → ℤ → ℤ → List ℕ
-figures_by a o d r =
-    codes "offset " ++ (seconds_text o ++ (codes " s, delay " ++ (seconds_text d ++ (codes " s" ++ (codes ", stratum " ++ (decimal a.clock.stratum
-    ++ (codes ", root distance " ++ (seconds_text r ++ codes " s"))))))))
+-- the figures of an answer, with this root distance
+abbrev pub figures_by : Answer → ℤ → List ℕ
+figures_by a r =
+    times_text a ++ (codes ", stratum " ++ (decimal a.clock.stratum ++ (codes ", root distance " ++ (seconds_text r ++ codes " s"))))
 
-pub figures-written : (a : Answer) (o d r : ℤ) → o ≡ offset_of a → d ≡ delay_of a → r ≡ root_distance_of a → figures_by a o d r ≡ figures a
-figures-written a o d r first second third =
-    ap (λ x. figures_by a x d r) first ∙ ap (λ x. figures_by a (offset_of a) x r) second ∙ ap (λ x. figures_by a (offset_of a) (delay_of a) x) third
-    ∙ five-five (codes "offset ") (seconds_text (offset_of a)) (codes " s, delay ") (seconds_text (delay_of a)) (codes " s") (codes ", stratum ")
-    (decimal a.clock.stratum) (codes ", root distance ") (seconds_text (root_distance_of a)) (codes " s")
+pub figures-written : (a : Answer) (r : ℤ) → r ≡ root_distance_of a → figures_by a r ≡ figures a
+figures-written a r is =
+    ap (figures_by a) is
+    ∙ six (times_text a) (codes ", stratum ") (decimal a.clock.stratum) (codes ", root distance ") (seconds_text (root_distance_of a)) (codes " s")
 
 -- performance data, with these times
 abbrev pub performance_by : Answer → ℤ → ℤ → ℤ → List ℕ
@@ -47,15 +43,10 @@ performance-written a o d r first second third =
     ∙ nine (codes "offset=") (seconds_text (offset_of a)) (codes "s delay=") (seconds_text (delay_of a)) (codes "s stratum=")
     (decimal a.clock.stratum) (codes " root_distance=") (seconds_text (root_distance_of a)) (codes "s")
 
--- the sample of least delay, with these times
-abbrev pub least_by : Least → ℤ → ℤ → List ℕ
-least_by l o d =
-    codes "least delay of " ++ (decimal l.samples ++ (codes " samples in " ++ (decimal l.queries ++ (codes " queries: " ++ (codes "offset "
-    ++ (seconds_text o ++ (codes " s, delay " ++ (seconds_text d ++ codes " s"))))))))
-
-pub least-written : (l : Least) (o d : ℤ) → o ≡ offset_of l.answer → d ≡ delay_of l.answer → least_by l o d ≡ least_text l
+-- the sample of least delay
+pub least-written : (l : Least) → codes "least delay of " ++ (decimal l.samples ++ (codes " samples in " ++ (decimal l.queries
+    ++ (codes " queries: " ++ (trust_text l.answer ++ times_text l.answer))))) ≡ least_text l
 unfolding least_text
-least-written l o d first second =
-    ap (λ x. least_by l x d) first ∙ ap (λ x. least_by l (offset_of l.answer) x) second
-    ∙ five-of-five (codes "least delay of ") (decimal l.samples) (codes " samples in ") (decimal l.queries) (codes " queries: ") (codes "offset ")
-    (seconds_text (offset_of l.answer)) (codes " s, delay ") (seconds_text (delay_of l.answer)) (codes " s")
+least-written l =
+    seven (codes "least delay of ") (decimal l.samples) (codes " samples in ") (decimal l.queries) (codes " queries: ") (trust_text l.answer)
+    (times_text l.answer)

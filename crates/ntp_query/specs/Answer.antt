@@ -1,14 +1,14 @@
 -- What a reply that gave a sample tells.
-use Rattle.std.specs.Prelude.{ℤ, pos, ◌+◌, ◌*◌, ◌^◌}
+use Rattle.std.specs.Prelude.{Bool, ℤ, pos, ◌+◌, ◌*◌, ◌^◌}
 use Rattle.ntp_packet.specs.Header.{HeaderFields}
 use Rattle.ntp_client.specs.declared.sample.Sample.{Sample}
 use Rattle.ntp_client.specs.Sample.{offset_twice, delay}
 use Rattle.ntp_query.specs.declared.answer.Answer.{Answer}
 use Rattle.ntp_query.specs.Nanos.{nanos_of}
 
--- a sample, and what the header of the reply tells of the server's clock (RFC 5905, 7.3)
-abbrev pub answer_of : Sample → HeaderFields → Answer
-answer_of sample h = record { sample = sample; clock = h.clock }
+-- a sample, whether the reply was signed, and what its header tells of the server's clock (RFC 5905, 7.3)
+abbrev pub answer_of : Sample → Bool → HeaderFields → Answer
+answer_of sample signed h = record { sample = sample; signed = signed; clock = h.clock }
 
 -- the offset of the server's clock, in nanoseconds (RFC 5905, 8)
 abbrev pub offset_of : Answer → ℤ

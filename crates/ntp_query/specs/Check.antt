@@ -14,7 +14,7 @@ use Rattle.ntp_query.specs.declared.check.Verdict.{Verdict}
 use Rattle.ntp_query.specs.declared.check.Verdict.TheVariants.{Well, Warning, Critical}
 use Rattle.ntp_query.specs.Nanos.{seconds_text}
 use Rattle.ntp_query.specs.Answer.{offset_of, delay_of, root_distance_of}
-use Rattle.ntp_query.specs.Text.{figures, query_outcome_text}
+use Rattle.ntp_query.specs.Text.{trust_text, figures, query_outcome_text}
 
 -- whether a value is above its limit, if it has one
 abbrev pub is_above : Option ℕ → ℕ → Bool
@@ -79,7 +79,7 @@ performance a =
 
 -- what there is to tell: of the sample of least delay, or else of the last query
 abbrev pub details : Option Answer → Outcome → List ℕ
-details (Some a) latest = figures a ++ codes " | " ++ performance a
+details (Some a) latest = trust_text a ++ figures a ++ codes " | " ++ performance a
 details None latest = query_outcome_text latest
 
 -- the line of a check (Monitoring Plugins)

@@ -1,10 +1,10 @@
 -- A query: one request, and what comes of it.
 use Rattle.std.specs.Prelude.{◌≡◌, ℕ, Option, IfSome, IsSomeAnd, List, [], ◌∷◌, ◌++◌, map}
 use Rattle.ntp_packet.specs.declared.moment.Moment.{Moment}
-use Rattle.ntp_client.specs.State.{ClientState}
-use Rattle.ntp_client.specs.Query.{query_octets, next_query, after_query}
 use Rattle.ntp_query.specs.declared.outcome.Outcome.{Outcome}
-use Rattle.ntp_query.specs.Outcome.{heard, outcome_among}
+use Rattle.ntp_query.specs.declared.asker.Asker.{Asker}
+use Rattle.ntp_query.specs.Asker.{request_octets, after_request, heard_by}
+use Rattle.ntp_query.specs.Outcome.{outcome_among}
 
 -- a datagram that comes, cut to 1,025 octets, and when
 pub record Incoming : Type 0 where
@@ -23,12 +23,12 @@ IsOver t = IfSome t (λ old. old ≡ [])
 abbrev pub Sends : Option (List (List ℕ)) → Option (List (List ℕ)) → List ℕ → Type 0
 Sends t u request = IfSome t (λ old. IsSomeAnd u (λ new. new ≡ old ++ request ∷ []))
 
--- what comes of a request that a client waits for a reply to
-abbrev pub outcome_of : ClientState → List Incoming → Outcome
-outcome_of c arrivals = outcome_among (map (λ a. heard c a.octets a.at) arrivals)
+-- what comes of a request that waits for a reply
+abbrev pub outcome_of : Asker → List Incoming → Outcome
+outcome_of a arrivals = outcome_among (map (λ it. heard_by a it.octets it.at) arrivals)
 
--- a client asked, and this came of it: its next request was sent, once, and it heard what came until the time limit
-pub record IsQuery (c : ClientState) (sent now_sent : Option (List (List ℕ))) (coming : Option (List Incoming)) (o : Outcome) : Type 0 where
+-- one asked, and this came of it: the next request was sent, once, and what came until the time limit was heard
+pub record IsQuery (a : Asker) (sent now_sent : Option (List (List ℕ))) (coming : Option (List Incoming)) (o : Outcome) : Type 0 where
   pub departure : Moment
-  pub request : Sends sent now_sent (query_octets c.key c.number (next_query c departure))
-  pub outcome : IfSome coming (λ arrivals. o ≡ outcome_of (after_query c departure) arrivals)
+  pub request : Sends sent now_sent (request_octets a departure)
+  pub outcome : IfSome coming (λ arrivals. o ≡ outcome_of (after_request a departure) arrivals)

@@ -1,6 +1,8 @@
 pub mod Nanos
 pub mod Answer
 pub mod Outcome
+pub mod Reference
+pub mod Asker
 pub mod Exchange
 pub mod KeyFile
 pub mod Server

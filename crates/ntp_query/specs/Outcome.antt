@@ -9,13 +9,14 @@ use Rattle.ntp_client.specs.declared.taken.Taken.TheVariants as taken
 use Rattle.ntp_client.specs.State.{ClientState}
 use Rattle.ntp_client.specs.Taking.{taken_for, header_taken}
 use Rattle.ntp_query.specs.declared.outcome.Outcome.{Outcome}
-use Rattle.ntp_query.specs.declared.outcome.Outcome.TheVariants.{Answered, Rate, Deny, Nak, Refused, Silence}
+use Rattle.ntp_query.specs.declared.outcome.Outcome.TheVariants.{Answered, Rate, Deny, Nak, Refused, Silence, Unreachable}
+use Rattle.ntp_query.specs.declared.outcome.Unreached.{Unreached}
 use Rattle.ntp_query.specs.declared.answer.Answer.{Answer}
 use Rattle.ntp_query.specs.Answer.{answer_of}
 
 -- what a client takes octets for, and of a sample what the header that it judged tells, which it has
 abbrev pub heard_as : Taken → Option HeaderFields → Outcome
-heard_as (taken.Sample sample) header = option_map_or (λ h. Answered (answer_of sample h)) header Silence
+heard_as (taken.Sample sample) header = option_map_or (λ h. Answered (answer_of sample true h)) header Silence
 heard_as taken.Rate header = Rate
 heard_as taken.Deny header = Deny
 heard_as taken.Nak header = Nak
@@ -30,7 +31,7 @@ abbrev pub answer_in : Outcome → Option Answer
 answer_in (Answered answer) = Some answer
 answer_in other = None
 
--- whether an outcome ends the query: a sample and a RATE are authentic
+-- whether an outcome ends the query: a sample and a signed RATE
 abbrev pub ends : Outcome → Bool
 ends (Answered answer) = true
 ends Rate = true
@@ -45,3 +46,8 @@ last_or before (o ∷ others) = last_or o others
 -- silence
 abbrev pub outcome_among : List Outcome → Outcome
 outcome_among outcomes = unwrap_or (find ends outcomes) (last_or Silence outcomes)
+
+-- what a query comes to where the network said why the server is not reached: that, in the place of silence
+abbrev pub or_unreachable : Outcome → Option Unreached → Outcome
+or_unreachable Silence (Some why) = Unreachable why
+or_unreachable o said = o

@@ -5,6 +5,8 @@ use Rattle.ntp_packet.specs.declared.malformed.Malformed.{Malformed}
 use Rattle.ntp_packet.specs.declared.malformed.Malformed.TheVariants as malformed
 use Rattle.ntp_client.specs.declared.taken.Distrust.{Distrust}
 use Rattle.ntp_client.specs.declared.taken.Distrust.TheVariants as distrust
+use Rattle.ntp_query.specs.declared.outcome.Unreached.{Unreached}
+use Rattle.ntp_query.specs.declared.outcome.Unreached.TheVariants as unreached
 
 -- a word for why octets are no packet
 abbrev pub malformed_word : Malformed → List ℕ
@@ -48,3 +50,13 @@ reason_text distrust.Unsigned = codes "it is not signed"
 reason_text distrust.Mac = codes "it is not signed with this key"
 reason_text distrust.Unsynchronised = codes "the server's clock is not synchronised"
 reason_text distrust.Stamps = codes "it tells no time"
+
+-- a word for why a server is not reached
+abbrev pub unreached_word : Unreached → List ℕ
+unreached_word unreached.Port = codes "port"
+unreached_word unreached.Network = codes "network"
+
+-- the same in a sentence without its end
+abbrev pub unreached_text : Unreached → List ℕ
+unreached_text unreached.Port = codes "the network says that nobody listens there (connection refused)"
+unreached_text unreached.Network = codes "the network says that the server is not reached"

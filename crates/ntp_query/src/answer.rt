@@ -20,17 +20,20 @@ const ROOT_UNITS: u64 = 1 << 17;
 pub struct Answer {
     /// The four stamps.
     pub sample: Sample,
+    /// Whether the reply was signed under the key. Anybody could have sent one that was not.
+    pub signed: bool,
     /// The fields that the reply tells of the server's clock (RFC 5905, 7.3).
     pub clock: ClockFields,
 }
 
 impl Answer {
     // What a reply with this header tells, which gave this sample.
-    pub(crate) fn of(sample: Sample, header: &Header) -> Answer
-        ensures { result ≡ answer_of sample header.now }
+    pub(crate) fn of(sample: Sample, signed: bool, header: &Header) -> Answer
+        ensures { result ≡ answer_of sample signed header.now }
     {
         Answer {
             sample,
+            signed,
             clock: header.clock(),
         }
     }

@@ -2,7 +2,7 @@
 ghost use Rattle.std.specs.Prelude.{◌≡◌};
 ghost use Rattle.ntp_query.specs.Check.{verdict_word, measure_text};
 
-use crate::outcome_text::Figures;
+use crate::outcome_text::{Figures, Trust};
 use crate::{Answer, Cause, Measure, Outcome, Verdict};
 use std::fmt;
 
@@ -29,8 +29,9 @@ impl fmt::Display for Check {
         let why = Why(self.verdict);
         match self.least {
             Some(answer) => {
+                let trust = Trust(answer);
                 let (figures, performance) = (Figures(answer), Performance(answer));
-                write!(f, "NTP {word}: {why}{figures} | {performance}")
+                write!(f, "NTP {word}: {why}{trust}{figures} | {performance}")
             }
             None => {
                 let latest = self.latest;

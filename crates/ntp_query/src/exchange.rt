@@ -2,8 +2,7 @@
 ghost use Rattle.std.specs.Prelude.{◌≡◌, ◌≤◌, ◌<◌, ℕ, Option, None, List, take, OnOk, IfOk, IfSome, IfNone, OnSome};
 ghost use Rattle.ntp_query.specs.Exchange.{Incoming, Comes, IsOver, Sends, outcome_of, IsQuery};
 
-use crate::{Outcome, hear};
-use ntp_client::Client;
+use crate::{Asker, Outcome};
 use ntp_packet::{MOST_DATAGRAM_OCTETS, Moment};
 use std::io;
 
@@ -56,19 +55,19 @@ pub trait Link {
         ensures fewer { OnSome result (most self.new < most self.old) };
 }
 
-/// Sends one request of a client, and waits for what comes of it. A sample and a `RATE` are authentic and end the query. What is not
-/// leaves it waiting until its time limit, so that nothing forged takes the place of the reply; then the last of that is told, or silence
-/// where nothing came.
+/// Sends one request, and waits for what comes of it. A sample and a signed `RATE` end the query. All else leaves it waiting until
+/// its time limit, so that nothing forged takes the place of a signed reply; then the last of that is the outcome, or silence where
+/// nothing came.
 ///
 /// # Errors
 ///
 /// The request could not be sent.
-pub fn ask<L: Link>(client: &mut Client, link: &mut L) -> io::Result<Outcome>
-    ensures { IfOk result (λ outcome. IsQuery client.old (L.sent link.old) (L.sent link.new) (L.coming link.old) outcome) }
+pub fn ask<L: Link>(asker: &mut Asker, link: &mut L) -> io::Result<Outcome>
+    ensures { IfOk result (λ outcome. IsQuery asker.old (L.sent link.old) (L.sent link.new) (L.coming link.old) outcome) }
 {
-    let request = client.request(link.now());
+    let request = asker.request(link.now());
     link.send(request.octets())?;
-    Ok(heard_in_time(client, link))
+    Ok(heard_in_time(asker, link))
 }
 
 /// Room for a datagram, with zeros.
@@ -77,14 +76,14 @@ pub fn empty_room() -> Room {
 }
 
 // What comes of the request that waits.
-fn heard_in_time<L: Link>(client: &mut Client, link: &mut L) -> Outcome
-    ensures outcome { IfSome (L.coming link.old) (λ arrivals. result ≡ outcome_of client.old arrivals) }
+fn heard_in_time<L: Link>(asker: &mut Asker, link: &mut L) -> Outcome
+    ensures outcome { IfSome (L.coming link.old) (λ arrivals. result ≡ outcome_of asker.old arrivals) }
     ensures sent { L.sent link.new ≡ L.sent link.old }
 {
     let mut room = empty_room();
     let mut latest = Outcome::Silence;
     while let Some(received) = link.receive(&mut room) {
-        latest = hear(client, &room[..received.length], received.at);
+        latest = asker.hear(&room[..received.length], received.at);
         if latest.ends() {
             return latest;
         }

@@ -2,42 +2,32 @@
 ghost use Rattle.std.specs.Prelude.{◌≡◌};
 ghost use Rattle.ntp_query.specs.Text.{outcome_word};
 
-use crate::{Answer, Outcome, Reason};
-use std::{fmt, str};
+use crate::reasons::unreached_text;
+use crate::{Answer, Nanos, Outcome, Reason, Reference};
+use std::fmt;
 
-/// A word for what came of a query: `basic` and `interleaved` for a sample.
+/// The greatest offset that prints without a word on eras: 2^30 seconds, in nanoseconds.
+const MOST_CERTAIN: u64 = 1_000_000_000 << 30;
+
+/// A word for what came of a query: `basic` and `interleaved` for a signed sample, `unauthenticated` for another one.
 pub fn outcome_word(outcome: &Outcome) -> &'static str
     ensures { result.now ≡ outcome_word outcome.now }
 {
     match outcome {
+        Outcome::Answered(answer) if !answer.signed => "unauthenticated",
         Outcome::Answered(answer) if answer.sample.interleaved => "interleaved",
         Outcome::Answered(_) => "basic",
         Outcome::Rate => "rate",
         Outcome::Deny => "deny",
         Outcome::Nak => "nak",
+        Outcome::Kiss(_) => "kiss",
         Outcome::Refused(_) => "refused",
         Outcome::Silence => "silence",
+        Outcome::Unreachable(_) => "unreachable",
     }
 }
 
-/// A reference identifier. It prints in eight hexadecimal digits.
-#[derive(Clone, Copy)]
-pub struct Identifier(pub [u8; 4]);
-
-impl fmt::Display for Identifier {
-    ghost use Rattle.std.specs.Prelude.{Some};
-    ghost use Rattle.hex.specs.Hex.{encode_lower};
-
-    ghost output = { λ identifier. Some (encode_lower identifier.0) };
-
-    fn fmt<W: fmt::Write>(&self, f: &mut fmt::Formatter<W>) -> fmt::Result {
-        let mut digits = [0; 8];
-        hex::encode_to_slice(self.0, &mut digits).unwrap();
-        f.write_str(str::from_utf8(&digits).map_err(|_| fmt::Error)?)
-    }
-}
-
-/// What it tells, but whether it is interleaved.
+/// What it tells of the server's clock.
 impl fmt::Display for Answer {
     ghost use Rattle.std.specs.Prelude.{Some};
     ghost use Rattle.ntp_query.specs.Text.{answer_text};
@@ -47,9 +37,65 @@ impl fmt::Display for Answer {
     #[tactic(auto, unfolding(crate::specs::Text::answer_text))]
     fn fmt<W: fmt::Write>(&self, f: &mut fmt::Formatter<W>) -> fmt::Result {
         let figures = Figures(*self);
-        let identifier = Identifier(self.clock.reference_id);
+        let reference = Reference {
+            stratum: self.clock.stratum,
+            identifier: self.clock.reference_id,
+        };
         let leap = self.clock.leap;
-        write!(f, "{figures}, reference {identifier}, leap {leap}")
+        write!(f, "{figures}, reference {reference}, leap {leap}")
+    }
+}
+
+// What stands in front of an answer that nobody signed.
+#[derive(Clone, Copy)]
+pub(crate) struct Trust(pub(crate) Answer);
+
+impl fmt::Display for Trust {
+    ghost use Rattle.std.specs.Prelude.{Some};
+    ghost use Rattle.ntp_query.specs.Text.{trust_text};
+
+    ghost output = { λ it. Some (trust_text it.0) };
+
+    fn fmt<W: fmt::Write>(&self, f: &mut fmt::Formatter<W>) -> fmt::Result {
+        if self.0.signed {
+            return Ok(());
+        }
+        f.write_str("unauthenticated, ")
+    }
+}
+
+// What stands behind an offset that may be another one by an era (RFC 5905, 6).
+#[derive(Clone, Copy)]
+struct Era(Nanos);
+
+impl fmt::Display for Era {
+    ghost use Rattle.std.specs.Prelude.{Some};
+    ghost use Rattle.ntp_query.specs.Text.{era_text};
+
+    ghost output = { λ it. Some (era_text it.0.0) };
+
+    fn fmt<W: fmt::Write>(&self, f: &mut fmt::Formatter<W>) -> fmt::Result {
+        if self.0.0.unsigned_abs() <= MOST_CERTAIN {
+            return Ok(());
+        }
+        f.write_str(" (or one that differs by 136 years)")
+    }
+}
+
+// The offset and the delay of an answer.
+#[derive(Clone, Copy)]
+struct Times(Answer);
+
+impl fmt::Display for Times {
+    ghost use Rattle.std.specs.Prelude.{Some};
+    ghost use Rattle.ntp_query.specs.Text.{times_text};
+
+    ghost output = { λ it. Some (times_text it.0) };
+
+    fn fmt<W: fmt::Write>(&self, f: &mut fmt::Formatter<W>) -> fmt::Result {
+        let (offset, delay) = (self.0.offset(), self.0.delay());
+        let era = Era(offset);
+        write!(f, "offset {offset} s{era}, delay {delay} s")
     }
 }
 
@@ -65,11 +111,11 @@ impl fmt::Display for Figures {
 
     fn fmt<W: fmt::Write>(&self, f: &mut fmt::Formatter<W>) -> fmt::Result {
         let Figures(answer) = self;
-        let (offset, delay) = (answer.offset(), answer.delay());
+        let times = Times(*answer);
         let (stratum, root_distance) = (answer.clock.stratum, answer.root_distance());
         write!(
             f,
-            "offset {offset} s, delay {delay} s, stratum {stratum}, root distance {root_distance} s"
+            "{times}, stratum {stratum}, root distance {root_distance} s"
         )
     }
 }
@@ -92,11 +138,22 @@ impl fmt::Display for Outcome {
                 "{word}: the server does not serve this address, if this is from it"
             ),
             Outcome::Nak => write!(f, "{word}: the server has no such key, if this is from it"),
+            Outcome::Kiss(code) => {
+                let reference = Reference {
+                    stratum: 0,
+                    identifier: *code,
+                };
+                write!(f, "{word}: {reference}, if this is from the server")
+            }
             Outcome::Refused(why) => {
                 let reason = Reason(*why);
                 write!(f, "{word}: {reason}")
             }
             Outcome::Silence => write!(f, "{word}: nothing came"),
+            Outcome::Unreachable(why) => {
+                let said = unreached_text(*why);
+                write!(f, "{word}: {said}")
+            }
         }
     }
 }
@@ -121,10 +178,10 @@ impl fmt::Display for Least {
     #[tactic(auto, unfolding(crate::specs::Text::least_text))]
     fn fmt<W: fmt::Write>(&self, f: &mut fmt::Formatter<W>) -> fmt::Result {
         let (samples, queries) = (self.samples, self.queries);
-        let (offset, delay) = (self.answer.offset(), self.answer.delay());
+        let (trust, times) = (Trust(self.answer), Times(self.answer));
         write!(
             f,
-            "least delay of {samples} samples in {queries} queries: offset {offset} s, delay {delay} s"
+            "least delay of {samples} samples in {queries} queries: {trust}{times}"
         )
     }
 }

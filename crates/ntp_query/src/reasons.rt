@@ -1,7 +1,8 @@
 //! Why octets were not taken for a reply, in words.
 ghost use Rattle.std.specs.Prelude.{◌≡◌};
-ghost use Rattle.ntp_query.specs.Reasons.{reason_word, malformed_word};
+ghost use Rattle.ntp_query.specs.Reasons.{reason_word, malformed_word, unreached_word, unreached_text};
 
+use crate::Unreached;
 use ntp_client::Distrust;
 use ntp_packet::Malformed;
 use std::fmt;
@@ -34,6 +35,26 @@ fn malformed_word(fault: Malformed) -> &'static str
         Malformed::FieldUnaligned { .. } => "field-unaligned",
         Malformed::FieldPastEnd { .. } => "field-past-end",
         Malformed::Rest { .. } => "rest",
+    }
+}
+
+/// A word for why a server is not reached.
+pub fn unreached_word(why: Unreached) -> &'static str
+    ensures { result.now ≡ unreached_word why }
+{
+    match why {
+        Unreached::Port => "port",
+        Unreached::Network => "network",
+    }
+}
+
+// Why a server is not reached, in a sentence without its end.
+pub(crate) fn unreached_text(why: Unreached) -> &'static str
+    ensures { result.now ≡ unreached_text why }
+{
+    match why {
+        Unreached::Port => "the network says that nobody listens there (connection refused)",
+        Unreached::Network => "the network says that the server is not reached",
     }
 }
 

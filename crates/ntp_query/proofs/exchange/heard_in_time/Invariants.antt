@@ -4,9 +4,9 @@ use Rattle.ntp_query.proofs.exchange.heard_in_time.Given as goal
 
 abbrev pub invariant-loop-received : goal.invariant-loop-received
 invariant-loop-received g l = record {
-  client : l.client ≡ l.fn.client;
+  asker : l.asker ≡ l.fn.asker;
   sent : g.L.Link.sent l.link ≡ g.L.Link.sent l.fn.link;
-  goes : Goes l.fn.client (g.L.Link.coming l.fn.link) (g.L.Link.coming l.link) l.latest;
+  goes : Goes l.fn.asker (g.L.Link.coming l.fn.link) (g.L.Link.coming l.link) l.latest;
 }
 
 abbrev pub decreases-loop-received : goal.decreases-loop-received

@@ -6,4 +6,4 @@ use Rattle.ntp_query.proofs.outcome_text.FiguresDisplay.fmt.Goals as goal
 pub returns-clause-writes : goal.returns-clause-writes
 returns-clause-writes g c = λ plain ok.
     subst (λ text. HasWritten g.W.Write.write_str_gives c.args.f.now text c.write.new.self)
-    (figures-written c.args.self.now.0 _ _ _ c.offset-offset.ensures c.delay-delay.ensures c.root_distance-root_distance.ensures) (c.write.ensures.writes plain ok)
+    (figures-written c.args.self.now.0 _ c.root_distance-root_distance.ensures) (c.write.ensures.writes plain ok)

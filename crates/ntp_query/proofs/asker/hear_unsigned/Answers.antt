@@ -1,0 +1,19 @@
+use Rattle.std.proofs.Common.{sym, ap, ◌∙◌, arith}
+use Rattle.ntp_packet.specs.Request.{RequestValue}
+use Rattle.ntp_packet.proofs.PublicLaws.{AreOctets}
+use Rattle.ntp_mac.proofs.PublicLaws.{answers-so}
+use Rattle.ntp_query.specs.Asker.{judged, judged_as_read}
+use Rattle.ntp_query.proofs.asker.hear_unsigned.Goals as goal
+
+pub returns-in-Ok : goal.returns-in-Ok
+returns-in-Ok c =
+    let are : AreOctets c.args.octets.now = λ i. omega (arith, c.type_inv.octets i) in
+    let is = answers-so c.args.octets.now c.read_request.result are c.read_request.ensures.only c.read_request.ensures.exact in
+    c.judge.ensures ∙ ap (λ (r : RequestValue). judged c.args.transmit r.header c.args.at) c.reply.view_is
+    ∙ ap (judged_as_read c.args.transmit c.args.at) (sym c.in-Ok.is ∙ is)
+
+pub returns-in-Err : goal.returns-in-Err
+returns-in-Err c =
+    let are : AreOctets c.args.octets.now = λ i. omega (arith, c.type_inv.octets i) in
+    let is = answers-so c.args.octets.now c.read_request.result are c.read_request.ensures.only c.read_request.ensures.exact in
+    ap (judged_as_read c.args.transmit c.args.at) (sym c.in-Err.is ∙ is)

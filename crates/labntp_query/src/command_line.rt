@@ -147,107 +147,39 @@ fn nanos_at(matches: &ArgMatches<'_>, name: &str, least: u64, most: u64) -> Opti
 
 // The command line, with its help.
 fn command<'a>(alloc: Global) -> Result<Command<'a>, AllocError> {
-    let command = Command::new(alloc, "labntp-query")
+    let mut command = Command::new(alloc, "labntp-query")
         .version(VERSION)
         .about("Asks an NTP server for the time, and tells what came of it")
-        .after_help(AFTER_HELP)
-        .arg(value(
-            alloc,
-            "key-file",
-            "FILE",
-            "The key file; without it the query is not signed",
-        ))?
-        .arg(number(alloc, "number", "N", (1, 65_535), "The number of the key"))?
-        .arg(value(
-            alloc,
-            "source",
-            "ADDRESS",
-            "The IPv4 address that it asks from",
-        ))?
-        .arg(number(
-            alloc,
-            "count",
-            "K",
-            (1, 1_000),
-            "How many queries [default: 1]",
-        ))?
-        .arg(seconds(
-            alloc,
-            "interval",
-            "How long it waits before the next query [default: 2]",
-        ))?
-        .arg(seconds(
-            alloc,
-            "timeout",
-            "How long each reply is waited for [default: 5]",
-        ))?
-        .arg(
-            Arg::new(alloc, "json")
-                .long("json")
-                .action(ArgAction::SetTrue)
-                .help("Prints an object of JSON for each query"),
-        )?;
-    limited(alloc, command)?.arg(
-        Arg::new(alloc, "server")
-            .value_name("HOST[:PORT]")
-            .required(true)
-            .action(ArgAction::Set)
-            .help("The server's IPv4 address or name; port 123 where none is given"),
-    )
-}
-
-// The command with what makes a check of it.
-fn limited<'a>(alloc: Global, command: Command<'a>) -> Result<Command<'a>, AllocError> {
+        .after_help(AFTER_HELP);
+    let file = ("FILE", ValueParser::String);
+    let address = ("ADDRESS", ValueParser::String);
+    let time = ("S", ValueParser::Float);
+    let number = ("N", ValueParser::unsigned(1, 65_535));
+    let count = ("K", ValueParser::unsigned(1, 1_000));
+    let stratum = ("N", ValueParser::unsigned(0, 16));
+    for (name, (shown, parser), help) in [
+        ("key-file", file, "The key file [default: it asks unsigned]"),
+        ("number", number, "The number of the key"),
+        ("source", address, "The IPv4 address that it asks from"),
+        ("count", count, "How many queries [default: 1]"),
+        ("interval", time, "Wait before the next query [default: 2]"),
+        ("timeout", time, "Wait for the replies to each [default: 5]"),
+        ("max-offset", time, "Critical: a greater offset"),
+        ("max-stratum", stratum, "Critical: a greater stratum"),
+        ("max-root-distance", time, "Critical: a greater distance"),
+        ("warn-offset", time, "A warning: a greater offset"),
+        ("warn-stratum", stratum, "A warning: a greater stratum"),
+        ("warn-root-distance", time, "A warning: a greater distance"),
+    ] {
+        let arg = Arg::new(alloc, name).long(name).value_name(shown);
+        let arg = arg.action(ArgAction::Set).value_parser(parser);
+        command = command.arg(arg.help(help))?;
+    }
+    let json = Arg::new(alloc, "json").long("json");
+    let json = json.action(ArgAction::SetTrue);
+    let server = Arg::new(alloc, "server").value_name("HOST[:PORT]");
+    let server = server.required(true).action(ArgAction::Set);
     command
-        .arg(seconds(alloc, "max-offset", "Critical: a greater offset"))?
-        .arg(number(
-            alloc,
-            "max-stratum",
-            "N",
-            (0, 16),
-            "Critical: a greater stratum",
-        ))?
-        .arg(seconds(
-            alloc,
-            "max-root-distance",
-            "Critical: a greater root distance",
-        ))?
-        .arg(seconds(alloc, "warn-offset", "A warning: a greater offset"))?
-        .arg(number(
-            alloc,
-            "warn-stratum",
-            "N",
-            (0, 16),
-            "A warning: a greater stratum",
-        ))?
-        .arg(seconds(
-            alloc,
-            "warn-root-distance",
-            "A warning: a greater root distance",
-        ))
-}
-
-// A name with a value.
-fn value<'a>(alloc: Global, name: &'a str, shown: &'a str, help: &'a str) -> Arg<'a> {
-    Arg::new(alloc, name)
-        .long(name)
-        .value_name(shown)
-        .action(ArgAction::Set)
-        .help(help)
-}
-
-// A name with a whole number, from the least to the most of these.
-fn number<'a>(
-    alloc: Global,
-    name: &'a str,
-    shown: &'a str,
-    (least, most): (u64, u64),
-    help: &'a str,
-) -> Arg<'a> {
-    value(alloc, name, shown, help).value_parser(ValueParser::unsigned(least, most))
-}
-
-// A name with a number of seconds.
-fn seconds<'a>(alloc: Global, name: &'a str, help: &'a str) -> Arg<'a> {
-    value(alloc, name, "S", help).value_parser(ValueParser::Float)
+        .arg(json.help("Prints an object of JSON for each query"))?
+        .arg(server.help("Its IPv4 address or name; port 123 where none is given"))
 }

@@ -17,10 +17,9 @@ pub fn read_key(
     number: NonZero<u16>,
     faults: Faults,
 ) -> Result<Key, u8> {
-    let octets = match read_regular_file(rt, rt.alloc(), path, MOST_OCTETS) {
-        Ok(octets) => octets,
-        Err(error) => return Err(faults.of_system(rt, path, &error)),
-    };
+    let octets = read_regular_file(rt, rt.alloc(), path, MOST_OCTETS).map_err(
+        |error| faults.of_system(rt, path, &error),
+    )?;
     let path = Escaped(path);
     if octets.len() > MOST_OCTETS as usize {
         return Err(faults.told(
@@ -28,9 +27,7 @@ pub fn read_key(
             format_args!("{path}: at most {MOST_OCTETS} octets are wanted"),
         ));
     }
-    let Ok(octets) = spaced(rt.alloc(), &octets) else {
-        return Err(faults.memory(rt));
-    };
+    let octets = spaced(rt.alloc(), &octets).map_err(|_| faults.memory(rt))?;
     let Ok(text) = str::from_utf8(&octets) else {
         return Err(faults.told(rt, format_args!("{path}: this is no UTF-8")));
     };

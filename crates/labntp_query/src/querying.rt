@@ -34,23 +34,20 @@ fn outcomes(rt: &HostRuntime, asked: &Asked<'_>, faults: Faults) -> Result<Vec<O
         }
         None => Asker::Unsigned(Stamp(0)),
     };
-    let mut link = match UdpLink::bind(rt, asked.source, asked.timeout) {
-        Ok(link) => link,
-        Err(error) => return Err(faults.of_system(rt, asked.source, &error)),
-    };
-    if let Err(error) = link.connect(asked.host, asked.port) {
-        return Err(faults.of_system(rt, asked.server_word, &error));
-    }
+    let mut link = UdpLink::bind(rt, asked.source, asked.timeout).map_err(|error| faults.of_system(
+        rt,
+        asked.source,
+        &error,
+    ))?;
+    link.connect(asked.host, asked.port)
+        .map_err(|error| faults.of_system(rt, asked.server_word, &error))?;
     let mut outcomes = Vec::new(rt.alloc());
     for place in 0..asked.count {
-        let outcome = match next_outcome(&mut asker, &mut link, asked, place) {
-            Ok(outcome) => outcome,
-            Err(error) => return Err(faults.of_system(rt, asked.server_word, &error)),
-        };
+        let outcome = next_outcome(&mut asker, &mut link, asked, place).map_err(
+            |error| faults.of_system(rt, asked.server_word, &error),
+        )?;
         tell(rt, asked, &outcome, faults)?;
-        if outcomes.push(outcome).is_err() {
-            return Err(faults.memory(rt));
-        }
+        outcomes.push(outcome).map_err(|_| faults.memory(rt))?;
     }
     Ok(outcomes)
 }
@@ -75,19 +72,14 @@ fn next_outcome(
 // Tells what came of a query, unless a check tells it at the end.
 fn tell(rt: &HostRuntime, asked: &Asked<'_>, outcome: &Outcome, faults: Faults) -> Result<(), u8> {
     let written = if asked.json {
-        let Ok(line) = outcome_line(rt.alloc(), asked, outcome) else {
-            return Err(faults.memory(rt));
-        };
+        let line = outcome_line(rt.alloc(), asked, outcome).map_err(|_| faults.memory(rt))?;
         rt.stdout().write_all(&line)
     } else if asked.is_check {
         Ok(())
     } else {
         writeln!(rt.stdout(), "{outcome}")
     };
-    match written {
-        Ok(()) => Ok(()),
-        Err(_) => Err(faults.told(rt, "write")),
-    }
+    written.map_err(|_| faults.told(rt, "write"))
 }
 
 // Tells what all came to, and gives the exit status.

@@ -43,10 +43,14 @@ performance-written a o d r first second third =
     ∙ nine (codes "offset=") (seconds_text (offset_of a)) (codes "s delay=") (seconds_text (delay_of a)) (codes "s stratum=")
     (decimal a.clock.stratum) (codes " root_distance=") (seconds_text (root_distance_of a)) (codes "s")
 
--- the sample of least delay
-pub least-written : (l : Least) → codes "least delay of " ++ (decimal l.samples ++ (codes " samples in " ++ (decimal l.queries
-    ++ (codes " queries: " ++ (trust_text l.answer ++ times_text l.answer))))) ≡ least_text l
+-- the sample of least delay, with this in front of its times
+abbrev pub least_by : Least → List ℕ → List ℕ
+least_by l t =
+    codes "least delay of " ++ (decimal l.samples ++ (codes " samples in " ++ (decimal l.queries ++ (codes " queries: " ++ (t ++ times_text l.answer)))))
+
+pub least-written : (l : Least) (t : List ℕ) → t ≡ trust_text l.answer → least_by l t ≡ least_text l
 unfolding least_text
-least-written l =
-    seven (codes "least delay of ") (decimal l.samples) (codes " samples in ") (decimal l.queries) (codes " queries: ") (trust_text l.answer)
+least-written l t is =
+    ap (least_by l) is
+    ∙ seven (codes "least delay of ") (decimal l.samples) (codes " samples in ") (decimal l.queries) (codes " queries: ") (trust_text l.answer)
     (times_text l.answer)

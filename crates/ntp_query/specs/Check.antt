@@ -54,16 +54,12 @@ verdict_word Well = codes "OK"
 verdict_word (Warning cause) = codes "WARNING"
 verdict_word (Critical cause) = codes "CRITICAL"
 
--- the word for a measure
-abbrev pub measure_text : Measure → List ℕ
-measure_text Offset = codes "offset"
-measure_text Stratum = codes "stratum"
-measure_text RootDistance = codes "root distance"
-
 -- what is wrong
 abbrev pub cause_text : Cause → List ℕ
 cause_text NoSample = codes "no sample, "
-cause_text (Above measure) = measure_text measure ++ codes " above its limit, "
+cause_text (Above Offset) = codes "offset above its limit, "
+cause_text (Above Stratum) = codes "stratum above its limit, "
+cause_text (Above RootDistance) = codes "root distance above its limit, "
 cause_text Missing = codes "not every query gave a sample, "
 
 abbrev pub why_text : Verdict → List ℕ

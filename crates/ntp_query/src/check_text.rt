@@ -1,8 +1,8 @@
 //! The line of a check, as monitoring reads it.
 ghost use Rattle.std.specs.Prelude.{◌≡◌};
-ghost use Rattle.ntp_query.specs.Check.{verdict_word, measure_text};
+ghost use Rattle.ntp_query.specs.Check.{verdict_word, why_text, cause_text};
 
-use crate::outcome_text::{Figures, Trust};
+use crate::outcome_text::{Figures, trust_text};
 use crate::{Answer, Cause, Measure, Outcome, Verdict};
 use std::fmt;
 
@@ -26,10 +26,10 @@ impl fmt::Display for Check {
     #[tactic(auto, unfolding(crate::specs::Check::check_text))]
     fn fmt<W: fmt::Write>(&self, f: &mut fmt::Formatter<W>) -> fmt::Result {
         let word = verdict_word(self.verdict);
-        let why = Why(self.verdict);
+        let why = why_text(self.verdict);
         match self.least {
             Some(answer) => {
-                let trust = Trust(answer);
+                let trust = trust_text(&answer);
                 let (figures, performance) = (Figures(answer), Performance(answer));
                 write!(f, "NTP {word}: {why}{trust}{figures} | {performance}")
             }
@@ -53,56 +53,25 @@ fn verdict_word(verdict: Verdict) -> &'static str
 }
 
 // What is wrong by a verdict, if anything is.
-#[derive(Clone, Copy)]
-struct Why(Verdict);
-
-impl fmt::Display for Why {
-    ghost use Rattle.std.specs.Prelude.{Some};
-    ghost use Rattle.ntp_query.specs.Check.{why_text};
-
-    ghost output = { λ why. Some (why_text why.0) };
-
-    fn fmt<W: fmt::Write>(&self, f: &mut fmt::Formatter<W>) -> fmt::Result {
-        match self.0 {
-            Verdict::Well => Ok(()),
-            Verdict::Warning(cause) | Verdict::Critical(cause) => {
-                let said = Said(cause);
-                write!(f, "{said}")
-            }
-        }
+fn why_text(verdict: Verdict) -> &'static str
+    ensures { result.now ≡ why_text verdict }
+{
+    match verdict {
+        Verdict::Well => "",
+        Verdict::Warning(cause) | Verdict::Critical(cause) => cause_text(cause),
     }
 }
 
 // What is wrong.
-#[derive(Clone, Copy)]
-struct Said(Cause);
-
-impl fmt::Display for Said {
-    ghost use Rattle.std.specs.Prelude.{Some};
-    ghost use Rattle.ntp_query.specs.Check.{cause_text};
-
-    ghost output = { λ said. Some (cause_text said.0) };
-
-    fn fmt<W: fmt::Write>(&self, f: &mut fmt::Formatter<W>) -> fmt::Result {
-        match self.0 {
-            Cause::NoSample => f.write_str("no sample, "),
-            Cause::Above(measure) => {
-                let measure = measure_text(measure);
-                write!(f, "{measure} above its limit, ")
-            }
-            Cause::Missing => f.write_str("not every query gave a sample, "),
-        }
-    }
-}
-
-// The word for a measure.
-fn measure_text(measure: Measure) -> &'static str
-    ensures { result.now ≡ measure_text measure }
+fn cause_text(cause: Cause) -> &'static str
+    ensures { result.now ≡ cause_text cause }
 {
-    match measure {
-        Measure::Offset => "offset",
-        Measure::Stratum => "stratum",
-        Measure::RootDistance => "root distance",
+    match cause {
+        Cause::NoSample => "no sample, ",
+        Cause::Above(Measure::Offset) => "offset above its limit, ",
+        Cause::Above(Measure::Stratum) => "stratum above its limit, ",
+        Cause::Above(Measure::RootDistance) => "root distance above its limit, ",
+        Cause::Missing => "not every query gave a sample, ",
     }
 }
 

@@ -1,6 +1,6 @@
 //! What came of a query, in words.
 ghost use Rattle.std.specs.Prelude.{◌≡◌};
-ghost use Rattle.ntp_query.specs.Text.{outcome_word};
+ghost use Rattle.ntp_query.specs.Text.{outcome_word, trust_text, era_text};
 
 use crate::reasons::unreached_text;
 use crate::{Answer, Nanos, Outcome, Reason, Reference};
@@ -47,38 +47,24 @@ impl fmt::Display for Answer {
 }
 
 // What stands in front of an answer that nobody signed.
-#[derive(Clone, Copy)]
-pub(crate) struct Trust(pub(crate) Answer);
-
-impl fmt::Display for Trust {
-    ghost use Rattle.std.specs.Prelude.{Some};
-    ghost use Rattle.ntp_query.specs.Text.{trust_text};
-
-    ghost output = { λ it. Some (trust_text it.0) };
-
-    fn fmt<W: fmt::Write>(&self, f: &mut fmt::Formatter<W>) -> fmt::Result {
-        if self.0.signed {
-            return Ok(());
-        }
-        f.write_str("unauthenticated, ")
+pub(crate) fn trust_text(answer: &Answer) -> &'static str
+    ensures { result.now ≡ trust_text answer.now }
+{
+    if answer.signed {
+        ""
+    } else {
+        "unauthenticated, "
     }
 }
 
 // What stands behind an offset that may be another one by an era (RFC 5905, 6).
-#[derive(Clone, Copy)]
-struct Era(Nanos);
-
-impl fmt::Display for Era {
-    ghost use Rattle.std.specs.Prelude.{Some};
-    ghost use Rattle.ntp_query.specs.Text.{era_text};
-
-    ghost output = { λ it. Some (era_text it.0.0) };
-
-    fn fmt<W: fmt::Write>(&self, f: &mut fmt::Formatter<W>) -> fmt::Result {
-        if self.0.0.unsigned_abs() <= MOST_CERTAIN {
-            return Ok(());
-        }
-        f.write_str(" (or one that differs by 136 years)")
+fn era_text(offset: Nanos) -> &'static str
+    ensures { result.now ≡ era_text offset.0 }
+{
+    if offset.0.unsigned_abs() > MOST_CERTAIN {
+        " (or one that differs by 136 years)"
+    } else {
+        ""
     }
 }
 
@@ -94,7 +80,7 @@ impl fmt::Display for Times {
 
     fn fmt<W: fmt::Write>(&self, f: &mut fmt::Formatter<W>) -> fmt::Result {
         let (offset, delay) = (self.0.offset(), self.0.delay());
-        let era = Era(offset);
+        let era = era_text(offset);
         write!(f, "offset {offset} s{era}, delay {delay} s")
     }
 }
@@ -178,7 +164,8 @@ impl fmt::Display for Least {
     #[tactic(auto, unfolding(crate::specs::Text::least_text))]
     fn fmt<W: fmt::Write>(&self, f: &mut fmt::Formatter<W>) -> fmt::Result {
         let (samples, queries) = (self.samples, self.queries);
-        let (trust, times) = (Trust(self.answer), Times(self.answer));
+        let trust = trust_text(&self.answer);
+        let times = Times(self.answer);
         write!(
             f,
             "least delay of {samples} samples in {queries} queries: {trust}{times}"

@@ -6,4 +6,4 @@ use Rattle.ntp_query.proofs.outcome_text.LeastDisplay.fmt.Goals as goal
 pub returns-clause-writes : goal.returns-clause-writes
 returns-clause-writes g c = λ plain ok.
     subst (λ text. HasWritten g.W.Write.write_str_gives c.args.f.now text c.write.new.self)
-    (least-written c.args.self.now) (c.write.ensures.writes plain ok)
+    (least-written c.args.self.now _ c.trust_text-trust.ensures) (c.write.ensures.writes plain ok)

@@ -70,13 +70,7 @@ module _ {A : Type 0} where
   pub Fed-line : (old new : Engine A) (octet : ℕ) (written : List ℕ) → octet ≡ 10
       → AnswersLines A old.service (old.line.items ∷ []) written new.service
       → new.line.items ≡ [] → new.done ≡ old.done + 1 → Fed old new (octet ∷ []) written
-  Fed-line old new octet written e answers empty one = record {
-    lines = old.line.items ∷ [];
-    split = λ more. ap (λ x. lines_of (old.line.items ++ x ∷ more)) e ∙ lines_of-ended old.line.items more old.unbroken
-        ∙ ap (λ l. old.line.items ∷ lines_of (l ++ more)) (sym empty);
-    answers = answers;
-    counted = one;
-  }
+  Fed-line old new octet written e answers empty one = grind (arith, lines_of-ended)
 
   -- it stopped before it answered a line
   stops-at : (kind : ReplayFaultKind) (old new : Engine A) (octets part : List ℕ) → new.done ≡ old.done
@@ -98,11 +92,7 @@ module _ {A : Type 0} where
   pub Stops-line : (kind : ReplayFaultKind) (old new : Engine A) (octet : ℕ) (part : List ℕ) → octet ≡ 10
       → Halts A kind old.service (old.line.items ∷ []) part
       → new.done ≡ old.done → Stops kind old new (octet ∷ []) part
-  Stops-line kind old new octet part e halts same = stops-at kind old new (octet ∷ []) part same (λ more. (
-    old.line.items ∷ lines_of more,
-    ap (λ x. lines_of (old.line.items ++ x ∷ more)) e ∙ lines_of-ended old.line.items more old.unbroken,
-    Halts-more kind old.service old.line.items part (lines_of more) halts,
-  ))
+  Stops-line kind old new octet part e halts same = grind (arith, stops-at, lines_of-ended, Halts-more)
 
   -- one octet more, and the line that has begun is too long
   pub Stops-long : (e : Engine A) (octet : ℕ) → octet ≢ 10 → length e.line.items ≡ most_line_octets → Stops LineLong e e (octet ∷ []) []
@@ -119,11 +109,7 @@ module _ {A : Type 0} where
 
   -- memory ran out at an octet
   pub Stops-memory : (old new : Engine A) (octet : ℕ) → new.done ≡ old.done → Stops NoMemory old new (octet ∷ []) []
-  Stops-memory old new octet same = stops-at NoMemory old new (octet ∷ []) [] same (λ more. (
-    lines_of (old.line.items ++ octet ∷ more),
-    refl,
-    record { cause = λ before so_far h. refl },
-  ))
+  Stops-memory old new octet same = grind (arith, stops-at)
 
 -- the octets so far, the next, and the others
 pub octets_whole : (xs : List ℕ) (i : ℕ) → i < length xs → (take i xs ++ get_or xs i 0 ∷ []) ++ drop (i + 1) xs ≡ xs

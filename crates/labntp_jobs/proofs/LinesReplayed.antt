@@ -1,5 +1,5 @@
 -- What one line adds to a replay, and what lines add one after another.
-use Rattle.std.proofs.Common.{◌≡◌, ℕ, true, false, List, [], ◌∷◌, ◌++◌, refl, sym, ap, ◌∙◌, subst, append_assoc, append-nil}
+use Rattle.std.proofs.Common.{◌≡◌, ℕ, true, false, List, [], ◌∷◌, ◌++◌, sym, ap, ◌∙◌, subst, append_assoc, append-nil, arith, rules}
 use Rattle.std.specs.Prelude.{Bool, not, All, map, filter, Ok, if◌then◌else◌}
 use Rattle.std.specs.List.{AllZip}
 use Rattle.std.proofs.lemmas.List.{flat_map_more, map-append}
@@ -27,9 +27,7 @@ event_lines lines = filter (λ line. not (is_passed_over line)) lines
 -- the events among lines and one more
 event_lines-more : (lines : List (List ℕ)) (line : List ℕ) (b : Bool) → is_passed_over line ≡ b
     → event_lines (lines ++ line ∷ []) ≡ event_lines lines ++ (if not b then line ∷ [] else [])
-event_lines-more lines line b e =
-    filter-append (λ line. not (is_passed_over line)) lines (line ∷ [])
-    ∙ ap (λ (b : Bool). event_lines lines ++ (if not b then line ∷ [] else [])) e
+event_lines-more lines line b e = grind (arith, filter-append)
 
 readable-more : (lines : List (List ℕ)) (line : List ℕ) → All IsReadable lines → IsReadable line → All IsReadable (lines ++ line ∷ [])
 readable-more lines line all one = All-append IsReadable lines (line ∷ []) all (All-cons IsReadable line [] one (All-nil IsReadable))
@@ -37,12 +35,7 @@ readable-more lines line all one = All-append IsReadable lines (line ∷ []) all
 -- what is the cause at a line, is so whatever lines follow
 causes-more : (A : Type 0) (kind : ReplayFaultKind) (before : List (List ℕ)) (so_far line part : List ℕ) (lines : List (List ℕ))
     → Causes A kind before so_far (line ∷ []) part → Causes A kind before so_far (line ∷ lines) part
-causes-more A (Line fault) before so_far line part lines h = h
-causes-more A Read before so_far line part lines h = h
-causes-more A Write before so_far line part lines h = h
-causes-more A NoMemory before so_far line part lines h = h
-causes-more A LineLong before so_far line part lines h = h
-causes-more A NotUtf8 before so_far line part lines h = h
+causes-more A kind before so_far line part lines e = grind arith
 
 module _ {A : Type 0} where
   -- the words of a line are an event's
@@ -55,13 +48,7 @@ module _ {A : Type 0} where
 
   -- nothing was replayed yet
   pub replays-nothing : (s : Registry) → StandsFor {A = A} s [] → Replays A [] [] s
-  replays-nothing s stands = record {
-    happened = [];
-    readable = All-nil IsReadable;
-    spelled = tt;
-    tells = Tells-nil [] s stands;
-    texts = refl;
-  }
+  replays-nothing s stands = search (rules, All-nil, Tells-nil)
 
   -- a line that is passed over
   replays-passed : (before : List (List ℕ)) (so_far line : List ℕ) (s : Registry) → Replays A before so_far s
@@ -107,8 +94,7 @@ module _ {A : Type 0} where
 
   pub Answers-event : (old new : Registry) (line : List ℕ) (e : Event A) (o : Outcome) → IsReadable line
       → is_passed_over line ≡ false → Spells line e → Takes old e o new → AnswersLines A old (line ∷ []) (outcome_text o) new
-  Answers-event old new line e o readable event spells step =
-      record { replays = λ before so_far r. replays-event before so_far line old new e o r readable event spells step }
+  Answers-event old new line e o readable event spells step = grind (arith, replays-event)
 
   -- writing the answer to an event was cut short
   pub Halts-event : (kind : ReplayFaultKind) (old new : Registry) (line part : List ℕ) (e : Event A) (o : Outcome) → IsReadable line
@@ -126,5 +112,4 @@ module _ {A : Type 0} where
   -- what is the cause at a line is so whatever lines follow
   pub Halts-more : (kind : ReplayFaultKind) (s : Registry) (line part : List ℕ) (lines : List (List ℕ)) → Halts A kind s (line ∷ []) part
       → Halts A kind s (line ∷ lines) part
-  Halts-more kind s line part lines f =
-      record { cause = λ before so_far r. causes-more A kind before so_far line part lines (f.cause before so_far r) }
+  Halts-more kind s line part lines f = grind (arith, causes-more, A)

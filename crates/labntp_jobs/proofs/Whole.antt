@@ -11,15 +11,13 @@ use Rattle.labntp_jobs.proofs.LinesReplayed.{Answers-append, replays-nothing}
 -- a last read that gave no octet leaves what was read as it was, and the reader at its end
 pub last-read : (a b d : Option (List ℕ)) (octets chunk : List ℕ) (n : ℕ) → Consumes a b octets → Consumes b d (take n chunk) → n ≡ 0
     → (n ≡ 0 → IsAtEnd d) → Consumes a d octets × IsAtEnd d
-last-read a b d octets chunk n before read none end =
-    (rw append-nil at (Consumes-trans a b d octets [] before (rw none at read)), end none)
+last-read a b d octets chunk n before read none end = grind (arith, Consumes-trans)
 
 module _ {A : Type 0} where
   -- the lines of a text that begins with what was fed
   lines-fed : (e d : Engine A) (octets w text rest : List ℕ) → IsUnfed e → (f : Fed e d octets w) → text ≡ octets ++ rest
       → lines_of text ≡ f.lines ++ lines_of (d.line.items ++ rest)
-  lines-fed e d octets w text rest unfed f begins =
-      ap lines_of begins ∙ ap (λ l. lines_of (l ++ (octets ++ rest))) (sym unfed.line) ∙ f.split rest
+  lines-fed e d octets w text rest unfed f begins = grind arith
 
   -- what an engine that took nothing yet answers, was replayed
   unfed-replays : (e : Engine A) (lines : List (List ℕ)) (w : List ℕ) (s : Registry) → IsUnfed e → AnswersLines A e.service lines w s

@@ -1,5 +1,5 @@
 -- A text cut at its first separator.
-use Rattle.std.proofs.Common.{◌≡◌, ℕ, ◌<◌, ◌==◌, ◌≢◌, List, [], ◌∷◌, ◌++◌, length, get_or, Option, Some, None, Bor, arith, false, ◌∙◌, ap}
+use Rattle.std.proofs.Common.{◌≡◌, ℕ, ◌<◌, ◌==◌, ◌≢◌, List, [], ◌∷◌, ◌++◌, length, get_or, Option, Bor, arith, false, ◌∙◌, ap}
 use Rattle.std.specs.Prelude.{MatchOption}
 use Rattle.std.proofs.{lemmas.Bool.Decides.nat_tests, lemmas.List.Elements.All-from_get_or}
 use Rattle.std.proofs.lemmas.List.Splits.{slice_split_none, slice_split_at}
@@ -23,6 +23,4 @@ parts-first c text front back whole none =
 -- what `split_once` gives
 pub parts-split : (c : ℕ) (text : List ℕ) (r : Option (Bor (List ℕ) × Bor (List ℕ))) → IsSplitOnceResult c text r → c < 128
     → MatchOption r (parts c text ≡ text ∷ []) (λ x. parts c text ≡ x.0.now ∷ parts c x.1.now)
-parts-split c text None split ascii = parts-one c text (split_parts c text None split ascii)
-parts-split c text (Some x) split ascii =
-    let cut = split_parts c text (Some x) split ascii in parts-first c text x.0.now x.1.now cut.0 cut.1
+parts-split c text r e f = grind (arith, parts-one, split_parts, parts-first)

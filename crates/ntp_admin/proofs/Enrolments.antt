@@ -1,5 +1,5 @@
 -- Commands that are done one after another.
-use Rattle.std.proofs.Common.{◌≡◌, ℕ, ◌<◌, List, [], ◌∷◌, ◌++◌, length, map, take, get_or, Some, refl, sym, ap, ◌∙◌}
+use Rattle.std.proofs.Common.{◌≡◌, ℕ, ◌<◌, List, [], ◌∷◌, ◌++◌, length, map, take, get_or, Some, refl, sym, ap, ◌∙◌, rules}
 use Rattle.std.specs.declared.alloc.Global.{Global}
 use Rattle.std.proofs.{lemmas.List.map-append, lemmas.Option.slice_get-get_or}
 use Rattle.ntp_service.specs.{Registry.Registry, declared.refusal.Refusal.Refusal, declared.command.Command.Command}
@@ -36,10 +36,7 @@ kept-done (c ∷ commands) = ap (λ es. event.Command c ∷ es) (kept-done comma
 pub Enrolled-more : (commands : List Command) (c : Command) (old new : Registry) → Enrolled commands old
     → ((history : List (Event Global)) → StandsFor old history → TellsOne history (event.Command c) outcome.Done new)
     → Enrolled (commands ++ c ∷ []) new
-Enrolled-more commands c old new e tells = record {
-  tells = rw (map-append {B = Event Global × Outcome} (λ x. (event.Command x, outcome.Done)) commands (c ∷ []))
-      (Tells-push [] (all_done commands) old new (event.Command c) outcome.Done e.tells (λ stands. tells _ stands));
-}
+Enrolled-more commands c old new e tells = search (rules, map-append, Tells-push)
 
 -- the command behind those that were done is refused
 pub Enrolled-refused : (commands : List Command) (place : ℕ) (c : Command) (refusal : Refusal) (old new : Registry)

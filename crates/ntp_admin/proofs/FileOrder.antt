@@ -1,5 +1,5 @@
 -- Customers read one after another, in file order.
-use Rattle.std.proofs.Common.{◌≡◌, ℕ, ◌+◌, ◌<◌, List, [], ◌∷◌, ◌++◌, length, drop, get_or, Result, Ok, Err, refl, sym, ap, append_assoc, add-one}
+use Rattle.std.proofs.Common.{◌≡◌, ℕ, ◌+◌, ◌<◌, List, [], ◌∷◌, ◌++◌, length, drop, get_or, Result, Ok, Err, refl, sym, ap, append_assoc, arith}
 use Rattle.toml.specs.{View.view, View.items_view, declared.value.Value.Value}
 use Rattle.toml.proofs.Views.{items_view-drop}
 use Rattle.ntp_service.specs.declared.command.Command.{Command}
@@ -22,11 +22,4 @@ pub behind-next : (done : List Command) (place : ℕ) (vs : List Value) (v : Val
     → place < length vs → customer_in place (view (get_or vs place v)) ≡ Ok c
     → behind done (customers_in place (items_view (drop place vs)))
     ≡ behind (done ++ c ∷ []) (customers_in (place + 1) (items_view (drop (place + 1) vs)))
-behind-next done place vs v c inside read =
-    rw (items_view-drop vs place v inside, read, add-one) (moved done c _)
-
--- the next customer has a fault
-pub behind-fault : (done : List Command) (place : ℕ) (vs : List Value) (v : Value) (why : RegisterFault)
-    → place < length vs → customer_in place (view (get_or vs place v)) ≡ Err why
-    → behind done (customers_in place (items_view (drop place vs))) ≡ Err why
-behind-fault done place vs v why inside read = rw (items_view-drop vs place v inside, read) refl
+behind-next done place vs v c inside read = grind (arith, items_view-drop, moved)

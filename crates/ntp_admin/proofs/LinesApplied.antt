@@ -1,7 +1,6 @@
 -- Lines carried out one after another.
 use Rattle.std.proofs.Common.{◌≡◌, ℕ, ◌+◌, ◌<◌, ◌≤◌, ◌^◌, false, List, [], ◌∷◌, ◌++◌, length, Option, Some, None, Ok, Err, arith, refl, sym, ap, ◌∙◌, subst, append_assoc, append-nil}
-use Rattle.std.specs.Prelude.{Result, IfOk, IfErr, IsUtf8, nat_lt}
-use Rattle.std.specs.Str.{is_utf8}
+use Rattle.std.specs.Prelude.{Result, IfOk, IfErr, IsUtf8}
 use Rattle.std.proofs.{lemmas.Bool.false_from_ne_true, lemmas.Bool.Decides.nat_tests}
 use Rattle.std.proofs.{lemmas.Str.is_utf8-from_IsUtf8, lemmas.Str.IsUtf8-from_is_utf8, lemmas.List.length-append}
 use Rattle.ntp_service.specs.{declared.refusal.Refusal.Refusal, Registry.Registry, declared.command.Command.Command}
@@ -22,20 +21,12 @@ use Rattle.ntp_admin.proofs.LinesTaken.{count_on-none, CarriesOut-none, CarriesO
 pub reads-text : (most : ℕ) (line text : List ℕ) (read : Result Command LineFault) → is_passed_over line ≡ false → length line ≤ most
     → text ≡ line → IsUtf8 line → IfOk read (λ command. command_in (words text) ≡ Ok command)
     → IfErr read (λ fault. command_in (words text) ≡ Err fault) → Some read ≡ line_reading most line
-reads-text most line text read taken short same utf8 ok err =
-    let near : nat_lt most (length line) ≡ false = grind (arith, nat_tests) in
-    rw (taken, near, is_utf8-from_IsUtf8 line utf8) (ap Some (one read (command_in (words text)) ok err ∙ ap (λ t. command_in (words t)) same))
-  where
-    one : {X E : Type 0} (r s : Result X E) → IfOk r (λ x. s ≡ Ok x) → IfErr r (λ e. s ≡ Err e) → r ≡ s
-    one (Ok x) s ok err = sym ok
-    one (Err e) s ok err = sym err
+reads-text most line text read taken short same utf8 ok err = grind (arith, nat_tests, is_utf8-from_IsUtf8)
 
 -- what is no text is not
 pub reads-no-text : (most : ℕ) (line : List ℕ) → is_passed_over line ≡ false → length line ≤ most → (IsUtf8 line → ⊥)
     → Some (Err NotUtf8) ≡ line_reading most line
-reads-no-text most line taken short none =
-    let near : nat_lt most (length line) ≡ false = grind (arith, nat_tests) in
-    rw (taken, near, false_from_ne_true (is_utf8 line) (λ yes. none (IsUtf8-from_is_utf8 line yes))) refl
+reads-no-text most line taken short none = grind (arith, nat_tests, false_from_ne_true, IsUtf8-from_is_utf8)
 
 -- ---- one line
 -- a command was carried out or refused

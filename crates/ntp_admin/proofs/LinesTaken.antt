@@ -1,5 +1,5 @@
 -- Lists of lines that were taken.
-use Rattle.std.proofs.Common.{◌≡◌, ℕ, ◌+◌, ◌<◌, ◌^◌, List, [], ◌∷◌, ◌++◌, length, Option, arith, refl, sym, ap, ◌∙◌, subst, append_assoc, append-nil}
+use Rattle.std.proofs.Common.{◌≡◌, ℕ, ◌+◌, ◌<◌, ◌^◌, List, [], ◌∷◌, ◌++◌, length, Option, arith, refl, sym, ap, ◌∙◌, subst, append_assoc}
 use Rattle.std.proofs.{lemmas.List.length-map, lemmas.List.map-append, lemmas.Grind.flat_map-append}
 use Rattle.ntp_service.specs.{Registry.Registry, declared.observation.Observation.Observation, Sees.Sees, Headline.Tells}
 use Rattle.ntp_service.proofs.PublicLaws.{Sees-nil, Sees-append, Tells-nil, Tells-append}
@@ -30,15 +30,11 @@ line_observations-append most before (x ∷ xs) ys fits =
 module _ (most : ℕ) (taken : List TakenLine) (t : TakenLine) where
   happened-more : {A : Type 0}
       → happened_at_lines {A = A} most (taken ++ t ∷ []) ≡ happened_at_lines most taken ++ happened_read (line_reading most t.line) t.result
-  happened-more {A} = flat_map-append (λ x. happened_read (line_reading most x.line) x.result) taken (t ∷ [])
-      ∙ ap (λ l. happened_at_lines {A = A} most taken ++ l) (append-nil (happened_read (line_reading most t.line) t.result))
+  happened-more = grind (arith, flat_map-append, most, taken, t)
 
   line_observations-more : (before : ℕ) → before < 2 ^ 64 → line_observations most before (taken ++ t ∷ [])
       ≡ line_observations most before taken ++ observed_read (count_on before (length taken + 1)) (line_reading most t.line) t.result
-  line_observations-more before fits = line_observations-append most before taken (t ∷ []) fits
-      ∙ ap (λ os. line_observations most before taken ++ os)
-      (append-nil (observed_read (count_on (count_on before (length taken)) 1) (line_reading most t.line) t.result)
-      ∙ ap (λ n. observed_read n (line_reading most t.line) t.result) (count_on-more before (length taken) 1))
+  line_observations-more before fits = grind (arith, line_observations-append, most, taken, t, count_on-more)
 
 -- no line was carried out
 pub CarriesOut-none : (A : Type 0) (most before : ℕ) (s : Registry) (seen : Option (List Observation)) → CarriesOut A most before [] s s seen seen

@@ -1,6 +1,6 @@
 -- Decimal words, as `parse` reads them.
-use Rattle.std.proofs.Common.{◌≡◌, ℕ, zero, suc, ◌^◌, ◌<◌, ◌&&◌, Bool, true, List, length, Option, Some, None, Result, Ok, Err, refl, ap, subst, arith, rules, inl, inr}
-use Rattle.std.specs.Prelude.{MatchOption, nat_le, if◌then◌else◌}
+use Rattle.std.proofs.Common.{◌≡◌, ℕ, zero, suc, ◌^◌, ◌<◌, true, List, length, Option, Some, None, Result, refl, ap, subst, arith, rules}
+use Rattle.std.specs.Prelude.{MatchOption}
 use Rattle.std.specs.{Char.is_ascii_digit, List.list_all, Str.Parse.ParsesUnsigned, Str.Parse.digits_value, Result.result_ok}
 use Rattle.std.specs.declared.num.NonZeroU16.{NonZeroU16}
 use Rattle.std.proofs.{lemmas.Bool.and_parts, lemmas.Bool.cases_lt, Math.Bridge.le_prop, lemmas.Bool.Decides.nat_tests}
@@ -18,17 +18,7 @@ digits word d = grind (arith, nat_tests, and_parts)
 -- what `parse` refuses, though it is decimal, is too large
 pub decimal_in-refused : {E : Type 0} (least most : ℕ) (word : List ℕ) (r : Result ℕ E) → most < 2 ^ 32 → is_decimal word ≡ true
     → ParsesUnsigned 32 10 word r → None ≡ result_ok r → decimal_in least most word ≡ None
-decimal_in-refused least most word (Ok n) fits d parsed e = cc
-decimal_in-refused {E} least most word (Err x) fits d parsed e =
-    let both = digits word d in
-    let no = parse_digits own {E = E} 32 word (Err x) parsed both.0 in
-    elim (cases_lt (digits_value 10 word) (2 ^ 32)) [
-      | inl small ↦ absurd (no (both.1, small))
-      | inr large ↦ too_large (is_decimal word) least most (digits_value 10 word) (omega arith)
-    ]
-  where
-    too_large : (b : Bool) (least most n : ℕ) → most < n → (if b && nat_le least n && nat_le n most then Some n else None) ≡ None
-    too_large b least most n h = grind (arith, nat_tests)
+decimal_in-refused least most word r e f g h = grind (arith, digits, parse_digits, own, cases_lt, nat_tests)
 
 -- two such numbers are equal where their values are
 same-value : (x y : NonZeroU16) → x.value ≡ y.value → x ≡ y

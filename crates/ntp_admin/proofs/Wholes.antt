@@ -1,5 +1,5 @@
 -- Whole numbers of a file, as `try_from` and `NonZero::new` take them.
-use Rattle.std.proofs.Common.{◌≡◌, ℕ, ℤ, pos, negsuc, ◌<◌, ◌^◌, Option, Some, Result, Ok, Err, arith}
+use Rattle.std.proofs.Common.{◌≡◌, ℕ, ℤ, pos, ◌<◌, ◌^◌, Option, Some, Result, arith}
 use Rattle.std.specs.Prelude.{MatchOption}
 use Rattle.std.specs.{Int.FitsUnsignedBits, Result.OkIff, Result.result_ok, declared.num.NonZeroU16.NonZeroU16}
 use Rattle.std.proofs.{Math.IntN.nat_abs, lemmas.Bool.Decides.nat_tests}
@@ -13,7 +13,4 @@ within n o fits e = grind (arith, nat_tests)
 -- what both give
 pub non_zero_whole-read : {E : Type 0} (z : ℤ) (n : ℕ) (r : Result ℕ E) (o : Option NonZeroU16) → OkIff r (FitsUnsignedBits 16 z) (nat_abs z)
     → Some n ≡ result_ok r → MatchOption o (n ≡ 0) (λ x. x.value ≡ n) → o ≡ non_zero_whole z
-non_zero_whole-read (pos m) n (Ok k) o h e s =
-    let same : n ≡ m = cc in within m o h.0 (rw same at (new-non_zero n o s))
-non_zero_whole-read (negsuc m) n (Ok k) o h e s = absurd h.0
-non_zero_whole-read z n (Err x) o h e s = cc
+non_zero_whole-read z n r o e f g = grind (arith, within, new-non_zero)

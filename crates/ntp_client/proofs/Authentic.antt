@@ -1,8 +1,8 @@
 -- What only an authentic reply is taken for.
 use Rattle.std.proofs.Common.{◌≡◌, ◌≢◌, ℕ, ◌≤◌, Bool, true, false, ◌==◌, List, Some, Result, Ok, refl, ap, ◌∙◌, sym, subst, true≢false, arith}
-use Rattle.std.specs.Prelude.{not, nat_le, if◌then◌else◌}
+use Rattle.std.specs.Prelude.{not, if◌then◌else◌}
 use Rattle.std.proofs.{lemmas.Bool.eqb-true, lemmas.Bool.ne_eqb, lemmas.Bool.Decides.nat_tests}
-use Rattle.ntp_packet.specs.{declared.moment.Moment.Moment, Header.HeaderFields, Kiss.rate_code}
+use Rattle.ntp_packet.specs.{declared.moment.Moment.Moment, Header.HeaderFields}
 use Rattle.ntp_packet.specs.Request.{RequestValue, IsRequest}
 use Rattle.ntp_packet.specs.FirstCase.{◌>>◌, provided, decided}
 use Rattle.ntp_packet.specs.Tail.{TailValue, NoTail, BareTail, MacTail}
@@ -14,7 +14,7 @@ use Rattle.ntp_client.specs.{declared.sample.Sample.Sample, declared.taken.Taken
 use Rattle.ntp_client.specs.{Pairing.pairing_of, Pairing.sample_of, Sample.IsTimeReply, Judging.authentic_steps}
 use Rattle.ntp_client.specs.declared.taken.Taken.TheVariants as taken
 use Rattle.ntp_client.specs.declared.taken.Distrust.TheVariants as distrust
-use Rattle.ntp_client.specs.Taking.{is_kiss, is_synchronised, lacks_stamp, with_mac, taken_for}
+use Rattle.ntp_client.specs.Taking.{is_synchronised, lacks_stamp, with_mac, taken_for}
 
 -- what is taken for this has a MAC that was found right
 abbrev pub is_told : Taken → Bool

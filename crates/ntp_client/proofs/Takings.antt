@@ -1,5 +1,5 @@
 -- What a client takes octets for, once they are read; and what it is before and after.
-use Rattle.std.proofs.Common.{◌≡◌, ◌≢◌, ℕ, ◌<◌, List, [], ◌∷◌, Option, Some, None, Result, Ok, option_map, refl, sym, ap, ◌∙◌, arith}
+use Rattle.std.proofs.Common.{◌≡◌, ◌≢◌, ℕ, ◌<◌, List, [], ◌∷◌, Option, Some, None, Result, Ok, option_map, refl, ap, ◌∙◌, arith}
 use Rattle.std.specs.Prelude.{Contains}
 use Rattle.std.specs.Result.{result_ok}
 use Rattle.std.proofs.lemmas.Bool.{eq-eqb}
@@ -29,17 +29,13 @@ header-taken c q octets reading there read = rw (there, read) refl
 pub paired-taken : (key : SymmetricKey) (number : ℕ) (q : Outstanding) (r : RequestValue) (at : Moment) (p : Pairing)
     → r.header.mode ≡ 4 → r.header.version ≡ 4 → pairing_of q r.header.origin ≡ Some p
     → packet_steps key number q r at ≡ tail_steps key number p r (sample_of q p r.header at)
-paired-taken key number q r at p mode version paired =
-    rw (eq-eqb r.header.mode 4 mode, eq-eqb r.header.version 4 version, paired) refl
+paired-taken key number q r at p mode version paired = grind (arith, eq-eqb)
 
 -- by what is seen of its header and by its sample
 pub judged-taken : (key : SymmetricKey) (number : ℕ) (q : Outstanding) (r : RequestValue) (at : Moment) (p : Pairing) (h : HeaderFields)
     (s : Sample) → h ≡ r.header → h.mode ≡ 4 → h.version ≡ 4 → pairing_of q h.origin ≡ Some p → s ≡ sample_of q p h at
     → tail_steps key number p r s ≡ packet_steps key number q r at
-judged-taken key number q r at p h s same mode version paired is =
-    ap (tail_steps key number p r) (is ∙ ap (λ h. sample_of q p h at) same)
-    ∙ sym (paired-taken key number q r at p (ap (λ (h : HeaderFields). h.mode) (sym same) ∙ mode)
-    (ap (λ (h : HeaderFields). h.version) (sym same) ∙ version) (ap (λ (h : HeaderFields). pairing_of q h.origin) (sym same) ∙ paired))
+judged-taken key number q r at p h s same mode version paired is = grind (arith, paired-taken)
 
 -- and a signed one for what its header says
 pub signed-taken : (key : SymmetricKey) (number : ℕ) (p : Pairing) (r : RequestValue) (x : Sample) → IsSigned key number r
@@ -67,18 +63,7 @@ pub query-client : (key : SymmetricKey) (number : ℕ) (transmit : Stamp) (earli
           (record { transmit = transmit; earlier = earlier });
       sampled = sampled;
     })
-query-client key number transmit earlier sampled now given known is no_other = record {
-  number = given;
-  outstanding = λ q there.
-      let asked : record { transmit = transmit; earlier = earlier } ≡ q = cc in
-      let carries = λ (e : Exchange) (carried : q.earlier ≡ Some e). ap (λ (o : Outstanding). o.earlier) asked ∙ carried in
-      record {
-        known = λ e carried. known e (carries e carried);
-        apart = λ e carried same. transmit-apart earlier now e (carries e carried) (same
-            ∙ sym (ap (λ (o : Outstanding). o.transmit) asked) ∙ is);
-      };
-  sampled = λ e there. known e (no_other e there);
-}
+query-client key number transmit earlier sampled now given known is no_other = grind (arith, transmit-apart)
 
 -- what holds of a client that has taken a sample, where no other request waits than before
 pub sampled-client : (key : SymmetricKey) (number : ℕ) (before outstanding : Option Outstanding) (q : Outstanding) (reply : HeaderFields)
@@ -86,10 +71,4 @@ pub sampled-client : (key : SymmetricKey) (number : ℕ) (before outstanding : O
     → ((o : Outstanding) → before ≡ Some o → IsOutstanding o) → exchange ≡ exchange_of q reply at
     → ((o : Outstanding) → outstanding ≡ Some o → before ≡ Some o)
     → IsClient (record { key = key; number = number; outstanding = outstanding; sampled = Some exchange })
-sampled-client key number before outstanding q reply at exchange given waits is no_other = record {
-  number = given;
-  outstanding = λ o there. waits o (no_other o there);
-  sampled = λ e there.
-      let same : exchange ≡ e = cc in
-      λ zero. fresh-nonzero at.stamp [] (omega arith) (ap (λ (x : Exchange). x.arrival.0) (sym is ∙ same) ∙ zero);
-}
+sampled-client key number before outstanding q reply at exchange given waits is no_other = grind (arith, fresh-nonzero)

@@ -1,14 +1,14 @@
 -- Some looks and then others.
-use Rattle.std.proofs.Common.{◌≡◌, ℕ, ◌+◌, ◌-◌, ◌<◌, ◌^◌, Bool, true, false, Option, None, Some, List, [], ◌∷◌, ◌++◌, length, map, refl, sym, ap, ◌∙◌, subst, append-nil, length-append, arith, inl, inr}
+use Rattle.std.proofs.Common.{◌≡◌, ℕ, ◌+◌, ◌-◌, ◌<◌, ◌^◌, Bool, true, false, Option, None, Some, List, [], ◌∷◌, ◌++◌, length, map, refl, sym, ap, ◌∙◌, subst, append-nil, length-append, arith, inl, inr, rules}
 use Rattle.std.specs.Prelude.{is_none, is_some, flat_map}
-use Rattle.std.proofs.lemmas.List.{map-append, length-map}
+use Rattle.std.proofs.lemmas.List.{map-append}
 use Rattle.std.proofs.{lemmas.List.Elements.filter-append, lemmas.List.Elements.filter_map-append, lemmas.Grind.flat_map-append}
 use Rattle.ntp_packet.specs.declared.moment.Moment.{Moment}
 use Rattle.ntp_service.specs.{Sees.Sees, Headline.Tells}
 use Rattle.ntp_service.proofs.PublicLaws.{Sees-nil, Sees-append, Tells-nil, Tells-append}
 use Rattle.ntp_port.specs.{Port.CountsMore, Sources.Gives, Sources.CountsOn}
 use Rattle.ntp_port.proofs.PublicLaws.{CountsMore-nil, CountsMore-append}
-use Rattle.ntp_admin.specs.CommandsFile.{most_line_octets, count_on, complete_lines, CarriesOut, line_observations, happened_at_lines}
+use Rattle.ntp_admin.specs.CommandsFile.{most_line_octets, count_on, line_observations, happened_at_lines}
 use Rattle.ntp_server.specs.declared.server.Server.{Server}
 use Rattle.ntp_server.specs.Rounds.{Round, PartsTell, AreDueInTurn, given_in, turns_in, asked_in, happened_in_round, round_observations}
 use Rattle.ntp_server.specs.Steps.{Looks, Orders, Starts, Waits}
@@ -20,12 +20,7 @@ due-append [] ys a b c p q = subst (λ n. AreDueInTurn n ys c) p q
 due-append (x ∷ xs) ys a b c p q = (p.0, p.1, due-append xs ys (count_on a (length x.taken)) b c p.2 q)
 
 pub Orders-nil : {P C R O A : Type 0} (t : PartsTell P C R O) (p : Server P C R O A) → Orders p p t []
-Orders-nil t p = record {
-  due = refl;
-  commands = Gives-nil (t.looks p.commands);
-  observed = Sees-nil (t.seen p.observer);
-  tells = λ history stands. Tells-nil history p.service stands;
-}
+Orders-nil t p = search (rules, Gives-nil, Sees-nil, Tells-nil)
 
 pub Orders-append : {P C R O A : Type 0} (t : PartsTell P C R O) (xs ys : List Round) (p q r : Server P C R O A) → Orders p q t xs
     → Orders q r t ys → Orders p r t (xs ++ ys)
@@ -45,23 +40,6 @@ Orders-append t xs ys p q r x y = record {
 }
 
 -- ---- a look
--- one that gave something
-pub Looks-due : {P C R O A : Type 0} (t : PartsTell P C R O) (asked : Option Moment) (octets items : List ℕ) (p q : Server P C R O A) → octets ≡ items
-    → Gives (t.looks p.commands) (t.looks q.commands) (asked ∷ []) (Some items ∷ [])
-    → q.applied ≡ count_on p.applied (length (complete_lines octets))
-    → CarriesOut A most_line_octets p.applied (complete_lines octets) p.service q.service (t.seen p.observer) (t.seen q.observer)
-    → Looks p q t asked true
-Looks-due t asked octets items p q same gives counted c = record {
-  given = Some octets;
-  is = refl;
-  taken = c.taken;
-  lines = c.these;
-  counted = counted ∙ ap (count_on p.applied) (sym (sym (length-map c.taken (λ x. x.line)) ∙ ap length c.these));
-  commands = subst (λ o. Gives (t.looks p.commands) (t.looks q.commands) (asked ∷ []) (Some o ∷ [])) (sym same) gives;
-  observed = c.observed;
-  tells = c.tells;
-}
-
 -- one that gave nothing, behind which all but the commands is as it was
 pub Looks-nothing : {P C R O A : Type 0} (t : PartsTell P C R O) (asked : Option Moment) (given : Option (List ℕ)) (p q : Server P C R O A)
     → p.applied < 2 ^ 64 → q.applied ≡ p.applied → q.observer ≡ p.observer → q.service ≡ p.service → given ≡ None

@@ -1,7 +1,7 @@
 -- One turn after another.
-use Rattle.std.proofs.Common.{◌≡◌, ℕ, ◌+◌, ◌-◌, ◌≤◌, Bool, Option, None, Some, Result, List, [], ◌∷◌, ◌++◌, length, map, cond, refl, sym, ap, ◌∙◌, subst, append-nil, length-append, arith}
-use Rattle.std.specs.Prelude.{option_map, is_none, IsSome, IfSome, slice_get}
-use Rattle.std.specs.{List.cons_option, Result.result_ok}
+use Rattle.std.proofs.Common.{◌≡◌, ℕ, ◌+◌, ◌-◌, ◌≤◌, Bool, Option, Some, Result, List, [], ◌∷◌, ◌++◌, length, map, refl, sym, ap, ◌∙◌, subst, append-nil, length-append, arith, rules}
+use Rattle.std.specs.Prelude.{option_map, IsSome, IfSome, slice_get}
+use Rattle.std.specs.{Result.result_ok}
 use Rattle.std.proofs.lemmas.List.{append_assoc, map-append, length-map}
 use Rattle.std.proofs.{lemmas.List.Elements.filter-append, lemmas.List.Elements.filter_map-append, lemmas.Grind.flat_map-append}
 use Rattle.std.proofs.lemmas.List.Sums.{length-filter, count_by-le-length}
@@ -9,13 +9,12 @@ use Rattle.ntp_packet.specs.declared.moment.Moment.{Moment}
 use Rattle.ntp_reply.specs.Reference.{ReferenceState}
 use Rattle.ntp_service.specs.{declared.observation.Arrival.Arrival, declared.observation.Observation.TheVariants.Turn}
 use Rattle.ntp_service.specs.declared.observation.TurnOutcome.{TurnOutcome}
-use Rattle.ntp_service.specs.declared.observation.TurnOutcome.TheVariants.{NothingReceived, Answered}
-use Rattle.ntp_service.specs.{Sees.Sees, Sending.was_sent, Headline.Tells}
+use Rattle.ntp_service.specs.{Sees.Sees, Headline.Tells}
 use Rattle.ntp_service.proofs.PublicLaws.{Sees-nil, Sees-append, Tells-append}
 use Rattle.ntp_port.specs.{declared.port.PortCounts.PortCounts, declared.port.PortFault.PortFault, Serving.Makes}
 use Rattle.ntp_port.specs.Sources.{Gives, CountsOn}
-use Rattle.ntp_port.specs.Port.{IncomingValue, failed_calls, counted_send, CountsMore}
-use Rattle.ntp_port.specs.Made.{Made, Missed, Received, turn_of, arrival_of, happened_in_turn, sent_in, has_arrived, has_departed, is_unsent, turn_outcome}
+use Rattle.ntp_port.specs.Port.{failed_calls, counted_send, CountsMore}
+use Rattle.ntp_port.specs.Made.{Made, turn_of, arrival_of, happened_in_turn, sent_in, has_arrived, has_departed, is_unsent, turn_outcome}
 use Rattle.ntp_port.proofs.PublicLaws.{CountsMore-nil, CountsMore-append, TakesTurn, sent_of, count_of, if_so, count-more, Makes-nil, Makes-append, Makes-few, at-most-one, sent-one, noted-one}
 use Rattle.ntp_admin.specs.CommandsFile.{most_line_octets, line_observations, happened_at_lines}
 use Rattle.ntp_server.specs.{declared.server.Server.Server, declared.server.Totals.Totals}
@@ -28,11 +27,7 @@ use Rattle.ntp_server.proofs.Looking.{Orders-append}
 -- when the datagram of a turn came, as it was received
 came : (made : Made) (r : Result Arrival PortFault) → option_map arrival_of (turn_of made).arrival ≡ result_ok r
     → option_map (λ a. a.receipt) (result_ok r) ≡ receipt_in made
-came made r arrived = sym (ap (option_map (λ a. a.receipt)) arrived) ∙ any (turn_of made).arrival
-  where
-    any : (d : Option IncomingValue) → option_map (λ a. a.receipt) (option_map arrival_of d) ≡ option_map (λ x. x.receipt) d
-    any None = refl
-    any (Some d) = refl
+came made r arrived = grind arith
 
 pub Makes-turn : {P C R O A : Type 0} (t : PartsTell P C R O) (prompt may gave : Bool) (asked : Option Moment)
     (shown halfway later : Option (List (Option Moment))) (p q r s : Server P C R O A) (reference : ReferenceState)
@@ -87,16 +82,13 @@ Makes-turn t prompt may gave asked shown halfway later p q r s reference receive
 
 -- ---- what a turn comes to, counted
 arrivals-made : (m : Made) → arrivals_in (turn_outcome m) ≡ if_so (has_arrived m)
-arrivals-made (Missed clock sends) = refl
-arrivals-made (Received d clock sends a noted) = refl
+arrivals-made m = grind arith
 
 replies-made : (m : Made) → replies_of_turn (turn_outcome m) ≡ length (sent_in m)
-replies-made (Missed clock sends) = refl
-replies-made (Received d clock sends a noted) = sent-one d clock sends a noted
+replies-made m = grind (arith, sent-one)
 
 departures-made : (m : Made) → departures_in (turn_outcome m) ≡ if_so (has_departed m)
-departures-made (Missed clock sends) = refl
-departures-made (Received d clock sends a noted) = ap if_so (noted-one d clock sends a noted)
+departures-made m = grind (arith, if_so, noted-one)
 
 -- there is at most one reply a turn
 few_sent : (ms : List Made) → length (sent_of ms) ≤ length ms
@@ -105,8 +97,7 @@ few_sent (m ∷ ms) =
     omega (arith, few_sent ms, length-append (sent_in m) (sent_of ms), replies-made m, one (turn_outcome m))
   where
     one : (o : TurnOutcome) → replies_of_turn o ≤ 1
-    one NothingReceived = omega arith
-    one (Answered arrival answer sending) = at-most-one (was_sent sending)
+    one o = grind (arith, at-most-one)
 
 few_such : (is : Made → Bool) (ms : List Made) → count_of is ms ≤ length ms
 few_such is ms = omega (arith, length-filter is ms, count_by-le-length is ms)
@@ -159,17 +150,13 @@ module _ (rounds earlier : List Round) (round : Round) (reference : ReferenceSta
   with_turn = rounds ++ (earlier ++ round ∷ [])
 
   turns-more : turns_in with_turn ≡ turns_in rounds ++ (reference, made) ∷ []
-  turns-more = filter_map-append (λ x. x.turn) rounds (earlier ++ round ∷ [])
-      ∙ ap (λ l. turns_in rounds ++ l) (filter_map-append (λ x. x.turn) earlier (round ∷ [])
-      ∙ ap (λ l. l ++ turns_in (round ∷ [])) no_turn ∙ ap (λ o. cons_option o []) turn)
+  turns-more = grind (arith, filter_map-append, rounds, earlier, round, no_turn)
 
   made-more : made_in with_turn ≡ made_in rounds ++ made ∷ []
   made-more = ap (map (λ x. x.1)) turns-more ∙ map-append (λ x. x.1) (turns_in rounds) ((reference, made) ∷ [])
 
   waits-more : waits_in with_turn ≡ waits_in rounds ++ earlier
-  waits-more = filter-append (λ x. is_none x.turn) rounds (earlier ++ round ∷ [])
-      ∙ ap (λ l. waits_in rounds ++ l) (filter-append (λ x. is_none x.turn) earlier (round ∷ [])
-      ∙ ap (λ l. l ++ waits_in (round ∷ [])) waiting ∙ ap (λ o. earlier ++ cond (is_none o) (round ∷ []) []) turn ∙ append-nil earlier)
+  waits-more = search (rules, filter-append, rounds, earlier, round)
 
   last-more : IfSome (slice_get with_turn (length with_turn - 1)) (λ r. IsSome r.turn)
   last-more =

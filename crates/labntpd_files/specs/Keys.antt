@@ -6,11 +6,12 @@ use Rattle.std.specs.Str.{bytes_eq}
 use Rattle.toml.specs.Data.{Members, no_members, member, get_member}
 use Rattle.labntpd_files.specs.Values.{says_fixed}
 use Rattle.labntpd_files.specs.declared.setting.Setting.{Setting}
-use Rattle.labntpd_files.specs.declared.setting.Setting.TheVariants.{Listen, Commands, Answers, Statistics, Customers, ReceiveBuffer, SendBuffer, LongestWait, Clock, Source, Reference, Number, Algorithm, KeyFile, ValidFor, MostRootDistance, MostReferenceAge, MostStep, Customer, Address, Key, Budget, Name, Newer}
+use Rattle.labntpd_files.specs.declared.setting.Setting.TheVariants.{Listen, ServedAs, Commands, Answers, Statistics, Customers, ReceiveBuffer, SendBuffer, LongestWait, Spin, Clock, Source, Reference, Number, Algorithm, KeyFile, ValidFor, MostRootDistance, MostReferenceAge, MostStep, Customer, Address, Key, Budget, Name, Newer}
 
 -- the key of a setting, in its table
 abbrev pub setting_key : Setting → List ℕ
 setting_key Listen = codes "listen"
+setting_key ServedAs = codes "served_as"
 setting_key Commands = codes "commands"
 setting_key Answers = codes "answers"
 setting_key Statistics = codes "statistics"
@@ -18,6 +19,7 @@ setting_key Customers = codes "customers"
 setting_key ReceiveBuffer = codes "receive_buffer"
 setting_key SendBuffer = codes "send_buffer"
 setting_key LongestWait = codes "longest_wait"
+setting_key Spin = codes "spin"
 setting_key Clock = codes "clock"
 setting_key Source = codes "source"
 setting_key Reference = codes "reference"
@@ -41,7 +43,8 @@ is_fixed clock = option_map_or says_fixed (get_member (setting_key Source) clock
 
 -- the keys of the top level, and those of the table `[clock]`, by its source
 abbrev pub top_keys : List Setting
-top_keys = Listen ∷ Commands ∷ Answers ∷ Statistics ∷ Customers ∷ ReceiveBuffer ∷ SendBuffer ∷ LongestWait ∷ Clock ∷ []
+top_keys =
+    Listen ∷ ServedAs ∷ Commands ∷ Answers ∷ Statistics ∷ Customers ∷ ReceiveBuffer ∷ SendBuffer ∷ LongestWait ∷ Spin ∷ Clock ∷ []
 
 abbrev pub fixed_keys : List Setting
 fixed_keys = Source ∷ Reference ∷ []

@@ -1,8 +1,8 @@
 -- What a configuration file says, or its first fault: each step gives a part, or the file's fault.
-use Rattle.std.specs.Prelude.{◌≡◌, ◌⊎◌, ◌*◌, ◌^◌, ◌≤◌, if◌then◌else◌, ℕ, List, Option, Some, None, Result, Ok, Err, IfSome}
+use Rattle.std.specs.Prelude.{◌≡◌, ◌⊎◌, ◌*◌, ◌^◌, ◌≤◌, if◌then◌else◌, ℕ, false, List, Option, Some, None, Result, Ok, Err, IfSome}
 use Rattle.std.specs.Option.{ok_or, option_map, option_map_or, option_or}
 use Rattle.std.specs.Result.{result_ok, result_err}
-use Rattle.toml.specs.Data.{Data, Members, no_items, get_member, as_array, as_table}
+use Rattle.toml.specs.Data.{Data, Members, no_items, get_member, as_bool, as_array, as_table}
 use Rattle.ntp_packet.specs.FirstCase.{◌>>=◌}
 use Rattle.ntp_admin.specs.Words.{address_in, algorithm_in, reference_in}
 use Rattle.ntp_mac.specs.declared.key.Algorithm.TheVariants.{Sha1}
@@ -64,6 +64,7 @@ clock_in clock =
 abbrev pub settings_in : Members → Result Configuration ConfigurationFault
 settings_in document = do
   listen ← required setting.Listen (text_as listen_in) document
+  served_as ← optional setting.ServedAs (text_as address_in) document
   commands ← required setting.Commands (text_as path_in) document
   answers ← optional setting.Answers (text_as path_in) document
   statistics ← optional setting.Statistics (text_as path_in) document
@@ -71,10 +72,12 @@ settings_in document = do
   receive_buffer ← with_default 524288 setting.ReceiveBuffer buffer_of document
   send_buffer ← with_default 1048576 setting.SendBuffer buffer_of document
   longest_wait ← with_default (250 * 10 ^ 6) setting.LongestWait wait_of document
+  spin ← with_default false setting.Spin as_bool document
   table ← required setting.Clock as_table document
   clock ← clock_in table
   Ok (record {
     listen = listen;
+    served_as = served_as;
     commands = commands;
     answers = answers;
     statistics = statistics;
@@ -82,6 +85,7 @@ settings_in document = do
     receive_buffer = receive_buffer;
     send_buffer = send_buffer;
     longest_wait = longest_wait;
+    spin = spin;
     clock = clock;
   })
 
@@ -141,6 +145,7 @@ path_at here table = result_ok (required here (text_as path_in) table)
 -- what is wrong at a key, whatever is wrong at the others: the fault that is read there
 abbrev pub wrong_at : Setting → Members → Option ConfigurationFault
 wrong_at setting.Listen table = result_err (required setting.Listen (text_as listen_in) table)
+wrong_at setting.ServedAs table = result_err (optional setting.ServedAs (text_as address_in) table)
 wrong_at setting.Commands table = result_err (required setting.Commands (text_as path_in) table)
 wrong_at setting.Answers table = result_err (optional setting.Answers (text_as path_in) table)
 wrong_at setting.Statistics table = result_err (optional setting.Statistics (text_as path_in) table)
@@ -148,6 +153,7 @@ wrong_at setting.Customers table = result_err (optional setting.Customers (text_
 wrong_at setting.ReceiveBuffer table = result_err (with_default 524288 setting.ReceiveBuffer buffer_of table)
 wrong_at setting.SendBuffer table = result_err (with_default 1048576 setting.SendBuffer buffer_of table)
 wrong_at setting.LongestWait table = result_err (with_default (250 * 10 ^ 6) setting.LongestWait wait_of table)
+wrong_at setting.Spin table = result_err (with_default false setting.Spin as_bool table)
 wrong_at setting.Clock table = result_err (required setting.Clock as_table table)
 wrong_at setting.Source table = if is_fixed table then None else result_err (required setting.Source (text_as endpoint_in) table)
 wrong_at setting.Reference table = result_err (required setting.Reference (text_as reference_in) table)

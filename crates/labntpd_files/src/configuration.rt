@@ -12,6 +12,8 @@ use std::num::NonZero;
 pub struct Configuration {
     /// Where datagrams are received.
     pub listen: Listen,
+    /// The address by which customers reach this host, which `labntpctl` writes into their files.
+    pub served_as: Option<Address>,
     /// The path of the commands file.
     pub commands: Text,
     /// The path of the file to which the answers to commands are written, if they are.
@@ -26,6 +28,8 @@ pub struct Configuration {
     pub send_buffer: u32,
     /// How long a datagram may have waited for an answer, in nanoseconds: 0.15 to 60 s.
     pub longest_wait: u64,
+    /// Whether the daemon never sleeps while it waits for datagrams, and so takes a processor wholly.
+    pub spin: bool,
     /// How good the host's clock is.
     pub clock: Clock,
 }

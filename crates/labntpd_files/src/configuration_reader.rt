@@ -8,9 +8,9 @@ use crate::fault::Reading;
 use crate::found::{Found, add_faults, add_no_toml, key_lines, place_at};
 use crate::setting::{TOP_KEYS, clock_keys, is_fixed, unknown_in, value_at};
 use crate::values::{
-    LONGEST_WAIT, MOST_ROOT_DISTANCE, MOST_STEP, VALID_FOR, address_at, algorithm_at, buffer_at,
-    customers_at, key_at, listen_at, name_at, number_at, optional_path, path_text,
-    reference_age_at, reference_at, seconds_at, source_at, table_at,
+    LONGEST_WAIT, MOST_ROOT_DISTANCE, MOST_STEP, VALID_FOR, address_at, algorithm_at, boolean_at,
+    buffer_at, customers_at, key_at, listen_at, name_at, number_at, optional_address,
+    optional_path, path_text, reference_age_at, reference_at, seconds_at, source_at, table_at,
 };
 use crate::{Clock, ClockDaemon, Configuration, ConfigurationFault, Setting, Text};
 use std::alloc::{AllocError, Global};
@@ -87,6 +87,7 @@ fn configuration_in(alloc: Global, document: &Table) -> Reading<Configuration>
 {
     Ok(Configuration {
         listen: listen_at(document)?,
+        served_as: optional_address(document, Setting::ServedAs)?,
         commands: Text::of(alloc, path_text(document, Setting::Commands)?)?,
         answers: Text::of_some(alloc, optional_path(document, Setting::Answers)?)?,
         statistics: Text::of_some(alloc, optional_path(document, Setting::Statistics)?)?,
@@ -94,6 +95,7 @@ fn configuration_in(alloc: Global, document: &Table) -> Reading<Configuration>
         receive_buffer: buffer_at(document, Setting::ReceiveBuffer, RECEIVE_BUFFER)?,
         send_buffer: buffer_at(document, Setting::SendBuffer, SEND_BUFFER)?,
         longest_wait: seconds_at(document, Setting::LongestWait, &LONGEST_WAIT)?,
+        spin: boolean_at(document, Setting::Spin)?,
         clock: clock_in(alloc, table_at(document, Setting::Clock)?)?,
     })
 }
@@ -142,11 +144,13 @@ pub(crate) fn wrong_at(table: &Table, setting: Setting) -> Option<ConfigurationF
     use Setting::*;
     match setting {
         Listen => listen_at(table).err(),
+        ServedAs => optional_address(table, setting).err(),
         Commands | KeyFile => path_text(table, setting).err(),
         Answers | Statistics | Customers => optional_path(table, setting).err(),
         ReceiveBuffer => buffer_at(table, setting, RECEIVE_BUFFER).err(),
         SendBuffer => buffer_at(table, setting, SEND_BUFFER).err(),
         LongestWait => seconds_at(table, setting, &LONGEST_WAIT).err(),
+        Spin => boolean_at(table, setting).err(),
         Source if is_fixed(table) => None,
         Source => source_at(table).err(),
         Reference => reference_at(table).err(),
@@ -157,7 +161,7 @@ pub(crate) fn wrong_at(table: &Table, setting: Setting) -> Option<ConfigurationF
         MostReferenceAge => reference_age_at(table).err(),
         MostStep => seconds_at(table, setting, &MOST_STEP).err(),
         Customer => customers_at(table).err(),
-        Address => address_at(table).err(),
+        Address => address_at(table, setting).err(),
         Key => key_at(table, ntp_mac::Algorithm::Sha1).err(),
         Name => name_at(table).err(),
         Newer if value_at(table, setting).is_none() => None,

@@ -11,6 +11,7 @@ use toml::{Table, Value};
 #[derive(Clone, Copy, PartialEq, Eq)]
 pub enum Setting {
     Listen,
+    ServedAs,
     Commands,
     Answers,
     Statistics,
@@ -18,6 +19,7 @@ pub enum Setting {
     ReceiveBuffer,
     SendBuffer,
     LongestWait,
+    Spin,
     Clock,
     Source,
     Reference,
@@ -37,8 +39,9 @@ pub enum Setting {
 }
 
 /// The keys of the top level of a configuration file, in the order in which they are looked at.
-pub(crate) const TOP_KEYS: [Setting; 9] = [
+pub(crate) const TOP_KEYS: [Setting; 11] = [
     Listen,
+    ServedAs,
     Commands,
     Answers,
     Statistics,
@@ -46,6 +49,7 @@ pub(crate) const TOP_KEYS: [Setting; 9] = [
     ReceiveBuffer,
     SendBuffer,
     LongestWait,
+    Spin,
     Clock,
 ];
 
@@ -120,6 +124,7 @@ impl Setting {
     {
         match self {
             Listen => "listen",
+            ServedAs => "served_as",
             Commands => "commands",
             Answers => "answers",
             Statistics => "statistics",
@@ -127,6 +132,7 @@ impl Setting {
             ReceiveBuffer => "receive_buffer",
             SendBuffer => "send_buffer",
             LongestWait => "longest_wait",
+            Spin => "spin",
             Clock => "clock",
             Source => "source",
             Reference => "reference",
@@ -160,6 +166,7 @@ impl Setting {
             ReceiveBuffer | SendBuffer =>
                 "a whole number of octets from 65536 to 1073741823 is wanted",
             LongestWait => "a number of seconds from 0.15 to 60 is wanted",
+            Spin => "true or false is wanted",
             Clock => "a table is wanted",
             Source => "an IPv4 address with a port, as \"127.0.0.1:123\", or \"fixed\" is wanted",
             Reference => "the 46 hexadecimal digits of a reference state are wanted",
@@ -170,7 +177,7 @@ impl Setting {
             MostReferenceAge => "a number of seconds from 1 to 1000000 is wanted",
             MostStep => "a number of seconds above 0 and up to 3600 is wanted",
             Customer => "an array of tables is wanted",
-            Address => "an IPv4 address, as \"192.0.2.1\", is wanted",
+            Address | ServedAs => "an IPv4 address, as \"192.0.2.1\", is wanted",
             Key => "2 to 64 hexadecimal digits, an even number, are wanted",
             Name => "a text of 1 to 200 octets without control characters is wanted",
             Newer => "a table with number, algorithm and key is wanted",

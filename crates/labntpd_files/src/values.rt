@@ -1,10 +1,10 @@
 //! What stands at a key of a table: a value that is wanted there, or a fault.
-ghost use Rattle.std.specs.Prelude.{◌≡◌, ◌≤◌, ◌<◌, ◌^◌, None, Ok, Err, option_map, IfOk, IfSome, MatchResult};
+ghost use Rattle.std.specs.Prelude.{◌≡◌, ◌≤◌, ◌<◌, ◌^◌, false, None, Ok, Err, option_map, IfOk, IfSome, MatchResult};
 ghost use Rattle.std.specs.Char.{is_control};
 ghost use Rattle.std.specs.List.{list_any};
 ghost use Rattle.std.specs.Option.{ok_or};
 ghost use Rattle.std.specs.Str.{chars};
-ghost use Rattle.toml.specs.Data.{no_items, get_member, as_str, as_table, as_array};
+ghost use Rattle.toml.specs.Data.{no_items, get_member, as_bool, as_str, as_table, as_array};
 ghost use Rattle.toml.specs.View.{view, table_view, items_view};
 ghost use Rattle.ntp_admin.specs.Words.{address_in, algorithm_in, reference_in};
 ghost use Rattle.labntpd_files.specs.Keys.{setting_key};
@@ -197,10 +197,33 @@ pub(crate) fn reference_at(clock: &Table) -> Reading<Reference>
 }
 
 /// An address: four numbers with dots between them.
-pub(crate) fn address_at(customer: &Table) -> Reading<Address>
-    ensures { result ≡ required Setting.Address (text_as address_in) (table_view customer.now) }
+pub(crate) fn address_at(table: &Table, setting: Setting) -> Reading<Address>
+    ensures { result ≡ required setting (text_as address_in) (table_view table.now) }
 {
-    words::address(text_at(customer, Setting::Address)?).ok_or(Wanted(Setting::Address))
+    address_of(required(table, setting)?).ok_or(Wanted(setting))
+}
+
+/// An address that may be left out.
+pub(crate) fn optional_address(table: &Table, setting: Setting) -> Reading<Option<Address>>
+    ensures { result ≡ optional setting (text_as address_in) (table_view table.now) }
+{
+    match value_at(table, setting) {
+        None => Ok(None),
+        Some(value) => match address_of(value) {
+            None => Err(Wanted(setting)),
+            address => Ok(address),
+        },
+    }
+}
+
+/// A boolean: false where none stands there.
+pub(crate) fn boolean_at(table: &Table, setting: Setting) -> Reading<bool>
+    ensures { result ≡ with_default false setting as_bool (table_view table.now) }
+{
+    match value_at(table, setting) {
+        None => Ok(false),
+        Some(value) => value.as_bool().ok_or(Wanted(setting)),
+    }
 }
 
 /// A key for an algorithm: 2 to 64 hexadecimal digits, an even number.
@@ -248,6 +271,13 @@ fn has_control(text: &str) -> bool
     ensures { result ≡ list_any is_control (chars text.now) }
 {
     text.chars().any(|character| character.is_control())
+}
+
+// The address that a value writes.
+fn address_of(value: &Value) -> Option<Address>
+    ensures { result ≡ text_as address_in (view value.now) }
+{
+    words::address(value.as_str()?)
 }
 
 // A whole number from `least` to `most`.

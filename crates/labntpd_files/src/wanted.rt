@@ -151,7 +151,7 @@ fn add_customers(
             add(found, line, format_args!("{who}a table is wanted"))?;
             continue;
         };
-        let address = address_at(table).ok();
+        let address = address_at(table, Setting::Address).ok();
         let who = who_at(alloc, index, address)?;
         add_table(found, &mut numbers, &who, line, table, &CUSTOMER_KEYS)?;
         if let Ok(newer) = table_at(table, Setting::Newer) {
@@ -239,7 +239,7 @@ fn customer_in(alloc: Global, table: &Table) -> Reading<WantedCustomer>
     ensures { Reads (customer_in (table_view table.now)) result }
 {
     Ok(WantedCustomer {
-        address: address_at(table)?,
+        address: address_at(table, Setting::Address)?,
         older: key_in(table)?,
         newer: newer_in(table)?,
         budget: number_at(table, Setting::Budget)?,

@@ -1,5 +1,6 @@
 //! What a server begins with, read from its files.
 
+use crate::host_addresses::SeveralAddresses;
 use crate::places::{judge_places, tell_readers};
 use labntpd_files::{
     Clock, ClockDaemon, Configuration, ConfigurationFault, Endpoint, key_in_file,
@@ -56,6 +57,9 @@ pub fn prepare<R: Files, F: Write + Drop>(
         Clock::Followed(daemon) => Some(followed(files, alloc, daemon, faults)?),
     };
     tell_readers(files, configuration.commands.as_str(), faults);
+    if let Some(several) = SeveralAddresses::configured(files, alloc, configuration.listen) {
+        let _ = writeln!(faults.warning(), "{}: {several}", Escaped(path));
+    }
     Ok(Prepared {
         configuration,
         followed,

@@ -1,5 +1,6 @@
 //! The sockets of the daemon, opened or handed down.
 
+use crate::host_addresses::SeveralAddresses;
 use crate::lines::{judged, start_lines};
 use labntpd_files::{Configuration, Listen};
 use ntp_admin::Status;
@@ -43,7 +44,15 @@ pub fn set_up(
     }
     let buffer = judged(rt, "receive_buffer", receive_buffer(socket))?;
     match judged(rt, "listen", socket.local_addr())? {
-        SocketAddr::V4(local) => Ok(BoundAt { local, buffer }),
+        SocketAddr::V4(local) => {
+            // One that the configuration names was judged with it.
+            if matches!(configuration.listen, Listen::Inherited)
+                && let Some(several) = SeveralAddresses::handed_down(rt, rt.alloc(), local)
+            {
+                let _ = writeln!(start_lines(rt).warning(), "{several}");
+            }
+            Ok(BoundAt { local, buffer })
+        }
         SocketAddr::V6(_) => {
             let _ = writeln!(start_lines(rt), "listen: an IPv4 socket is wanted");
             Err(Status::IoFailed)

@@ -101,7 +101,7 @@ Reads said (Err why) = (why ≡ fault.NoMemory) ⊎ (said ≡ Err why)
 
 -- the ranges of the numbers for a daemon: nanoseconds, 2^-16 s, seconds, nanoseconds
 pub record HasDaemonRanges (daemon : ClockDaemon) : Type 0 where
-  pub valid_for : (2 * 10 ^ 9 ≤ daemon.valid_for) × (daemon.valid_for ≤ 3600 * 10 ^ 9)
+  pub valid_for : (10 * 10 ^ 9 ≤ daemon.valid_for) × (daemon.valid_for ≤ 3600 * 10 ^ 9)
   pub most_root_distance : (1 ≤ daemon.most_root_distance) × (daemon.most_root_distance ≤ 16 * 2 ^ 16)
   pub most_reference_age : IfSome daemon.most_reference_age (λ age. (1 ≤ age) × (age ≤ 1000000))
   pub most_step : (1 ≤ daemon.most_step) × (daemon.most_step ≤ 3600 * 10 ^ 9)

@@ -75,7 +75,7 @@ abbrev pub wait_of : Data → Option ℕ
 wait_of = seconds_of (10 ^ 9) (150 * 10 ^ 6) (60 * 10 ^ 9)
 
 abbrev pub validity_of : Data → Option ℕ
-validity_of = seconds_of (10 ^ 9) (2 * 10 ^ 9) (3600 * 10 ^ 9)
+validity_of = seconds_of (10 ^ 9) (10 * 10 ^ 9) (3600 * 10 ^ 9)
 
 abbrev pub distance_of : Data → Option ℕ
 distance_of = seconds_of (2 ^ 16) 1 (16 * 2 ^ 16)

@@ -80,7 +80,7 @@ pub struct ClockDaemon {
     pub algorithm: Algorithm,
     /// The path of the file that has that key.
     pub key_file: Text,
-    /// For how long one of its answers is believed, in nanoseconds: 2 to 3,600 s.
+    /// For how long one of its answers is believed, in nanoseconds: 10 to 3,600 s.
     pub valid_for: u64,
     /// The root distance up to which it is believed, in units of 2^-16 s: 1 unit to 16 s.
     pub most_root_distance: u32,

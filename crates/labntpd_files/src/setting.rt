@@ -172,7 +172,7 @@ impl Setting {
             Reference => "the 46 hexadecimal digits of a reference state are wanted",
             Number | Budget => "a whole number from 1 to 65535 is wanted",
             Algorithm => "\"md5\" or \"sha1\" is wanted",
-            ValidFor => "a number of seconds from 2 to 3600 is wanted",
+            ValidFor => "a number of seconds from 10 to 3600 is wanted",
             MostRootDistance => "a number of seconds above 0 and up to 16 is wanted",
             MostReferenceAge => "a number of seconds from 1 to 1000000 is wanted",
             MostStep => "a number of seconds above 0 and up to 3600 is wanted",

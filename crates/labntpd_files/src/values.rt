@@ -44,11 +44,12 @@ const SHORT_UNITS: u32 = 65_536;
 /// How long a datagram may have waited: 0.15 to 60 s, else 0.25 s.
 pub(crate) const LONGEST_WAIT: Span = Span(NANOSECONDS, 250_000_000, 150_000_000, 60_000_000_000);
 
-/// For how long an answer of the clock's daemon is believed: 2 to 3,600 s, else 16 s.
+/// For how long an answer of the clock's daemon is believed: 10 to 3,600 s, else 16 s. The least spans the eight seconds without a question
+/// behind a RATE (RFC 5905, 7.4), the second before it, and one for the answer.
 pub(crate) const VALID_FOR: Span = Span(
     NANOSECONDS,
     16_000_000_000,
-    2_000_000_000,
+    10_000_000_000,
     3_600_000_000_000,
 );
 

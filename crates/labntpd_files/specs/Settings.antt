@@ -14,8 +14,11 @@ use Rattle.labntpd_files.specs.declared.fault.ConfigurationFault.{ConfigurationF
 use Rattle.labntpd_files.specs.declared.fault.ConfigurationFault.TheVariants as fault
 use Rattle.labntpd_files.specs.declared.setting.Setting.{Setting}
 use Rattle.labntpd_files.specs.declared.setting.Setting.TheVariants as setting
-use Rattle.labntpd_files.specs.Keys.{setting_key, is_fixed, top_keys, clock_keys, unknown_in}
-use Rattle.labntpd_files.specs.Values.{listen_in, endpoint_in, path_in, name_in, key_for, text_as, number_of, buffer_of, wait_of, validity_of, distance_of, age_of, step_of}
+use Rattle.labntpd_files.specs.declared.setting.Kind.{Kind}
+use Rattle.labntpd_files.specs.declared.setting.Kind.TheVariants as k
+use Rattle.labntpd_files.specs.declared.setting.Span.{Span}
+use Rattle.labntpd_files.specs.Keys.{setting_key, kind, is_fixed, top_keys, clock_keys, unknown_in}
+use Rattle.labntpd_files.specs.Values.{listen_in, endpoint_in, path_in, name_in, key_for, text_as, number_of, buffer_of, seconds_of, wait_span, validity_span, distance_span, step_span}
 
 -- a setting that has to stand there
 abbrev pub required : {X : Type 0} → Setting → (Data → Option X) → Members → Result X ConfigurationFault
@@ -31,6 +34,10 @@ with_default default s read table = option_map_or (λ value. ok_or (read value) 
 abbrev pub optional : {X : Type 0} → Setting → (Data → Option X) → Members → Result (Option X) ConfigurationFault
 optional s read = with_default None s (λ value. option_map Some (read value))
 
+-- a number of seconds, in the units of its span
+abbrev pub seconds_in : Span → Setting → Members → Result ℕ ConfigurationFault
+seconds_in span s = with_default span.1 s (seconds_of span.0 span.2 span.3)
+
 -- the daemon that keeps the host's clock
 abbrev pub daemon_in : Members → Result ClockDaemon ConfigurationFault
 daemon_in clock = do
@@ -38,10 +45,10 @@ daemon_in clock = do
   number ← required setting.Number number_of clock
   algorithm ← required setting.Algorithm (text_as algorithm_in) clock
   key_file ← required setting.KeyFile (text_as path_in) clock
-  valid_for ← with_default (16 * 10 ^ 9) setting.ValidFor validity_of clock
-  distance ← with_default (2 ^ 16) setting.MostRootDistance distance_of clock
-  age ← optional setting.MostReferenceAge age_of clock
-  step ← with_default (500 * 10 ^ 6) setting.MostStep step_of clock
+  valid_for ← seconds_in validity_span setting.ValidFor clock
+  distance ← seconds_in distance_span setting.MostRootDistance clock
+  age ← optional setting.MostReferenceAge (seconds_of 1 1 1000000) clock
+  step ← seconds_in step_span setting.MostStep clock
   Ok (record {
     source = source;
     number = number;
@@ -71,7 +78,7 @@ settings_in document = do
   customers ← optional setting.Customers (text_as path_in) document
   receive_buffer ← with_default 524288 setting.ReceiveBuffer buffer_of document
   send_buffer ← with_default 1048576 setting.SendBuffer buffer_of document
-  longest_wait ← with_default (250 * 10 ^ 6) setting.LongestWait wait_of document
+  longest_wait ← seconds_in wait_span setting.LongestWait document
   spin ← with_default false setting.Spin as_bool document
   table ← required setting.Clock as_table document
   clock ← clock_in table
@@ -142,31 +149,25 @@ IsReadAs (Some document) said = said ≡ configuration_in document
 abbrev pub path_at : Setting → Members → Option (List ℕ)
 path_at here table = result_ok (required here (text_as path_in) table)
 
--- what is wrong at a key, whatever is wrong at the others: the fault that is read there
+-- what is wrong at a key of a kind, whatever is wrong at the others: the fault that is read there
+abbrev pub wrong_by : Kind → Setting → Members → Option ConfigurationFault
+wrong_by k.Listen s table = result_err (required setting.Listen (text_as listen_in) table)
+wrong_by k.Source s table = if is_fixed table then None else result_err (required setting.Source (text_as endpoint_in) table)
+wrong_by k.Path s table = result_err (required s (text_as path_in) table)
+wrong_by k.OptionalPath s table = result_err (optional s (text_as path_in) table)
+wrong_by k.Octets s table = result_err (with_default 524288 s buffer_of table)
+wrong_by (k.Seconds span) s table = result_err (seconds_in span s table)
+wrong_by k.Boolean s table = result_err (with_default false s as_bool table)
+wrong_by k.Reference s table = result_err (required setting.Reference (text_as reference_in) table)
+wrong_by k.Number s table = result_err (required s number_of table)
+wrong_by k.Algorithm s table = result_err (required setting.Algorithm (text_as algorithm_in) table)
+wrong_by k.Address s table = result_err (required s (text_as address_in) table)
+wrong_by k.OptionalAddress s table = result_err (optional s (text_as address_in) table)
+wrong_by k.Key s table = result_err (required setting.Key (text_as (key_for Sha1)) table)
+wrong_by k.Name s table = result_err (optional setting.Name (text_as name_in) table)
+wrong_by k.Table s table = result_err (required s as_table table)
+wrong_by k.OptionalTable s table = result_err (optional s as_table table)
+wrong_by k.Customers s table = result_err (with_default no_items setting.Customer as_array table)
+
 abbrev pub wrong_at : Setting → Members → Option ConfigurationFault
-wrong_at setting.Listen table = result_err (required setting.Listen (text_as listen_in) table)
-wrong_at setting.ServedAs table = result_err (optional setting.ServedAs (text_as address_in) table)
-wrong_at setting.Commands table = result_err (required setting.Commands (text_as path_in) table)
-wrong_at setting.Answers table = result_err (optional setting.Answers (text_as path_in) table)
-wrong_at setting.Statistics table = result_err (optional setting.Statistics (text_as path_in) table)
-wrong_at setting.Customers table = result_err (optional setting.Customers (text_as path_in) table)
-wrong_at setting.ReceiveBuffer table = result_err (with_default 524288 setting.ReceiveBuffer buffer_of table)
-wrong_at setting.SendBuffer table = result_err (with_default 1048576 setting.SendBuffer buffer_of table)
-wrong_at setting.LongestWait table = result_err (with_default (250 * 10 ^ 6) setting.LongestWait wait_of table)
-wrong_at setting.Spin table = result_err (with_default false setting.Spin as_bool table)
-wrong_at setting.Clock table = result_err (required setting.Clock as_table table)
-wrong_at setting.Source table = if is_fixed table then None else result_err (required setting.Source (text_as endpoint_in) table)
-wrong_at setting.Reference table = result_err (required setting.Reference (text_as reference_in) table)
-wrong_at setting.Number table = result_err (required setting.Number number_of table)
-wrong_at setting.Algorithm table = result_err (required setting.Algorithm (text_as algorithm_in) table)
-wrong_at setting.KeyFile table = result_err (required setting.KeyFile (text_as path_in) table)
-wrong_at setting.ValidFor table = result_err (with_default (16 * 10 ^ 9) setting.ValidFor validity_of table)
-wrong_at setting.MostRootDistance table = result_err (with_default (2 ^ 16) setting.MostRootDistance distance_of table)
-wrong_at setting.MostReferenceAge table = result_err (optional setting.MostReferenceAge age_of table)
-wrong_at setting.MostStep table = result_err (with_default (500 * 10 ^ 6) setting.MostStep step_of table)
-wrong_at setting.Customer table = result_err (with_default no_items setting.Customer as_array table)
-wrong_at setting.Address table = result_err (required setting.Address (text_as address_in) table)
-wrong_at setting.Key table = result_err (required setting.Key (text_as (key_for Sha1)) table)
-wrong_at setting.Budget table = result_err (required setting.Budget number_of table)
-wrong_at setting.Name table = result_err (optional setting.Name (text_as name_in) table)
-wrong_at setting.Newer table = result_err (optional setting.Newer as_table table)
+wrong_at s = wrong_by (kind s) s

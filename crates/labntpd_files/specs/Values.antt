@@ -12,6 +12,7 @@ use Rattle.toml.specs.Data.{Data, integer, float, as_str}
 use Rattle.ntp_admin.specs.Words.{◌>>=◌, address_in, number_in, key_in, non_zero}
 use Rattle.ntp_mac.specs.Key.{SymmetricKey}
 use Rattle.ntp_mac.specs.declared.key.Algorithm.{Algorithm}
+use Rattle.labntpd_files.specs.declared.setting.Span.{Span}
 use Rattle.labntpd_files.specs.declared.configuration.Endpoint.{Endpoint}
 use Rattle.labntpd_files.specs.declared.configuration.Listen.{Listen}
 use Rattle.labntpd_files.specs.declared.configuration.Listen.TheVariants.{Bound, Inherited}
@@ -67,24 +68,28 @@ units_of units other = None
 abbrev pub seconds_of : ℕ → ℕ → ℕ → Data → Option ℕ
 seconds_of units least most value = units_of units value >>= in_range least most
 
--- the size of a buffer, in octets; spans of time in nanoseconds, a root distance in 2^-16 s, and an age in seconds
+-- the size of a buffer, in octets
 abbrev pub buffer_of : Data → Option ℕ
 buffer_of = whole_of 65536 1073741823
 
-abbrev pub wait_of : Data → Option ℕ
-wait_of = seconds_of (10 ^ 9) (150 * 10 ^ 6) (60 * 10 ^ 9)
+-- a span of seconds: how many units a second has, and in these what holds without the key, the least and the most
+abbrev pub span : ℕ → ℕ → ℕ → ℕ → Span
+span units default least most = record { 0 = units; 1 = default; 2 = least; 3 = most }
 
-abbrev pub validity_of : Data → Option ℕ
-validity_of = seconds_of (10 ^ 9) (10 * 10 ^ 9) (3600 * 10 ^ 9)
+abbrev pub wait_span : Span
+wait_span = span (10 ^ 9) (250 * 10 ^ 6) (150 * 10 ^ 6) (60 * 10 ^ 9)
 
-abbrev pub distance_of : Data → Option ℕ
-distance_of = seconds_of (2 ^ 16) 1 (16 * 2 ^ 16)
+abbrev pub validity_span : Span
+validity_span = span (10 ^ 9) (16 * 10 ^ 9) (10 * 10 ^ 9) (3600 * 10 ^ 9)
 
-abbrev pub age_of : Data → Option ℕ
-age_of = seconds_of 1 1 1000000
+abbrev pub distance_span : Span
+distance_span = span (2 ^ 16) (2 ^ 16) 1 (16 * 2 ^ 16)
 
-abbrev pub step_of : Data → Option ℕ
-step_of = seconds_of (10 ^ 9) 1 (3600 * 10 ^ 9)
+abbrev pub age_span : Span
+age_span = span 1 1000000 1 1000000
+
+abbrev pub step_span : Span
+step_span = span (10 ^ 9) (500 * 10 ^ 6) 1 (3600 * 10 ^ 9)
 
 -- a key for an algorithm
 abbrev pub key_for : Algorithm → List ℕ → Option SymmetricKey

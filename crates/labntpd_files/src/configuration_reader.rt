@@ -6,11 +6,14 @@ ghost use Rattle.labntpd_files.specs.Settings.{clock_in, daemon_in, settings_in,
 
 use crate::fault::Reading;
 use crate::found::{Found, add_faults, add_no_toml, key_lines, place_at};
-use crate::setting::{TOP_KEYS, clock_keys, is_fixed, unknown_in, value_at};
+use crate::setting::{
+    Kind, LONGEST_WAIT, MOST_ROOT_DISTANCE, MOST_STEP, TOP_KEYS, VALID_FOR, clock_keys, is_fixed,
+    unknown_in, value_at,
+};
 use crate::values::{
-    LONGEST_WAIT, MOST_ROOT_DISTANCE, MOST_STEP, VALID_FOR, address_at, algorithm_at, boolean_at,
-    buffer_at, customers_at, key_at, listen_at, name_at, number_at, optional_address,
-    optional_path, path_text, reference_age_at, reference_at, seconds_at, source_at, table_at,
+    address_at, algorithm_at, boolean_at, buffer_at, customers_at, key_at, listen_at, name_at,
+    number_at, optional_address, optional_path, path_text, reference_age_at, reference_at,
+    seconds_at, source_at, table_at,
 };
 use crate::{Clock, ClockDaemon, Configuration, ConfigurationFault, Setting, Text};
 use std::alloc::{AllocError, Global};
@@ -141,30 +144,24 @@ pub fn path_at(table: &Table, setting: Setting) -> Option<&str>
 pub(crate) fn wrong_at(table: &Table, setting: Setting) -> Option<ConfigurationFault>
     ensures { result ≡ wrong_at setting (table_view table.now) }
 {
-    use Setting::*;
-    match setting {
-        Listen => listen_at(table).err(),
-        ServedAs => optional_address(table, setting).err(),
-        Commands | KeyFile => path_text(table, setting).err(),
-        Answers | Statistics | Customers => optional_path(table, setting).err(),
-        ReceiveBuffer => buffer_at(table, setting, RECEIVE_BUFFER).err(),
-        SendBuffer => buffer_at(table, setting, SEND_BUFFER).err(),
-        LongestWait => seconds_at(table, setting, &LONGEST_WAIT).err(),
-        Spin => boolean_at(table, setting).err(),
-        Source if is_fixed(table) => None,
-        Source => source_at(table).err(),
-        Reference => reference_at(table).err(),
-        Number | Budget => number_at(table, setting).err(),
-        Algorithm => algorithm_at(table).err(),
-        ValidFor => seconds_at(table, setting, &VALID_FOR).err(),
-        MostRootDistance => seconds_at(table, setting, &MOST_ROOT_DISTANCE).err(),
-        MostReferenceAge => reference_age_at(table).err(),
-        MostStep => seconds_at(table, setting, &MOST_STEP).err(),
-        Customer => customers_at(table).err(),
-        Address => address_at(table, setting).err(),
-        Key => key_at(table, ntp_mac::Algorithm::Sha1).err(),
-        Name => name_at(table).err(),
-        Newer if value_at(table, setting).is_none() => None,
-        Clock | Newer => table_at(table, setting).err(),
+    match setting.kind() {
+        Kind::Listen => listen_at(table).err(),
+        Kind::Source if is_fixed(table) => None,
+        Kind::Source => source_at(table).err(),
+        Kind::Path => path_text(table, setting).err(),
+        Kind::OptionalPath => optional_path(table, setting).err(),
+        Kind::Octets => buffer_at(table, setting, RECEIVE_BUFFER).err(),
+        Kind::Seconds(span) => seconds_at(table, setting, &span).err(),
+        Kind::Boolean => boolean_at(table, setting).err(),
+        Kind::Reference => reference_at(table).err(),
+        Kind::Number => number_at(table, setting).err(),
+        Kind::Algorithm => algorithm_at(table).err(),
+        Kind::Address => address_at(table, setting).err(),
+        Kind::OptionalAddress => optional_address(table, setting).err(),
+        Kind::Key => key_at(table, ntp_mac::Algorithm::Sha1).err(),
+        Kind::Name => name_at(table).err(),
+        Kind::OptionalTable if value_at(table, setting).is_none() => None,
+        Kind::Table | Kind::OptionalTable => table_at(table, setting).err(),
+        Kind::Customers => customers_at(table).err(),
     }
 }

@@ -75,10 +75,10 @@ impl<'a> fmt::Display for Behind<'a> {
                 )
             }
             Missing(setting) => {
-                let (key, wanted) = (setting.key(), setting.wanted());
-                write!(f, "{prefix}{key}: this key is missing: {wanted}")
+                let (key, kind) = (setting.key(), setting.kind());
+                write!(f, "{prefix}{key}: this key is missing: {kind}")
             }
-            Wanted(setting) => write!(f, "{prefix}{}: {}", setting.key(), setting.wanted()),
+            Wanted(setting) => write!(f, "{prefix}{}: {}", setting.key(), setting.kind()),
             NoMemory => f.write_str("memory ran out"),
         }
     }

@@ -10,11 +10,11 @@ ghost use Rattle.ntp_admin.specs.Words.{address_in, algorithm_in, reference_in};
 ghost use Rattle.labntpd_files.specs.Keys.{setting_key};
 ghost use Rattle.labntpd_files.specs.declared.fault.ConfigurationFault.TheVariants.{Missing};
 ghost use Rattle.labntpd_files.specs.Settings.{required, with_default, optional, IsSaid};
-ghost use Rattle.labntpd_files.specs.Values.{endpoint_in, listen_in, path_in, text_as, key_for, is_name, name_in, whole_of, number_of, units_of, seconds_of, age_of};
+ghost use Rattle.labntpd_files.specs.Values.{endpoint_in, listen_in, path_in, text_as, key_for, is_name, name_in, whole_of, number_of, units_of, seconds_of};
 
 use crate::ConfigurationFault::{Missing, Wanted};
 use crate::fault::Reading;
-use crate::setting::value_at;
+use crate::setting::{MOST_REFERENCE_AGE, Span, value_at};
 use crate::{Endpoint, Listen, Setting};
 use ntp_admin::words;
 use ntp_mac::{Algorithm, Key};
@@ -31,36 +31,6 @@ const LEAST_BUFFER: u32 = 65_536;
 
 /// The most that a buffer may be, in octets: the kernel doubles what it is asked for, and counts in 31 bits.
 const MOST_BUFFER: u32 = 1_073_741_823;
-
-/// A span of seconds: how many units a second has, and in these units the default, the least and the most.
-pub(crate) struct Span(u32, u64, u64, u64);
-
-/// How many nanoseconds a second has.
-const NANOSECONDS: u32 = 1_000_000_000;
-
-/// How many units of the short format a second has (RFC 5905, 6).
-const SHORT_UNITS: u32 = 65_536;
-
-/// How long a datagram may have waited: 0.15 to 60 s, else 0.25 s.
-pub(crate) const LONGEST_WAIT: Span = Span(NANOSECONDS, 250_000_000, 150_000_000, 60_000_000_000);
-
-/// For how long an answer of the clock's daemon is believed: 10 to 3,600 s, else 16 s. The least spans the eight seconds without a question
-/// behind a RATE (RFC 5905, 7.4), the second before it, and one for the answer.
-pub(crate) const VALID_FOR: Span = Span(
-    NANOSECONDS,
-    16_000_000_000,
-    10_000_000_000,
-    3_600_000_000_000,
-);
-
-/// The root distance up to which it is believed: 1 unit to 16 s, else 1 s.
-pub(crate) const MOST_ROOT_DISTANCE: Span = Span(SHORT_UNITS, 65_536, 1, 1_048_576);
-
-/// The greatest limit on the age of its reference time, in seconds.
-const MOST_REFERENCE_AGE: u64 = 1_000_000;
-
-/// How far the host's clock may have been set since its answer: 1 ns to 3,600 s, else 0.5 s.
-pub(crate) const MOST_STEP: Span = Span(NANOSECONDS, 500_000_000, 1, 3_600_000_000_000);
 
 // The value of a setting that has to stand there.
 fn required(table: &Table, setting: Setting) -> Reading<&Value>
@@ -155,21 +125,20 @@ pub(crate) fn seconds_at(table: &Table, setting: Setting, span: &Span) -> Readin
     ensures range { IfOk result (λ count. (span.now.2 ≤ count) × (count ≤ span.now.3)) }
     ensures value { result ≡ with_default span.now.1 setting (seconds_of span.now.0 span.now.2 span.now.3) (table_view table.now) }
 {
-    let Span(units, default, least, most) = *span;
     match value_at(table, setting) {
-        None => Ok(default),
-        Some(value) => seconds_of(value, units, least, most).ok_or(Wanted(setting)),
+        None => Ok(span.1),
+        Some(value) => seconds_of(value, span).ok_or(Wanted(setting)),
     }
 }
 
 /// Up to which age of its reference time the clock's daemon is believed, in seconds: a limit that may be left out.
 pub(crate) fn reference_age_at(clock: &Table) -> Reading<Option<u64>>
     ensures range { IfOk result (λ age. IfSome age (λ seconds. (1 ≤ seconds) × (seconds ≤ 1000000))) }
-    ensures value { result ≡ optional Setting.MostReferenceAge age_of (table_view clock.now) }
+    ensures value { result ≡ optional Setting.MostReferenceAge (seconds_of 1 1 1000000) (table_view clock.now) }
 {
     match value_at(clock, Setting::MostReferenceAge) {
         None => Ok(None),
-        Some(value) => match seconds_of(value, 1, 1, MOST_REFERENCE_AGE) {
+        Some(value) => match seconds_of(value, &MOST_REFERENCE_AGE) {
             None => Err(Wanted(Setting::MostReferenceAge)),
             age => Ok(age),
         },
@@ -305,11 +274,12 @@ fn number_of(value: &Value) -> Option<NonZero<u16>>
     NonZero::<u16>::new(whole as u16)
 }
 
-// A number of seconds from `least` to `most` units, where a second has `units` units.
-fn seconds_of(value: &Value, units: u32, least: u64, most: u64) -> Option<u64>
-    ensures value { result ≡ seconds_of units least most (view value.now) }
-    ensures range { IfSome result (λ count. (least ≤ count) × (count ≤ most)) }
+// A number of seconds in a span, in its units.
+fn seconds_of(value: &Value, span: &Span) -> Option<u64>
+    ensures value { result ≡ seconds_of span.now.0 span.now.2 span.now.3 (view value.now) }
+    ensures range { IfSome result (λ count. (span.now.2 ≤ count) × (count ≤ span.now.3)) }
 {
+    let Span(units, _, least, most) = *span;
     let count = units_of(value, units)?;
     if u128::from(least) <= count && count <= u128::from(most) {
         Some(count as u64)

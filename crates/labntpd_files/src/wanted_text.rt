@@ -23,12 +23,10 @@ pub fn write_wanted<W: Write>(
     if let Some(name) = &customer.name {
         write!(out, "name = \"")?;
         for character in name.as_str().chars() {
-            let escape = if matches!(character, '"' | '\\') {
-                "\\"
-            } else {
-                ""
-            };
-            write!(out, "{escape}{character}")?;
+            if matches!(character, '"' | '\\') {
+                write!(out, "\\")?;
+            }
+            write!(out, "{character}")?;
         }
         writeln!(out, "\"")?;
     }

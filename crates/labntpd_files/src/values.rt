@@ -259,11 +259,7 @@ fn whole_of(value: &Value, least: u32, most: u32) -> Option<u32>
         return None;
     };
     let whole = u32::try_from(*whole).ok()?;
-    if least <= whole && whole <= most {
-        Some(whole)
-    } else {
-        None
-    }
+    (least <= whole && whole <= most).then_some(whole)
 }
 
 // A whole number from 1 to 65,535.
@@ -281,11 +277,8 @@ fn seconds_of(value: &Value, span: &Span) -> Option<u64>
 {
     let Span(units, _, least, most) = *span;
     let count = units_of(value, units)?;
-    if u128::from(least) <= count && count <= u128::from(most) {
-        Some(count as u64)
-    } else {
-        None
-    }
+    let count = u64::try_from(count).ok()?;
+    (least <= count && count <= most).then_some(count)
 }
 
 // The units of a number of seconds. A float is rounded; one that is no number, or is below 0, gives 0, and one above 2^64 - 1 gives that:

@@ -99,14 +99,8 @@ pub fn read_wanted(alloc: Global, text: &str) -> Result<Wanted, WantedFault>
     let customers = customers_in(alloc, &document);
     let _ = document.remove(Setting::Reference.key());
     let (keys, lines) = (key_lines(alloc, text, "")?, customer_lines(alloc, text)?);
-    add_faults(
-        &mut found,
-        "",
-        Some(&keys),
-        None,
-        &document,
-        &[Setting::Customer],
-    )?;
+    let top_keys = &[Setting::Customer];
+    add_faults(&mut found, "", Some(&keys), None, &document, top_keys)?;
     add_customers(&mut found, &document, &lines)?;
     found.sort_by_key(|found| found.line)?;
     let customers = match customers {

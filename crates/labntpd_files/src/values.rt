@@ -2,13 +2,13 @@
 ghost use Rattle.std.specs.Prelude.{◌≡◌, ◌≤◌, ◌<◌, ◌^◌, false, None, Ok, Err, option_map, IfOk, IfSome, MatchResult};
 ghost use Rattle.std.specs.Char.{is_control};
 ghost use Rattle.std.specs.List.{list_any};
-ghost use Rattle.std.specs.Option.{ok_or};
+ghost use Rattle.std.specs.Option.{ok_or, option_map_or};
 ghost use Rattle.std.specs.Str.{chars};
 ghost use Rattle.toml.specs.Data.{no_items, get_member, as_bool, as_str, as_table, as_array};
 ghost use Rattle.toml.specs.View.{view, table_view, items_view};
 ghost use Rattle.ntp_admin.specs.Words.{address_in, algorithm_in, reference_in};
 ghost use Rattle.labntpd_files.specs.Keys.{setting_key};
-ghost use Rattle.labntpd_files.specs.declared.fault.ConfigurationFault.TheVariants.{Missing};
+ghost use Rattle.labntpd_files.specs.declared.fault.ConfigurationFault.TheVariants.{Missing, Wanted};
 ghost use Rattle.labntpd_files.specs.Settings.{required, with_default, optional, IsSaid};
 ghost use Rattle.labntpd_files.specs.Values.{endpoint_in, listen_in, path_in, text_as, key_for, is_name, name_in, whole_of, number_of, units_of, seconds_of};
 
@@ -37,6 +37,17 @@ fn required(table: &Table, setting: Setting) -> Reading<&Value>
     ensures { IsSaid (λ value. view value.now) (ok_or (get_member (setting_key setting) (table_view table.now)) (Missing setting)) result }
 {
     value_at(table, setting).ok_or(Missing(setting))
+}
+
+// What was read of a value that may be missing.
+fn if_any<T>(setting: Setting, read: Option<Option<T>>) -> Reading<Option<T>>
+    ensures { result ≡ option_map_or (λ one. ok_or (option_map Some one) (Wanted setting)) read (Ok None) }
+{
+    match read {
+        None => Ok(None),
+        Some(None) => Err(Wanted(setting)),
+        Some(one) => Ok(one),
+    }
 }
 
 // A text.
@@ -136,13 +147,11 @@ pub(crate) fn reference_age_at(clock: &Table) -> Reading<Option<u64>>
     ensures range { IfOk result (λ age. IfSome age (λ seconds. (1 ≤ seconds) × (seconds ≤ 1000000))) }
     ensures value { result ≡ optional Setting.MostReferenceAge (seconds_of 1 1 1000000) (table_view clock.now) }
 {
-    match value_at(clock, Setting::MostReferenceAge) {
-        None => Ok(None),
-        Some(value) => match seconds_of(value, &MOST_REFERENCE_AGE) {
-            None => Err(Wanted(Setting::MostReferenceAge)),
-            age => Ok(age),
-        },
-    }
+    let age = value_at(clock, Setting::MostReferenceAge);
+    if_any(
+        Setting::MostReferenceAge,
+        age.map(|age| seconds_of(age, &MOST_REFERENCE_AGE)),
+    )
 }
 
 /// A key number or a budget, from 1 to 65,535.
@@ -177,13 +186,7 @@ pub(crate) fn address_at(table: &Table, setting: Setting) -> Reading<Address>
 pub(crate) fn optional_address(table: &Table, setting: Setting) -> Reading<Option<Address>>
     ensures { result ≡ optional setting (text_as address_in) (table_view table.now) }
 {
-    match value_at(table, setting) {
-        None => Ok(None),
-        Some(value) => match address_of(value) {
-            None => Err(Wanted(setting)),
-            address => Ok(address),
-        },
-    }
+    if_any(setting, value_at(table, setting).map(address_of))
 }
 
 /// A boolean: false where none stands there.

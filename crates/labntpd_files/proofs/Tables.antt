@@ -4,8 +4,7 @@ use Rattle.std.specs.Prelude.{if◌then◌else◌}
 use Rattle.std.specs.Map.{keys_of}
 use Rattle.toml.specs.View.{members_view}
 use Rattle.toml.proofs.Views.{Entry}
-use Rattle.labntpd_files.specs.declared.setting.Setting.{Setting}
-use Rattle.labntpd_files.specs.Keys.{is_known, unknown_in}
+use Rattle.labntpd_files.specs.{declared.setting.Setting.Setting, Keys.is_known, Keys.unknown_in}
 
 -- the first of some keys that is none of these
 abbrev pub unknown_among : List Setting → List (String Global) → Option (List ℕ)

@@ -1,14 +1,11 @@
 -- Wanted customers read one after another, in file order.
 use Rattle.std.proofs.Common.{◌≡◌, ℕ, ◌+◌, ◌<◌, List, [], ◌∷◌, ◌++◌, length, drop, get_or, Result, Ok, Err, refl, sym, ap, append_assoc, add-one}
-use Rattle.toml.specs.Data.{Members, as_table}
+use Rattle.toml.specs.{Data.Members, Data.as_table, View.view, View.items_view, declared.value.Value.Value}
 use Rattle.std.proofs.Common.{Some}
-use Rattle.toml.specs.View.{view, items_view}
 use Rattle.toml.proofs.Views.{items_view-drop}
-use Rattle.toml.specs.declared.value.Value.{Value}
 use Rattle.ntp_packet.specs.FirstCase.{◌>>=◌}
 use Rattle.labntpd_files.specs.declared.fault.ConfigurationFault.{ConfigurationFault}
-use Rattle.labntpd_files.specs.declared.wanted.WantedCustomer.{WantedCustomer}
-use Rattle.labntpd_files.specs.Wanted.{customer_in, customers_from}
+use Rattle.labntpd_files.specs.{declared.wanted.WantedCustomer.WantedCustomer, Wanted.customer_in, Wanted.customers_from}
 
 -- the customers that are left, behind those that were read
 abbrev pub behind : List WantedCustomer → Result (List WantedCustomer) ConfigurationFault → Result (List WantedCustomer) ConfigurationFault

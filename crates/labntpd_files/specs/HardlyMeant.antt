@@ -1,8 +1,7 @@
 -- What is no fault at a customer, but hardly meant.
 use Rattle.std.specs.Prelude.{ℕ, ◌==◌, ◌&&◌, nat_le, nat_lt, if◌then◌else◌, List, [], ◌∷◌, length, Option, None, Some}
 use Rattle.ntp_service.specs.declared.address.Address.{Address}
-use Rattle.ntp_mac.specs.Key.{SymmetricKey}
-use Rattle.ntp_mac.specs.declared.key.Algorithm.{Algorithm}
+use Rattle.ntp_mac.specs.{Key.SymmetricKey, declared.key.Algorithm.Algorithm}
 use Rattle.ntp_mac.specs.declared.key.Algorithm.TheVariants.{Md5, Sha1}
 use Rattle.labntpd_files.specs.declared.hardly_meant.HardlyMeant.{HardlyMeant}
 use Rattle.labntpd_files.specs.declared.hardly_meant.HardlyMeant.TheVariants as meant

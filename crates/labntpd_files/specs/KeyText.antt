@@ -1,11 +1,8 @@
 -- The digits of a key, and what is wrong with them.
 use Rattle.std.specs.Prelude.{ℕ, suc, ◌==◌, ◌||◌, ◌%◌, Bool, not, nat_lt, if◌then◌else◌, List, [], ◌∷◌, length, Option, None, Some}
-use Rattle.std.specs.Char.{is_ascii_hexdigit}
-use Rattle.std.specs.List.{position_from}
-use Rattle.std.specs.Option.{option_map}
+use Rattle.std.specs.{Char.is_ascii_hexdigit, List.position_from, Option.option_map}
 use Rattle.ntp_admin.specs.Words.{key_in}
-use Rattle.ntp_mac.specs.Key.{SymmetricKey}
-use Rattle.ntp_mac.specs.declared.key.Algorithm.{Algorithm}
+use Rattle.ntp_mac.specs.{Key.SymmetricKey, declared.key.Algorithm.Algorithm}
 use Rattle.labntpd_files.specs.declared.key_text.KeyWrong.{KeyWrong}
 use Rattle.labntpd_files.specs.declared.key_text.KeyWrong.TheVariants as wrong
 

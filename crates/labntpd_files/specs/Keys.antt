@@ -1,12 +1,9 @@
 -- The keys of a configuration file and of a wanted customer.
 use Rattle.std.specs.Prelude.{ℕ, ◌≤◌, Bool, false, List, [], ◌∷◌, codes, Option, Some, None, if◌then◌else◌}
-use Rattle.std.specs.List.{list_any}
-use Rattle.std.specs.Option.{option_map_or}
-use Rattle.std.specs.Str.{bytes_eq}
+use Rattle.std.specs.{List.list_any, Option.option_map_or, Str.bytes_eq}
 use Rattle.toml.specs.Data.{Members, no_members, member, get_member}
 use Rattle.labntpd_files.specs.Values.{says_fixed, wait_span, validity_span, distance_span, age_span, step_span}
-use Rattle.labntpd_files.specs.declared.setting.Setting.{Setting}
-use Rattle.labntpd_files.specs.declared.setting.Kind.{Kind}
+use Rattle.labntpd_files.specs.{declared.setting.Setting.Setting, declared.setting.Kind.Kind}
 use Rattle.labntpd_files.specs.declared.setting.Kind.TheVariants as k
 use Rattle.labntpd_files.specs.declared.setting.Setting.TheVariants as s
 

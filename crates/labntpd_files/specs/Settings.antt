@@ -10,13 +10,11 @@ use Rattle.labntpd_files.specs.declared.configuration.Clock.{Clock}
 use Rattle.labntpd_files.specs.declared.configuration.Clock.TheVariants.{Fixed, Followed}
 use Rattle.labntpd_files.specs.declared.configuration.ClockDaemon.{ClockDaemon}
 use Rattle.labntpd_files.specs.declared.configuration.Configuration.{Configuration}
-use Rattle.labntpd_files.specs.declared.fault.ConfigurationFault.{ConfigurationFault}
+use Rattle.labntpd_files.specs.{declared.fault.ConfigurationFault.ConfigurationFault, declared.setting.Setting.Setting}
+use Rattle.labntpd_files.specs.{declared.setting.Kind.Kind, declared.setting.Span.Span}
 use Rattle.labntpd_files.specs.declared.fault.ConfigurationFault.TheVariants as fault
-use Rattle.labntpd_files.specs.declared.setting.Setting.{Setting}
 use Rattle.labntpd_files.specs.declared.setting.Setting.TheVariants as setting
-use Rattle.labntpd_files.specs.declared.setting.Kind.{Kind}
 use Rattle.labntpd_files.specs.declared.setting.Kind.TheVariants as k
-use Rattle.labntpd_files.specs.declared.setting.Span.{Span}
 use Rattle.labntpd_files.specs.Keys.{setting_key, kind, is_fixed, top_keys, clock_keys, unknown_in}
 use Rattle.labntpd_files.specs.Values.{listen_in, endpoint_in, path_in, name_in, key_for, text_as, number_of, buffer_of, seconds_of, wait_span, validity_span, distance_span, step_span}
 

@@ -1,7 +1,6 @@
 -- Not to be believed: for proofs. Which words are shown: no key of three octets or more.
 use Rattle.std.specs.Prelude.{ℕ, ◌==◌, ◌&&◌, ◌||◌, Bool, nat_le, nat_lt, List, length}
-use Rattle.std.specs.List.{list_all, filter}
-use Rattle.std.specs.Char.{is_ascii_digit, is_ascii_hexdigit}
+use Rattle.std.specs.{List.list_all, List.filter, Char.is_ascii_digit, Char.is_ascii_hexdigit}
 
 -- how many octets are hexadecimal digits, and how many are dots
 abbrev pub digit_count : List ℕ → ℕ

@@ -1,19 +1,14 @@
 -- What the values of a configuration file and of a wanted customer say.
 use Rattle.std.specs.Prelude.{ℕ, Bool, false, pos, ◌^◌, ◌*◌, ◌==◌, ◌&&◌, not, nat_le, nat_lt, if◌then◌else◌, List, length, codes, Option, Some, None}
 use Rattle.std.specs.List.{before_first, after_first, list_any}
-use Rattle.std.specs.Char.{is_control}
-use Rattle.std.specs.Option.{option_map, option_map_or}
-use Rattle.std.specs.Int.{w64}
+use Rattle.std.specs.{Char.is_control, Option.option_map, Option.option_map_or, Int.w64, Str.bytes_eq, Str.chars}
+use Rattle.std.specs.declared.num.NonZeroU16.{NonZeroU16}
 use Rattle.std.specs.Float.Ieee as Ieee
 use Rattle.std.specs.Float.{Float, binary64, float_round, float_to_unsigned}
-use Rattle.std.specs.Str.{bytes_eq, chars}
-use Rattle.std.specs.declared.num.NonZeroU16.{NonZeroU16}
 use Rattle.toml.specs.Data.{Data, integer, float, as_str}
 use Rattle.ntp_admin.specs.Words.{◌>>=◌, address_in, number_in, key_in, non_zero}
-use Rattle.ntp_mac.specs.Key.{SymmetricKey}
-use Rattle.ntp_mac.specs.declared.key.Algorithm.{Algorithm}
-use Rattle.labntpd_files.specs.declared.setting.Span.{Span}
-use Rattle.labntpd_files.specs.declared.configuration.Endpoint.{Endpoint}
+use Rattle.ntp_mac.specs.{Key.SymmetricKey, declared.key.Algorithm.Algorithm}
+use Rattle.labntpd_files.specs.{declared.setting.Span.Span, declared.configuration.Endpoint.Endpoint}
 use Rattle.labntpd_files.specs.declared.configuration.Listen.{Listen}
 use Rattle.labntpd_files.specs.declared.configuration.Listen.TheVariants.{Bound, Inherited}
 

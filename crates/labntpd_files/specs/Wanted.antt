@@ -1,15 +1,12 @@
 -- The file of wanted customers.
 use Rattle.std.specs.Prelude.{ℕ, nat_eq, List, [], ◌∷◌, ◌++◌, map, Option, Some, None, Result, Ok}
-use Rattle.std.specs.List.{IsDistinct, filter_map}
-use Rattle.std.specs.Int.{w32, from_be_bytes}
-use Rattle.std.specs.Int.NonZero.{non_zero_u16_get}
-use Rattle.std.specs.Option.{ok_or, option_map, option_map_or}
+use Rattle.std.specs.{List.IsDistinct, List.filter_map, Int.w32, Int.from_be_bytes, Int.NonZero.non_zero_u16_get}
 use Rattle.std.specs.Result.{result_ok}
+use Rattle.std.specs.Option.{ok_or, option_map, option_map_or}
 use Rattle.toml.specs.Data.{Items, no_items, item, Members, as_array, as_table}
 use Rattle.ntp_packet.specs.FirstCase.{◌>>=◌}
 use Rattle.ntp_admin.specs.Words.{address_in, algorithm_in}
-use Rattle.labntpd_files.specs.declared.wanted.WantedCustomer.{WantedCustomer}
-use Rattle.labntpd_files.specs.declared.wanted.WantedKey.{WantedKey}
+use Rattle.labntpd_files.specs.{declared.wanted.WantedCustomer.WantedCustomer, declared.wanted.WantedKey.WantedKey}
 use Rattle.labntpd_files.specs.declared.fault.ConfigurationFault.{ConfigurationFault}
 use Rattle.labntpd_files.specs.declared.fault.ConfigurationFault.TheVariants as fault
 use Rattle.labntpd_files.specs.declared.setting.Setting.TheVariants as s

@@ -1,7 +1,6 @@
 //! The text of a configuration file to what it says, and what is wrong at a key.
 ghost use Rattle.std.specs.Prelude.{◌≡◌, ◌⊎◌, Some, None, Err, option_map, IfOk, IfErr, OnOk};
-ghost use Rattle.toml.specs.View.{table_view};
-ghost use Rattle.toml.specs.Parse.{parse_document};
+ghost use Rattle.toml.specs.{View.table_view, Parse.parse_document};
 ghost use Rattle.labntpd_files.specs.Settings.{clock_in, daemon_in, settings_in, path_at, unknown_key, wrong_at, HasDaemonRanges, HasClockRanges, HasRanges, IsReadAs, Reads};
 
 use crate::fault::Reading;

@@ -1,7 +1,6 @@
 //! The digits of a key, and what is wrong with them.
 ghost use Rattle.std.specs.Prelude.{◌≡◌, ◌<◌, not, length, IfSome};
-ghost use Rattle.std.specs.Char.{is_ascii_hexdigit};
-ghost use Rattle.std.specs.List.{position_from};
+ghost use Rattle.std.specs.{Char.is_ascii_hexdigit, List.position_from};
 ghost use Rattle.labntpd_files.specs.KeyText.{key_in_file, key_wrong};
 
 use ntp_admin::words;

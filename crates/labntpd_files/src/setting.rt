@@ -1,7 +1,6 @@
 //! The keys of a configuration file and of a file of customers: their names, and what is wanted there.
 ghost use Rattle.std.specs.Prelude.{◌≡◌, option_map};
-ghost use Rattle.toml.specs.Data.{get_member};
-ghost use Rattle.toml.specs.View.{view, table_view};
+ghost use Rattle.toml.specs.{Data.get_member, View.view, View.table_view};
 ghost use Rattle.labntpd_files.specs.Keys.{setting_key, kind, is_fixed, clock_keys, is_known, unknown_in, IsFitting};
 
 use Setting::*;

@@ -1,7 +1,6 @@
 //! What stands at a place, told without the digits of a key, wherever they may stand by mistake.
 ghost use Rattle.std.specs.Prelude.{◌≡◌};
-ghost use Rattle.std.specs.List.{list_all};
-ghost use Rattle.std.specs.Char.{is_ascii_digit};
+ghost use Rattle.std.specs.{List.list_all, Char.is_ascii_digit};
 ghost use Rattle.labntpd_files.specs.Shown.{digit_count, dot_count, is_plain};
 
 use crate::{Setting, key_wrong};

@@ -1,9 +1,6 @@
 //! What stands at a key of a table: a value that is wanted there, or a fault.
 ghost use Rattle.std.specs.Prelude.{◌≡◌, ◌≤◌, ◌<◌, ◌^◌, false, None, Ok, Err, option_map, IfOk, IfSome, MatchResult};
-ghost use Rattle.std.specs.Char.{is_control};
-ghost use Rattle.std.specs.List.{list_any};
-ghost use Rattle.std.specs.Option.{ok_or, option_map_or};
-ghost use Rattle.std.specs.Str.{chars};
+ghost use Rattle.std.specs.{Char.is_control, List.list_any, Option.ok_or, Option.option_map_or, Str.chars};
 ghost use Rattle.toml.specs.Data.{no_items, get_member, as_bool, as_str, as_table, as_array};
 ghost use Rattle.toml.specs.View.{view, table_view, items_view};
 ghost use Rattle.ntp_admin.specs.Words.{address_in, algorithm_in, reference_in};

@@ -1,8 +1,7 @@
 //! What a file of wanted customers says.
 ghost use Rattle.std.specs.Prelude.{◌≡◌, Some, Ok, nat_eq, IfOk, IsTrue};
 ghost use Rattle.std.specs.List.{IsDistinct};
-ghost use Rattle.toml.specs.Parse.{parse_document};
-ghost use Rattle.toml.specs.View.{table_view};
+ghost use Rattle.toml.specs.{Parse.parse_document, View.table_view};
 ghost use Rattle.labntpd_files.specs.Settings.{Reads};
 ghost use Rattle.labntpd_files.specs.Wanted.{key_in, newer_in, customer_in, customers_in, key_numbers, wanted_in, AreDistinct};
 

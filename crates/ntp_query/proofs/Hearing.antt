@@ -3,11 +3,8 @@ use Rattle.std.proofs.Common.{◌≡◌, ℕ, true, false, List, ◌∷◌, Opti
 use Rattle.std.specs.Prelude.{IfSome, unwrap_or, map, if◌then◌else◌}
 use Rattle.std.specs.List.{find}
 use Rattle.ntp_packet.specs.declared.moment.Moment.{Moment}
-use Rattle.ntp_query.specs.declared.asker.Asker.{Asker}
-use Rattle.ntp_query.specs.declared.outcome.Outcome.{Outcome}
-use Rattle.ntp_query.specs.declared.outcome.Outcome.TheVariants.{Silence}
-use Rattle.ntp_query.specs.Asker.{heard_by}
-use Rattle.ntp_query.specs.Outcome.{ends, last_or}
+use Rattle.ntp_query.specs.{declared.asker.Asker.Asker, declared.outcome.Outcome.Outcome}
+use Rattle.ntp_query.specs.{declared.outcome.Outcome.TheVariants.Silence, Asker.heard_by, Outcome.ends, Outcome.last_or}
 use Rattle.ntp_query.specs.Exchange.{Incoming, Comes, IsOver, outcome_of}
 
 -- what outcomes come to behind another one

@@ -1,15 +1,13 @@
 -- The words and the lines of a key file, cut off from the left.
 use Rattle.std.proofs.Common.{◌≡◌, ℕ, ◌+◌, ◌<◌, Bool, true, false, List, [], ◌∷◌, length, Some, None, Bor, Result, Err, ap, ◌∙◌, arith, lit<, length-append}
 use Rattle.std.specs.Prelude.{filter, nat_lt, if◌then◌else◌}
-use Rattle.std.specs.List.{find, enumerate_from}
-use Rattle.std.specs.Option.{ok_or}
+use Rattle.std.specs.{List.find, List.enumerate_from, Option.ok_or}
 use Rattle.std.proofs.lemmas.Str.Pattern.{IsSplitOnceResult, split_parts}
 use Rattle.ntp_packet.specs.FirstCase.{◌>>=◌}
 use Rattle.ntp_mac.specs.Key.{SymmetricKey}
 use Rattle.ntp_admin.specs.Words.{parts}
 use Rattle.ntp_admin.proofs.PublicLaws.{parts-split}
-use Rattle.ntp_query.specs.declared.key_file.KeyFileFault.{KeyFileFault}
-use Rattle.ntp_query.specs.declared.key_file.KeyFileFault.TheVariants.{Missing}
+use Rattle.ntp_query.specs.{declared.key_file.KeyFileFault.KeyFileFault, declared.key_file.KeyFileFault.TheVariants.Missing}
 use Rattle.ntp_query.specs.KeyFile.{words, is_key_line, key_in_line, key_in_lines}
 
 -- whether a word is one

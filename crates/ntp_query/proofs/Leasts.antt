@@ -1,14 +1,10 @@
 -- The answer of least delay among the first outcomes.
 use Rattle.std.proofs.Common.{◌≡◌, ℕ, ◌+◌, ◌<◌, ◌≤◌, List, length, get_or, Option, Some, None, true≢false, ◌⊎◌, inl, inr, sym, ap, ◌∙◌, subst, arith}
 use Rattle.std.specs.Prelude.{◌≤ℤ◌, IfSome, IsSomeAnd, IsNone, Contains}
-use Rattle.std.proofs.lemmas.Bool.{cases_lt}
-use Rattle.std.proofs.lemmas.List.{get_or_default}
-use Rattle.std.proofs.lemmas.Int.{ints}
+use Rattle.std.proofs.{lemmas.Bool.cases_lt, lemmas.List.get_or_default, lemmas.Int.ints}
 use Rattle.ntp_client.specs.Sample.{delay}
-use Rattle.ntp_query.specs.declared.answer.Answer.{Answer}
-use Rattle.ntp_query.specs.declared.outcome.Outcome.{Outcome}
+use Rattle.ntp_query.specs.{declared.answer.Answer.Answer, declared.outcome.Outcome.Outcome, Outcome.answer_in}
 use Rattle.ntp_query.specs.declared.outcome.Outcome.TheVariants.{Answered, Rate, Deny, Nak, Kiss, Refused, Silence, Unreachable}
-use Rattle.ntp_query.specs.Outcome.{answer_in}
 
 -- an answer is among the first outcomes
 abbrev pub AmongFirst : List Outcome → ℕ → Answer → Type 0

@@ -2,12 +2,10 @@
 use Rattle.std.proofs.Common.{◌≡◌, ℕ, List, ◌++◌, ap, ◌∙◌, append_assoc}
 use Rattle.std.specs.Prelude.{ℤ, codes}
 use Rattle.std.specs.Fmt.{decimal}
-use Rattle.ntp_query.specs.declared.answer.Answer.{Answer}
-use Rattle.ntp_query.specs.declared.outcome_text.Least.{Least}
-use Rattle.ntp_query.specs.Nanos.{seconds_text}
+use Rattle.ntp_query.specs.{declared.answer.Answer.Answer, declared.outcome_text.Least.Least, Nanos.seconds_text}
+use Rattle.ntp_query.specs.Check.{performance}
 use Rattle.ntp_query.specs.Answer.{offset_of, delay_of, root_distance_of}
 use Rattle.ntp_query.specs.Text.{trust_text, times_text, figures, least_text}
-use Rattle.ntp_query.specs.Check.{performance}
 
 -- pieces
 six : (a b c d e f : List ℕ) → a ++ (b ++ (c ++ (d ++ (e ++ f)))) ≡ a ++ b ++ c ++ d ++ e ++ f

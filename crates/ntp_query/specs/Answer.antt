@@ -1,10 +1,8 @@
 -- What a reply that gave a sample tells.
 use Rattle.std.specs.Prelude.{Bool, ℤ, pos, ◌+◌, ◌*◌, ◌^◌}
 use Rattle.ntp_packet.specs.Header.{HeaderFields}
-use Rattle.ntp_client.specs.declared.sample.Sample.{Sample}
-use Rattle.ntp_client.specs.Sample.{offset_twice, delay}
-use Rattle.ntp_query.specs.declared.answer.Answer.{Answer}
-use Rattle.ntp_query.specs.Nanos.{nanos_of}
+use Rattle.ntp_client.specs.{declared.sample.Sample.Sample, Sample.offset_twice, Sample.delay}
+use Rattle.ntp_query.specs.{declared.answer.Answer.Answer, Nanos.nanos_of}
 
 -- a sample, whether the reply was signed, and what its header tells of the server's clock (RFC 5905, 7.3)
 abbrev pub answer_of : Sample → Bool → HeaderFields → Answer

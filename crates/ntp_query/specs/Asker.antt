@@ -1,23 +1,16 @@
 -- Who asks a server.
 use Rattle.std.specs.Prelude.{ℕ, List, [], ◌==◌, ◌&&◌, not, nat_lt, length, Bool, false, None, Result, Ok, Err}
-use Rattle.ntp_packet.specs.declared.stamp.Stamp.{Stamp}
-use Rattle.ntp_packet.specs.declared.moment.Moment.{Moment}
-use Rattle.ntp_packet.specs.declared.malformed.Malformed.{Malformed}
+use Rattle.ntp_packet.specs.{declared.stamp.Stamp.Stamp, declared.moment.Moment.Moment, declared.malformed.Malformed.Malformed}
+use Rattle.ntp_packet.specs.{Fresh.fresh, Header.HeaderFields, Header.header_octets, Request.RequestValue}
 use Rattle.ntp_packet.specs.FirstCase.{◌>>◌, provided, decided}
-use Rattle.ntp_packet.specs.Fresh.{fresh}
-use Rattle.ntp_packet.specs.Header.{HeaderFields, header_octets}
-use Rattle.ntp_packet.specs.Request.{RequestValue}
 use Rattle.ntp_mac.specs.Reading.{reading_of}
 use Rattle.ntp_client.specs.declared.taken.Distrust.TheVariants as distrust
 use Rattle.ntp_client.specs.Query.{query_octets, query_fields, next_query, after_query}
 use Rattle.ntp_client.specs.Taking.{is_synchronised, lacks_stamp}
 use Rattle.ntp_query.specs.declared.asker.Asker.{Asker}
 use Rattle.ntp_query.specs.declared.asker.Asker.TheVariants.{Signed, Unsigned}
-use Rattle.ntp_query.specs.declared.outcome.Outcome.{Outcome}
+use Rattle.ntp_query.specs.{declared.outcome.Outcome.Outcome, Answer.answer_of, Outcome.heard, Reference.code_of}
 use Rattle.ntp_query.specs.declared.outcome.Outcome.TheVariants.{Answered, Kiss, Refused}
-use Rattle.ntp_query.specs.Answer.{answer_of}
-use Rattle.ntp_query.specs.Outcome.{heard}
-use Rattle.ntp_query.specs.Reference.{code_of}
 
 -- the octets of the request that departs at a moment: a client's, or a header alone with a fresh transmit stamp (RFC 5905, 7.3 and 8)
 abbrev pub request_octets : Asker → Moment → List ℕ

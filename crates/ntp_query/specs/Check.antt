@@ -1,18 +1,13 @@
 -- Whether a server is well, by limits.
 use Rattle.std.specs.Prelude.{ℕ, Bool, false, ◌==◌, nat_lt, if◌then◌else◌, unsigned_abs, Option, Some, None, ok_or, Result, Ok, Err, List, ◌++◌, codes, []}
-use Rattle.std.specs.Option.{option_map_or}
-use Rattle.std.specs.Fmt.{decimal}
+use Rattle.std.specs.{Option.option_map_or, Fmt.decimal}
 use Rattle.ntp_packet.specs.FirstCase.{◌>>=◌, ◌>>◌, provided, decided}
-use Rattle.ntp_query.specs.declared.answer.Answer.{Answer}
-use Rattle.ntp_query.specs.declared.outcome.Outcome.{Outcome}
-use Rattle.ntp_query.specs.declared.check.Limits.{Limits}
-use Rattle.ntp_query.specs.declared.check.Measure.{Measure}
-use Rattle.ntp_query.specs.declared.check.Measure.TheVariants.{Offset, Stratum, RootDistance}
-use Rattle.ntp_query.specs.declared.check.Cause.{Cause}
-use Rattle.ntp_query.specs.declared.check.Cause.TheVariants.{NoSample, Above, Missing}
-use Rattle.ntp_query.specs.declared.check.Verdict.{Verdict}
-use Rattle.ntp_query.specs.declared.check.Verdict.TheVariants.{Well, Warning, Critical}
+use Rattle.ntp_query.specs.{declared.answer.Answer.Answer, declared.outcome.Outcome.Outcome, declared.check.Limits.Limits}
+use Rattle.ntp_query.specs.{declared.check.Measure.Measure, declared.check.Cause.Cause, declared.check.Verdict.Verdict}
 use Rattle.ntp_query.specs.Nanos.{seconds_text}
+use Rattle.ntp_query.specs.declared.check.Measure.TheVariants.{Offset, Stratum, RootDistance}
+use Rattle.ntp_query.specs.declared.check.Cause.TheVariants.{NoSample, Above, Missing}
+use Rattle.ntp_query.specs.declared.check.Verdict.TheVariants.{Well, Warning, Critical}
 use Rattle.ntp_query.specs.Answer.{offset_of, delay_of, root_distance_of}
 use Rattle.ntp_query.specs.Text.{trust_text, figures, query_outcome_text}
 

@@ -1,10 +1,8 @@
 -- A query: one request, and what comes of it.
 use Rattle.std.specs.Prelude.{◌≡◌, ℕ, Option, IfSome, IsSomeAnd, List, [], ◌∷◌, ◌++◌, map}
 use Rattle.ntp_packet.specs.declared.moment.Moment.{Moment}
-use Rattle.ntp_query.specs.declared.outcome.Outcome.{Outcome}
-use Rattle.ntp_query.specs.declared.asker.Asker.{Asker}
+use Rattle.ntp_query.specs.{declared.outcome.Outcome.Outcome, declared.asker.Asker.Asker, Outcome.outcome_among}
 use Rattle.ntp_query.specs.Asker.{request_octets, after_request, heard_by}
-use Rattle.ntp_query.specs.Outcome.{outcome_among}
 
 -- a datagram that comes, cut to 1,025 octets, and when
 pub record Incoming : Type 0 where

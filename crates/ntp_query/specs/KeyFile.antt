@@ -1,18 +1,14 @@
 -- A key file in the form of chrony.
 use Rattle.std.specs.Prelude.{ℕ, Bool, false, ◌==◌, ◌||◌, ◌&&◌, nat_eq, nat_le, nat_lt, if◌then◌else◌, List, [], ◌∷◌, length, drop, filter, codes, Option, Some, None, Result, Ok, Err}
-use Rattle.std.specs.Option.{option_map_or, ok_or}
+use Rattle.std.specs.{Option.option_map_or, Option.ok_or, Str.bytes_eq, Int.NonZero.non_zero_u16_get}
 use Rattle.std.specs.List.{find, enumerate_from, starts_with}
-use Rattle.std.specs.Str.{bytes_eq}
-use Rattle.std.specs.Int.NonZero.{non_zero_u16_get}
 use Rattle.ntp_packet.specs.FirstCase.{◌>>=◌, map_err}
-use Rattle.ntp_mac.specs.Key.{most_key_octets, SymmetricKey}
-use Rattle.ntp_mac.specs.declared.key.Algorithm.{Algorithm}
+use Rattle.ntp_mac.specs.{Key.most_key_octets, Key.SymmetricKey, declared.key.Algorithm.Algorithm}
 use Rattle.ntp_mac.specs.declared.key.Algorithm.TheVariants.{Md5, Sha1}
 use Rattle.ntp_admin.specs.Words.{parts, number_in, key_in}
-use Rattle.ntp_query.specs.declared.key_file.KeyLineFault.{KeyLineFault}
-use Rattle.ntp_query.specs.declared.key_file.KeyLineFault.TheVariants as line_fault
-use Rattle.ntp_query.specs.declared.key_file.KeyFileFault.{KeyFileFault}
+use Rattle.ntp_query.specs.{declared.key_file.KeyLineFault.KeyLineFault, declared.key_file.KeyFileFault.KeyFileFault}
 use Rattle.ntp_query.specs.declared.key_file.KeyFileFault.TheVariants.{Missing, Line}
+use Rattle.ntp_query.specs.declared.key_file.KeyLineFault.TheVariants as line_fault
 
 -- an octet, with a space in the place of a tabulator or a carriage return
 abbrev pub space_for : ℕ → ℕ

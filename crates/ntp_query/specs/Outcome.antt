@@ -1,18 +1,12 @@
 -- What comes of a query.
 use Rattle.std.specs.Prelude.{ℕ, List, [], ◌∷◌, unwrap_or, Bool, true, false, Option, Some, None}
-use Rattle.std.specs.List.{find}
-use Rattle.std.specs.Option.{option_map_or}
-use Rattle.ntp_packet.specs.declared.moment.Moment.{Moment}
-use Rattle.ntp_packet.specs.Header.{HeaderFields}
-use Rattle.ntp_client.specs.declared.taken.Taken.{Taken}
+use Rattle.std.specs.{List.find, Option.option_map_or}
+use Rattle.ntp_packet.specs.{declared.moment.Moment.Moment, Header.HeaderFields}
+use Rattle.ntp_client.specs.{declared.taken.Taken.Taken, State.ClientState, Taking.taken_for, Taking.header_taken}
 use Rattle.ntp_client.specs.declared.taken.Taken.TheVariants as taken
-use Rattle.ntp_client.specs.State.{ClientState}
-use Rattle.ntp_client.specs.Taking.{taken_for, header_taken}
-use Rattle.ntp_query.specs.declared.outcome.Outcome.{Outcome}
-use Rattle.ntp_query.specs.declared.outcome.Outcome.TheVariants.{Answered, Rate, Deny, Nak, Refused, Silence, Unreachable}
-use Rattle.ntp_query.specs.declared.outcome.Unreached.{Unreached}
-use Rattle.ntp_query.specs.declared.answer.Answer.{Answer}
+use Rattle.ntp_query.specs.{declared.outcome.Outcome.Outcome, declared.outcome.Unreached.Unreached, declared.answer.Answer.Answer}
 use Rattle.ntp_query.specs.Answer.{answer_of}
+use Rattle.ntp_query.specs.declared.outcome.Outcome.TheVariants.{Answered, Rate, Deny, Nak, Refused, Silence, Unreachable}
 
 -- what a client takes octets for, and of a sample what the header that it judged tells, which it has
 abbrev pub heard_as : Taken → Option HeaderFields → Outcome

@@ -1,8 +1,6 @@
 -- Reference identifiers in words.
 use Rattle.std.specs.Prelude.{ℕ, Bool, List, [], length, take, drop, nat_le, ◌==◌, ◌&&◌, if◌then◌else◌, unwrap_or}
-use Rattle.std.specs.Char.{is_ascii_graphic}
-use Rattle.std.specs.List.{list_all, position}
-use Rattle.std.specs.Net.Text.{ipv4_text}
+use Rattle.std.specs.{Char.is_ascii_graphic, List.list_all, List.position, Net.Text.ipv4_text}
 use Rattle.hex.specs.Hex.{encode_lower}
 
 abbrev pub is_zero : ℕ → Bool

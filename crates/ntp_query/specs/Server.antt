@@ -1,8 +1,7 @@
 -- Which server is asked.
 use Rattle.std.specs.Prelude.{ℕ, Bool, ◌||◌, List, length, nat_lt, ◌==◌, if◌then◌else◌, Option, Some, None, is_some}
-use Rattle.std.specs.Char.{is_ascii_alphabetic}
+use Rattle.std.specs.{Char.is_ascii_alphabetic, Int.NonZero.non_zero_u16_get}
 use Rattle.std.specs.List.{list_any, position_or_len, before_first, after_first}
-use Rattle.std.specs.Int.NonZero.{non_zero_u16_get}
 use Rattle.ntp_admin.specs.Words.{◌>>=◌, address_in, number_in}
 use Rattle.ntp_query.specs.declared.server.Server.{Server}
 

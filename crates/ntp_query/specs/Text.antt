@@ -2,14 +2,10 @@
 use Rattle.std.specs.Prelude.{ℕ, ℤ, ◌*◌, ◌^◌, nat_lt, unsigned_abs, List, [], ◌++◌, codes, if◌then◌else◌}
 use Rattle.std.specs.Fmt.{decimal}
 use Rattle.ntp_packet.specs.Unix.{second_nanos}
-use Rattle.ntp_query.specs.declared.answer.Answer.{Answer}
-use Rattle.ntp_query.specs.declared.outcome.Outcome.{Outcome}
+use Rattle.ntp_query.specs.{declared.answer.Answer.Answer, declared.outcome.Outcome.Outcome, declared.outcome_text.Least.Least}
+use Rattle.ntp_query.specs.{Nanos.seconds_text, Reasons.reason_text, Reasons.unreached_text, Reference.reference_text}
 use Rattle.ntp_query.specs.declared.outcome.Outcome.TheVariants.{Answered, Rate, Deny, Nak, Kiss, Refused, Silence, Unreachable}
-use Rattle.ntp_query.specs.declared.outcome_text.Least.{Least}
-use Rattle.ntp_query.specs.Nanos.{seconds_text}
 use Rattle.ntp_query.specs.Answer.{offset_of, delay_of, root_distance_of}
-use Rattle.ntp_query.specs.Reasons.{reason_text, unreached_text}
-use Rattle.ntp_query.specs.Reference.{reference_text}
 
 -- a word for what came of a query
 abbrev pub outcome_word : Outcome → List ℕ

@@ -1,7 +1,6 @@
 //! Reference identifiers in words.
 ghost use Rattle.std.specs.Prelude.{◌≡◌, ◌<◌, ◌≤◌, length, IfSome};
-ghost use Rattle.std.specs.Char.{is_ascii_graphic};
-ghost use Rattle.std.specs.List.{list_all, position};
+ghost use Rattle.std.specs.{Char.is_ascii_graphic, List.list_all, List.position};
 ghost use Rattle.ntp_query.specs.Reference.{is_zero, text_length, code_of};
 
 use std::net::Ipv4Addr;

@@ -1,7 +1,6 @@
 //! Which server is asked.
 ghost use Rattle.std.specs.Prelude.{◌≡◌, Some, None, MatchOption};
-ghost use Rattle.std.specs.Char.{is_ascii_alphabetic};
-ghost use Rattle.std.specs.List.{list_any};
+ghost use Rattle.std.specs.{Char.is_ascii_alphabetic, List.list_any};
 ghost use Rattle.ntp_query.specs.Server.{is_host, host_in, server_in};
 
 use ntp_admin::words;

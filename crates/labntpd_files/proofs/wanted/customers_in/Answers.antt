@@ -1,6 +1,5 @@
 use Rattle.std.proofs.Common.{◌≡◌, Some, ◌∷◌, [], ◌++◌, ◌∙◌, rules, arith}
-use Rattle.toml.specs.Data.{as_table}
-use Rattle.toml.specs.View.{view, table_view}
+use Rattle.toml.specs.{Data.as_table, View.view, View.table_view}
 use Rattle.labntpd_files.proofs.WantedOrder.{behind-next}
 use Rattle.labntpd_files.proofs.wanted.customers_in.Goals as goal
 

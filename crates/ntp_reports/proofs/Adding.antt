@@ -1,6 +1,5 @@
 -- Counts, after some kinds more were counted.
-use Rattle.std.proofs.Common.{◌≡◌, ◌+◌, ◌-◌, ◌^◌, cond, List, [], ◌∷◌, ◌++◌, sym, ap, ◌∙◌, append-nil, arith}
-use Rattle.std.specs.Prelude.{min, count_by, flat_map}
+use Rattle.std.proofs.Common.{◌≡◌, ◌+◌, ◌-◌, List, [], ◌∷◌, ◌++◌, arith}
 use Rattle.std.proofs.{lemmas.Grind.flat_map-append, lemmas.List.Sums.sum_by-append}
 use Rattle.ntp_reply.specs.declared.answers.Answer.{Answer}
 use Rattle.ntp_service.specs.{declared.observation.Arrival.Arrival, declared.observation.Observation.Observation}
@@ -8,34 +7,19 @@ use Rattle.ntp_service.specs.{declared.command.Command.Command, declared.observa
 use Rattle.ntp_service.specs.declared.observation.TurnOutcome.TheVariants.{Answered}
 use Rattle.ntp_service.specs.declared.observation.Observation.TheVariants as observation
 use Rattle.ntp_reports.specs.{declared.kind.Kind.Kind, declared.counts.Counts.Counts, Counted.CountsOneMore, Counted.Adds}
-use Rattle.ntp_reports.specs.Kinds.{is_kind, kinds_of, answer_kind, sending_kinds}
+use Rattle.ntp_reports.specs.Kinds.{kinds_of, answer_kind, sending_kinds}
 
 -- two lists of kinds were counted, one behind the other
 pub Adds-append : (a b c : Counts) (xs ys : List Kind) → Adds a b xs → Adds b c ys → Adds a c (xs ++ ys)
-Adds-append a b c xs ys first then = record {
-  each = λ kind before e.
-      let both = sum_by-append (λ k. cond (is_kind kind k) 1 0) xs ys in
-      let mid = then.each kind (before + count_by (is_kind kind) xs) (first.each kind before e) in
-      omega (arith, both, mid);
-}
+Adds-append a b c xs ys first then = grind (arith, sum_by-append)
 
 -- the kinds of an observation were counted
 pub counted-Adds : (old new : Counts) (more : Observation) → Adds old new (kinds_of more) → CountsOneMore old new more
-counted-Adds old new more adds = record {
-  counted = λ seen are. record {
-    each = λ kind.
-        let kinds : flat_map kinds_of (seen ++ more ∷ []) ≡ flat_map kinds_of seen ++ kinds_of more =
-        flat_map-append kinds_of seen (more ∷ []) ∙ ap (λ ks. flat_map kinds_of seen ++ ks) (append-nil (kinds_of more)) in
-        let all = sum_by-append (λ k. cond (is_kind kind k) 1 0) (flat_map kinds_of seen) (kinds_of more) in
-        adds.each kind (count_by (is_kind kind) (flat_map kinds_of seen)) (are.each kind) ∙ ap (λ n. min n (2 ^ 64 - 1)) (sym all)
-        ∙ ap (λ ks. min (count_by (is_kind kind) ks) (2 ^ 64 - 1)) (sym kinds);
-  };
-}
+counted-Adds old new more adds = grind (arith, flat_map-append, sum_by-append)
 
 -- a command is not counted
 pub counted-command : (old new : Counts) (command : Command) → new ≡ old → CountsOneMore old new (observation.Command command)
-counted-command old new command same =
-    rw same (counted-Adds old old (observation.Command command) (record { each = λ kind before e. let more : before + 0 ≡ before = omega arith in rw more e }))
+counted-command old new command same = grind (arith, counted-Adds)
 
 -- an answer was counted, and then what became of the reply
 pub counted-answer : (old mid new : Counts) (arrival : Arrival) (a : Answer) (sending : Sending) (k : Kind) → k ≡ answer_kind a

@@ -1,5 +1,5 @@
 -- What is reported of a customer after a turn.
-use Rattle.std.proofs.Common.{◌≡◌, ◌==◌, ℕ, Bool, true, false, cond, List, [], ◌∷◌, ◌++◌, Option, Some, None, refl, sym, ap, ◌∙◌, subst, append-nil, arith, reverse}
+use Rattle.std.proofs.Common.{◌≡◌, ◌==◌, ℕ, Bool, true, false, cond, List, [], ◌∷◌, ◌++◌, Option, Some, None, refl, sym, ap, ◌∙◌, subst, arith, reverse, rules}
 use Rattle.std.specs.Prelude.{IfSome, option_map, option_and_then, find, filter_map, slice_get, is_some}
 use Rattle.std.specs.{Option.option_or, Option.option_to_list, List.cons_option, Cmp.Lexicographic.same_text}
 use Rattle.std.proofs.{lemmas.Bool.Decides.nat_tests, lemmas.List.reverse-append, lemmas.List.Elements.filter-append}
@@ -22,8 +22,7 @@ last_signed number seen = slice_get (filter_map (signed_at number) (reverse seen
 -- ---- keys
 
 number-if : (b : Bool) (k m : KeyUse) → m.number ≡ k.number → (cond b m k).number ≡ k.number
-number-if true k m is = is
-number-if false k m is = refl
+number-if b k m e = grind arith
 
 -- a key keeps its number
 used-number : (s : Option Signing) (k : KeyUse) → (used_by s k).number ≡ k.number
@@ -36,31 +35,25 @@ module _ (number : ℕ) where
 
   cond-map : (u : KeyUse → KeyUse) (b : Bool) (k : KeyUse) (rest after : Option KeyUse) → after ≡ option_map u rest
       → cond b (Some (u k)) after ≡ option_map u (cond b (Some k) rest)
-  cond-map u true k rest after is = refl
-  cond-map u false k rest after is = is
+  cond-map u b k rest after e = grind arith
 
   find-keeps : (s : Option Signing) (k : KeyUse) (rest after : Option KeyUse) → after ≡ option_map (used_by s) rest
       → cond (named (used_by s k)) (Some (used_by s k)) after ≡ option_map (used_by s) (cond (named k) (Some k) rest)
-  find-keeps s k rest after is =
-      ap (λ n. cond (n == number) (Some (used_by s k)) after) (used-number s k) ∙ cond-map (used_by s) (named k) k rest after is
+  find-keeps s k rest after is = grind (arith, number, used-number, cond-map)
 
   one-used : (s : Option Signing) (key : Option KeyUse) → find named (option_to_list (option_map (used_by s) key))
       ≡ option_map (used_by s) (find named (option_to_list key))
-  one-used s None = refl
-  one-used s (Some k) = find-keeps s k None None refl
+  one-used s key = grind (arith, find-keeps)
 
   -- the key with a number, after a turn
   key-used : (s : Option Signing) (first second : Option KeyUse)
       → find named (option_to_list (option_map (used_by s) first) ++ option_to_list (option_map (used_by s) second))
       ≡ option_map (used_by s) (find named (option_to_list first ++ option_to_list second))
-  key-used s None second = one-used s second
-  key-used s (Some k) second =
-      find-keeps s k (find named (option_to_list second)) (find named (option_to_list (option_map (used_by s) second))) (one-used s second)
+  key-used s first second = grind (arith, one-used, find-keeps)
 
   found-first : (b : Bool) (k : KeyUse) (rest : Option KeyUse) → named k ≡ b → IfSome rest (λ k. named k ≡ true)
       → IfSome (cond b (Some k) rest) (λ k. named k ≡ true)
-  found-first true k rest is others = is
-  found-first false k rest is others = others
+  found-first b k rest e f = grind arith
 
   -- what is found has the number
   found : (ks : List KeyUse) → IfSome (find named ks) (λ k. named k ≡ true)
@@ -71,32 +64,25 @@ module _ (number : ℕ) where
 
   front : (o : Option Moment) (xs : List Observation) → slice_get (cons_option o (filter_map (signed_at number) xs)) 0
       ≡ option_or o (slice_get (filter_map (signed_at number) xs) 0)
-  front None xs = refl
-  front (Some m) xs = refl
+  front o xs = grind arith
 
   last-more : (x : Observation) (own : List Observation) → last_signed number (own ++ x ∷ []) ≡ option_or (signed_at number x) (last_signed number own)
-  last-more x own =
-      ap (λ xs. slice_get (filter_map (signed_at number) xs) 0) (reverse-append own (x ∷ [])) ∙ front (signed_at number x) (reverse own)
+  last-more x own = grind (arith, number, reverse-append, front)
 
   used-if : (b : Bool) (k : KeyUse) (m : Moment) (last : Option Moment) → k.last_signed ≡ last
       → (cond b (record k { last_signed = Some m }) k).last_signed ≡ option_or (cond b (Some m) None) last
-  used-if true k m last is = refl
-  used-if false k m last is = is
+  used-if b k m last e = grind arith
 
   -- when a key with the number signed last, after a turn
   used-last : (s : Option Signing) (k : KeyUse) (last : Option Moment) → named k ≡ true → k.last_signed ≡ last
       → (used_by s k).last_signed ≡ option_or (option_and_then (λ (s : Signing). cond (number == s.number) (Some s.receipt) None) s) last
-  used-last None k last is before = before
-  used-last (Some s) k last is before =
-      let same : k.number ≡ number = grind (arith, nat_tests) in
-      ap (λ n. (cond (n == s.number) (record k { last_signed = Some s.receipt }) k).last_signed) same ∙ used-if (number == s.number) k s.receipt last before
+  used-last s k last e f = grind (arith, number, nat_tests, used-if)
 
   signs-option : (s : Option Signing) (key : Option KeyUse) (last : Option Moment) → IfSome key (λ k. named k ≡ true)
       → IfSome key (λ k. k.last_signed ≡ last)
       → IfSome (option_map (used_by s) key)
       (λ k. k.last_signed ≡ option_or (option_and_then (λ (s : Signing). cond (number == s.number) (Some s.receipt) None) s) last)
-  signs-option s None last is before = tt
-  signs-option s (Some k) last is before = used-last s k last is before
+  signs-option s key last e f = grind (arith, used-last)
 
   -- a key of a report, after a turn
   signs-own : (outcome : TurnOutcome) (before after : Option CustomerReport) (own : List Observation) → IsTakenInto outcome before after
@@ -133,13 +119,11 @@ some-own outcome (Some before) after (report, is, takes) = ap is_some is
 
 told-own : (address : Address) (x : Observation) (seen : List Observation) → comes_from address x ≡ true
     → told_of address (seen ++ x ∷ []) ≡ told_of address seen ++ x ∷ []
-told-own address x seen is =
-    filter-append (comes_from address) seen (x ∷ []) ∙ ap (λ b. told_of address seen ++ cond b (x ∷ []) []) is
+told-own address x seen is = grind (arith, filter-append)
 
 pub told-other : (address : Address) (x : Observation) (seen : List Observation) → comes_from address x ≡ false
     → told_of address (seen ++ x ∷ []) ≡ told_of address seen
-told-other address x seen is =
-    filter-append (comes_from address) seen (x ∷ []) ∙ ap (λ b. told_of address seen ++ cond b (x ∷ []) []) is ∙ append-nil (told_of address seen)
+told-other address x seen is = search (rules, filter-append)
 
 -- addresses that test as the same are
 same_address : (a b : Address) → address_eq a b ≡ true → a ≡ b
@@ -200,8 +184,7 @@ module _ {A : Type 0} (old new : CustomerCounts A) where
 
     some-by : (address : Address) (b : Bool) → address_eq arrival.address address ≡ b
         → is_some (report_at new address) ≡ is_some (report_at old address)
-    some-by address true is = some-own outcome (report_at old address) (report_at new address) (own address is)
-    some-by address false is = ap is_some (takes.others address is)
+    some-by address b e = search (rules, some-own, old, new, own, takes)
 
     pub some-turn : (address : Address) → is_some (report_at new address) ≡ is_some (report_at old address)
     some-turn address = some-by address (address_eq arrival.address address) refl

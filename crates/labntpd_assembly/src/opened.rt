@@ -1,4 +1,7 @@
 //! What the daemon works with beside its socket: its commands, who answers them, and where the clock's state comes from.
+ghost use Rattle.std.specs.Prelude.{◌≡◌, []};
+ghost use Rattle.ntp_port.specs.Watch.{Watches, longest_of};
+ghost use Rattle.labntpd_files.specs.declared.configuration.Listen.{Listen};
 
 use crate::lines::judged;
 use crate::prepared::FollowedDaemon;
@@ -61,12 +64,16 @@ fn connected(rt: &HostRuntime, address: SocketAddrV4) -> io::Result<UdpSocket> {
     Ok(socket)
 }
 
-/// What is known of the queue of a socket that is opened from now on.
+/// Returns what is known of the queue of a socket that is opened from now on: one that is bound was empty until now; of one that was
+/// handed down nothing is known.
 pub fn watch_from_now(
     rt: &HostRuntime,
     clocks: &HostClocks,
     configuration: &Configuration,
-) -> QueueWatch {
+) -> QueueWatch
+    ensures longest { longest_of result ≡ configuration.longest_wait }
+    ensures handed_down { configuration.listen ≡ Listen.Inherited → Watches result [] }
+{
     let mut watch = QueueWatch::new(configuration.longest_wait);
     let now = clocks.read(&rt);
     // What stands in the queue of a socket that was handed down may have come long ago.

@@ -167,6 +167,7 @@ class Daemon:
         self.commands = file_of("commands", self.head + (commands if isinstance(commands, bytes) else commands.encode()))
         file_of("clock.key", f"{key}\n")
         keys["listen"] = "inherited" if inherited else f"{host}:{self.port}"
+        self.spins = keys.get("spin", False)
         self.words = configured(text.replace("PORT", str(self.port)) or configuration(clock, **keys))
         for name in ("statistics", "answers", "customers"):
             with contextlib.suppress(FileNotFoundError):
@@ -233,7 +234,8 @@ class Daemon:
     def is_quiet(self):
         """What is looked at after each case while it serves."""
         self.leaves_no_descriptor()
-        self.rests()
+        if not self.spins:
+            self.rests()
 
     def leaves_no_descriptor(self):
         """It has no more open than when it began to serve, but for what it opens for a moment."""

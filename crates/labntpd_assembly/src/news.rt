@@ -103,7 +103,7 @@ impl<L: Write + Drop> News<L> {
     /// Logs the start lines.
     pub(crate) fn begin(&mut self, begun: &Begun) {
         let Begun {
-            bound: BoundAt { local, buffer },
+            bound: BoundAt { local, buffer, .. },
             wanted_buffer,
             digest,
             ..

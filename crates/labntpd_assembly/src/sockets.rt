@@ -27,7 +27,7 @@ pub fn open_socket(rt: &HostRuntime, alloc: Global, listen: Listen) -> Result<Ud
     judged(rt, "listen", made)
 }
 
-/// Gives the socket its time limit and its buffers, and tells what is known of it.
+/// Gives the socket its time limit and its buffers, has it block where no wait spins, and returns what is known of it.
 pub fn set_up(
     rt: &HostRuntime,
     socket: &UdpSocket,
@@ -35,6 +35,7 @@ pub fn set_up(
 ) -> Result<BoundAt, Status> {
     let limit = Duration::from_millis(u64::from(LONGEST_WAIT));
     judged(rt, "listen", socket.set_read_timeout(Some(limit)))?;
+    judged(rt, "listen", socket.set_nonblocking(configuration.spin))?;
     // A socket that was handed down keeps its buffers, which may be larger than this process could have them made.
     if matches!(configuration.listen, Listen::Bound(_)) {
         let set = set_receive_buffer(socket, configuration.receive_buffer);
@@ -51,7 +52,11 @@ pub fn set_up(
             {
                 let _ = writeln!(start_lines(rt).warning(), "{several}");
             }
-            Ok(BoundAt { local, buffer })
+            Ok(BoundAt {
+                local,
+                buffer,
+                spins: configuration.spin,
+            })
         }
         SocketAddr::V6(_) => {
             let _ = writeln!(start_lines(rt), "listen: an IPv4 socket is wanted");

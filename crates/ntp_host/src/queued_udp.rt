@@ -4,9 +4,9 @@ ghost use Rattle.std.specs.Prelude.{◌≡◌, ◌-◌, ◌≤◌, ◌<◌, ◌^
 ghost use Rattle.ntp_port.specs.Port.{most_received_octets, failed_calls, CountsReceive, CountsWait, Receives, DropsAny};
 ghost use Rattle.ntp_host.specs.Reading.{middle, ReadsOnce};
 
-use crate::UdpPort;
 use crate::kernel_queue::{most_datagrams, used_octets};
 use crate::socket::{drop_at_once, inet_address, send_at_once};
+use crate::udp_port::{Spin, UdpPort};
 use libc::net::{POLLIN, poll};
 use libc::types::pollfd;
 use ntp_packet::{Moment, Stamp};
@@ -68,6 +68,8 @@ pub struct BoundAt {
     pub local: SocketAddrV4,
     /// The size of its receive buffer, in octets as the kernel counts.
     pub buffer: u32,
+    /// Whether a wait for its datagrams never sleeps, and takes a whole processor. The socket does not block then.
+    pub spins: bool,
 }
 
 /// The calls of a port over one bound UDP socket, which tell of its queue too. It receives by another port over the same socket,
@@ -93,7 +95,7 @@ pub struct QueuedUdp<'a, P: TimedPort, C: Clock + Copy + Drop, R: Files> {
 }
 
 impl<'a, C: Clock + Copy + Drop, R: Files> QueuedUdp<'a, UdpPort<C>, C, R> {
-    /// A port over a bound socket, with the longest wait that the socket's time limit gives. `room` is for what the kernel tells of its
+    /// A port over a bound socket. Where it blocks, its time limit gives the longest wait. `room` is for what the kernel tells of its
     /// queue.
     pub fn new(
         socket: UdpSocket,
@@ -107,7 +109,7 @@ impl<'a, C: Clock + Copy + Drop, R: Files> QueuedUdp<'a, UdpPort<C>, C, R> {
     {
         QueuedUdp {
             descriptor: socket.as_raw_fd(),
-            port: UdpPort::new(socket, clock),
+            port: UdpPort::spinning(socket, clock, bound.spins),
             clock,
             clocks,
             files,
@@ -130,8 +132,17 @@ impl<'a, P: TimedPort, C: Clock + Copy + Drop, R: Files> QueuedUdp<'a, P, C, R> 
     // Waits at this socket and at the one at which something is expected. Whether a datagram may have come here.
     fn has_come(&self, expected: i32) -> bool {
         let mut waits = [readable(self.descriptor), readable(expected)];
+        let longest = if self.bound.spins { 0 } else { LONGEST_WAIT };
+        let spin = Spin::begin(&self.clock, self.bound.spins);
+        let mut count = 0;
+        for _ in 0..u64::MAX {
+            count = poll(&mut waits, i32::from(longest));
+            if count != 0 || spin.is_over(&self.clock) {
+                break;
+            }
+        }
         // Where the call failed, the port waits as it always does.
-        poll(&mut waits, i32::from(LONGEST_WAIT)) < 0 || waits[0].revents != 0
+        count < 0 || waits[0].revents != 0
     }
 }
 

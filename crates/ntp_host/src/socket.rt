@@ -15,8 +15,8 @@ use std::os::fd::AsRawFd;
 /// The first descriptor that a service manager hands down (sd_listen_fds(3)).
 const FIRST_INHERITED: i32 = 3;
 
-/// The socket that a service manager has handed down as descriptor 3 (sd_listen_fds(3)), made to wait for its datagrams: a bound UDP
-/// socket of IPv4. The error says what is wanted, or is the system's.
+/// The socket that a service manager has handed down as descriptor 3 (sd_listen_fds(3)): a bound UDP socket of IPv4. The error says what is
+/// wanted, or is the system's.
 pub fn inherited() -> io::Result<UdpSocket> {
     let socket = unsafe { UdpSocket::from_raw_fd(FIRST_INHERITED) };
     let SocketAddr::V4(local) = socket.local_addr()? else {
@@ -29,7 +29,6 @@ pub fn inherited() -> io::Result<UdpSocket> {
     if local.port() == 0 {
         return Err(unsuited("a socket that is bound is wanted"));
     }
-    socket.set_nonblocking(false)?;
     Ok(socket)
 }
 

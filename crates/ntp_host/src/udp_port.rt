@@ -3,12 +3,13 @@ ghost use Rattle.std.specs.Prelude.{◌≡◌, ◌<◌, ◌^◌};
 ghost use Rattle.ntp_port.specs.Port.{failed_calls};
 
 use crate::clock::moment_now;
+use crate::queued_udp::LONGEST_WAIT;
 use ntp_packet::Moment;
 use ntp_port::{Arrival, DatagramRoom, Port, PortCounts, PortFault, TimedPort};
 use ntp_service::Address;
 use std::io::{self, ErrorKind};
 use std::net::{Ipv4Addr, SocketAddr, SocketAddrV4, UdpSocket};
-use std::time::Clock;
+use std::time::{Clock, Instant};
 
 /// The calls of a port over one bound UDP socket, with a clock. Nothing is known of what it receives.
 ///
@@ -18,6 +19,8 @@ use std::time::Clock;
 pub struct UdpPort<C: Clock + Drop> {
     socket: UdpSocket,
     clock: C,
+    // Whether a receive tries again and again, and never sleeps.
+    spins: bool,
     counts: PortCounts,
     ghost few: { failed_calls counts < 2 ^ 64 },
 }
@@ -30,9 +33,17 @@ impl<C: Clock + Drop> UdpPort<C> {
     pub fn new(socket: UdpSocket, clock: C) -> UdpPort<C>
         ensures { udp_failures result ≡ 0 }
     {
+        UdpPort::spinning(socket, clock, false)
+    }
+
+    /// A port over a bound socket that does not block. Where `spins`, `receive_in_time` never sleeps, and takes `LONGEST_WAIT` at most.
+    pub(crate) fn spinning(socket: UdpSocket, clock: C, spins: bool) -> UdpPort<C>
+        ensures { udp_failures result ≡ 0 }
+    {
         UdpPort {
             socket,
             clock,
+            spins,
             counts: PortCounts::NONE,
         }
     }
@@ -81,28 +92,55 @@ impl<C: Clock + Drop> Port for UdpPort<C> {
 }
 
 impl<C: Clock + Drop> TimedPort for UdpPort<C> {
-    /// Waits for a datagram as long as the socket's time limit allows. A signal ends the wait too.
+    /// Waits for a datagram as long as the socket's time limit allows, or as a spin lasts. A signal ends the wait too.
     fn receive_in_time(
         &mut self,
         datagram: &mut DatagramRoom,
     ) -> Option<Result<Arrival, PortFault>> {
-        let received = self.socket.recv_from(datagram);
-        let receipt = moment_now(&self.clock);
-        match received {
-            Ok((length, SocketAddr::V4(source))) => Some(Ok(Arrival {
-                address: Address(source.ip().octets()),
-                port: source.port(),
-                length,
-                receipt,
-            })),
-            Err(error) if is_no_failure(&error) => {
-                self.counts.idle_waits = self.counts.idle_waits.saturating_add(1);
-                None
+        let spin = Spin::begin(&self.clock, self.spins);
+        for _ in 0..u64::MAX {
+            let received = self.socket.recv_from(datagram);
+            let receipt = moment_now(&self.clock);
+            match received {
+                Ok((length, SocketAddr::V4(source))) => {
+                    return Some(Ok(Arrival {
+                        address: Address(source.ip().octets()),
+                        port: source.port(),
+                        length,
+                        receipt,
+                    }));
+                }
+                Err(error) if is_no_failure(&error) => {
+                    if spin.is_over(&self.clock) {
+                        break;
+                    }
+                }
+                _ => {
+                    self.counts.failed_receives += 1;
+                    return Some(Err(PortFault::Receive));
+                }
             }
-            _ => {
-                self.counts.failed_receives += 1;
-                Some(Err(PortFault::Receive))
-            }
+        }
+        self.counts.idle_waits = self.counts.idle_waits.saturating_add(1);
+        None
+    }
+}
+
+/// A wait that never sleeps: when it began. None where it does sleep, and where the clock cannot be read.
+#[derive(Clone, Copy)]
+pub(crate) struct Spin(Option<Instant>);
+
+impl Spin {
+    /// Begins a wait, which never sleeps where `spins`.
+    pub(crate) fn begin<C: Clock>(clock: &C, spins: bool) -> Spin {
+        Spin(spins.then(|| Instant::now(clock).ok()).flatten())
+    }
+
+    /// Returns whether the wait is over: one that never sleeps after `LONGEST_WAIT`, any other at once.
+    pub(crate) fn is_over<C: Clock>(&self, clock: &C) -> bool {
+        match self.0.map(|begun| begun.elapsed(clock)) {
+            Some(Ok(passed)) => passed.as_millis() >= u128::from(LONGEST_WAIT),
+            _ => true,
         }
     }
 }

@@ -161,6 +161,7 @@ fn known_at_start(wanted_buffer: u32) -> Begun {
         bound: BoundAt {
             local: SocketAddrV4::new(Ipv4Addr::new(192, 0, 2, 1), 123),
             buffer: 0,
+            spins: false,
         },
         wanted_buffer,
         digest: [0; 32],

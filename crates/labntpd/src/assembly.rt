@@ -139,9 +139,9 @@ fn open_observer<'a>(
     let Ok(log) = Log::new(alloc, rt.stderr(), log_form(rt)) else {
         return Err(memory_status(&mut start_lines(rt)));
     };
-    let reports = match &configuration.customers {
-        None => None,
-        Some(_) => Some(CustomerCounts::new(alloc)),
-    };
+    let reports = configuration
+        .customers
+        .as_ref()
+        .map(|_| CustomerCounts::new(alloc));
     Ok(observer(answers, log, clocks, reports))
 }

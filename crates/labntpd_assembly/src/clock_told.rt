@@ -1,6 +1,6 @@
-//! What is told of the source of the clock's state.
+//! The clock's state in the log and in the statistics.
 
-use ntp_client::{ClockAnswer, Doubt, Follower, Reading};
+use ntp_client::{Doubt, Follower, Reading};
 use ntp_host::{ClockSource, FollowedClock};
 use ntp_port::ReferenceSource;
 use ntp_reply::Reference;
@@ -22,7 +22,7 @@ pub struct ClockState {
     pub belief: Belief,
 }
 
-/// A source of a daemon's clock's state that also tells what the log and the statistics tell of it.
+/// A clock source that the log and the statistics can report on.
 pub trait DaemonClock: ReferenceSource {
     /// The state of the clock by a reading of the host's clocks.
     fn state(&self, now: Reading) -> ClockState;
@@ -31,7 +31,7 @@ pub trait DaemonClock: ReferenceSource {
     /// who has not answered yet.
     fn has_answered(&self) -> bool;
 
-    /// What the statistics tell of the clock, where it has this state.
+    /// Returns the gauges of the clock, where it has this state.
     fn gauges(&self, state: &ClockState, now: Reading) -> ClockGauges;
 }
 
@@ -55,52 +55,38 @@ impl<'a, C: Clock + Copy + Drop> DaemonClock for ClockSource<'a, C> {
     }
 
     fn gauges(&self, state: &ClockState, now: Reading) -> ClockGauges {
-        match self {
-            ClockSource::Fixed(_) => state_gauges(state),
-            ClockSource::Followed(followed) => {
-                let follower = followed.follower();
-                let limits = follower.limits();
-                ClockGauges {
-                    age: follower.age(now.ticks),
-                    offset: follower.learned().map(offset_nanos),
-                    reference_age: reference_age_nanos(follower, now),
-                    most_reference_age: limits.most_reference_age.map(seconds_nanos),
-                    root_distance: follower.root_distance_twice(now).map(distance_nanos),
-                    most_root_distance: Some(limits.most_root_distance),
-                    ..state_gauges(state)
-                }
-            }
+        let ClockState { reference, belief } = state;
+        let follower = match self {
+            ClockSource::Fixed(_) => None,
+            ClockSource::Followed(followed) => Some(followed.follower()),
+        };
+        let limits = follower.map(|it| it.limits());
+        ClockGauges {
+            is_synchronised: is_synchronised(reference),
+            age: follower.and_then(|it| it.age(now.ticks)),
+            stratum: reference.stratum(),
+            leap: reference.leap(),
+            root_delay: reference.root_delay(),
+            root_dispersion: reference.root_dispersion(),
+            offset: follower
+                .and_then(|it| it.learned())
+                .map(|answer| half_units_nanos(answer.offset_twice)),
+            reference_age: follower.and_then(|it| reference_age_nanos(it, now)),
+            most_reference_age: limits
+                .and_then(|it| it.most_reference_age)
+                .map(seconds_nanos),
+            root_distance: follower
+                .and_then(|it| it.root_distance_twice(now))
+                .map(distance_nanos),
+            most_root_distance: limits.map(|it| it.most_root_distance),
+            belief: *belief,
         }
-    }
-}
-
-// What is told of a clock's state, where nobody is asked.
-fn state_gauges(state: &ClockState) -> ClockGauges {
-    let ClockState { reference, belief } = state;
-    ClockGauges {
-        is_synchronised: is_synchronised(reference),
-        age: None,
-        stratum: reference.stratum(),
-        leap: reference.leap(),
-        root_delay: reference.root_delay(),
-        root_dispersion: reference.root_dispersion(),
-        offset: None,
-        reference_age: None,
-        most_reference_age: None,
-        root_distance: None,
-        most_root_distance: None,
-        belief: *belief,
     }
 }
 
 /// Whether a state is that of a synchronised clock.
 pub(crate) fn is_synchronised(state: &Reference) -> bool {
     state.leap() != UNSYNCHRONISED_LEAP
-}
-
-// How far the clock's daemon was from the host's clock at an answer, in nanoseconds: the answer has it twice, in units of 2^-32 seconds.
-fn offset_nanos(answer: &ClockAnswer) -> i64 {
-    half_units_nanos(answer.offset_twice)
 }
 
 // How long ago the clock's daemon was set, in nanoseconds, where its last answer says when.
@@ -136,8 +122,8 @@ fn belief_in<C: Clock + Copy + Drop>(followed: &FollowedClock<'_, C>, now: Readi
     match follower.doubt(now) {
         Some(doubt) => Belief::Doubted(doubt),
         None if follower.learned().is_some() => Belief::Believed,
-        // What an answer had told is forgotten where a later one says that its clock is not synchronised, and where none of them shows an
-        // update since the host's clock was set.
+        // An answer is forgotten where a later one says that its clock is not synchronised, and where none shows an update since the host's
+        // clock was set.
         None if followed.is_unsynchronised() => Belief::Doubted(Doubt::Unsynchronised),
         None if followed.has_answered() => Belief::Doubted(Doubt::Set),
         None => Belief::NoAnswer,

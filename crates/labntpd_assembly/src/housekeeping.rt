@@ -6,14 +6,13 @@ ghost use Rattle.ntp_reports.specs.Counted.{count_at};
 use crate::clock_told::DaemonClock;
 use crate::customers_file::CustomersFile;
 use crate::files::{DaemonCommands, FileFault};
-use crate::news::{HourTotals, News};
+use crate::news::News;
 use crate::observers::DaemonObserver;
 use crate::parts::{Begun, Daemon, DaemonPort, Host};
-use crate::receiving::FailedReceives;
 use crate::watched::{Watched, WatchedFiles};
 use labntpd_files::command_line::VERSION;
 use ntp_client::Reading;
-use ntp_host::{HostClocks, KernelDrops, moment_now, replace_file};
+use ntp_host::{HostClocks, KernelDrops, Priority, moment_now, pause, replace_file};
 use ntp_packet::Moment;
 use ntp_reports::{ClockGauges, Counts, CustomerCounts, Gauges, Kind, write_statistics};
 use ntp_server::Reporter;
@@ -42,8 +41,14 @@ const PIECE_PERIOD: u64 = 10_000_000;
 /// How many customers are written after a wait in which no datagram came.
 const IDLE_PIECE: usize = 1_024;
 
-/// After how many seconds a clock's daemon that has not answered yet is told as such.
+/// After how many seconds a clock's daemon that has not answered yet is logged as such.
 const CLOCK_PATIENCE: u64 = 2;
+
+/// How many receives fail one after another, as at a socket that is shut down, before each is followed by a pause.
+const MOST_FAILED_IN_A_ROW: u64 = 100;
+
+/// How long a pause lasts, in thousandths of a second.
+const PAUSE_MILLISECONDS: i32 = 30;
 
 /// How much room the statistics have, in octets.
 const STATISTICS_ROOM: usize = 16_384;
@@ -81,8 +86,8 @@ struct Written<'a, R: Files> {
 // What is due when.
 #[derive(Clone, Copy)]
 struct Times {
-    // When it began, in nanoseconds since 1970.
-    began: u64,
+    // The start, in nanoseconds since 1970.
+    start: u64,
     // What the monotonic clock shows when something is to be done next, in nanoseconds; and when the next piece of the customers file may
     // be written beside datagrams.
     next: u64,
@@ -116,9 +121,8 @@ impl Times {
 #[derive(Clone, Copy)]
 struct Seen {
     files: WatchedFiles,
-    receives: FailedReceives,
-    // How many lines of its log were not written, by the last statistics.
-    log_dropped: u64,
+    // How many receives have failed, one after another.
+    failed_in_a_row: u64,
     // How long a datagram that was taken since the statistics were written last can have waited at most, where that is known.
     queue_wait: Option<u64>,
     // How many receives had failed, and how many stale datagrams had been dropped, when the server was shown last.
@@ -146,14 +150,14 @@ impl<'a, R: Files + Clock, L: Write + Drop> Housekeeping<'a, R, L> {
     ) -> Result<Housekeeping<'a, R, L>, AllocError> {
         let news = News::new(host.alloc, log, begun.form)?;
         let written = written_by(&host, begun.bound.local)?;
-        let began = nanos_since_1970(host.rt);
+        let start = nanos_since_1970(host.rt);
         Ok(Housekeeping {
             host,
             begun,
             news,
             written,
             times: Times {
-                began,
+                start,
                 next: 0,
                 piece: 0,
                 seconds: 0,
@@ -162,8 +166,7 @@ impl<'a, R: Files + Clock, L: Write + Drop> Housekeeping<'a, R, L> {
             },
             seen: Seen {
                 files: WatchedFiles::new(),
-                receives: FailedReceives::new(),
-                log_dropped: 0,
+                failed_in_a_row: 0,
                 queue_wait: Some(0),
                 failed: 0,
                 stale: 0,
@@ -172,27 +175,13 @@ impl<'a, R: Files + Clock, L: Write + Drop> Housekeeping<'a, R, L> {
     }
 
     /// Logs the start lines.
-    pub fn begin(&mut self) {
-        self.news.begin(&self.begun);
+    pub fn say_start(&mut self) {
+        self.news.say_start(&self.begun);
     }
 
-    // Does what is due: something in each turn, and the rest once a second.
-    fn do_what_is_due<P, C, S, O>(&mut self, server: &Daemon<P, C, S, O>, receipt: Option<Moment>)
-    where
-        P: DaemonPort,
-        C: DaemonCommands,
-        S: DaemonClock,
-        O: DaemonObserver,
-    {
-        let ticks = self.host.clocks.ticks.get();
-        self.see_wait(server.port.stale(), server.port.waited(), receipt);
-        if let Some(reports) = server.observer.reports() {
-            self.write_customers(reports, &server.service, ticks, receipt);
-        }
-        if self.times.has_come(self.host.clocks) {
-            self.news.at(self.times.seconds);
-            self.each_second(server);
-        }
+    // Returns whether datagrams can be received.
+    fn is_receiving(&self) -> bool {
+        self.seen.failed_in_a_row < MOST_FAILED_IN_A_ROW
     }
 
     // What is done once a second.
@@ -212,18 +201,20 @@ impl<'a, R: Files + Clock, L: Write + Drop> Housekeeping<'a, R, L> {
         let state = server.reference.state(now);
         // In the first second nothing was written yet.
         if self.times.statistics == 0 {
-            self.news
-                .tell_customers(server.applied, server.observer.customers());
+            let (lines, customers) = (server.applied, server.observer.customers());
+            self.news.say(
+                Priority::Information,
+                format_args!("commands: {lines} lines read, {customers} customers"),
+            );
         }
         // A clock's daemon that was just asked may not have answered yet.
         if server.reference.has_answered() || seconds >= CLOCK_PATIENCE {
-            self.news.tell_clock(&state);
+            self.news.see_clock(&state);
         }
-        self.news.tell_stale(server.port.stale());
-        self.news.tell_receiving(self.seen.receives.is_receiving());
+        self.news.see_stale(server.port.stale());
+        self.news.see_receiving(self.is_receiving());
         self.begin_customers(server.observer.counts().count(Kind::Done));
         self.see_files(server.commands.inner(), server.observer.answers_fault());
-        self.tell_files();
         self.written.drops.look(rt);
         if seconds >= self.times.statistics {
             let notice = if self.times.statistics == 0 {
@@ -239,11 +230,12 @@ impl<'a, R: Files + Clock, L: Write + Drop> Housekeeping<'a, R, L> {
         }
         if seconds >= self.times.totals {
             self.times.totals = seconds.saturating_add(TOTALS_PERIOD);
-            self.tell_totals(server.observer.counts(), server.port.stale());
+            self.say_totals(server.observer.counts(), server.port.stale());
         }
     }
 
-    // Looks at the commands file, and at why answers are not written, if they are not.
+    // Looks at the commands file, and at why answers are not written, if they are not; and logs of each file what is wrong from now on, or
+    // is no longer.
     fn see_files<C: DaemonCommands>(&mut self, commands: &C, unwritten: Option<io::Error>) {
         let fault = commands.fault();
         self.seen
@@ -251,15 +243,11 @@ impl<'a, R: Files + Clock, L: Write + Drop> Housekeeping<'a, R, L> {
             .see(Watched::Commands, fault.map(FileFault::Commands));
         if fault.is_none() {
             let path = self.host.configuration.commands.as_str();
-            self.news.tell_nearly_full(path, commands.octets());
+            self.news.see_nearly_full(path, commands.octets());
         }
         self.seen
             .files
             .see(Watched::Answers, unwritten.map(FileFault::Unwritten));
-    }
-
-    // Logs of each file what is wrong from now on, or is no longer.
-    fn tell_files(&mut self) {
         for which in [
             Watched::Commands,
             Watched::Answers,
@@ -267,7 +255,7 @@ impl<'a, R: Files + Clock, L: Write + Drop> Housekeeping<'a, R, L> {
             Watched::Customers,
         ] {
             let fault = self.seen.files.fault(which);
-            self.news.tell_file(which, fault, self.host.configuration);
+            self.news.see_file(which, fault, self.host.configuration);
         }
     }
 
@@ -284,9 +272,9 @@ impl<'a, R: Files + Clock, L: Write + Drop> Housekeeping<'a, R, L> {
         &mut self,
         reports: &CustomerCounts,
         service: &Service,
-        ticks: u64,
         receipt: Option<Moment>,
     ) {
+        let ticks = self.host.clocks.ticks.get();
         if receipt.is_some() && ticks < self.times.piece {
             return;
         }
@@ -315,27 +303,7 @@ impl<'a, R: Files + Clock, L: Write + Drop> Housekeeping<'a, R, L> {
         S: DaemonClock,
         O: DaemonObserver,
     {
-        let dropped = self.news.take_dropped();
-        self.seen.log_dropped = self.seen.log_dropped.saturating_add(dropped);
-        let gauges = self.gauges(server, clock);
-        self.seen.queue_wait = Some(0);
-        let Some(file) = &mut self.written.statistics else {
-            return;
-        };
-        let written = file.replace(self.host.rt, server.observer.counts(), &gauges);
-        self.seen.files.see(Watched::Statistics, written.err().map(FileFault::Unwritten));
-    }
-
-    // What the statistics tell beside what is counted.
-    fn gauges<'v, P, C, S, O>(&self, server: &Daemon<P, C, S, O>, clock: ClockGauges) -> Gauges<'v>
-    where
-        P: DaemonPort,
-        C: DaemonCommands,
-        S: DaemonClock,
-        O: DaemonObserver,
-    {
-        let logged = server.observer.log_lines_dropped();
-        Gauges {
+        let gauges = Gauges {
             stale: server.port.stale(),
             kernel_drops: self.written.drops.count(),
             receive_buffer: u64::from(self.begun.bound.buffer),
@@ -347,25 +315,37 @@ impl<'a, R: Files + Clock, L: Write + Drop> Housekeeping<'a, R, L> {
             commands_changed: self.seen.files.has_changed(),
             customers: server.observer.customers(),
             clock,
-            log_lines_dropped: self.seen.log_dropped.saturating_add(logged),
+            log_lines_dropped: self
+                .news
+                .log
+                .dropped()
+                .saturating_add(server.observer.log_lines_dropped()),
             files: self.seen.files.gauges(),
-            files_unreadable: self.seen.files.failures(),
-            start_time: self.times.began,
+            files_unreadable: self.seen.files.failures,
+            start_time: self.times.start,
             version: VERSION,
-        }
+        };
+        self.seen.queue_wait = Some(0);
+        let Some(file) = &mut self.written.statistics else {
+            return;
+        };
+        let written = file.replace(self.host.rt, server.observer.counts(), &gauges);
+        self.seen.files.see(Watched::Statistics, written.err().map(FileFault::Unwritten));
     }
 
     // Logs what was done so far.
-    fn tell_totals(&mut self, counts: &Counts, stale: u64) {
-        self.news.tell_totals(&HourTotals {
-            hours: self.times.seconds / TOTALS_PERIOD,
-            time: counts
-                .count(Kind::Basic)
-                .saturating_add(counts.count(Kind::Interleaved)),
-            rate: counts.count(Kind::Rate),
-            stale,
-            drops: self.written.drops.count(),
-        });
+    fn say_totals(&mut self, counts: &Counts, stale: u64) {
+        let hours = self.times.seconds / TOTALS_PERIOD;
+        let (basic, interleaved) = (counts.count(Kind::Basic), counts.count(Kind::Interleaved));
+        let time = basic.saturating_add(interleaved);
+        let rate = counts.count(Kind::Rate);
+        let drops = self.written.drops.count();
+        self.news.say(
+            Priority::Information,
+            format_args!(
+                "totals of {hours} hours: time {time}, rate {rate}, stale {stale}, dropped by the kernel {drops}"
+            ),
+        );
     }
 }
 
@@ -383,9 +363,23 @@ impl<
 
     fn report(&mut self, server: &Daemon<P, C, S, O>, receipt: Option<Moment>) {
         let failed = server.observer.counts().count(Kind::NothingReceived);
-        self.seen.receives.see(failed != self.seen.failed);
-        self.do_what_is_due(server, receipt);
-        self.seen.receives.pause();
+        let in_a_row = self.seen.failed_in_a_row.saturating_add(1);
+        self.seen.failed_in_a_row = if failed == self.seen.failed {
+            0
+        } else {
+            in_a_row
+        };
+        self.see_wait(server.port.stale(), server.port.waited(), receipt);
+        if let Some(reports) = server.observer.reports() {
+            self.write_customers(reports, &server.service, receipt);
+        }
+        if self.times.has_come(self.host.clocks) {
+            self.news.seconds = self.times.seconds;
+            self.each_second(server);
+        }
+        if !self.is_receiving() {
+            pause(PAUSE_MILLISECONDS);
+        }
         self.seen.failed = failed;
         self.seen.stale = server.port.stale();
     }
@@ -421,11 +415,8 @@ fn nanos_since_1970<C: Clock>(clock: &C) -> u64 {
     let Ok(now) = SystemTime::now(clock) else {
         return 0;
     };
-    let Ok(since) = now.duration_since(UNIX_EPOCH) else {
-        return 0;
-    };
-    since
-        .as_secs()
-        .saturating_mul(SECOND_NANOS)
-        .saturating_add(u64::from(since.subsec_nanos()))
+    now.duration_since(UNIX_EPOCH).map_or(
+        0,
+        |since| u64::try_from(since.as_nanos()).unwrap_or(u64::MAX),
+    )
 }

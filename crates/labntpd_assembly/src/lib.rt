@@ -21,7 +21,6 @@ mod opened;
 mod parts;
 mod places;
 mod prepared;
-mod receiving;
 mod serving;
 mod sockets;
 mod watched;

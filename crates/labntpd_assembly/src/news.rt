@@ -1,5 +1,4 @@
-//! What the log tells of a daemon: what is so from now on, where something else was told last. A `LineAllowance` bounds the lines of each
-//! kind a minute.
+//! Log lines for changes of the daemon's state. A `LineAllowance` bounds the lines of each kind in a minute.
 
 use crate::clock_told::{ClockState, is_synchronised};
 use crate::files::{FileFault, have_same_words};
@@ -20,24 +19,9 @@ const MINUTE: u64 = 60;
 /// The leap indicator where no leap second is announced (RFC 5905, 7.3).
 const NO_LEAP: u8 = 0;
 
-/// What was done in some hours.
+// What was logged last.
 #[derive(Clone, Copy)]
-pub(crate) struct HourTotals {
-    /// How many hours.
-    pub hours: u64,
-    /// Replies with the time.
-    pub time: u64,
-    /// Replies with RATE.
-    pub rate: u64,
-    /// Datagrams that were dropped as stale.
-    pub stale: u64,
-    /// Datagrams that the kernel dropped.
-    pub drops: u64,
-}
-
-// What was told last.
-#[derive(Clone, Copy)]
-struct Told {
+struct Logged {
     // The state of the clock, and the leap second that it announces.
     clock: Option<ClockState>,
     leap: u8,
@@ -48,37 +32,33 @@ struct Told {
     files: [Option<FileFault>; 4],
 }
 
-// How many lines of each kind may still be written.
+// The kinds of lines, each with an allowance of its own.
 #[derive(Clone, Copy)]
-struct Allowances {
-    clock: LineAllowance,
-    stale: LineAllowance,
-    files: LineAllowance,
-    receiving: LineAllowance,
+enum LineKind {
+    Clock = 0,
+    Stale = 1,
+    Files = 2,
+    Receiving = 3,
 }
 
 /// The log of a daemon, but for its lines of commands.
 #[derive(Drop)]
 pub(crate) struct News<L: Write + Drop> {
-    log: Log<L>,
-    allowances: Allowances,
-    told: Told,
-    // How many seconds have passed.
-    seconds: u64,
+    pub log: Log<L>,
+    /// How many seconds have passed.
+    pub seconds: u64,
+    allowances: [LineAllowance; 4],
+    logged: Logged,
 }
 
 impl<L: Write + Drop> News<L> {
-    /// Nothing is told yet. The room for a line is taken here.
+    /// Nothing is logged yet. The room for a line is taken here.
     pub(crate) fn new(alloc: Global, log: L, form: LogForm) -> Result<News<L>, AllocError> {
         Ok(News {
             log: Log::new(alloc, log, form)?,
-            allowances: Allowances {
-                clock: LineAllowance::new(),
-                stale: LineAllowance::new(),
-                files: LineAllowance::new(),
-                receiving: LineAllowance::new(),
-            },
-            told: Told {
+            seconds: 0,
+            allowances: [LineAllowance::new(); 4],
+            logged: Logged {
                 clock: None,
                 leap: NO_LEAP,
                 stale: 0,
@@ -86,22 +66,18 @@ impl<L: Write + Drop> News<L> {
                 is_nearly_full: false,
                 files: [None; 4],
             },
-            seconds: 0,
         })
     }
 
-    /// Notes that `seconds` seconds have passed.
-    pub(crate) fn at(&mut self, seconds: u64) {
-        self.seconds = seconds;
-    }
-
-    /// How many lines were not written since this was last asked.
-    pub(crate) fn take_dropped(&mut self) -> u64 {
-        self.log.take_dropped()
+    // Returns whether a line of a kind may be written now, and counts it. Asked only for a line that is due, so that none is counted as held.
+    fn may_say(&mut self, kind: LineKind) -> bool {
+        let minute = self.seconds / MINUTE;
+        let allowance = &mut self.allowances[kind as usize];
+        allowance.has_room(minute) && allowance.ask(minute) != Ask::Hold
     }
 
     /// Logs the start lines.
-    pub(crate) fn begin(&mut self, begun: &Begun) {
+    pub(crate) fn say_start(&mut self, begun: &Begun) {
         let Begun {
             bound: BoundAt { local, buffer, .. },
             wanted_buffer,
@@ -122,42 +98,33 @@ impl<L: Write + Drop> News<L> {
         );
     }
 
-    // Writes a line.
-    fn say<D: Display + Drop>(&mut self, priority: Priority, words: D) {
+    /// Writes a line.
+    pub(crate) fn say<D: Display + Drop>(&mut self, priority: Priority, words: D) {
         let _ = write!(self.log.begin(priority), "{words}");
         self.log.end();
     }
 
-    /// Logs which customers the daemon serves, once it has carried out the lines that stood in its commands file.
-    pub(crate) fn tell_customers(&mut self, lines: u64, customers: u64) {
-        self.say(
-            Priority::Information,
-            format_args!("commands: {lines} lines read, {customers} customers"),
-        );
-    }
-
-    /// Logs whether the clock is synchronised and why, of one that is also its stratum and its reference, where other words were told
+    /// Logs whether the clock is synchronised and why, of one that is also its stratum and its reference, where other words were logged
     /// last; and the leap second that it announces, where that is another.
-    pub(crate) fn tell_clock(&mut self, state: &ClockState) {
-        if !is_told_as(&self.told.clock, state) {
-            self.tell_state(state);
+    pub(crate) fn see_clock(&mut self, state: &ClockState) {
+        if !is_logged_as(&self.logged.clock, state) {
+            self.say_state(state);
         }
         let leap = state.reference.leap();
-        if is_synchronised(&state.reference) && self.told.leap != leap {
-            self.tell_leap(leap);
+        if is_synchronised(&state.reference) && self.logged.leap != leap {
+            self.say_leap(leap);
         }
     }
 
     // Logs the state of the clock.
-    fn tell_state(&mut self, state: &ClockState) {
-        let seconds = self.seconds;
-        if !may_say(&mut self.allowances.clock, seconds) {
+    fn say_state(&mut self, state: &ClockState) {
+        if !self.may_say(LineKind::Clock) {
             return;
         }
-        self.told.clock = Some(*state);
+        self.logged.clock = Some(*state);
         let why = state.belief.word();
         if !is_synchronised(&state.reference) {
-            self.told.leap = NO_LEAP;
+            self.logged.leap = NO_LEAP;
             self.say(
                 Priority::Warning,
                 format_args!("clock: not synchronised: {why}"),
@@ -175,24 +142,20 @@ impl<L: Write + Drop> News<L> {
     }
 
     // Logs which leap second is announced.
-    fn tell_leap(&mut self, leap: u8) {
-        let seconds = self.seconds;
-        if !may_say(&mut self.allowances.clock, seconds) {
+    fn say_leap(&mut self, leap: u8) {
+        if !self.may_say(LineKind::Clock) {
             return;
         }
-        self.told.leap = leap;
+        self.logged.leap = leap;
         self.say(Priority::Notice, format_args!("clock: {}", leap_word(leap)));
     }
 
-    /// Logs that many receives have failed one after another, or that this has ended, where that was not told last.
-    pub(crate) fn tell_receiving(&mut self, is_receiving: bool) {
-        let seconds = self.seconds;
-        if is_receiving == self.told.is_receiving
-            || !may_say(&mut self.allowances.receiving, seconds)
-        {
+    /// Logs that many receives have failed one after another, or that this has ended, where that was not logged last.
+    pub(crate) fn see_receiving(&mut self, is_receiving: bool) {
+        if is_receiving == self.logged.is_receiving || !self.may_say(LineKind::Receiving) {
             return;
         }
-        self.told.is_receiving = is_receiving;
+        self.logged.is_receiving = is_receiving;
         if is_receiving {
             self.say(Priority::Notice, "receive: no call fails any longer");
         } else {
@@ -203,30 +166,28 @@ impl<L: Write + Drop> News<L> {
         }
     }
 
-    /// Logs how many stale datagrams were dropped since it was last told.
-    pub(crate) fn tell_stale(&mut self, stale: u64) {
-        let dropped = stale - self.told.stale.min(stale);
-        let seconds = self.seconds;
-        if dropped == 0 || !may_say(&mut self.allowances.stale, seconds) {
+    /// Logs how many stale datagrams were dropped since that was logged last.
+    pub(crate) fn see_stale(&mut self, stale: u64) {
+        let dropped = stale.saturating_sub(self.logged.stale);
+        if dropped == 0 || !self.may_say(LineKind::Stale) {
             return;
         }
-        self.told.stale = stale;
+        self.logged.stale = stale;
         self.say(
             Priority::Warning,
             format_args!("stale: {dropped} datagrams dropped"),
         );
     }
 
-    /// Logs that the commands file at `path`, which has `octets` octets, is nearly full, where that was not told last.
-    pub(crate) fn tell_nearly_full(&mut self, path: &str, octets: u64) {
+    /// Logs that the commands file at `path`, which has `octets` octets, is nearly full, where that was not logged last.
+    pub(crate) fn see_nearly_full(&mut self, path: &str, octets: u64) {
         let is_nearly_full = is_nearly_full(octets);
-        let seconds = self.seconds;
-        if is_nearly_full == self.told.is_nearly_full
-            || is_nearly_full && !may_say(&mut self.allowances.files, seconds)
+        if is_nearly_full == self.logged.is_nearly_full
+            || is_nearly_full && !self.may_say(LineKind::Files)
         {
             return;
         }
-        self.told.is_nearly_full = is_nearly_full;
+        self.logged.is_nearly_full = is_nearly_full;
         if is_nearly_full {
             let line = self.log.begin(Priority::Warning);
             let _ = write!(line, "commands file {}: ", Escaped(path));
@@ -235,21 +196,18 @@ impl<L: Write + Drop> News<L> {
         }
     }
 
-    /// Logs what is wrong with a file, or that nothing is, where something else was told of it last.
-    pub(crate) fn tell_file(
+    /// Logs what is wrong with a file, or that nothing is, where something else was logged of it last.
+    pub(crate) fn see_file(
         &mut self,
         which: Watched,
         fault: Option<FileFault>,
         configuration: &Configuration,
     ) {
         let place = which as usize;
-        let seconds = self.seconds;
-        if have_same_words(&fault, &self.told.files[place])
-            || !may_say(&mut self.allowances.files, seconds)
-        {
+        if have_same_words(&fault, &self.logged.files[place]) || !self.may_say(LineKind::Files) {
             return;
         }
-        self.told.files[place] = fault;
+        self.logged.files[place] = fault;
         let path = Escaped(which.path_in(configuration));
         let (name, again) = which.words();
         match fault {
@@ -262,45 +220,22 @@ impl<L: Write + Drop> News<L> {
             ),
         }
     }
-
-    /// Logs the totals of some hours.
-    pub(crate) fn tell_totals(&mut self, totals: &HourTotals) {
-        let HourTotals {
-            hours,
-            time,
-            rate,
-            stale,
-            drops,
-        } = *totals;
-        self.say(
-            Priority::Information,
-            format_args!(
-                "totals of {hours} hours: time {time}, rate {rate}, stale {stale}, dropped by the kernel {drops}"
-            ),
-        );
-    }
 }
 
-// Whether a line of a kind may be written now. It is asked for only where it may, so that what is told later is not counted as held.
-fn may_say(allowance: &mut LineAllowance, seconds: u64) -> bool {
-    let minute = seconds / MINUTE;
-    allowance.has_room(minute) && allowance.ask(minute) != Ask::Hold
-}
-
-// Whether a state is told in the same words as the one that was told last.
-fn is_told_as(told: &Option<ClockState>, state: &ClockState) -> bool {
-    let Some(told) = told else {
+// Returns whether a state is logged in the same words as the one that was logged last.
+fn is_logged_as(last: &Option<ClockState>, state: &ClockState) -> bool {
+    let Some(last) = last else {
         return false;
     };
-    let (was, is) = (&told.reference, &state.reference);
+    let (was, is) = (&last.reference, &state.reference);
     if is_synchronised(is) {
         is_synchronised(was) && was.stratum() == is.stratum() && was.id() == is.id()
     } else {
-        !is_synchronised(was) && told.belief == state.belief
+        !is_synchronised(was) && last.belief == state.belief
     }
 }
 
-// What is told of a leap indicator of a synchronised clock (RFC 5905, 7.3).
+// The words for the leap indicator of a synchronised clock (RFC 5905, 7.3).
 fn leap_word(leap: u8) -> &'static str {
     match leap {
         NO_LEAP => "no leap second is announced",

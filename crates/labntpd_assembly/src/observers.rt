@@ -1,4 +1,4 @@
-//! Who is told what a daemon does.
+//! The observers of a daemon.
 ghost use Rattle.std.specs.Prelude.{◌≡◌};
 ghost use Rattle.ntp_reports.specs.declared.counts.Counts.{Counts};
 ghost use Rattle.ntp_reports.specs.Counted.{nothing_counted};
@@ -9,7 +9,7 @@ use ntp_reports::{AnswerLines, Both, Counting, Counts, CustomerCounts};
 use ntp_service::Observer;
 use std::io::{self, Write};
 
-/// Who is told what a daemon does, and tells the log and the statistics of it.
+/// An observer of a daemon that the log and the statistics can report on.
 pub trait DaemonObserver: Observer {
     // What it has counted.
     ghost counted: { Self → Counts };
@@ -44,10 +44,7 @@ impl<'a, L: Write + Drop, W: Write + Drop> DaemonObserver for ReportingObserver<
     }
 
     fn answers_fault(&self) -> Option<io::Error> {
-        match &self.inner.first {
-            Some(answers) => answers.fault(),
-            None => None,
-        }
+        self.inner.first.as_ref()?.fault()
     }
 
     fn customers(&self) -> u64 {

@@ -23,14 +23,12 @@ pub fn answers_file(
     alloc: Global,
     configuration: &Configuration,
 ) -> Result<Option<AnswerLines<LineWriter<File>>>, Status> {
-    match &configuration.answers {
-        None => Ok(None),
-        Some(path) => {
-            let file = judged(rt, path.as_str(), emptied_file(rt, path.as_str()))?;
-            let lines = judged(rt, path.as_str(), LineWriter::new(alloc, file))?;
-            Ok(Some(AnswerLines::new(lines)))
-        }
-    }
+    let Some(path) = &configuration.answers else {
+        return Ok(None);
+    };
+    let file = judged(rt, path.as_str(), emptied_file(rt, path.as_str()))?;
+    let lines = judged(rt, path.as_str(), LineWriter::new(alloc, file))?;
+    Ok(Some(AnswerLines::new(lines)))
 }
 
 /// Where the state of the clock comes from: from the host's clock daemon where one is followed, else it is the fixed one.
@@ -89,8 +87,5 @@ pub fn commands_at<'a, R: Files, F: Write>(
     path: &'a str,
     faults: &mut F,
 ) -> Result<CommandsFile<'a, R>, Status> {
-    match CommandsFile::open(files, path) {
-        Ok(commands) => Ok(commands),
-        Err(error) => Err(failed_status(path, &error, faults)),
-    }
+    CommandsFile::open(files, path).map_err(|error| failed_status(path, &error, faults))
 }

@@ -63,7 +63,13 @@ where
         ensures service { IfOk result (λ assembly. StandsFor {A = Global} assembly.daemon.service []) }
     {
         let service = Service::new(host.alloc);
-        let beside = housekeeping_begun(host, parts.log, begun, out)?;
+        let Ok(mut beside) = Housekeeping::new(host, parts.log, begun) else {
+            return Err(ServeFault::NoMemory);
+        };
+        if writeln!(out, "serving {}", begun.bound.local).is_err() {
+            return Err(ServeFault::NotSaid);
+        }
+        beside.say_start();
         Ok(Assembly {
             daemon: Server {
                 port: parts.port,
@@ -100,21 +106,4 @@ where
     {
         self.daemon.serve_reported(turns, &mut self.beside)
     }
-}
-
-// What is done beside a daemon, which says that it serves.
-fn housekeeping_begun<'a, R: Files + Clock, L: Write + Drop, N: Write>(
-    host: Host<'a, R>,
-    log: L,
-    begun: Begun,
-    out: &mut N,
-) -> Result<Housekeeping<'a, R, L>, ServeFault> {
-    let Ok(mut housekeeping) = Housekeeping::new(host, log, begun) else {
-        return Err(ServeFault::NoMemory);
-    };
-    if writeln!(out, "serving {}", begun.bound.local).is_err() {
-        return Err(ServeFault::NotSaid);
-    }
-    housekeeping.begin();
-    Ok(housekeeping)
 }

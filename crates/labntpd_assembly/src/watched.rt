@@ -1,4 +1,4 @@
-//! The files that can fail while a daemon serves, and what was seen of them.
+//! The files that can fail while a daemon serves.
 
 use crate::files::{FileFault, have_same_words};
 use labntpd_files::Configuration;
@@ -14,7 +14,7 @@ pub(crate) enum Watched {
 }
 
 impl Watched {
-    /// What a file is called, and what is told of it where it is well again.
+    /// Returns the name of a file, and what the log says of one that is well again.
     pub(crate) fn words(self) -> (&'static str, &'static str) {
         match self {
             Watched::Commands => ("commands", "is read again"),
@@ -36,11 +36,12 @@ impl Watched {
     }
 }
 
-/// What was wrong with each file when it was last looked at, and how often one began to fail.
+/// What was wrong with each file at the last look, and how often one began to fail.
 #[derive(Clone, Copy)]
 pub(crate) struct WatchedFiles {
     seen: [Option<FileFault>; 4],
-    failures: u64,
+    /// How often a file began to fail.
+    pub failures: u64,
 }
 
 impl WatchedFiles {
@@ -52,7 +53,7 @@ impl WatchedFiles {
         }
     }
 
-    /// What is wrong with a file was looked for. It is counted where something is wrong that was not before.
+    /// Notes what is wrong with a file. Counts it where that was not so before.
     pub(crate) fn see(&mut self, which: Watched, fault: Option<FileFault>) {
         let place = which as usize;
         if fault.is_some() && !have_same_words(&fault, &self.seen[place]) {
@@ -64,11 +65,6 @@ impl WatchedFiles {
     /// What is wrong with a file, if anything.
     pub(crate) fn fault(&self, which: Watched) -> Option<FileFault> {
         self.seen[which as usize]
-    }
-
-    /// How often a file began to fail.
-    pub(crate) fn failures(&self) -> u64 {
-        self.failures
     }
 
     /// Which files are well.

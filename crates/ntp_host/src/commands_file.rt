@@ -18,9 +18,6 @@ use std::os::unix::fs::MetadataExt;
 /// The octets from which on a commands file is nearly full: 80 in 100 of the most, rounded up.
 const NEARLY_FULL_OCTETS: u64 = 53_687_092;
 
-/// The octets that are read at once where they are not used.
-const READ_OCTETS: usize = 16_384;
-
 /// Returns whether a commands file of `octets` octets is nearly full.
 pub fn is_nearly_full(octets: u64) -> bool {
     octets >= NEARLY_FULL_OCTETS
@@ -85,16 +82,10 @@ impl fmt::Display for CommandsFault {
     }
 }
 
-/// The commands file of a server, which is read on as it grows.
+/// The commands file of a server. It stays open, and is read on where its metadata show that it has grown.
 ///
-/// It stays open. At each look its metadata are asked for, and it is read where it is longer than what was read of it. What stands
-/// at its path is asked for where a tenth of a second has passed, by the receipts of the datagrams, where no datagram waits, and
-/// where the clock was set back.
-///
-/// One that is written anew and becomes longer looks as one that has grown; one that is written anew to the same length within one
-/// tick of the file system's clock looks unchanged.
-///
-/// Nothing is known of what a file has: no clause speaks of it.
+/// The metadata of its path are read where a tenth of a second has passed by the receipts, and where no datagram waits. One that is written
+/// anew and becomes longer looks as one that has grown; one of the same length, within a tick of the file system's clock, as unchanged.
 #[derive(Drop)]
 pub struct CommandsFile<'a, R: Files> {
     files: &'a R,
@@ -120,7 +111,7 @@ impl<'a, R: Files> CommandsFile<'a, R> {
     /// its end. The error is the system's, or says that a regular file is wanted.
     pub fn open(files: &'a R, path: &'a str) -> io::Result<CommandsFile<'a, R>> {
         let (mut file, metadata) = open_regular_file(files, path)?;
-        read_through(&mut file)?;
+        io::copy(&mut (&mut file).take(MOST_COMMANDS_OCTETS), &mut io::sink())?;
         Ok(CommandsFile {
             files,
             path,
@@ -216,17 +207,6 @@ impl<'a, R: Files> CommandsFile<'a, R> {
         }
         Ok(Some(octets))
     }
-}
-
-// Reads as much of a file as is ever read of a commands file, and forgets it.
-fn read_through<F: Read>(file: &mut F) -> io::Result<()> {
-    let mut octets = [0; READ_OCTETS];
-    for _ in 0..MOST_COMMANDS_OCTETS / READ_OCTETS as u64 {
-        if file.read(&mut octets)? == 0 {
-            break;
-        }
-    }
-    Ok(())
 }
 
 impl<'a, R: Files, A: Allocator> CommandsSource<A> for CommandsFile<'a, R> {

@@ -64,14 +64,7 @@ impl<W: Write + Drop> Log<W> {
         self.dropped
     }
 
-    /// How many lines were dropped since this was asked last.
-    pub fn take_dropped(&mut self) -> u64 {
-        let dropped = self.dropped;
-        self.dropped = 0;
-        dropped
-    }
-
-    /// Begins a line of a priority, which is written into what this gives, without its line feed.
+    /// Begins a line of a priority, and returns where its words are written, without a line feed.
     pub fn begin(&mut self, priority: Priority) -> &mut Vec<u8> {
         self.line.clear();
         if self.form == LogForm::WithPriorities {
@@ -89,15 +82,14 @@ impl<W: Write + Drop> Log<W> {
     }
 }
 
-/// What is told on standard error before the daemon serves, for which it waits: faults, and warnings. Each line begins as those of the
-/// log do.
+/// Writes the faults and warnings before the daemon serves to standard error, for which it waits. Each line begins as those of the log do.
 #[derive(Drop)]
 pub struct StartLines<W: Write + Drop> {
     out: W,
     form: LogForm,
-    // How much the line matters that begins next, and whether one was begun.
+    // How much the line matters, and whether a part of it was written.
     priority: Priority,
-    is_begun: bool,
+    is_started: bool,
 }
 
 impl<W: Write + Drop> StartLines<W> {
@@ -107,7 +99,7 @@ impl<W: Write + Drop> StartLines<W> {
             out,
             form,
             priority: Priority::Error,
-            is_begun: false,
+            is_started: false,
         }
     }
 
@@ -120,13 +112,13 @@ impl<W: Write + Drop> StartLines<W> {
 
 impl<W: Write + Drop> Write for StartLines<W> {
     fn write(&mut self, octets: &[u8]) -> io::Result<usize> {
-        if !self.is_begun && self.form == LogForm::WithPriorities {
+        if !self.is_started && self.form == LogForm::WithPriorities {
             write!(self.out, "<{}>", self.priority as u8)?;
         }
-        self.is_begun = true;
+        self.is_started = true;
         let count = self.out.write(octets)?;
         if octets[..count.min(octets.len())].last() == Some(&b'\n') {
-            self.is_begun = false;
+            self.is_started = false;
             self.priority = Priority::Error;
         }
         Ok(count)

@@ -13,12 +13,8 @@ const MILLISECOND: u64 = 4_294_967;
 /// A tenth of a second, in these units.
 pub(crate) const TENTH: u64 = 429_496_729;
 
-/// A source of commands that is asked with a receipt at most once in a thousandth of a second, so that looks at it cost nothing
-/// in between.
-///
-/// Time is told by the receipts of the datagrams. The source is asked where a thousandth of a second or more has passed
-/// since the last receipt with which it was asked, where the clock was set back, and always where no datagram waits. In
-/// between it is not asked, and a look gives nothing: what it would have given comes at a later look.
+/// A source of commands that is asked at most once in a thousandth of a second, by the receipts of the datagrams; and always where no
+/// datagram waits, and where the clock was set back. In between a look costs and gives nothing.
 #[derive(Drop)]
 pub struct EachMillisecond<C> {
     source: C,

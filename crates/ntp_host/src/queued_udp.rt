@@ -23,12 +23,12 @@ use std::time::Clock;
 /// while nobody asks, and so old is what is known of the queue when the program is stopped then.
 pub const LONGEST_WAIT: u16 = 20;
 
-/// What the parts of the daemon tell each other of the host's clocks.
+/// The last reading of the monotonic clock, and the socket whose answer ends a wait: shared by the port and the clock source.
 #[derive(Drop)]
 pub struct HostClocks {
-    /// What the monotonic clock showed when it was last read, in nanoseconds.
+    /// The last reading of the monotonic clock, in nanoseconds.
     pub ticks: Cell<u64>,
-    /// What it showed when the daemon began to serve; nothing while it carries out the lines that stand in its commands file at the start.
+    /// Its reading when the daemon began to serve; None while it carries out the lines that stand in its commands file at the start.
     pub began: Cell<Option<u64>>,
     /// A second socket, at which something is expected that ends a wait for datagrams; -1 where nothing is.
     pub expected: Cell<i32>,
@@ -44,18 +44,14 @@ impl HostClocks {
         }
     }
 
-    /// What the monotonic clock shows, in nanoseconds; what it showed last where it cannot be read.
+    /// Reads the monotonic clock, in nanoseconds; the last reading where it cannot be read.
     pub fn read<C: Clock>(&self, clock: &C) -> u64 {
         let last = self.ticks.get();
         let Ok(since_start) = clock.monotonic() else {
             return last;
         };
-        let nanos = u64::from(since_start.subsec_nanos());
-        let now = since_start
-            .as_secs()
-            .saturating_mul(1_000_000_000)
-            .saturating_add(nanos)
-            .max(last);
+        let nanos = u64::try_from(since_start.as_nanos()).unwrap_or(u64::MAX);
+        let now = nanos.max(last);
         self.ticks.set(now);
         now
     }
@@ -72,8 +68,8 @@ pub struct BoundAt {
     pub spins: bool,
 }
 
-/// The calls of a port over one bound UDP socket, which tell of its queue too. It receives by another port over the same socket,
-/// here `UdpPort`, and hands on what that gives. No reply waits for room in the send buffer: one that would is not sent.
+/// A port over one bound UDP socket and its queue. It receives by another port over the socket, here `UdpPort`, and hands on what that
+/// gives. No reply waits for room in the send buffer: one that would is not sent.
 #[derive(Drop)]
 pub struct QueuedUdp<'a, P: TimedPort, C: Clock + Copy + Drop, R: Files> {
     port: P,

@@ -51,8 +51,8 @@ pub fn new_file<R: Files>(files: &R, path: &str) -> io::Result<R::File> {
         .open(files, path)
 }
 
-/// Writes a file beside the one at a path and gives it that one's name, so that who reads it sees either of them whole.
-/// `beside` is the path at which it is made anew, in the same directory.
+/// Replaces the file at a path by a new one, so that a reader sees either of them whole. `beside` is a path in the same directory, where it
+/// is written first.
 pub fn replace_file<R: Files>(
     files: &R,
     beside: &str,
@@ -64,17 +64,14 @@ pub fn replace_file<R: Files>(
     put_in_place(files, beside, path, written)
 }
 
-/// Gives the file at `beside`, if it was written, the name of the one at a path. Where that fails it is removed, and takes no room.
+/// Renames the file at `beside`, if it was written, to a path. Where that fails it is removed, and takes no room.
 pub fn put_in_place<R: Files>(
     files: &R,
     beside: &str,
     path: &str,
     written: io::Result<()>,
 ) -> io::Result<()> {
-    let put = match written {
-        Ok(()) => fs::rename(files, beside, path),
-        Err(error) => Err(error),
-    };
+    let put = written.and_then(|()| fs::rename(files, beside, path));
     if put.is_err() {
         let _ = fs::remove_file(files, beside);
     }

@@ -5,7 +5,7 @@ use ntp_host::{new_file, put_in_place};
 use ntp_reports::{CustomerCounts, customer_line};
 use ntp_service::Service;
 use std::alloc::{AllocError, Global};
-use std::fs::Files;
+use std::fs::{self, Files};
 use std::io::{self, Write};
 
 /// How many seconds lie between two writings where nothing changed.
@@ -21,14 +21,15 @@ struct Writing<F: Drop> {
     customers: usize,
 }
 
-/// Writes the customers file: it is replaced as a whole when a command was carried out, and each minute. Each piece of it has the
-/// customers as they are when it is written.
+/// Writes the customers file: it is replaced as a whole when a command was carried out or a tool asks, and each minute. Each piece of it has
+/// the customers as they are when it is written.
 #[derive(Drop)]
 pub struct CustomersFile<'a, R: Files> {
     files: &'a R,
     path: &'a str,
-    // The path of the file beside it in which it is written.
+    // The path of the file beside it in which it is written, and that of one with which a tool asks for it.
     beside: String,
+    wanted: String,
     alloc: Global,
     text: Vec<u8>,
     writing: Option<Writing<R::File>>,
@@ -51,6 +52,7 @@ impl<'a, R: Files> CustomersFile<'a, R> {
             files,
             path,
             beside: format!(in alloc; "{path}.new")?,
+            wanted: format!(in alloc; "{path}.wanted")?,
             alloc,
             text: Vec::new(alloc),
             writing: None,
@@ -61,10 +63,11 @@ impl<'a, R: Files> CustomersFile<'a, R> {
         })
     }
 
-    /// Begins to write the file where it is due after `seconds` seconds, or where `done`, the count of commands carried out, has changed.
-    /// Gives what is wrong with it by now, if anything.
+    /// Opens the file to write it, where it is due after `seconds` seconds, where `done`, the count of commands carried out, has changed, or
+    /// where a tool asks. Returns what is wrong with it by now, if anything.
     pub fn begin_in_time(&mut self, seconds: u64, done: u64) -> Option<FileFault> {
-        if self.writing.is_some() || (seconds < self.due && done == self.done) {
+        let is_due = seconds >= self.due || done != self.done;
+        if self.writing.is_some() || !(is_due || self.is_wanted()) {
             return self.fault;
         }
         self.begun = seconds;
@@ -95,6 +98,11 @@ impl<'a, R: Files> CustomersFile<'a, R> {
             Ok(()) if counts.has_missed() => self.fault = Some(FileFault::Incomplete),
             Ok(()) => self.fault = None,
         }
+    }
+
+    // Removes the file with which a tool asks. Returns whether it was there.
+    fn is_wanted(&self) -> bool {
+        fs::remove_file(self.files, self.wanted.as_str()).is_ok()
     }
 
     // The writing that was begun last has failed.

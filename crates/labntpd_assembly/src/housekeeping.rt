@@ -212,7 +212,8 @@ impl<'a, R: Files + Clock, L: Write + Drop> Housekeeping<'a, R, L> {
             self.news.see_clock(&state);
         }
         self.news.see_stale(server.port.stale());
-        self.news.see_receiving(self.is_receiving());
+        let is_receiving = self.is_receiving();
+        self.news.see_receiving(is_receiving);
         self.begin_customers(server.observer.counts().count(Kind::Done));
         self.see_files(server.commands.inner(), server.observer.answers_fault());
         self.written.drops.look(rt);

@@ -69,8 +69,8 @@ pub fn watch_from_now(
     clocks: &HostClocks,
     configuration: &Configuration,
 ) -> QueueWatch
-    ensures longest { longest_of result ≡ configuration.longest_wait }
-    ensures handed_down { configuration.listen ≡ Listen.Inherited → Watches result [] }
+    ensures longest { longest_of result ≡ configuration.now.longest_wait }
+    ensures handed_down { configuration.now.listen ≡ Listen.Inherited → Watches result [] }
 {
     let mut watch = QueueWatch::new(configuration.longest_wait);
     let now = clocks.read(&rt);

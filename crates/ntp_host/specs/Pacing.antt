@@ -1,5 +1,5 @@
 -- When it is time to ask again.
-use Rattle.std.specs.Prelude.{ℕ, ◌+◌, ◌-◌, ◌%◌, ◌^◌, Bool, true, nat_le, Option, None, Some, List, [], ◌∷◌, ◌++◌, drop, if◌then◌else◌}
+use Rattle.std.specs.Prelude.{ℕ, ◌+◌, ◌-◌, ◌%◌, ◌^◌, Bool, true, ◌==◌, ◌||◌, nat_le, Option, None, Some, List, [], ◌∷◌, ◌++◌, drop, if◌then◌else◌}
 use Rattle.ntp_packet.specs.declared.stamp.Stamp.{Stamp}
 use Rattle.ntp_packet.specs.declared.moment.Moment.{Moment}
 use Rattle.ntp_port.specs.Sequence.{firsts}
@@ -14,9 +14,9 @@ abbrev pub units_since : Stamp → Stamp → ℕ
 units_since before now = (now.0 + (2 ^ 64 - before.0)) % 2 ^ 64
 
 -- whether it is time to ask again, by the receipt with which it was asked last: where no datagram waits, where it was never asked with a
--- receipt, and where `period` units or more lie between the receipts
+-- receipt, where the clock could not be read, which gives 0, and where `period` units or more lie between the receipts
 abbrev pub is_due : Option Stamp → Option Moment → ℕ → Bool
-is_due (Some asked) (Some receipt) period = nat_le period (units_since asked receipt.stamp)
+is_due (Some asked) (Some receipt) period = (receipt.stamp.0 == 0) || nat_le period (units_since asked receipt.stamp)
 is_due asked receipt period = true
 
 -- the receipt of the last ask that had one, after one more ask: an ask without a datagram has none

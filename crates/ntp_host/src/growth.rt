@@ -2,7 +2,6 @@
 ghost use Rattle.std.specs.Prelude.{◌≡◌, ◌≢◌, ◌≤◌, IsTrue, option_map};
 ghost use Rattle.ntp_host.specs.Growth.{HasStayed};
 
-use crate::pacing::is_due;
 use ntp_packet::{Moment, Stamp};
 use std::fs::Metadata;
 use std::os::unix::fs::MetadataExt;
@@ -84,7 +83,7 @@ impl Growth {
             return false;
         }
         match (receipt, self.since) {
-            (Some(_), Some(_)) => is_due(self.since, receipt, LONGEST_WRITE),
+            (Some(receipt), Some(since)) => receipt.stamp.0.wrapping_sub(since.0) >= LONGEST_WRITE,
             (Some(receipt), None) => {
                 self.since = Some(receipt.stamp);
                 false

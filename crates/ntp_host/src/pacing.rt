@@ -64,12 +64,15 @@ impl<C: CommandsSource<A>, A: Allocator> CommandsSource<A> for EachMillisecond<C
     }
 }
 
-/// Whether it is time to ask again for what was last asked for then: where a datagram has come, by its receipt.
+/// Returns whether it is time to ask again for what was last asked for then: where a datagram has come, by its receipt, and always where
+/// the clock could not be read.
 pub(crate) fn is_due(asked: Option<Stamp>, receipt: Option<Moment>, period: u64) -> bool
     ensures { result ≡ is_due asked receipt period }
 {
     match (asked, receipt) {
-        (Some(asked), Some(receipt)) => receipt.stamp.0.wrapping_sub(asked.0) >= period,
+        (Some(asked), Some(receipt)) => {
+            receipt.stamp.0 == 0 || receipt.stamp.0.wrapping_sub(asked.0) >= period
+        }
         _ => true,
     }
 }

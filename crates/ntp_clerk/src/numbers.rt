@@ -4,14 +4,14 @@ ghost use Rattle.ntp_clerk.specs.Numbers.{IsLowestFree, IsNextFree};
 
 use std::num::NonZero;
 
-/// The lowest key number that was never used; once all 65,535 were, the lowest that is not held. Nothing where all are.
+/// The lowest key number that was never used; once all were, or it is held, the lowest that is not held. Nothing where all are.
 pub fn next_free(used: &[u16], held: &[u16]) -> Option<NonZero<u16>>
     ensures next { IfSome result (λ number. IsNextFree used.now held.now number.value) }
     ensures none { IfNone result ((number : ℕ) → 1 ≤ number → number ≤ 65535 → Contains held.now number) }
 {
     match lowest_free(used) {
-        Some(number) => Some(number),
-        None => lowest_free(held),
+        Some(number) if !held.contains(&number.get()) => Some(number),
+        _ => lowest_free(held),
     }
 }
 

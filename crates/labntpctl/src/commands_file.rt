@@ -219,15 +219,18 @@ impl<'a> HeldFile<'a> {
         Ok((held, Loaded::of(desk.alloc(), &octets)?))
     }
 
-    /// Appends text. Where that fails, cuts the file to what was read, unless somebody else wrote to it meanwhile. If labntpd read
-    /// a whole line of it before, it says that the file is shorter, and reads no more. The file gets its time back, by which
-    /// labntpd would take it for one that was written anew.
+    /// Appends text. Where that fails, leaves the comments with which the text begins, as far as they were written: labntpd reads no
+    /// more of a file with fewer lines than it read. A file that is as long as before gets its time back.
     pub fn append(&mut self, text: &str) -> io::Result<()> {
         let modified = self.file.metadata()?.modified()?;
         let mut written: usize = 0;
         let done = write_counted(&mut self.file, text.as_bytes(), &mut written);
-        if done.is_err() && self.has_grown_by(written) && self.file.set_len(self.octets).is_ok() {
-            let _ = self.file.set_modified(modified);
+        if done.is_err() && self.has_grown_by(written) {
+            let kept = comment_octets(text.as_bytes().get(..written).unwrap_or(&[])) as u64;
+            let is_cut = self.file.set_len(self.octets.saturating_add(kept)).is_ok();
+            if is_cut && kept == 0 {
+                let _ = self.file.set_modified(modified);
+            }
         }
         done
     }
@@ -249,6 +252,13 @@ impl<'a> HeldFile<'a> {
     pub fn is_at_its_path(&self) -> bool {
         is_at(self.rt, &self.file, self.path).unwrap_or(false)
     }
+}
+
+// Returns how many octets the complete comments have with which these octets begin.
+fn comment_octets(octets: &[u8]) -> usize {
+    let lines = octets.split_inclusive(|octet| *octet == b'\n');
+    let comments = lines.take_while(|line| line.starts_with(b"#") && line.ends_with(b"\n"));
+    comments.fold(0, |count: usize, line| count.saturating_add(line.len()))
 }
 
 // Opens the file at a path, and holds it.

@@ -49,7 +49,7 @@ def keys():
     found = {KEY, KEY[::-1]}
     for name in os.listdir(judging.ROOM):
         if name.startswith("commands") | name.endswith((".keys", ".toml")) and os.path.isfile(room(name)):
-            found |= {*re.findall(r"\b[0-9a-f]{40}\b", read(name))}
+            found |= {*re.findall(r"\b[0-9a-f]{40}\b", read(name)), *(it.lower() for it in re.findall(r"ASCII:(\S{8,})", read(name)))}
     return found
 
 

@@ -10,12 +10,6 @@ use std::fmt::{self, Display};
 use std::fs;
 use std::io::{self, ErrorKind, Read, Seek, SeekFrom, Write};
 
-/// The answer to a line that was carried out.
-const GOOD: &str = "done";
-
-/// The form of the time in a record (RFC 3339).
-const RECORD_FORM: &str = "%Y-%m-%dT%H:%M:%SZ";
-
 /// The milliseconds between two looks at the answers.
 const LOOKED_EACH: u64 = 20;
 
@@ -62,8 +56,7 @@ pub struct Addition {
 }
 
 impl Addition {
-    /// Writes a record, these lines of names and these commands as lines that follow those of the commands file, once it has room
-    /// for them.
+    /// Writes a record, lines of names and commands as the lines that follow in the commands file, once it has room for them.
     pub fn new(
         clerk: &Clerk<'_>,
         loaded: &Loaded,
@@ -73,7 +66,7 @@ impl Addition {
         let (desk, alloc) = (clerk.desk, clerk.desk.alloc());
         let (names, count) = (name_lines.lines().count(), commands.len());
         let before = loaded.lines.saturating_add(1).saturating_add(names as u64);
-        let (time, user) = (desk.time(RECORD_FORM)?, desk.user()?);
+        let (time, user) = (desk.time("%Y-%m-%dT%H:%M:%SZ")?, desk.user()?);
         let mut text = record_line(alloc, time.as_str(), user.as_str())?;
         text.push_str(name_lines.as_str())?;
         for command in commands.iter() {
@@ -130,8 +123,7 @@ fn shown(alloc: Global, command: &Command) -> Result<String, AllocError> {
     String::from_str(alloc, line.as_str().trim_end())
 }
 
-/// Appends lines, prints them, waits for their answers, and prints these. Removes the customer's new file where its command is
-/// not appended or is refused.
+/// Appends lines, and prints them and their answers. Removes the customer's new file where its command is not done.
 pub fn append(
     clerk: &Clerk<'_>,
     mut held: HeldFile<'_>,
@@ -283,8 +275,7 @@ impl<'a> Answers<'a> {
         Ok(answers)
     }
 
-    // Waits until each file answers each line, and returns what is not `done`, each line once. Returns nothing where it takes
-    // too long, and where no file is named.
+    // Waits until each file answers each line, and returns what is not `done`; nothing where that takes too long.
     fn wait(&self) -> Result<Option<Vec<(u64, String)>>, Stop> {
         if self.files.is_empty() {
             return Ok(None);
@@ -343,7 +334,7 @@ impl<'a> Answers<'a> {
                 continue;
             }
             answered.count = answered.count.saturating_add(1);
-            if answer != GOOD {
+            if answer != "done" {
                 let answer = String::from_str(desk.alloc(), answer)?;
                 answered.bad.push((number, answer))?;
             }

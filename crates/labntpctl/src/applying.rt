@@ -54,13 +54,8 @@ pub fn apply(clerk: &Clerk<'_>, application: &Application<'_>) -> Result<(), Sto
     let addition = Addition::new(clerk, &loaded, changes.names, commands)?;
     let answers = Answers::new(clerk, application.patience, addition.numbers)?;
     if application.asks {
-        match (addition.commands.len(), addition.names) {
-            (commands, 0) => desk.ask(format_args!("apply {commands} commands? [y/N] "))?,
-            (0, names) => desk.ask(format_args!("apply {names} names? [y/N] "))?,
-            (commands, names) => desk.ask(format_args!(
-                "apply {commands} commands and {names} names? [y/N] "
-            ))?,
-        }
+        let (commands, names) = (addition.commands.len(), addition.names);
+        desk.ask(format_args!("apply {commands} commands and {names} names? [y/N] "))?;
     }
     append(clerk, held, &addition, &answers)
 }
@@ -111,10 +106,8 @@ fn commands_for(
 ) -> Result<Vec<Command>, Stop> {
     let mut targets = Vec::new(desk.alloc());
     for customer in wanted {
-        targets.push(Wanted {
-            address: customer.address,
-            terms: terms_for(customer),
-        })?;
+        let (address, terms) = (customer.address, terms_for(customer));
+        targets.push(Wanted { address, terms })?;
     }
     let commands = commands_to(desk.alloc(), &mut loaded.service, &targets);
     or_unled(desk, commands)
@@ -171,8 +164,7 @@ fn changes_for(
 }
 
 impl Changes {
-    // Adds the changes of a wanted customer, who has these terms before, if it is enrolled, and this name. Without another name it
-    // keeps that one.
+    // Adds the changes of a wanted customer, who has these terms before, if it is enrolled, and keeps this name without another.
     fn add(
         &mut self,
         alloc: Global,
@@ -192,7 +184,7 @@ impl Changes {
             if old_budget != budget {
                 writeln!(self.shown, "~ {address} budget {old_budget} -> {budget}")?;
             }
-            if !have_same_keys(&before, &after) {
+            if (before.older, before.newer) != (after.older, after.newer) {
                 let is_shown = !old_keys.are_alike(&keys);
                 let how = if is_shown { "" } else { ", with other octets" };
                 writeln!(self.shown, "~ {address} {old_keys} -> {keys}{how}")?;
@@ -213,12 +205,6 @@ impl Changes {
         }
         Ok(())
     }
-}
-
-// Returns whether two enrolments have one set of keys under one set of numbers.
-fn have_same_keys(one: &Terms, other: &Terms) -> bool {
-    let parts = |given: GivenKey| (given.number, given.key);
-    parts(one.older) == parts(other.older) && one.newer.map(parts) == other.newer.map(parts)
 }
 
 /// Writes the customers of the commands file with their names into a new file, or to standard output where none is named.

@@ -1,39 +1,33 @@
 //! Changes one customer, and writes the file for one who gets a key.
 
 use crate::appending::{Addition, Answers, Patience, append};
+use crate::applying::or_unled;
 use crate::commands_file::{HeldFile, Loaded};
 use crate::customers::customer_lines;
-use crate::desk::{Clerk, NTP_PORT, Stop};
+use crate::desk::{Clerk, Desk, NTP_PORT, Stop};
 use crate::differing::judge_daemon;
 use crate::replacing::write_new;
 use crate::shown::{Called, Dotted, SIGNED_FORM, date, signed_date, whole_seconds};
-use ntp_admin::Command;
+use labntpd_assembly::SeveralAddresses;
+use labntpd_files::refusal_meaning;
+use ntp_admin::{Command, Escaped, words};
 use ntp_clerk::{
-    Grant, NEW_KEY_OCTETS, NewKey, Terms, customer_text, customers_of, name_line, next_free,
-    terms_of,
+    GivenKey, Grant, Wanted, commands_to, customer_text, customers_of, key_named, name_line,
+    next_free, rollover, terms_of,
 };
 use ntp_mac::Algorithm;
-use ntp_query::Server;
+use ntp_query::{KeyFileFault, KeyLineFault, Server, key_in_text, spaced};
 use ntp_service::{Address, LineOutcome, Refusal};
 use std::alloc::{AllocError, Global};
 use std::fmt::Write as _;
+use std::io::Write as _;
 use std::num::NonZero;
-use std::random::RandomSource;
-
-/// The seconds for which uses are to be counted before a key goes.
-const DAY: u64 = 86_400;
 
 /// A change that is asked for.
 #[derive(Clone, Copy)]
 pub struct ChangeRequest<'a> {
     pub address: Address,
     pub change: Change<'a>,
-    /// The algorithm of the key that the customer gets, if it gets one.
-    pub algorithm: Algorithm,
-    /// The path of the customer's new file, if it is named.
-    pub output: Option<&'a str>,
-    /// The server that the customer asks, if it is named.
-    pub server: Option<Server>,
     pub patience: Patience<'a>,
     /// Whether it only shows the line.
     pub dry_run: bool,
@@ -42,19 +36,20 @@ pub struct ChangeRequest<'a> {
 /// What becomes of a customer.
 #[derive(Clone, Copy)]
 pub enum Change<'a> {
-    /// Enrols it with a new key.
+    /// Enrols it with a key.
     Enrol {
         /// The signed queries that get the time in a window.
         budget: NonZero<u16>,
         /// Its name, if it gets one.
         name: Option<&'a str>,
+        key: KeyRequest<'a>,
     },
     /// Ends its enrolment.
     Revoke,
     /// Gives it this budget.
     Budget(NonZero<u16>),
-    /// Gives it a new key beside the one that it has.
-    Rollover,
+    /// Gives it a key beside the one that it has.
+    Rollover(KeyRequest<'a>),
     /// Gives it this name.
     Name(&'a str),
     /// Takes the key of this number away; the older one where no number is named.
@@ -63,29 +58,39 @@ pub enum Change<'a> {
         /// Whether it asks the clerk first.
         asks: bool,
     },
+    /// Gives its keys, its budget and its name to this address in its place.
+    Move(Address),
+}
+
+/// The key that a customer gets, and the file that it gets with it.
+#[derive(Clone, Copy)]
+pub struct KeyRequest<'a> {
+    /// What a random key is for, and whether it has characters alone.
+    pub algorithm: Algorithm,
+    pub is_text: bool,
+    /// The path of a key file of chrony that has the key, and its number there; the only one where none is named.
+    pub key_file: Option<&'a str>,
+    pub number: Option<NonZero<u16>>,
+    /// The path of the customer's new file, if it is named.
+    pub output: Option<&'a str>,
+    /// The server that the customer asks, if it is named.
+    pub server: Option<Server>,
 }
 
 /// Makes a change, and prints what came of it.
 pub fn make_change(clerk: &Clerk<'_>, request: &ChangeRequest<'_>) -> Result<(), Stop> {
     let desk = clerk.desk;
-    // A key of zeros, until it is written.
-    let mut new = NewKey {
-        algorithm: request.algorithm,
-        octets: [0; NEW_KEY_OCTETS],
-    };
     if request.dry_run {
-        let addition = addition_for(clerk, request, &mut clerk.load()?, &new)?;
+        let addition = addition_for(clerk, request, &mut clerk.load()?)?;
         return desk.print(format_args!("{addition}\n"));
     }
-    let request = confirmed(clerk, request, &new)?;
+    let request = confirmed(clerk, request)?;
     let (held, mut loaded) = HeldFile::hold(desk, clerk.commands())?;
     judge_daemon(clerk, &loaded)?;
-    desk.at("random octets", desk.rt.fill_bytes(&mut new.octets))?;
-    let mut addition = addition_for(clerk, &request, &mut loaded, &new)?;
+    let mut addition = addition_for(clerk, &request, &mut loaded)?;
     let answers = Answers::new(clerk, request.patience, addition.numbers)?;
-    let command = addition.commands.first();
-    if let Some(number) = command.and_then(|command| command.number_wanted()) {
-        addition.given = Some(give(clerk, &request, number, new)?);
+    if let Some(command) = addition.commands.first() {
+        addition.given = give(clerk, &request, command)?;
     }
     append(clerk, held, &addition, &answers)
 }
@@ -94,27 +99,22 @@ pub fn make_change(clerk: &Clerk<'_>, request: &ChangeRequest<'_>) -> Result<(),
 fn confirmed<'a>(
     clerk: &Clerk<'_>,
     request: &ChangeRequest<'a>,
-    new: &NewKey,
 ) -> Result<ChangeRequest<'a>, Stop> {
     let Change::Retire { asks: true, .. } = request.change else {
         return Ok(*request);
     };
     let mut loaded = clerk.load()?;
-    let addition = addition_for(clerk, request, &mut loaded, new)?;
+    let addition = addition_for(clerk, request, &mut loaded)?;
     let Some(Command::Retire { number, .. }) = addition.commands.first() else {
         return Ok(*request);
     };
-    let (said, are_ground) = uses(clerk, request.address, *number)?;
+    let (desk, (said, are_ground)) = (clerk.desk, uses(clerk, request.address, *number)?);
     let customer = Called(request.address, loaded.name(request.address));
     if !are_ground {
         let why = "that the key that stays is in use is not known: --yes is wanted";
-        return Err(
-            clerk
-                .desk
-                .refusal(format_args!("{customer}: {said}: {why}")),
-        );
+        return Err(desk.refusal(format_args!("{customer}: {said}: {why}")));
     }
-    clerk.desk.ask(format_args!("{customer}: {said}; retire key {number}? [y/N] "))?;
+    desk.ask(format_args!("{customer}: {said}; retire key {number}? [y/N] "))?;
     let change = Change::Retire {
         number: Some(*number),
         asks: false,
@@ -122,8 +122,7 @@ fn confirmed<'a>(
     Ok(ChangeRequest { change, ..*request })
 }
 
-// Says when each key of an address was last used, and in which count: when labntpd began it, and when it wrote it. Returns too whether
-// another key than that with a number was used, in a count that is no younger than a day.
+// Says when each key of an address was last used, and returns whether another key than this was, in a count of a day or more.
 fn uses(clerk: &Clerk<'_>, address: Address, number: NonZero<u16>) -> Result<(String, bool), Stop> {
     let (desk, alloc) = (clerk.desk, clerk.desk.alloc());
     let text = clerk.reported(&clerk.configuration.customers)?;
@@ -154,7 +153,7 @@ fn uses(clerk: &Clerk<'_>, address: Address, number: NonZero<u16>) -> Result<(St
     }
     let begun = begun.unwrap_or(u64::MAX);
     let counted = written.unwrap_or(0).saturating_sub(begun);
-    Ok((said, is_used && counted >= DAY))
+    Ok((said, is_used && counted >= 86_400))
 }
 
 // Returns the lines for a change, once labntpd will do it and the commands file has room. It changes the customers in `loaded`.
@@ -162,80 +161,167 @@ fn addition_for(
     clerk: &Clerk<'_>,
     request: &ChangeRequest<'_>,
     loaded: &mut Loaded,
-    new: &NewKey,
 ) -> Result<Addition, Stop> {
-    let (desk, alloc) = (clerk.desk, clerk.desk.alloc());
+    let (desk, alloc, address) = (clerk.desk, clerk.desk.alloc(), request.address);
     loaded.judge_room(clerk, 0)?;
-    let mut commands = Vec::new(alloc);
-    if let Change::Name(_) = request.change {
-        if loaded.service.customer(request.address).is_none() {
-            return Err(desk.refusal("refused not-enrolled"));
-        }
-    } else {
-        let number = number_for(alloc, request, loaded)?;
-        let Some(command) = command_for(request, number, new) else {
-            return Err(desk.refusal(match request.change {
-                Change::Retire { .. } => "refused not-enrolled",
-                _ => "every key number is held",
-            }));
-        };
-        match loaded.service.command(&command) {
-            Ok(()) => commands.push(command)?,
-            Err(Refusal::NoMemory) => return Err(Stop::Memory),
-            Err(refusal) => return Err(desk.refusal(format_args!("refused {}", refusal.word()))),
-        }
-    }
-    let names = match request.change {
-        Change::Enrol {
-            name: Some(name),
-            ..
-        }
-        | Change::Name(name) => name_line(alloc, request.address, name)?,
+    let commands = commands_for(desk, request, loaded)?;
+    let names = match (request.change, loaded.names.get(&address)) {
+        (
+            Change::Enrol {
+                name: Some(name),
+                ..
+            }
+            | Change::Name(name),
+            _,
+        ) => { name_line(alloc, address, name)? }
+        (Change::Move(to), Some(name)) => name_line(alloc, to, name.as_str())?,
         _ => String::new(alloc),
     };
-    Addition::new(clerk, loaded, names, commands)
+    let mut addition = Addition::new(clerk, loaded, names, commands)?;
+    if let Change::Move(to) = request.change {
+        let (from, to) = (Dotted(address), Dotted(to));
+        let what = "its counts and saved exchanges end";
+        addition.shown = format!(in alloc; "{from} becomes {to}: {what}")?;
+    }
+    Ok(addition)
 }
 
-// Returns the command for a change; nothing for a name, and where it wants a key number and there is none.
-fn command_for(
+// Returns the commands for a change, once the customers in `loaded` are changed by them.
+fn commands_for(
+    desk: Desk<'_>,
     request: &ChangeRequest<'_>,
-    number: Option<NonZero<u16>>,
-    new: &NewKey,
-) -> Option<Command> {
-    let (address, key) = (request.address, new.key());
-    Some(match request.change {
-        Change::Enrol { budget, .. } => Command::Enrol {
-            address,
-            number: number?,
-            key,
-            budget,
-        },
-        Change::Rollover => Command::Rollover {
-            address,
-            number: number?,
-            key,
-        },
-        Change::Retire { .. } => Command::Retire {
-            address,
-            number: number?,
-        },
-        Change::Revoke => Command::Revoke { address },
+    loaded: &mut Loaded,
+) -> Result<Vec<Command>, Stop> {
+    if let Change::Move(to) = request.change {
+        let wanted = moved(desk, loaded, request.address, to)?;
+        let led = commands_to(desk.alloc(), &mut loaded.service, &wanted);
+        return or_unled(desk, led);
+    }
+    let mut commands = Vec::new(desk.alloc());
+    if let Some(command) = command_for(desk, request, loaded)? {
+        let done = loaded.service.command(&command);
+        done.map_err(|refusal| refused(desk, refusal))?;
+        commands.push(command)?;
+    }
+    Ok(commands)
+}
+
+// Returns the customers of which one has another address, or reports that there is no such customer, or that the address has one.
+fn moved(desk: Desk<'_>, loaded: &Loaded, from: Address, to: Address) -> Result<Vec<Wanted>, Stop> {
+    let mut customers = customers_of(desk.alloc(), &loaded.service)?;
+    if customers.iter().any(|customer| customer.address == to) {
+        return Err(refused(desk, Refusal::AlreadyEnrolled));
+    }
+    let moved = customers.iter_mut().find(|it| it.address == from);
+    moved
+        .ok_or_else(|| refused(desk, Refusal::NotEnrolled))?
+        .address = to;
+    Ok(customers)
+}
+
+// Reports why a command is refused.
+fn refused(desk: Desk<'_>, refusal: Refusal) -> Stop {
+    let (word, meaning) = (refusal.word(), refusal_meaning(refusal));
+    match refusal {
+        Refusal::NoMemory => Stop::Memory,
+        _ => desk.refusal(format_args!("refused {word}: {meaning}")),
+    }
+}
+
+// Returns the command for a change that is one; nothing for the name of an address that was enrolled.
+fn command_for(
+    desk: Desk<'_>,
+    request: &ChangeRequest<'_>,
+    loaded: &Loaded,
+) -> Result<Option<Command>, Stop> {
+    let address = request.address;
+    let customer = loaded.service.customer(address);
+    Ok(Some(match request.change {
+        Change::Enrol { budget, key, .. } => {
+            let GivenKey { number, key } = key_for(desk, &key, loaded)?;
+            Command::Enrol {
+                address,
+                number,
+                key,
+                budget,
+            }
+        }
+        Change::Rollover(key) => rollover(address, &key_for(desk, &key, loaded)?),
+        Change::Retire { number, .. } => {
+            let terms = customer.and_then(|customer| terms_of(customer));
+            let number = number.or(terms.map(|terms| terms.older.number));
+            let number = number.ok_or_else(|| refused(desk, Refusal::NotEnrolled))?;
+            Command::Retire { address, number }
+        }
         Change::Budget(budget) => Command::Budget { address, budget },
-        Change::Name(_) => return None,
+        Change::Name(_) if customer.is_none() => return Err(refused(desk, Refusal::NotEnrolled)),
+        Change::Name(_) | Change::Move(_) => return Ok(None),
+        Change::Revoke => Command::Revoke { address },
+    }))
+}
+
+// Returns the key that a customer gets, with its number: that of a file, or a random one under the next free number.
+fn key_for(desk: Desk<'_>, wanted: &KeyRequest<'_>, loaded: &Loaded) -> Result<GivenKey, Stop> {
+    if let Some(path) = wanted.key_file {
+        return key_in_file(desk, path, wanted.number);
+    }
+    let number = free_number(desk.alloc(), loaded)?;
+    Ok(GivenKey {
+        number: number.ok_or_else(|| desk.refusal("every key number is held"))?,
+        key: desk.random_key(wanted.algorithm, wanted.is_text)?,
     })
 }
 
-// Returns the key number that a change wants: that of the key that goes, or the next one that is free.
-fn number_for(
-    alloc: Global,
-    request: &ChangeRequest<'_>,
-    loaded: &Loaded,
-) -> Result<Option<NonZero<u16>>, AllocError> {
-    if let Change::Retire { number, .. } = request.change {
-        let customer = loaded.service.customer(request.address);
-        let terms = customer.and_then(|customer| terms_of(customer));
-        return Ok(number.or(terms.map(|terms| terms.older.number)));
+// Reads the key with a number, or the only one, from a key file in the form of chrony.
+fn key_in_file(desk: Desk<'_>, path: &str, number: Option<NonZero<u16>>) -> Result<GivenKey, Stop> {
+    let octets = spaced(desk.alloc(), &desk.octets(path, 65_536)?)?;
+    let Ok(text) = str::from_utf8(&octets) else {
+        return Err(desk.refusal_at(path, "this is no UTF-8"));
+    };
+    let number = match number {
+        Some(number) => number,
+        None => only_number(desk, path, text)?,
+    };
+    let key = match key_in_text(text, number.get()) {
+        Ok(key) => key,
+        Err(KeyFileFault::Missing) => {
+            return Err(desk.refusal_at(path, format_args!("there is no key {number}")));
+        }
+        Err(KeyFileFault::Line { line, fault }) => {
+            let wanted = match fault {
+                KeyLineFault::Words => "NUMBER [MD5|SHA1] [ASCII:|HEX:]KEY is wanted",
+                KeyLineFault::Algorithm => "a key for MD5 or SHA1 is wanted",
+                KeyLineFault::Key => "a key of 1 to 32 octets is wanted, behind HEX: in digits",
+            };
+            return Err(desk.refusal_at(path, format_args!("line {line}: {wanted}")));
+        }
+    };
+    // ntpd reads more than 20 digits as hexadecimal ones, and chrony as characters.
+    if key.octet_count() > 20 && key.octets().iter().all(|octet| octet.is_ascii_hexdigit()) {
+        let why = "HEX: is wanted in front of more than 20 digits";
+        return Err(desk.refusal_at(path, format_args!("key {number}: {why}")));
     }
+    Ok(GivenKey { number, key })
+}
+
+// Returns the only number of a key in the text of a key file.
+fn only_number(desk: Desk<'_>, path: &str, text: &str) -> Result<NonZero<u16>, Stop> {
+    let first = |line: &str| words::number(line.split_ascii_whitespace().next()?);
+    let mut numbers = text.lines().filter_map(first);
+    let Some(number) = numbers.next() else {
+        return Err(desk.refusal_at(path, "there is no key"));
+    };
+    match numbers.find(|other| *other != number) {
+        None => Ok(number),
+        Some(other) => {
+            let both = format_args!("there are keys {number} and {other}: --number N is wanted");
+            Err(desk.refusal_at(path, both))
+        }
+    }
+}
+
+// Returns the next free key number.
+fn free_number(alloc: Global, loaded: &Loaded) -> Result<Option<NonZero<u16>>, AllocError> {
     let (mut used, mut held) = (Vec::new(alloc), Vec::new(alloc));
     for line in loaded.heard.lines.iter() {
         if let (Some(command), LineOutcome::Done) = (line.command, line.outcome) {
@@ -243,28 +329,37 @@ fn number_for(
         }
     }
     for customer in customers_of(alloc, &loaded.service)?.iter() {
-        let Terms { older, newer, .. } = customer.terms;
-        for key in [Some(older), newer].into_iter().flatten() {
-            held.push(key.number.get())?;
+        for key in [Some(customer.terms.older), customer.terms.newer] {
+            held.extend(key.map(|key| key.number.get()))?;
         }
     }
     Ok(next_free(&used, &held))
 }
 
-// Writes the new file for a customer who gets a key by a change, and returns its path.
+// Writes the new file for a customer who gets a key by this command, and returns its path.
 fn give(
     clerk: &Clerk<'_>,
     request: &ChangeRequest<'_>,
-    number: NonZero<u16>,
-    key: NewKey,
-) -> Result<String, Stop> {
+    command: &Command,
+) -> Result<Option<String>, Stop> {
+    let (Change::Enrol { key: wanted, .. } | Change::Rollover(wanted)) = request.change else {
+        return Ok(None);
+    };
+    let (Some(number), Some(key)) = (command.number_wanted(), key_named(command)) else {
+        return Ok(None);
+    };
     let (desk, alloc) = (clerk.desk, clerk.desk.alloc());
     let customer = format!(in alloc; "{}", Dotted(request.address))?;
-    let path = match request.output {
+    let path = match wanted.output {
         Some(path) => String::from_str(alloc, path)?,
         None => format!(in alloc; "{customer}-{number}.keys")?,
     };
-    let server = request.server.or(clerk.listening());
+    let server = wanted.server.or(clerk.server());
+    let several = SeveralAddresses::configured(desk.rt, alloc, clerk.configuration.listen);
+    if let (None, Some(several)) = (server, several) {
+        let config = Escaped(clerk.config);
+        let _ = writeln!(desk.faults(), "warning: {config}: {several}");
+    }
     let server_word = match server {
         Some(server) => format!(in alloc; "{}", Dotted(server.address))?,
         None => String::from_str(alloc, "SERVER")?,
@@ -279,5 +374,5 @@ fn give(
     let text = customer_text(alloc, &grant)?;
     let written = write_new(desk.rt, path.as_str(), text.as_bytes());
     desk.at(path.as_str(), written)?;
-    Ok(path)
+    Ok(Some(path))
 }

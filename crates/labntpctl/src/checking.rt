@@ -3,7 +3,9 @@
 use crate::commands_file::{HeardLine, Loaded, complete_lines};
 use crate::desk::{Desk, Stop};
 use crate::shown::FoundAt;
-use labntpd_assembly::{KEY_LINE_WANTED, NamedFiles, readers_of, small_text, tell_places};
+use labntpd_assembly::{
+    KEY_LINE_WANTED, NamedFiles, SeveralAddresses, readers_of, small_text, tell_places,
+};
 use labntpd_files::{
     ConfigurationFault, Setting, WantedFault, address_warning, budget_warning,
     configuration_faults, fault_meaning, faulty_place, is_fixed, key_in_file, key_warning,
@@ -11,7 +13,7 @@ use labntpd_files::{
     word_at,
 };
 use ntp_admin::{Command, Escaped, LineFault, Status, failed_status, line_without_text};
-use ntp_clerk::customers_of;
+use ntp_clerk::{budget_named, customers_of, key_named};
 use ntp_host::{MOST_COMMANDS_OCTETS, is_nearly_full, read_regular_file, write_nearly_full};
 use ntp_mac::Algorithm;
 use ntp_service::LineOutcome;
@@ -19,8 +21,7 @@ use std::fmt::Display;
 use std::io::{BufWriter, Stdout, Write};
 use toml::Table;
 
-/// Reports every fault of the configuration file at a path and of its files, or of a commands file in their place, and every fault of
-/// a file of wanted customers.
+/// Reports every fault of the configuration and its files, or of a commands file in their place, and of wanted customers.
 pub fn check(
     desk: Desk<'_>,
     config: &str,
@@ -159,15 +160,19 @@ impl<'a> Report<'a> {
         }
     }
 
-    // Reports every fault of the configuration file at a path, and of the places of the files that it names. Returns the path of the
-    // commands file, if it is named.
+    // Reports every fault of the configuration file, and of the places that it names. Returns the path of the commands file.
     fn check_configuration(&mut self, path: &str) -> Result<Option<String>, Stop> {
         let (rt, alloc) = (self.desk.rt, self.desk.alloc());
         let Some(text) = self.small_text(path) else {
             return Ok(None);
         };
         match read_configuration(alloc, text.as_str()) {
-            Ok(_) => {}
+            Ok(configuration) => {
+                let several = SeveralAddresses::configured(rt, alloc, configuration.listen);
+                if let (None, Some(several)) = (configuration.served_as, several) {
+                    self.warning(path, several);
+                }
+            }
             Err(ConfigurationFault::NoMemory) => return Err(Stop::Memory),
             Err(_) => {
                 self.take(Status::TextFaulty);
@@ -317,23 +322,14 @@ impl<'a, 'b, 'p> LineChecker<'a, 'b, 'p> {
 
     // Warns of what is hardly meant in a command that was carried out.
     fn warn(&mut self, command: &Command) {
-        let warnings = match command {
-            Command::Enrol {
-                address,
-                key,
-                budget,
-                ..
-            } => [
-                address_warning(*address),
-                key_warning(key),
-                budget_warning(budget.get()),
-            ],
-            Command::Rollover { key, .. } => [None, key_warning(key), None],
-            Command::Budget { budget, .. } => [None, None, budget_warning(budget.get())],
-            _ => [None, None, None],
+        let address = match command {
+            Command::Enrol { address, .. } => address_warning(*address),
+            _ => None,
         };
+        let key = key_named(command).and_then(|key| key_warning(&key));
+        let budget = budget_named(command).and_then(|budget| budget_warning(budget.get()));
         let number = self.number;
-        for warning in warnings.into_iter().flatten() {
+        for warning in [address, key, budget].into_iter().flatten() {
             self.report
                 .warning(self.path, format_args!("line {number}: {warning}"));
         }

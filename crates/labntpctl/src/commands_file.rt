@@ -4,7 +4,7 @@ use crate::desk::{Clerk, Desk, Stop};
 use indexmap::IndexMap;
 use labntpd_files::is_name;
 use ntp_admin::{Command, Escaped, Status, apply_lines};
-use ntp_clerk::{NameLine, name_in};
+use ntp_clerk::name_in;
 use ntp_host::{MOST_COMMANDS_OCTETS, not_regular, pause, read_regular_file};
 use ntp_reports::CustomerCounts;
 use ntp_service::{Address, LineOutcome, Observer, Refusal, Service, TurnOutcome};
@@ -32,8 +32,7 @@ pub struct Loaded {
     pub heard: Heard,
     /// The last name of each address that has one.
     pub names: ByAddress<String>,
-    /// The comment in front of each address's last command that was done: when it was given, and by whom. Behind an empty line, and
-    /// another comment that is no name, this one counts no more.
+    /// The last comment or empty line, other than a name, in front of each address's last command that was done.
     pub records: ByAddress<String>,
     /// How many lines there are.
     pub lines: u64,
@@ -84,9 +83,7 @@ impl Loaded {
 
     /// Returns the comment in front of an address's last command, or an empty text.
     pub fn record(&self, address: Address) -> &str {
-        self.records
-            .get(&address)
-            .map_or("", |record| record.as_str())
+        self.records.get(&address).map_or("", |it| it.as_str())
     }
 
     /// Checks that a line feed ends the commands file, and that so many octets more fit into it.
@@ -132,8 +129,8 @@ fn note_comments(alloc: Global, octets: &[u8], loaded: &mut Loaded) -> Result<()
             continue;
         }
         let text = str::from_utf8(line).unwrap_or("");
-        match name_in(text).filter(|named| is_name(named.name)) {
-            Some(NameLine { address, name }) => {
+        match name_in(text).filter(|named| is_name(named.1)) {
+            Some((address, name)) => {
                 names.insert(address, String::from_str(alloc, name)?)?;
             }
             None => record = line,
@@ -238,9 +235,8 @@ impl<'a> HeldFile<'a> {
     /// Returns whether the file has so many octets more than when it was read.
     pub fn has_grown_by(&self, octets: usize) -> bool {
         let length = self.octets.saturating_add(octets as u64);
-        self.file
-            .metadata()
-            .is_ok_and(|there| there.len() == length)
+        let there = self.file.metadata();
+        there.is_ok_and(|there| there.len() == length)
     }
 
     /// Has the system store what was appended.

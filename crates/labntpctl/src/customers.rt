@@ -3,10 +3,9 @@
 use crate::commands_file::{ByAddress, Loaded};
 use crate::desk::{Clerk, Desk, Stop};
 use crate::differing::{judge_reading, lasting_differences};
-use crate::shown::signed_date;
+use crate::shown::{Dotted, Seen, SeenKey, SeenTerms, signed_date};
 use indexmap::IndexMap;
 use ntp_admin::{Escaped, Status, words};
-use ntp_clerk::{Seen, SeenKey, SeenTerms};
 use ntp_reports::customer_line;
 use ntp_service::Address;
 use serde::Deserialize;
@@ -85,15 +84,32 @@ impl<'a> KeyLine<'a> {
     }
 }
 
+/// Which customers are listed, and how.
+#[derive(Clone, Copy)]
+pub struct Listing<'a> {
+    /// The path of a commands file, in the place of the configuration.
+    pub commands: Option<&'a str>,
+    /// The only customer that is listed.
+    pub address: Option<Address>,
+    /// Whether they are objects of JSON, and no table.
+    pub json: bool,
+}
+
+// Reads a line, of which `place` others stand in front, or reports that it is no line of a customer.
+fn customer_in<'a>(desk: Desk<'_>, place: usize, line: &'a str) -> Result<CustomerLine<'a>, Stop> {
+    let read = serde_json::from_str::<CustomerLine<'a>>(desk.alloc(), line);
+    read.map_err(|error| if error.is_memory() {
+        Stop::Memory
+    } else {
+        no_line(desk, place)
+    })
+}
+
 /// Reads the lines of a text, or reports the first one that is no line of a customer.
 pub fn customer_lines<'a>(desk: Desk<'_>, text: &'a str) -> Result<Vec<CustomerLine<'a>>, Stop> {
     let mut lines = Vec::new(desk.alloc());
     for (place, line) in text.lines().enumerate() {
-        match serde_json::from_str::<CustomerLine<'a>>(desk.alloc(), line) {
-            Ok(customer) => lines.push(customer)?,
-            Err(error) if error.is_memory() => return Err(Stop::Memory),
-            Err(_) => return Err(no_line(desk, place)),
-        }
+        lines.push(customer_in(desk, place, line)?)?;
     }
     Ok(lines)
 }
@@ -114,28 +130,39 @@ fn no_line(desk: Desk<'_>, place: usize) -> Stop {
     desk.refusal(format_args!("customers: line {number}: an object of a customer is wanted"))
 }
 
-/// Lists labntpd's customers, and reports where the commands file has others. Lists those of the commands file where labntpd has
-/// no customers file.
-pub fn list(clerk: &Clerk<'_>, json: bool) -> Result<(), Stop> {
+/// Lists labntpd's customers, and reports where the commands file has others. Without the former it lists the latter.
+pub fn list(desk: Desk<'_>, config: &str, listing: Listing<'_>) -> Result<(), Stop> {
+    if let Some(path) = listing.commands {
+        return list_file(desk, path, listing);
+    }
+    let clerk = &Clerk::new(desk, config)?;
+    // A customer of the last seconds is not reported yet.
+    let address = match listing.address {
+        Some(address) => format!(in desk.alloc(); "\"{}\"", Dotted(address))?,
+        None => String::new(desk.alloc()),
+    };
     let reported = clerk.reported(&clerk.configuration.customers)?;
+    let reported = reported.filter(|text| text.as_str().contains(address.as_str()));
     // That labntpd reads no more bars a change, but no list.
     let _ = judge_reading(clerk);
     let Some(text) = reported else {
-        return list_file(clerk.desk, clerk.commands(), json);
+        return list_file(desk, clerk.commands(), listing);
     };
     let loaded = clerk.load();
-    write(clerk.desk, text.as_str(), loaded.as_ref().ok(), json)?;
+    write(desk, text.as_str(), loaded.as_ref().ok(), listing)?;
     for difference in lasting_differences(clerk, &loaded?)?.iter() {
-        let _ = write!(clerk.desk.faults(), "{difference}");
+        if listing.address.unwrap_or(difference.address) == difference.address {
+            let _ = write!(desk.faults(), "{difference}");
+        }
     }
     Ok(())
 }
 
-/// Lists the customers of the commands file at a path.
-pub fn list_file(desk: Desk<'_>, path: &str, json: bool) -> Result<(), Stop> {
+// Lists the customers of the commands file at a path.
+fn list_file(desk: Desk<'_>, path: &str, listing: Listing<'_>) -> Result<(), Stop> {
     let loaded = Loaded::at(desk, path)?;
     let lines = lines_of(desk.alloc(), &loaded)?;
-    write(desk, lines.as_str(), Some(&loaded), json)
+    write(desk, lines.as_str(), Some(&loaded), listing)
 }
 
 /// Prints what differs between labntpd's customers and those of the commands file, and stops the work if anything does.
@@ -156,32 +183,51 @@ pub fn compare(clerk: &Clerk<'_>) -> Result<(), Stop> {
     Err(Stop::Printed(Status::TextFaulty))
 }
 
-// Prints a table of customers with their names, or their lines, each with its name, if it has one, as the last member.
-fn write(desk: Desk<'_>, text: &str, loaded: Option<&Loaded>, json: bool) -> Result<(), Stop> {
-    let customers = customer_lines(desk, text)?;
-    if !json {
-        return desk.print(table(desk.alloc(), &customers, loaded)?);
+// Prints the listed customers of a text with their names, and reports each line that is none of a customer.
+fn write(desk: Desk<'_>, text: &str, file: Option<&Loaded>, how: Listing<'_>) -> Result<(), Stop> {
+    let mut shown = String::new(desk.alloc());
+    if !how.json {
+        shown.push_str(HEAD)?;
     }
-    let mut lines = String::new(desk.alloc());
-    for (line, customer) in text.lines().zip(customers.iter()) {
-        let name = name_of(loaded, customer);
-        match line.strip_suffix("}") {
-            Some(line) if !name.is_empty() => {
-                let name = serde_json::to_string(desk.alloc(), &name).map_err(|_| AllocError)?;
-                writeln!(lines, "{line},\"name\":{name}}}")?;
+    let (mut done, mut is_there) = (Ok(()), how.address.is_none());
+    for (place, line) in text.lines().enumerate() {
+        match customer_in(desk, place, line) {
+            Err(Stop::Memory) => return Err(Stop::Memory),
+            Err(fault) => done = Err(fault),
+            Ok(customer) => {
+                let address = words::address(customer.address);
+                if how.address.is_some() && how.address != address {
+                    continue;
+                }
+                is_there = true;
+                let named = file.zip(address);
+                let name = named.map_or("", |(file, address)| file.name(address));
+                match how.json {
+                    true => write_object(desk.alloc(), &mut shown, line, name)?,
+                    false => write_rows(desk.alloc(), &mut shown, &customer, name)?,
+                }
             }
-            _ => writeln!(lines, "{line}")?,
         }
     }
-    desk.print(lines)
+    match how.address {
+        Some(address) if !is_there => {
+            let address = Dotted(address);
+            Err(desk.refusal(format_args!("{address}: no customer")))
+        }
+        _ => desk.print(shown).and(done),
+    }
 }
 
-// Returns the name that a commands file gives a customer, or an empty text.
-fn name_of<'a>(loaded: Option<&'a Loaded>, customer: &CustomerLine<'_>) -> &'a str {
-    match (loaded, words::address(customer.address)) {
-        (Some(loaded), Some(address)) => loaded.name(address),
-        _ => "",
+// Writes a customer's line with its name, if it has one, as the last member.
+fn write_object(alloc: Global, to: &mut String, line: &str, name: &str) -> Result<(), AllocError> {
+    match line.strip_suffix("}") {
+        Some(line) if !name.is_empty() => {
+            let name = serde_json::to_string(alloc, &name).map_err(|_| AllocError)?;
+            writeln!(to, "{line},\"name\":{name}}}")?;
+        }
+        _ => writeln!(to, "{line}")?,
     }
+    Ok(())
 }
 
 // Returns a line for each customer of a commands file as labntpd writes it.
@@ -197,36 +243,31 @@ fn lines_of(alloc: Global, loaded: &Loaded) -> Result<String, AllocError> {
     Ok(lines)
 }
 
-// Returns a table of customers, with a row for each key, and with the names of a commands file, if it is there. A value that is
-// too long shifts the columns behind it.
-fn table(
+// Writes a row of the table for each key of a customer. A value that is too long shifts the columns behind it.
+fn write_rows(
     alloc: Global,
-    customers: &[CustomerLine<'_>],
-    loaded: Option<&Loaded>,
-) -> Result<String, AllocError> {
-    let mut table = String::from_str(alloc, HEAD)?;
-    for customer in customers {
-        let line = customer.line;
-        let address = format!(in alloc; "{}", Escaped(customer.address))?;
-        let state = format!(in alloc; "{}", Escaped(customer.state))?;
-        let name = name_of(loaded, customer);
-        let budget = match customer.budget {
-            Some(budget) => format!(in alloc; "{budget}")?,
-            None => String::from_str(alloc, "-")?,
-        };
-        let key = key_cells(alloc, customer.keys.first())?;
-        let counts = customer.answers;
-        let row = format!(in alloc;
-            "{address:<15} {state:<8} {budget:<6} {line:<7} {key} {:<11} {:<11} {:<11} {:<11} {:<11} {name}",
-            counts.basic, counts.interleaved, counts.rate, counts.nak, counts.over_budget
-        )?;
-        writeln!(table, "{}", row.trim_end())?;
-        for key in customer.keys.iter().skip(1) {
-            let key = key_cells(alloc, Some(key))?;
-            writeln!(table, "{:39} {}", "", key.trim_end())?;
-        }
+    table: &mut String,
+    customer: &CustomerLine<'_>,
+    name: &str,
+) -> Result<(), AllocError> {
+    let (line, counts) = (customer.line, customer.answers);
+    let address = format!(in alloc; "{}", Escaped(customer.address))?;
+    let state = format!(in alloc; "{}", Escaped(customer.state))?;
+    let budget = match customer.budget {
+        Some(budget) => format!(in alloc; "{budget}")?,
+        None => String::from_str(alloc, "-")?,
+    };
+    let key = key_cells(alloc, customer.keys.first())?;
+    let row = format!(in alloc;
+        "{address:<15} {state:<8} {budget:<6} {line:<7} {key} {:<11} {:<11} {:<11} {:<11} {:<11} {name}",
+        counts.basic, counts.interleaved, counts.rate, counts.nak, counts.over_budget
+    )?;
+    writeln!(table, "{}", row.trim_end())?;
+    for key in customer.keys.iter().skip(1) {
+        let key = key_cells(alloc, Some(key))?;
+        writeln!(table, "{:39} {}", "", key.trim_end())?;
     }
-    Ok(table)
+    Ok(())
 }
 
 // Returns the part of a row for a key, if there is one.

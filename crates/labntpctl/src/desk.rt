@@ -6,12 +6,14 @@ use labntpd_assembly::{configuration_at, start_lines};
 use labntpd_files::{Configuration, Endpoint, Listen, Text, is_name};
 use ntp_admin::{Escaped, Status, failed_status, memory_status, write_status};
 use ntp_host::{StartLines, read_regular_file};
+use ntp_mac::{Algorithm, Key};
 use ntp_query::Server;
 use ntp_service::Address;
 use std::alloc::{AllocError, AllocFailed, Global};
 use std::fmt::Display;
 use std::io::{self, BufRead, BufReader, BufWriter, ErrorKind, Read, Stderr, Stdout, Write};
 use std::os::unix::fs::MetadataExt;
+use std::random::RandomSource;
 use std::time::SystemTime;
 use std::{env, fs};
 
@@ -26,6 +28,9 @@ pub const ANY: Address = Address([0, 0, 0, 0]);
 
 /// The port of NTP (RFC 5905).
 pub const NTP_PORT: u16 = 123;
+
+/// The characters of a key that is text, one for each value of six bits.
+const CHARACTERS: &[u8; 64] = b"ABCDEFGHIJKLMNOPQRSTUVWXYZabcdefghijklmnopqrstuvwxyz0123456789_-";
 
 /// The reason why the work stops before it is done.
 #[derive(Clone, Copy)]
@@ -101,6 +106,16 @@ impl<'a> Desk<'a> {
             .at("/proc/self", fs::metadata(self.rt, "/proc/self"))?
             .uid();
         Ok(format!(in self.alloc(); "{user}")?)
+    }
+
+    /// Returns a key of 20 random octets: 160 random bits, or 120 where each is one of `CHARACTERS`.
+    pub fn random_key(self, algorithm: Algorithm, is_text: bool) -> Result<Key, Stop> {
+        let mut octets = [0; 20];
+        self.at("random octets", self.rt.fill_bytes(&mut octets))?;
+        if is_text {
+            octets = octets.map(|octet| CHARACTERS[usize::from(octet % 64)]);
+        }
+        Ok(Key::new(algorithm, &octets).unwrap())
     }
 
     /// Returns the exit status of work, and reports want of memory.
@@ -195,6 +210,14 @@ impl<'a> Clerk<'a> {
     /// Reads the commands file.
     pub fn load(&self) -> Result<Loaded, Stop> {
         Loaded::at(self.desk, self.commands())
+    }
+
+    /// Returns where customers ask, if the configuration says it: at `served_as`, else where labntpd listens.
+    pub fn server(&self) -> Option<Server> {
+        let port = self.port();
+        let served = self.configuration.served_as;
+        let named = served.map(|address| Server { address, port });
+        named.or(self.listening())
     }
 
     /// Returns where labntpd listens, if its configuration says it.

@@ -3,18 +3,13 @@
 use crate::commands_file::{ByAddress, Loaded};
 use crate::customers::reported_in;
 use crate::desk::{Clerk, Desk, Stop};
-use crate::shown::{Dotted, Keys, seen_at};
+use crate::shown::{Dotted, Keys, Seen, seen_at};
 use indexmap::IndexMap;
-use ntp_clerk::{Seen, are_same};
 use ntp_service::{Address, LineOutcome, Refusal, Service};
 use std::fmt::{self, Display};
 use std::io::Write;
 
-/// The line of the statistics file where labntpd no longer reads the commands file.
-const CHANGED: &str = "labntp_commands_changed 1";
-
-/// The seconds within which labntpd carries out and reports a line: a customers file that is younger than the commands file by
-/// more has all lines.
+/// The seconds within which labntpd carries out and reports a line.
 const SETTLED_SECONDS: u64 = 2;
 
 /// An address at which labntpd has something else than the commands file.
@@ -62,8 +57,7 @@ fn state_word(seen: &Seen) -> &'static str {
     }
 }
 
-// Returns the differences between the customers of labntpd's text and those of the commands file: at the addresses that labntpd
-// reports, then at the others.
+// Returns the differences between labntpd's customers and those of the commands file, first at the addresses of the former.
 fn differences(desk: Desk<'_>, text: &str, loaded: &Loaded) -> Result<Vec<Difference>, Stop> {
     let mut reported = reported_in(desk, text)?;
     for address in loaded.service.addresses()?.iter() {
@@ -74,7 +68,7 @@ fn differences(desk: Desk<'_>, text: &str, loaded: &Loaded) -> Result<Vec<Differ
     let mut differences = Vec::new(desk.alloc());
     for (address, daemon) in reported.iter() {
         let file = seen_at(&loaded.service, *address);
-        if !are_same(daemon, &file) {
+        if *daemon != file {
             differences.push(Difference {
                 address: *address,
                 daemon: *daemon,
@@ -103,14 +97,14 @@ pub fn judge_daemon(clerk: &Clerk<'_>, loaded: &Loaded) -> Result<(), Stop> {
 /// Reports that labntpd no longer reads the commands file, if its statistics file says so.
 pub fn judge_reading(clerk: &Clerk<'_>) -> Result<(), Stop> {
     let statistics = clerk.reported(&clerk.configuration.statistics)?;
-    if statistics.is_some_and(|text| text.as_str().lines().any(|line| line == CHANGED)) {
+    let changed = |line: &str| line == "labntp_commands_changed 1";
+    if statistics.is_some_and(|text| text.as_str().lines().any(changed)) {
         return Err(clerk.refusal("labntpd does not read this file any more: restart labntpd"));
     }
     Ok(())
 }
 
-/// Returns the differences that labntpd's next report will not mend: where its last one is late, labntpd has there what the address
-/// had neither before nor after any of the commands that were done.
+/// Returns the differences that labntpd's next report will not mend: its last one has what the address had behind no command.
 pub fn lasting_differences(clerk: &Clerk<'_>, loaded: &Loaded) -> Result<Vec<Difference>, Stop> {
     let alloc = clerk.desk.alloc();
     // The report that is read below is no older.
@@ -125,7 +119,7 @@ pub fn lasting_differences(clerk: &Clerk<'_>, loaded: &Loaded) -> Result<Vec<Dif
     let mut service = Service::new(alloc);
     let mut open: ByAddress<Difference> = IndexMap::new(alloc);
     for difference in all.iter() {
-        if !are_same(&difference.daemon, &Seen::Nothing) {
+        if difference.daemon != Seen::Nothing {
             open.insert(difference.address, *difference)?;
         }
     }
@@ -139,7 +133,7 @@ pub fn lasting_differences(clerk: &Clerk<'_>, loaded: &Loaded) -> Result<Vec<Dif
         let address = command.address();
         let seen = seen_at(&service, address);
         let difference = open.get(&address);
-        if difference.is_some_and(|it| are_same(&it.daemon, &seen)) {
+        if difference.is_some_and(|it| it.daemon == seen) {
             open.shift_remove(&address);
         }
     }

@@ -5,7 +5,8 @@ use crate::desk::{Clerk, Stop};
 use crate::shown::Called;
 use ntp_admin::{Outcome, print_answer};
 use ntp_clerk::{
-    Capture, GivenKey, Record, Terms, capture_in, datagram_in, next_record, packet_in, terms_of,
+    Capture, GivenKey, Record, Terms, algorithm_word, capture_in, datagram_in, next_record,
+    packet_in, terms_of,
 };
 use ntp_client::reference_unsynchronised;
 use ntp_host::moment_now;
@@ -18,9 +19,6 @@ use std::io::{self, BufWriter, Stdout, Write};
 
 /// The most octets of a capture file.
 const MOST_CAPTURE_OCTETS: u32 = 268_435_456;
-
-/// The units of a stamp in a window of 64 seconds.
-const WINDOW: u64 = 64 << 32;
 
 /// What holds for all datagrams.
 const HEAD: &str =
@@ -83,8 +81,7 @@ struct Explainer {
 }
 
 impl Explainer {
-    // Explains the datagrams of a capture file to a port, and prints how many there are. Returns the number of the record that is
-    // cut short, if one is.
+    // Explains the datagrams of a capture file to a port. Returns the number of the record that is cut short, if one is.
     fn capture(&mut self, capture: Capture<'_>, port: u16) -> Result<Option<u64>, AllocError> {
         let mut whole: u64 = 0;
         let mut rest = capture.records;
@@ -131,11 +128,11 @@ impl Explainer {
         Ok(())
     }
 
-    // Answers a datagram in a window of its own.
+    // Answers a datagram in a window of 64 seconds of its own.
     fn answer(&mut self, address: Address, octets: &[u8]) -> Answer {
         let Stamp(units) = self.now.stamp;
         let moment = Moment {
-            stamp: Stamp(units.wrapping_add(self.explained.wrapping_mul(WINDOW))),
+            stamp: Stamp(units.wrapping_add(self.explained.wrapping_mul(64 << 32))),
             ..self.now
         };
         let reference = reference_unsynchronised();
@@ -197,12 +194,13 @@ impl Explainer {
         };
         match algorithm_under(terms, number) {
             None => write!(out, "key number {number} is none of the customer's"),
-            Some(wanted) if wanted != there => write!(
-                out,
-                "key {number} is for {}, and the MAC has the length of {}",
-                name_of(wanted),
-                name_of(there)
-            ),
+            Some(wanted) if wanted != there => {
+                let (wanted, there) = (algorithm_word(wanted), algorithm_word(there));
+                write!(
+                    out,
+                    "key {number} is for {wanted}, and the MAC has the length of {there}"
+                )
+            }
             Some(_) => write!(
                 out,
                 "its digest is not by key {number}: the client has other octets, or somebody else made or changed it"
@@ -245,12 +243,4 @@ fn algorithm_under(terms: Option<Terms>, number: u32) -> Option<Algorithm> {
     let mut keys = [Some(older), newer].into_iter().flatten();
     let given = keys.find(|given| u32::from(given.number.get()) == number)?;
     Some(given.key.algorithm())
-}
-
-// Returns the name of an algorithm.
-fn name_of(algorithm: Algorithm) -> &'static str {
-    match algorithm {
-        Algorithm::Md5 => "MD5",
-        Algorithm::Sha1 => "SHA-1",
-    }
 }

@@ -5,21 +5,19 @@ use crate::commands_file::{HeldFile, Loaded};
 use crate::desk::{Clerk, Stop};
 use crate::replacing::{put_in_place, store_name};
 use ntp_admin::{Command, Escaped};
-use ntp_clerk::{LeadFault, NEW_KEY_OCTETS, NewKey, command_line, customers_of, fold, name_line};
+use ntp_clerk::{LeadFault, command_line, customers_of, fold, name_line};
 use ntp_host::MOST_COMMANDS_OCTETS;
 use ntp_mac::{Algorithm, Key};
 use ntp_service::Address;
 use std::alloc::{AllocError, Global};
 use std::fmt::Write as _;
 use std::fs;
-use std::random::RandomSource;
 
 /// What labntpd does after a fold.
 const RESTART: &str =
     "labntpd reads the new file at its next start, and carries out no further line before: restart labntpd\n";
 
-/// Writes the commands file anew, with as many customers and in fewer lines, and keeps the old one beside it; or only prints how long
-/// it would be.
+/// Writes the commands file anew in fewer lines, and keeps the old one beside it; or only prints how long it would be.
 pub fn fold_commands(clerk: &Clerk<'_>, dry_run: bool) -> Result<(), Stop> {
     judge_no_link(clerk)?;
     let (desk, path) = (clerk.desk, clerk.commands());
@@ -61,12 +59,8 @@ fn folded(clerk: &Clerk<'_>, loaded: &Loaded) -> Result<Option<String>, Stop> {
     } else {
         loaded.judge_room(clerk, 0)?;
     }
-    let mut spare = NewKey {
-        algorithm: Algorithm::Sha1,
-        octets: [0; NEW_KEY_OCTETS],
-    };
-    desk.at("random octets", desk.rt.fill_bytes(&mut spare.octets))?;
-    let text = or_unled(desk, folded_text(desk.alloc(), loaded, spare.key()))?;
+    let spare = desk.random_key(Algorithm::Sha1, false)?;
+    let text = or_unled(desk, folded_text(desk.alloc(), loaded, spare))?;
     let customers = customers_of(desk.alloc(), &loaded.service)?.len();
     let (octets, before) = (text.len() as u64, loaded.octets);
     if octets >= before {

@@ -53,16 +53,13 @@ fn words(rt: &HostRuntime) -> io::Result<Vec<String>> {
 fn carry_out(desk: Desk<'_>, config: &str, task: Task<'_>) -> Result<(), Stop> {
     match task {
         Task::Check { commands, wanted } => checking::check(desk, config, commands, wanted),
-        Task::List { commands, json } => match commands {
-            Some(path) => customers::list_file(desk, path, json),
-            None => customers::list(&Clerk::new(desk, config)?, json),
-        },
+        Task::List(listing) => customers::list(desk, config, listing),
         Task::Compare => customers::compare(&Clerk::new(desk, config)?),
         Task::Explain(explained) => explaining::explain(&Clerk::new(desk, config)?, explained),
-        Task::Door { place, rate } => { door::print_door(&Clerk::new(desk, config)?, place, rate) }
+        Task::Door(place, rate) => door::print_door(&Clerk::new(desk, config)?, place, rate),
         Task::Change(request) => changing::make_change(&Clerk::new(desk, config)?, &request),
         Task::Apply(application) => applying::apply(&Clerk::new(desk, config)?, &application),
-        Task::Export { path, keys } => applying::export(&Clerk::new(desk, config)?, path, keys),
-        Task::Fold { dry_run } => folding::fold_commands(&Clerk::new(desk, config)?, dry_run),
+        Task::Export(path, keys) => applying::export(&Clerk::new(desk, config)?, path, keys),
+        Task::Fold(dry_run) => folding::fold_commands(&Clerk::new(desk, config)?, dry_run),
     }
 }

@@ -6,15 +6,6 @@ use std::fs::{self, File, OpenOptions, Permissions};
 use std::io::{self, ErrorKind, Write};
 use std::os::unix::fs::{MetadataExt, OpenOptionsExt, PermissionsExt, fchown};
 
-/// The mode of a new file: its owner alone may read it.
-const OWNERS: u32 = 0o600;
-
-/// The bits of a mode that say who may do what.
-const MODE_BITS: u32 = 0o7777;
-
-/// The form of the time in the name of a file that is kept.
-const KEPT_FORM: &str = "%Y%m%dT%H%M%SZ";
-
 /// Writes a new file that its owner alone may read, and has the system store it with its name. Leaves none where that fails.
 pub fn write_new(rt: &HostRuntime, path: &str, octets: &[u8]) -> io::Result<()> {
     let mut file = new_for_owner(rt, path)?;
@@ -22,13 +13,12 @@ pub fn write_new(rt: &HostRuntime, path: &str, octets: &[u8]) -> io::Result<()> 
     or_removed(rt, path, done)
 }
 
-/// Puts a new file with this text in the place of the one at a path, with that one's owner, group and mode. Keeps that one under
-/// another name, and returns this. Where it fails, all is as before.
+/// Replaces the file at a path by this text with its owner, group and mode. Keeps it under the name that is returned.
 pub fn put_in_place(desk: Desk<'_>, path: &str, text: &str) -> Result<String, Stop> {
     let (rt, alloc) = (desk.rt, desk.alloc());
     let new = format!(in alloc; "{path}.new")?;
     let new = new.as_str();
-    let time = desk.time(KEPT_FORM)?;
+    let time = desk.time("%Y%m%dT%H%M%SZ")?;
     let kept = format!(in alloc; "{path}.{time}")?;
     desk.at(new, write_like(rt, new, text, path))?;
     let linked = fs::hard_link(rt, path, kept.as_str());
@@ -55,7 +45,7 @@ fn write_like(rt: &HostRuntime, path: &str, text: &str, like: &str) -> io::Resul
     let old = fs::metadata(rt, like)?;
     let mut file = new_for_owner(rt, path)?;
     let done = fchown(&file, Some(old.uid()), Some(old.gid()))
-        .and_then(|()| file.set_permissions(Permissions::from_mode(old.mode() & MODE_BITS)))
+        .and_then(|()| file.set_permissions(Permissions::from_mode(old.mode() & 0o7777)))
         .and_then(|()| write_stored(&mut file, text.as_bytes()));
     or_removed(rt, path, done)
 }
@@ -65,7 +55,7 @@ fn new_for_owner(rt: &HostRuntime, path: &str) -> io::Result<File> {
     OpenOptions::new()
         .write(true)
         .create_new(true)
-        .mode(OWNERS)
+        .mode(0o600)
         .open(rt, path)
 }
 

@@ -3,7 +3,7 @@
 use jiff::Timestamp;
 use labntpd_files::Found;
 use ntp_admin::Escaped;
-use ntp_clerk::{GivenKey, Seen, SeenKey, SeenTerms, Terms, are_same, terms_of};
+use ntp_clerk::{GivenKey, Terms, algorithm_word, terms_of};
 use ntp_mac::Algorithm;
 use ntp_service::{Address, Service};
 use std::alloc::{AllocError, Global};
@@ -30,13 +30,41 @@ pub struct Called<'a>(pub Address, pub &'a str);
 
 impl<'a> Display for Called<'a> {
     fn fmt<W: fmt::Write>(&self, f: &mut fmt::Formatter<W>) -> fmt::Result {
-        let Called(address, name) = *self;
-        write!(f, "{}", Dotted(address))?;
-        if name.is_empty() {
-            return Ok(());
+        match *self {
+            Called(address, "") => write!(f, "{}", Dotted(address)),
+            Called(address, name) => write!(f, "{} ({name})", Dotted(address)),
         }
-        write!(f, " ({name})")
     }
+}
+
+/// A key as it is seen: without its octets.
+#[derive(Clone, Copy, PartialEq, Eq)]
+pub struct SeenKey {
+    pub number: u16,
+    pub algorithm: Algorithm,
+    /// How many octets it has.
+    pub octets: u64,
+}
+
+/// What a customer is seen to be enrolled with.
+#[derive(Clone, Copy, PartialEq, Eq)]
+pub struct SeenTerms {
+    /// Its older key, or its only one.
+    pub older: SeenKey,
+    /// Its newer key, if it has two.
+    pub newer: Option<SeenKey>,
+    pub budget: u16,
+}
+
+/// What an address is seen to have.
+#[derive(Clone, Copy, PartialEq, Eq)]
+pub enum Seen {
+    /// It was never enrolled.
+    Nothing,
+    /// It is revoked.
+    Revoked,
+    /// It is enrolled.
+    Enrolled(SeenTerms),
 }
 
 /// The keys of a customer, without their octets: `key 7 (md5, 3 octets)`.
@@ -58,7 +86,7 @@ impl Keys {
     pub fn are_alike(&self, other: &Keys) -> bool {
         let budget = self.0.budget;
         let other = SeenTerms { budget, ..other.0 };
-        are_same(&Seen::Enrolled(self.0), &Seen::Enrolled(other))
+        self.0 == other
     }
 }
 
@@ -69,10 +97,7 @@ struct NumberedKey(SeenKey);
 impl Display for NumberedKey {
     fn fmt<W: fmt::Write>(&self, f: &mut fmt::Formatter<W>) -> fmt::Result {
         let (number, octets) = (self.0.number, self.0.octets);
-        let algorithm = match self.0.algorithm {
-            Algorithm::Md5 => "md5",
-            Algorithm::Sha1 => "sha1",
-        };
+        let algorithm = algorithm_word(self.0.algorithm);
         write!(f, "{number} ({algorithm}, {octets} octets)")
     }
 }

@@ -9,7 +9,7 @@ use Rattle.ntp_service.specs.declared.command.Command.{Command}
 use Rattle.ntp_service.specs.Commands.{address_named}
 use Rattle.ntp_service.specs.Registry.{Registry, customer_at, terms_at}
 use Rattle.ntp_service.proofs.PublicLaws.{same_or_other_address}
-use Rattle.ntp_clerk.specs.Leading.{ends, enrolment_among, enrolment_with, HasExactly, IsNeeded, IsNeededAt, LeadsTo, NobodyIsForgotten}
+use Rattle.ntp_clerk.specs.Leading.{enrolment_among, enrolment_with, HasExactly, IsNeeded, IsNeededAt, LeadsTo, NobodyIsForgotten}
 use Rattle.ntp_clerk.specs.declared.wanted.Wanted.{Wanted}
 use Rattle.ntp_service.specs.Address.{address_eq}
 use Rattle.ntp_clerk.specs.Steps.{Kept, Moves, OnlyWanted}

@@ -17,8 +17,7 @@ use Rattle.hex.proofs.HexLemmas.{decode_of-encode_lower, decode_of-ok, length-en
 use Rattle.ntp_service.specs.declared.address.Address.{Address}
 use Rattle.ntp_admin.specs.Words.{is_decimal, decimal_in, number_in, key_in, address_in, address_from, address_text, non_zero}
 use Rattle.ntp_admin.proofs.PublicLaws.{new-non_zero}
-use Rattle.ntp_clerk.specs.declared.new_key.NewKey.{NewKey}
-use Rattle.ntp_clerk.specs.CommandText.{AreKeyOctets, IsAddress, IsNewKey, IsNumber}
+use Rattle.ntp_clerk.specs.CommandText.{AreKeyOctets, IsAddress, IsNumber}
 use Rattle.ntp_clerk.specs.Grants.{number_text}
 use Rattle.ntp_clerk.proofs.Joined.{lacks, lacks-all, lacks-by, parts-all, AllLack}
 
@@ -79,7 +78,3 @@ lacks-digits c octets other bytes =
 
 pub reads-key : (octets : List ℕ) → AreKeyOctets octets → key_in (encode_lower octets) ≡ Some octets
 reads-key octets is = grind (arith, decode_of-encode_lower, length-encode_with, nat_tests)
-
--- a new key is a key
-pub new-key : (key : NewKey) → IsNewKey key → AreKeyOctets key.octets
-new-key key is = (omega (arith, is.0), omega (arith, is.0), is.1)

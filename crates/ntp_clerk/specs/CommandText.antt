@@ -14,11 +14,6 @@ use Rattle.ntp_service.specs.Commands.{address_named, number_named}
 use Rattle.ntp_service.specs.Vocabulary.{command_word}
 use Rattle.ntp_service.specs.declared.command.Command.{Command}
 use Rattle.ntp_service.specs.declared.command.Command.TheVariants as command
-use Rattle.ntp_clerk.specs.declared.new_key.NewKey.{NewKey}
-
--- a new key, as a key
-abbrev pub key_made : NewKey → SymmetricKey
-key_made key = record { algorithm = key.algorithm; octets = key.octets }
 
 -- the word for an algorithm
 abbrev pub algorithm_text : Algorithm → List ℕ
@@ -46,16 +41,12 @@ command_text key_word c =
     command_word c ++ (codes " " ++ (address_text (address_named c) ++ (number_behind (number_named c)
     ++ (key_behind key_word (key_named c) ++ number_behind (budget_named c)))))
 
--- what the code's types hold: four octets are an address, and sixteen bits a number; and the octets of a key are from 1 to 32, those of a
--- new one 20
+-- what the code's types hold: four octets are an address, and sixteen bits a number; and the octets of a key are from 1 to 32
 abbrev pub IsAddress : Address → Type 0
 IsAddress address = (length address.0 ≡ 4) × IsBytes address.0
 
 abbrev pub IsNumber : NonZeroU16 → Type 0
 IsNumber number = non_zero_u16_get number < 2 ^ 16
-
-abbrev pub IsNewKey : NewKey → Type 0
-IsNewKey key = (length key.octets ≡ 20) × IsBytes key.octets
 
 abbrev pub AreKeyOctets : List ℕ → Type 0
 AreKeyOctets octets = (1 ≤ length octets) × (length octets ≤ most_key_octets) × IsBytes octets

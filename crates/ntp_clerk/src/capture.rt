@@ -8,18 +8,6 @@ use crate::link::{Link, link_of};
 use crate::wide::{four_octets, four_turned, split};
 use std::fmt;
 
-/// The magic number of a file whose numbers have the most significant octet first, with stamps in microseconds (pcap-savefile(5)).
-const BIG_ENDIAN: u64 = 0xa1b2_c3d4;
-
-/// The same, with stamps in nanoseconds.
-const BIG_ENDIAN_NANOSECONDS: u64 = 0xa1b2_3c4d;
-
-/// The magic number of a file whose numbers have it last, with stamps in microseconds.
-const LITTLE_ENDIAN: u64 = 0xd4c3_b2a1;
-
-/// The same, with stamps in nanoseconds.
-const LITTLE_ENDIAN_NANOSECONDS: u64 = 0x4d3c_b2a1;
-
 /// The first four octets of a file in the form pcapng, which is another one.
 const NEXT_GENERATION: u64 = 0x0a0d_0d0a;
 
@@ -52,7 +40,6 @@ pub struct Capture<'a> {
 pub struct Record<'a> {
     /// What was captured.
     pub frame: &'a [u8],
-    /// What stands behind the record.
     pub behind: &'a [u8],
 }
 
@@ -71,9 +58,7 @@ pub enum CaptureFault {
 impl fmt::Display for CaptureFault {
     fn fmt<W: fmt::Write>(&self, f: &mut fmt::Formatter<W>) -> fmt::Result {
         match self {
-            CaptureFault::NextGeneration => f.write_str(
-                "this is pcapng: pcap is wanted, as `tcpdump -w` writes it",
-            ),
+            CaptureFault::NextGeneration => f.write_str("this is pcapng: pcap is wanted"),
             CaptureFault::Head => f.write_str("this is no capture file in pcap form"),
             CaptureFault::Link(number) => write!(
                 f,
@@ -107,16 +92,14 @@ pub fn capture_in(octets: &[u8]) -> Result<Capture<'_>, CaptureFault>
     })
 }
 
-// The order that a magic number tells.
+// The order that a magic number has for stamps in microseconds, and in nanoseconds (pcap-savefile(5)).
 fn order_of(magic: u64) -> Option<Order>
     ensures { result ≡ order_of magic }
 {
-    if magic == BIG_ENDIAN || magic == BIG_ENDIAN_NANOSECONDS {
-        Some(Order::BigEndian)
-    } else if magic == LITTLE_ENDIAN || magic == LITTLE_ENDIAN_NANOSECONDS {
-        Some(Order::LittleEndian)
-    } else {
-        None
+    match magic {
+        0xa1b2_c3d4 | 0xa1b2_3c4d => Some(Order::BigEndian),
+        0xd4c3_b2a1 | 0x4d3c_b2a1 => Some(Order::LittleEndian),
+        _ => None,
     }
 }
 

@@ -10,8 +10,7 @@ use ntp_service::{Address, Command};
 use std::alloc::{AllocError, Global};
 use std::num::NonZero;
 
-/// The line of a command, with its line feed: what is read from it is the command. It has the octets of the command's key, which
-/// are a secret. The memory for it is taken from `alloc`.
+/// The line of a command, with its line feed and the octets of its key: what is read from it is the command.
 pub fn command_line(alloc: Global, command: &Command) -> Result<String, AllocError>
     ensures { IfOk result (λ text. WritesCommand (string_bytes text) command.now) }
 {
@@ -42,7 +41,7 @@ fn key_digits(alloc: Global, command: &Command) -> Result<String, AllocError>
 }
 
 // Octets in hexadecimal digits.
-fn octet_digits(alloc: Global, octets: &[u8]) -> Result<String, AllocError>
+pub(crate) fn octet_digits(alloc: Global, octets: &[u8]) -> Result<String, AllocError>
     ensures digits { IfOk result (λ digits. string_bytes digits ≡ encode_lower octets.now) }
     ensures octets { IsBytes octets.now }
 {
@@ -71,8 +70,8 @@ fn text_of(alloc: Global, command: &Command, key_word: &str) -> Result<String, A
     format!(in alloc; "{verb} {address}{number}{key}{budget}")
 }
 
-// The budget that a command names, if it names one.
-fn budget_named(command: &Command) -> Option<NonZero<u16>>
+/// The budget that a command names, if it names one.
+pub fn budget_named(command: &Command) -> Option<NonZero<u16>>
     ensures { result ≡ budget_named command.now }
 {
     match command {
@@ -81,8 +80,8 @@ fn budget_named(command: &Command) -> Option<NonZero<u16>>
     }
 }
 
-// The key that a command names, if it names one.
-fn key_named(command: &Command) -> Option<Key>
+/// The key that a command names, if it names one.
+pub fn key_named(command: &Command) -> Option<Key>
     ensures { result ≡ key_named command.now }
 {
     match command {
@@ -125,8 +124,8 @@ fn key_behind(alloc: Global, key: Option<Key>, key_word: &str) -> Result<String,
     }
 }
 
-// The word of an algorithm.
-pub(crate) fn algorithm_word(algorithm: Algorithm) -> &'static str
+/// The word of an algorithm.
+pub fn algorithm_word(algorithm: Algorithm) -> &'static str
     ensures { result.now ≡ algorithm_text algorithm }
 {
     match algorithm {

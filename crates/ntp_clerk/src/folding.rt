@@ -11,9 +11,8 @@ use ntp_service::{Address, Command, Service};
 use std::alloc::{AllocError, Global};
 use std::num::NonZero;
 
-/// Few commands that make the customers of a service out of none: each of these addresses is enrolled under number 1, with a
-/// spare key, and revoked; then the customers are enrolled. So each of these addresses that is no customer is a revoked one. The
-/// memory is taken from `alloc`.
+/// Few commands that make the customers of a service out of none. First each of these addresses is enrolled with a spare key, and
+/// revoked.
 pub fn fold(
     alloc: Global,
     service: &Service,

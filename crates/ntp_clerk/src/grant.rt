@@ -1,15 +1,18 @@
-//! What a customer is told of its key.
-ghost use Rattle.std.specs.Prelude.{◌≡◌, ◌∷◌, ◌++◌, IfOk, Ok, string_bytes};
-ghost use Rattle.hex.specs.Hex.{encode_lower};
+//! What a customer gets for its key.
+ghost use Rattle.std.specs.Prelude.{◌≡◌, ◌∷◌, ◌++◌, [], true, codes, IfOk, IfSome, IfNone, IsTrue, Ok, false, string_bytes};
+ghost use Rattle.std.specs.List.{list_all};
+ghost use Rattle.hex.specs.Hex.{IsBytes};
 ghost use Rattle.ntp_query.specs.KeyFile.{key_in_text};
-ghost use Rattle.ntp_clerk.specs.CommandText.{key_made, IsNewKey, IsNumber};
-ghost use Rattle.ntp_clerk.specs.Grants.{chrony_algorithm, chrony_key, chrony_server, ntpsec_key};
+ghost use Rattle.ntp_clerk.specs.CommandText.{AreKeyOctets, IsNumber};
+ghost use Rattle.ntp_clerk.specs.Grants.{chrony_algorithm, chrony_key, chrony_server, is_text, is_text_octet, key_word, ntpsec_key};
 
-use crate::NewKey;
-use crate::command_text::algorithm_word;
-use ntp_mac::Algorithm;
+use crate::command_text::{algorithm_word, octet_digits};
+use ntp_mac::{Algorithm, Key};
 use std::alloc::{AllocError, Global};
 use std::num::NonZero;
+
+/// The most octets of a key that NTPsec's key file takes as text (ntp.keys(5)).
+const MOST_TEXT_OCTETS: usize = 20;
 
 /// A key that a customer gets, and where it asks.
 #[derive(Clone, Copy)]
@@ -18,20 +21,16 @@ pub struct Grant<'a> {
     pub customer: &'a str,
     /// The server's address, as text.
     pub server: &'a str,
-    /// The server's port.
     pub port: u16,
-    /// The key's number.
     pub number: NonZero<u16>,
-    /// The key.
-    pub key: NewKey,
+    pub key: Key,
 }
 
-/// The text that a customer gets: a key file of chrony, from which the key is read under its number; and behind it, in comments, the
-/// lines of `chrony.conf`, and those of NTPsec's `ntp.keys` and `ntp.conf`. The memory for it is taken from `alloc`.
+/// A key file of chrony for a customer, and behind it, in comments, the lines of `chrony.conf`, `ntp.keys` and `ntp.conf`.
 pub fn customer_text(alloc: Global, grant: &Grant<'_>) -> Result<String, AllocError>
-    ensures { IfOk result (λ text. key_in_text grant.now.number.value (string_bytes text) ≡ Ok (key_made grant.now.key)) }
+    ensures { IfOk result (λ text. key_in_text grant.now.number.value (string_bytes text) ≡ Ok grant.now.key) }
 {
-    let key = chrony_key(alloc, grant.number, grant.key)?;
+    let key = chrony_key(alloc, grant.number, &grant.key)?;
     let notes = notes(alloc, grant)?;
     let text = with_notes(alloc, key.as_str(), notes.as_str())?;
     Ok(text)
@@ -53,7 +52,10 @@ fn notes(alloc: Global, grant: &Grant<'_>) -> Result<String, AllocError> {
         ..
     } = grant;
     let chrony = chrony_server(alloc, server, grant.port, *number)?;
-    let ntpsec = ntpsec_key(alloc, *number, grant.key)?;
+    let ntpsec = match grant.key.octet_count() > 10 || text_in(grant.key.octets()).is_some() {
+        true => ntpsec_key(alloc, *number, &grant.key)?,
+        false => String::from_str(alloc, "none: its digits would be read as characters")?,
+    };
     format!(in alloc;
         "\
 # The line above is the key of {customer}, in the form of chrony's key file. Whoever reads it can ask in your name.
@@ -74,23 +76,58 @@ fn notes(alloc: Global, grant: &Grant<'_>) -> Result<String, AllocError> {
 
 // A key in chrony's key file.
 #[tactic(auto, unfolding(crate::specs::Grants::chrony_key))]
-fn chrony_key(alloc: Global, number: NonZero<u16>, key: NewKey) -> Result<String, AllocError>
-    ensures text { IfOk result (λ text. string_bytes text ≡ chrony_key number key) }
-    ensures fits { IsNumber number × IsNewKey key }
+fn chrony_key(alloc: Global, number: NonZero<u16>, key: &Key) -> Result<String, AllocError>
+    ensures text { IfOk result (λ text. string_bytes text ≡ chrony_key number key.now) }
+    ensures fits { IfOk result (λ _. IsNumber number × AreKeyOctets key.now.octets) }
 {
-    let algorithm = chrony_algorithm(key.algorithm);
-    let digits = hex::encode(alloc, key.octets)?;
-    format!(in alloc; "{number} {algorithm} HEX:{digits}")
+    let algorithm = chrony_algorithm(key.algorithm());
+    let word = key_word(alloc, key.octets(), "ASCII:", "HEX:")?;
+    format!(in alloc; "{number} {algorithm} {word}")
 }
 
 // A key in NTPsec's key file.
 #[tactic(auto, unfolding(crate::specs::Grants::ntpsec_key))]
-fn ntpsec_key(alloc: Global, number: NonZero<u16>, key: NewKey) -> Result<String, AllocError>
-    ensures { IfOk result (λ text. string_bytes text ≡ ntpsec_key number key) }
+fn ntpsec_key(alloc: Global, number: NonZero<u16>, key: &Key) -> Result<String, AllocError>
+    ensures { IfOk result (λ text. string_bytes text ≡ ntpsec_key number key.now) }
 {
-    let algorithm = algorithm_word(key.algorithm);
-    let digits = hex::encode(alloc, key.octets)?;
-    format!(in alloc; "{number} {algorithm} {digits}")
+    let algorithm = algorithm_word(key.algorithm());
+    let word = key_word(alloc, key.octets(), "", "")?;
+    format!(in alloc; "{number} {algorithm} {word}")
+}
+
+// A key's octets, behind one of two marks: as text, or in hexadecimal digits.
+fn key_word(alloc: Global, octets: &[u8], text: &str, digits: &str) -> Result<String, AllocError>
+    ensures word { IfOk result (λ word. string_bytes word ≡ key_word text.now digits.now octets.now) }
+    ensures octets { IfOk result (λ _. IsBytes octets.now) }
+{
+    let encoded = octet_digits(alloc, octets)?;
+    match text_in(octets) {
+        Some(octets) => format!(in alloc; "{text}{octets}"),
+        None => format!(in alloc; "{digits}{encoded}"),
+    }
+}
+
+// Octets as text, if each key file takes them as that.
+fn text_in(octets: &[u8]) -> Option<&str>
+    ensures text { IfSome result (λ text. (text.now ≡ octets.now) × (is_text octets.now ≡ true)) }
+    ensures none { IfNone result (is_text octets.now ≡ false) }
+{
+    if octets.len() > MOST_TEXT_OCTETS || !are_text_octets(octets) {
+        return None;
+    }
+    match str::from_utf8(octets) {
+        Ok(text) => Some(text),
+        Err(_) => None,
+    }
+}
+
+// Whether octets are printable characters, of which none begins a comment.
+fn are_text_octets(octets: &[u8]) -> bool
+    ensures { result ≡ list_all is_text_octet octets.now }
+{
+    octets
+        .iter()
+        .all(|octet| octet.is_ascii_graphic() && *octet != b'#')
 }
 
 // A server in chrony's configuration.

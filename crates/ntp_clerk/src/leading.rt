@@ -46,12 +46,9 @@ impl From<AllocError> for LeadFault {
     }
 }
 
-/// The commands that lead from the customers of a service to the wanted ones. They are given to the service, which does each;
-/// then it has exactly these customers. Who is as wanted already is named by no command; who keeps a key is neither revoked nor
-/// enrolled anew. First each customer loses the keys that are not wanted of it, or is revoked where it keeps none; so the numbers
-/// are free that others get then. The wanted customers are judged before any command: where no address and no number is wanted
-/// twice, nothing but want of memory stops it. After that the service has done some commands, and is of no use. The memory is
-/// taken from `alloc`.
+/// The commands that lead from the customers of a service to the wanted ones. The service does each, and has these customers then.
+/// Who keeps a key is neither revoked nor enrolled anew. Where no address and no number is wanted twice, nothing but want of memory
+/// stops it, and leaves the service half changed.
 pub fn commands_to(
     alloc: Global,
     service: &mut Service,
@@ -273,8 +270,7 @@ fn enrolling(address: Address, terms: &Terms) -> [Option<Command>; 4]
     ]
 }
 
-// What makes of terms, of which each key is wanted, the wanted ones: a key is given only where there is room, and only then is the
-// older one taken.
+// What makes of terms, of which each key is wanted, the wanted ones: the older key is taken once the newer is given.
 fn arranging(address: Address, held: &Terms, wanted: &Terms) -> [Option<Command>; 4]
     requires only { OnlyWanted (Some (enrolment_with held.now)) (Some (enrolment_with wanted.now)) }
     requires two { AreTwo held.now × AreTwo wanted.now }
@@ -323,8 +319,8 @@ fn retirement(address: Address, key: &GivenKey) -> Command
     }
 }
 
-// The rollover to a key.
-fn rollover(address: Address, key: &GivenKey) -> Command
+/// The rollover to a key.
+pub fn rollover(address: Address, key: &GivenKey) -> Command
     ensures { result ≡ command.Rollover address key.now.number key.now.key }
 {
     Command::Rollover {

@@ -1,7 +1,4 @@
-//! What is decided for a clerk who keeps customers: which commands lead from the customers of a service to others, and which make
-//! them out of none; which key number is the lowest that is free; how a command and a customer's name are written; and what a
-//! customer is told of its key. And what comes to the server: the datagrams of a capture file in pcap form. It reads no file, and
-//! writes none.
+//! What is decided for a clerk who keeps customers, without a file: commands, key numbers, texts, and the datagrams of a capture.
 #![tactic(auto)]
 
 mod capture;
@@ -12,21 +9,17 @@ mod grant;
 mod leading;
 mod link;
 mod names;
-mod new_key;
 mod numbers;
-mod seen;
 mod wanted;
 mod wide;
 
 pub use capture::{Capture, CaptureFault, Order, Record, capture_in, next_record};
-pub use command_text::{command_line, command_shown};
+pub use command_text::{algorithm_word, budget_named, command_line, command_shown, key_named};
 pub use datagram::{Datagram, datagram_in};
 pub use folding::fold;
 pub use grant::{Grant, customer_text};
-pub use leading::{LeadFault, commands_to};
+pub use leading::{LeadFault, commands_to, rollover};
 pub use link::{Link, packet_in};
-pub use names::{NameLine, name_in, name_line, record_line};
-pub use new_key::{NEW_KEY_OCTETS, NewKey};
+pub use names::{name_in, name_line, record_line};
 pub use numbers::{lowest_free, next_free};
-pub use seen::{Seen, SeenKey, SeenTerms, are_same};
 pub use wanted::{GivenKey, Terms, Wanted, customers_of, terms_of};

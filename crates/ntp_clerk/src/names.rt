@@ -11,17 +11,7 @@ use ntp_admin::words;
 use ntp_service::Address;
 use std::alloc::{AllocError, Global};
 
-/// A name, and the address of whom it names.
-#[derive(Clone, Copy)]
-pub struct NameLine<'a> {
-    /// The address.
-    pub address: Address,
-    /// The name.
-    pub name: &'a str,
-}
-
-/// The line that says a name, with its line feed: what is read from it is the name and its address, where the name is not empty
-/// and has no line feed. The memory for it is taken from `alloc`.
+/// The line that says a name, with its line feed: what is read from it is a name of one line, and its address.
 pub fn name_line(alloc: Global, address: Address, name: &str) -> Result<String, AllocError>
     ensures { IsName name.now → IfOk result (λ text. (line : List ℕ) × (parts 10 (string_bytes text) ≡ line ∷ [] ∷ [])
         × (name_in line ≡ Some (address, name.now))) }
@@ -40,28 +30,27 @@ fn name_text(alloc: Global, address: Address, name: &str) -> Result<String, Allo
     format!(in alloc; "# name {word} {name}\n")
 }
 
-/// The name that a line without its line feed says, if it says one.
-pub fn name_in(line: &str) -> Option<NameLine<'_>>
-    ensures { option_map (λ said. (said.address, said.name.now)) result ≡ name_in line.now }
+/// The name that a line without its line feed says, behind the address that it names.
+pub fn name_in(line: &str) -> Option<(Address, &str)>
+    ensures { option_map (λ said. (said.0, said.1.now)) result ≡ name_in line.now }
 {
     let said = line.strip_prefix("# name ")?;
     name_behind(said)
 }
 
 // The name behind an address.
-fn name_behind(said: &str) -> Option<NameLine<'_>>
-    ensures { option_map (λ said. (said.address, said.name.now)) result ≡ name_behind said.now }
+fn name_behind(said: &str) -> Option<(Address, &str)>
+    ensures { option_map (λ said. (said.0, said.1.now)) result ≡ name_behind said.now }
 {
     let (word, name) = said.split_once(' ')?;
     if name.is_empty() {
         return None;
     }
     let address = words::address(word)?;
-    Some(NameLine { address, name })
+    Some((address, name))
 }
 
-/// The line that stands in front of those of an order, with its line feed: when it was given, and by whom. Where neither is empty or
-/// has a line feed, it is one line, which the daemon passes over. The memory for it is taken from `alloc`.
+/// The line in front of those of an order, with its line feed: when it was given, and by whom. The daemon passes it over.
 pub fn record_line(alloc: Global, time: &str, user: &str) -> Result<String, AllocError>
     ensures text { IfOk result (λ text. string_bytes text ≡ codes "# " ++ (time.now ++ (codes " " ++ (user.now ++ line_feed)))) }
     ensures line { IsName time.now → IsName user.now → IfOk result (λ text. (line : List ℕ)

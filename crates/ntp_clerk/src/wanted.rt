@@ -7,18 +7,15 @@ ghost use Rattle.ntp_service.specs.Registry.{terms_at};
 ghost use Rattle.ntp_customer.specs.declared.numbered_key.NumberedKey.{NumberedKey};
 ghost use Rattle.ntp_clerk.specs.Leading.{enrolment_if, enrolment_with, key_given, AreTwo, HasExactly};
 
-use crate::seen::are_one;
 use ntp_mac::Key;
 use ntp_service::{Address, Customer, NumberedKey, Service};
 use std::alloc::{AllocError, Global};
 use std::num::NonZero;
 
 /// A key with its number.
-#[derive(Clone, Copy)]
+#[derive(Clone, Copy, PartialEq, Eq)]
 pub struct GivenKey {
-    /// The number.
     pub number: NonZero<u16>,
-    /// The key.
     pub key: Key,
 }
 
@@ -29,14 +26,12 @@ pub struct Terms {
     pub older: GivenKey,
     /// Its newer key, if it has two.
     pub newer: Option<GivenKey>,
-    /// Its budget.
     pub budget: NonZero<u16>,
 }
 
 /// A customer that is to be enrolled.
 #[derive(Clone, Copy)]
 pub struct Wanted {
-    /// Its address.
     pub address: Address,
     /// What it is to be enrolled with.
     pub terms: Terms,
@@ -109,5 +104,5 @@ pub(crate) fn are_same_key(one: &GivenKey, other: &GivenKey) -> bool
 fn have_same_octets(one: &Key, other: &Key) -> bool
     ensures { IsTrue result ↔ (one.now ≡ other.now) }
 {
-    are_one(one.algorithm(), other.algorithm()) && one.octets() == other.octets()
+    one.algorithm() == other.algorithm() && one.octets() == other.octets()
 }

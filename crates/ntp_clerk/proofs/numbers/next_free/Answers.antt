@@ -1,4 +1,4 @@
-use Rattle.std.proofs.Common.{◌≡◌, ◌∙◌, sym, subst, true}
+use Rattle.std.proofs.Common.{◌∙◌, sym, subst}
 use Rattle.std.specs.Prelude.{Contains}
 use Rattle.ntp_clerk.proofs.Held.{held-found, lowest-once, some-next}
 use Rattle.ntp_clerk.proofs.numbers.next_free.Goals.{in_default-via-in-Some+else-not-contains, in_default-via-in_default}

@@ -1,7 +1,6 @@
 //! What the daemon does beside serving: statistics, the customers file and its log.
 ghost use Rattle.std.specs.Prelude.{◌≡◌};
-ghost use Rattle.ntp_reports.specs.declared.kind.Kind.TheVariants.{NothingReceived};
-ghost use Rattle.ntp_reports.specs.Counted.{count_at};
+ghost use Rattle.ntp_reports.specs.{declared.kind.Kind.TheVariants.NothingReceived, Counted.count_at};
 
 use crate::clock_told::DaemonClock;
 use crate::customers_file::CustomersFile;

@@ -1,7 +1,6 @@
 //! The observers of a daemon.
 ghost use Rattle.std.specs.Prelude.{◌≡◌};
-ghost use Rattle.ntp_reports.specs.declared.counts.Counts.{Counts};
-ghost use Rattle.ntp_reports.specs.Counted.{nothing_counted};
+ghost use Rattle.ntp_reports.specs.{declared.counts.Counts.Counts, Counted.nothing_counted};
 
 use crate::command_log::CommandLog;
 use ntp_host::{HostClocks, Log};

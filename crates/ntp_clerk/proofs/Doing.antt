@@ -1,26 +1,19 @@
 -- What commands that are done make of a service.
 use Rattle.std.proofs.Common.{◌≡◌, ◌≢◌, Bool, true, Option, Some, None, List, [], ◌∷◌, ◌++◌, map, length, drop, get_or, ℕ, zero, suc, ◌+◌, ◌<◌, ◌==◌, eq-eqb, arith, append-nil, append_assoc, ⊎_elim, refl, sym, ap, ◌∙◌, subst}
 use Rattle.std.specs.Prelude.{option_and_then, fold, find, if◌then◌else◌, is_some, Contains, IfSome, IsSome, Err}
-use Rattle.std.specs.Option.{option_map_or}
+use Rattle.std.specs.{Option.option_map_or, declared.alloc.Global.Global}
 use Rattle.std.specs.FinMap as map
-use Rattle.std.specs.declared.alloc.Global.{Global}
 use Rattle.std.proofs.lemmas.List.{map-append, drop_more}
-use Rattle.std.proofs.lemmas.List.Elements.{All-head, All-tail}
-use Rattle.std.proofs.lemmas.List.Sums.{fold-append}
-use Rattle.ntp_customer.specs.Tally.{tally}
-use Rattle.ntp_customer.specs.declared.numbered_key.NumberedKey.{NumberedKey}
+use Rattle.std.proofs.{lemmas.List.Elements.All-head, lemmas.List.Elements.All-tail, lemmas.List.Sums.fold-append}
+use Rattle.ntp_customer.specs.{Tally.tally, declared.numbered_key.NumberedKey.NumberedKey}
 use Rattle.ntp_customer.specs.Customer.{CustomerState, Account, Enrolment, enrolment_at, numbers_in}
-use Rattle.ntp_service.specs.declared.address.Address.{Address}
-use Rattle.ntp_service.specs.declared.command.Command.{Command}
-use Rattle.ntp_service.specs.declared.event.Event.{Event}
+use Rattle.ntp_service.specs.{declared.address.Address.Address, declared.command.Command.Command, declared.event.Event.Event}
+use Rattle.ntp_service.specs.{declared.outcome.Outcome.Outcome, declared.refusal.Refusal.Refusal}
+use Rattle.ntp_service.specs.{declared.refusal.Refusal.TheVariants.NoMemory, Headline.StandsFor, Headline.TellsOne}
 use Rattle.ntp_service.specs.declared.event.Event.TheVariants as event
-use Rattle.ntp_service.specs.declared.outcome.Outcome.{Outcome}
 use Rattle.ntp_service.specs.declared.outcome.Outcome.TheVariants as outcome
-use Rattle.ntp_service.specs.declared.refusal.Refusal.{Refusal}
-use Rattle.ntp_service.specs.declared.refusal.Refusal.TheVariants.{NoMemory}
 use Rattle.ntp_service.specs.Commands.{address_named, number_wanted, once_done, refusal_of}
 use Rattle.ntp_service.specs.Registry.{Registry, Agrees, AnswersCommand, customer_at, terms_at, numbers_at, after_command, holder_in_way, holder_of, holders_after}
-use Rattle.ntp_service.specs.Headline.{StandsFor, TellsOne}
 use Rattle.ntp_service.proofs.PublicLaws.{customer_at-with_customer, customer_at-with_customer-other, same_or_other_address, Tells-nil, Tells-one, Tells-append}
 use Rattle.ntp_clerk.specs.Leading.{LeadsTo}
 use Rattle.ntp_clerk.specs.Steps.{done_in, terms_after, AreDone, CanDo, CanDoAll, Holds, IsFree}

@@ -1,18 +1,15 @@
 -- The customers that a service has, address by address.
 use Rattle.std.proofs.Common.{◌≡◌, ◌⊎◌, inl, inr, ⊎_elim, Bool, Option, Some, None, List, [], ◌∷◌, ◌++◌, map, true≢false, refl, sym, ap, ◌∙◌, subst, arith}
 use Rattle.std.specs.Prelude.{All, Contains, IsSome, is_some, find, if◌then◌else◌, option_map}
-use Rattle.std.specs.Option.{option_map_or}
+use Rattle.std.specs.{Option.option_map_or, List.Sorted.IsPermutation}
 use Rattle.std.proofs.lemmas.List.{map-append}
-use Rattle.std.specs.List.Sorted.{IsPermutation}
 use Rattle.std.proofs.lemmas.List.Sorted.{All-permutation, Contains-permutation, IsPermutation-map}
 use Rattle.std.proofs.lemmas.List.Elements.{All-nil, All-push, All-head, All-tail, Contains-append_left, Contains-push}
 use Rattle.ntp_customer.specs.Customer.{Enrolment, CustomerState, enrolment_at}
-use Rattle.ntp_service.specs.declared.address.Address.{Address}
-use Rattle.ntp_service.specs.Address.{address_eq}
+use Rattle.ntp_service.specs.{declared.address.Address.Address, Address.address_eq}
 use Rattle.ntp_service.specs.Registry.{Registry, customer_at, terms_at}
 use Rattle.ntp_service.proofs.PublicLaws.{same-address, address_eq_equiv}
-use Rattle.ntp_clerk.specs.declared.wanted.Terms.{Terms}
-use Rattle.ntp_clerk.specs.declared.wanted.Wanted.{Wanted}
+use Rattle.ntp_clerk.specs.{declared.wanted.Terms.Terms, declared.wanted.Wanted.Wanted}
 use Rattle.ntp_clerk.proofs.Stepping.{Contains-cases, Contains-none}
 use Rattle.ntp_clerk.specs.Leading.{enrolment_among, enrolment_with, HasExactly, enrolment_if}
 

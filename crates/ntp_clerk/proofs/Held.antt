@@ -1,10 +1,8 @@
 -- Numbers that are held, up to one.
 use Rattle.std.proofs.Common.{◌≡◌, ℕ, ◌<◌, ◌≤◌, true, List, Option, Some, None, subst, arith, inl, inr, eqb-true}
 use Rattle.std.specs.Prelude.{Contains, IfSome, nat_eq}
-use Rattle.std.specs.List.{list_any}
-use Rattle.std.proofs.lemmas.Bool.{cases_lt}
-use Rattle.std.proofs.lemmas.List.Folds.{Any-from_list_any}
-use Rattle.std.specs.declared.num.NonZeroU16.{NonZeroU16}
+use Rattle.std.specs.{List.list_any, declared.num.NonZeroU16.NonZeroU16}
+use Rattle.std.proofs.{lemmas.Bool.cases_lt, lemmas.List.Folds.Any-from_list_any}
 use Rattle.ntp_clerk.specs.Numbers.{IsLowestFree, IsNextFree}
 
 -- what a test finds is there

@@ -4,21 +4,16 @@ use Rattle.std.specs.Prelude.{AllPairs, Contains, IfSome, IsSome, is_some, optio
 use Rattle.std.specs.Option.{option_or}
 use Rattle.std.proofs.lemmas.List.{get_or_default, get_or-take, length-take}
 use Rattle.std.proofs.lemmas.List.Elements.{All-nil, All-push, All-contains_itself, Contains-push_cases, Contains-append_left, Contains-push, Contains-get_or}
-use Rattle.std.proofs.lemmas.List.Quantifiers.{all_pairs_push}
-use Rattle.std.proofs.lemmas.List.Folds.{find-append}
-use Rattle.ntp_service.specs.declared.address.Address.{Address}
-use Rattle.ntp_service.specs.Address.{address_eq}
+use Rattle.std.proofs.{lemmas.List.Quantifiers.all_pairs_push, lemmas.List.Folds.find-append}
+use Rattle.ntp_service.specs.{declared.address.Address.Address, Address.address_eq}
 use Rattle.ntp_service.proofs.PublicLaws.{same_or_other_address, address_eq_equiv, other-address}
 use Rattle.ntp_customer.specs.Customer.{Enrolment, numbers_in}
-use Rattle.ntp_clerk.specs.declared.wanted.GivenKey.{GivenKey}
-use Rattle.ntp_clerk.specs.declared.wanted.Terms.{Terms}
-use Rattle.ntp_clerk.specs.declared.wanted.Wanted.{Wanted}
+use Rattle.ntp_clerk.specs.{declared.wanted.GivenKey.GivenKey, declared.wanted.Terms.Terms, declared.wanted.Wanted.Wanted}
 use Rattle.indexmap.specs.IndexMap.{IndexMap, get}
 use Rattle.ntp_clerk.specs.Leading.{enrolment_among, enrolment_with, key_given, AreApart, AreTwo, HasNumber, enrolment_if}
 use Rattle.ntp_clerk.specs.Steps.{AreTerms, Holds, Notes, NotesAll, NotesOne, ShareNone}
-use Rattle.ntp_clerk.proofs.Having.{found}
+use Rattle.ntp_clerk.proofs.{Having.found, Stepping.Contains-cases, Stepping.Contains-none}
 use Rattle.std.proofs.lemmas.Bool.{cases_eq, cases_lt, false_from_ne_true}
-use Rattle.ntp_clerk.proofs.Stepping.{Contains-cases, Contains-none}
 
 -- ---- one number after another
 

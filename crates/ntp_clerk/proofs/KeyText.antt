@@ -2,21 +2,13 @@
 use Rattle.std.proofs.Common.{◌≡◌, ℕ, ◌==◌, Bool, true, false, List, [], ◌∷◌, ◌++◌, ◌<◌, get_or, length, Some, Ok, refl, ap, ◌∙◌, arith, lit<}
 use Rattle.std.specs.Prelude.{codes, filter, nat_le, nat_lt, Result, if◌then◌else◌}
 use Rattle.std.specs.List.{find, enumerate_from, list_all}
-use Rattle.std.specs.Option.{option_map_or, ok_or}
-use Rattle.std.specs.Char.{is_ascii_digit}
-use Rattle.std.specs.Int.NonZero.{non_zero_u16_get}
-use Rattle.std.specs.declared.num.NonZeroU16.{NonZeroU16}
-use Rattle.std.specs.Str.{IsUtf8}
-use Rattle.std.proofs.lemmas.Bool.{and_parts}
-use Rattle.std.proofs.lemmas.List.Sums.{AllPass-from_list_all}
-use Rattle.std.proofs.lemmas.Str.{IsUtf8-from_ascii}
-use Rattle.std.proofs.lemmas.Str.Ascii.{IsAscii-from_all}
-use Rattle.std.proofs.lemmas.Bool.Decides.{nat_tests}
-use Rattle.std.proofs.lemmas.Fmt.{decimal_nonempty}
+use Rattle.std.specs.{Option.option_map_or, Option.ok_or, Char.is_ascii_digit, Int.NonZero.non_zero_u16_get}
+use Rattle.std.specs.{declared.num.NonZeroU16.NonZeroU16, Str.IsUtf8}
+use Rattle.std.proofs.{lemmas.Bool.and_parts, lemmas.List.Sums.AllPass-from_list_all, lemmas.Str.IsUtf8-from_ascii}
+use Rattle.std.proofs.{lemmas.Str.Ascii.IsAscii-from_all, lemmas.Bool.Decides.nat_tests, lemmas.Fmt.decimal_nonempty}
 use Rattle.hex.specs.Hex.{encode_lower, is_hex_digit}
 use Rattle.ntp_packet.specs.FirstCase.{◌>>=◌, map_err}
-use Rattle.ntp_mac.specs.Key.{SymmetricKey}
-use Rattle.ntp_mac.specs.declared.key.Algorithm.{Algorithm}
+use Rattle.ntp_mac.specs.{Key.SymmetricKey, declared.key.Algorithm.Algorithm}
 use Rattle.ntp_admin.specs.Words.{parts}
 use Rattle.ntp_query.specs.KeyFile.{words, begins_with, is_key_line, key_octets, key_of_words, key_in_words, key_in_line, key_in_lines, key_in_text}
 use Rattle.ntp_query.specs.declared.key_file.KeyFileFault.{KeyFileFault}

@@ -4,18 +4,14 @@ use Rattle.std.specs.Prelude.{All, Contains, IsSome, find, option_map}
 use Rattle.std.proofs.lemmas.List.Elements.{All-nil, All-append, All-weaker, All-contains_itself}
 use Rattle.ntp_customer.proofs.PublicLaws.{Contains-map}
 use Rattle.ntp_customer.specs.Customer.{Enrolment, CustomerState}
-use Rattle.ntp_service.specs.declared.address.Address.{Address}
-use Rattle.ntp_service.specs.declared.command.Command.{Command}
-use Rattle.ntp_service.specs.Commands.{address_named}
+use Rattle.ntp_service.specs.{declared.address.Address.Address, declared.command.Command.Command, Commands.address_named}
+use Rattle.ntp_service.specs.Address.{address_eq}
 use Rattle.ntp_service.specs.Registry.{Registry, customer_at, terms_at}
 use Rattle.ntp_service.proofs.PublicLaws.{same_or_other_address}
 use Rattle.ntp_clerk.specs.Leading.{enrolment_among, enrolment_with, HasExactly, IsNeeded, IsNeededAt, LeadsTo, NobodyIsForgotten}
 use Rattle.ntp_clerk.specs.declared.wanted.Wanted.{Wanted}
-use Rattle.ntp_service.specs.Address.{address_eq}
 use Rattle.ntp_clerk.specs.Steps.{Kept, Moves, OnlyWanted}
-use Rattle.ntp_clerk.proofs.Having.{found}
-use Rattle.ntp_clerk.proofs.Doing.{leads-none, leads-append}
-use Rattle.ntp_clerk.proofs.Stepping.{Contains-cases, Contains-none}
+use Rattle.ntp_clerk.proofs.{Having.found, Doing.leads-none, Doing.leads-append, Stepping.Contains-cases, Stepping.Contains-none}
 
 -- a command is needed by what each address is to have
 abbrev pub Needs : Registry → (Address → Option Enrolment) → Command → Type 0

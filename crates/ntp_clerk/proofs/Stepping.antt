@@ -1,21 +1,16 @@
 -- Steps from keys that an address holds to those that are wanted of it.
 use Rattle.std.proofs.Common.{◌≡◌, ◌≢◌, ◌⊎◌, ℕ, ◌==◌, Bool, true, false, Option, Some, None, inl, inr, eqb-true, eq-eqb, true≢false, List, [], ◌∷◌, ◌++◌, map, get_or, refl, sym, ap, ◌∙◌, subst, arith, ⊎_elim, rules}
 use Rattle.std.specs.Prelude.{if◌then◌else◌, Contains, All, fold, IfSome, not, ◌&&◌, ◌||◌, option_map, option_to_list, IsTrue, ◌↔◌}
-use Rattle.std.specs.Bool.{then_some}
-use Rattle.std.specs.Option.{is_some, option_flatten}
-use Rattle.std.specs.declared.num.NonZeroU16.{NonZeroU16}
+use Rattle.std.specs.{Bool.then_some, Option.is_some, Option.option_flatten, declared.num.NonZeroU16.NonZeroU16}
 use Rattle.std.proofs.lemmas.Bool.{ne_eqb}
 use Rattle.std.proofs.lemmas.List.Elements.{All-nil, All-cons, All-head, All-tail, All-weaker}
-use Rattle.ntp_customer.specs.declared.numbered_key.NumberedKey.{NumberedKey}
-use Rattle.ntp_customer.specs.Customer.{Enrolment, numbers_in}
+use Rattle.ntp_customer.specs.{declared.numbered_key.NumberedKey.NumberedKey, Customer.Enrolment, Customer.numbers_in}
 use Rattle.ntp_customer.proofs.PublicLaws.{Contains-map}
-use Rattle.ntp_service.specs.declared.address.Address.{Address}
-use Rattle.ntp_service.specs.Commands.{address_named, number_wanted, refusal_of}
-use Rattle.ntp_service.specs.Registry.{Registry, terms_at}
+use Rattle.ntp_service.specs.{declared.address.Address.Address, Registry.Registry, Registry.terms_at}
 use Rattle.ntp_service.specs.declared.command.Command.{Command}
+use Rattle.ntp_service.specs.Commands.{address_named, number_wanted, refusal_of}
 use Rattle.ntp_service.specs.declared.command.Command.TheVariants as command
-use Rattle.ntp_clerk.specs.declared.wanted.GivenKey.{GivenKey}
-use Rattle.ntp_clerk.specs.declared.wanted.Terms.{Terms}
+use Rattle.ntp_clerk.specs.{declared.wanted.GivenKey.GivenKey, declared.wanted.Terms.Terms}
 use Rattle.ntp_clerk.specs.Leading.{ends, enrolment_with, key_given, AreTwo, IsNeededAt, KeepsNoKey}
 use Rattle.ntp_clerk.specs.Steps.{done_in, rebudgeting, terms_after, AreDone, AsksOf, Frees, Goes, Holds, IsFree, Moves, OnlyWanted, ShareNone}
 

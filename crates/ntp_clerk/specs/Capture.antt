@@ -1,8 +1,6 @@
 -- A capture file in pcap form (pcap-savefile(5)).
 use Rattle.std.specs.Prelude.{◌≡◌, ◌≤◌, ℕ, ◌==◌, if◌then◌else◌, List, ◌++◌, length, drop, Option, None, Some}
-use Rattle.ntp_clerk.specs.Wide.{four_octets, four_turned}
-use Rattle.ntp_clerk.specs.Link.{link_of}
-use Rattle.ntp_clerk.specs.declared.capture.Order.{Order}
+use Rattle.ntp_clerk.specs.{Wide.four_octets, Wide.four_turned, Link.link_of, declared.capture.Order.Order}
 use Rattle.ntp_clerk.specs.declared.capture.Order.TheVariants.{BigEndian, LittleEndian}
 use Rattle.ntp_clerk.specs.declared.link.Link.{Link}
 

@@ -1,18 +1,13 @@
 -- How a command is written.
 use Rattle.std.specs.Prelude.{◌≡◌, ◌<◌, ◌≤◌, ◌^◌, ℕ, List, [], ◌∷◌, ◌++◌, codes, length, Option, None, Some, IfSome, Ok}
-use Rattle.std.specs.Option.{option_map_or}
-use Rattle.std.specs.Int.NonZero.{non_zero_u16_get}
-use Rattle.std.specs.declared.num.NonZeroU16.{NonZeroU16}
+use Rattle.std.specs.{Option.option_map_or, Int.NonZero.non_zero_u16_get, declared.num.NonZeroU16.NonZeroU16}
 use Rattle.hex.specs.Hex.{IsBytes, encode_lower}
-use Rattle.ntp_mac.specs.Key.{SymmetricKey, most_key_octets}
-use Rattle.ntp_mac.specs.declared.key.Algorithm.{Algorithm}
+use Rattle.ntp_mac.specs.{Key.SymmetricKey, Key.most_key_octets, declared.key.Algorithm.Algorithm}
 use Rattle.ntp_mac.specs.declared.key.Algorithm.TheVariants.{Md5, Sha1}
-use Rattle.ntp_service.specs.declared.address.Address.{Address}
+use Rattle.ntp_service.specs.{declared.address.Address.Address, Commands.address_named, Commands.number_named}
+use Rattle.ntp_service.specs.{Vocabulary.command_word, declared.command.Command.Command}
 use Rattle.ntp_admin.specs.Words.{parts, words, address_text, number_behind}
 use Rattle.ntp_admin.specs.Spells.{command_in}
-use Rattle.ntp_service.specs.Commands.{address_named, number_named}
-use Rattle.ntp_service.specs.Vocabulary.{command_word}
-use Rattle.ntp_service.specs.declared.command.Command.{Command}
 use Rattle.ntp_service.specs.declared.command.Command.TheVariants as command
 
 -- the word for an algorithm

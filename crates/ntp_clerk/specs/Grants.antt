@@ -1,13 +1,9 @@
 -- Not to be believed: for proofs. What a customer gets, line by line.
 use Rattle.std.specs.Prelude.{◌==◌, ◌&&◌, ℕ, Bool, not, nat_le, List, [], ◌∷◌, ◌++◌, codes, length, if◌then◌else◌}
-use Rattle.std.specs.Char.{is_ascii_graphic}
-use Rattle.std.specs.List.{join_with_byte, list_all}
-use Rattle.std.specs.Fmt.{decimal}
-use Rattle.std.specs.Int.NonZero.{non_zero_u16_get}
+use Rattle.std.specs.{Char.is_ascii_graphic, List.join_with_byte, List.list_all, Fmt.decimal, Int.NonZero.non_zero_u16_get}
 use Rattle.std.specs.declared.num.NonZeroU16.{NonZeroU16}
 use Rattle.hex.specs.Hex.{encode_lower}
-use Rattle.ntp_mac.specs.Key.{SymmetricKey}
-use Rattle.ntp_mac.specs.declared.key.Algorithm.{Algorithm}
+use Rattle.ntp_mac.specs.{Key.SymmetricKey, declared.key.Algorithm.Algorithm}
 use Rattle.ntp_mac.specs.declared.key.Algorithm.TheVariants.{Md5, Sha1}
 use Rattle.ntp_clerk.specs.CommandText.{algorithm_text}
 

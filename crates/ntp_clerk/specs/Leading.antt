@@ -1,22 +1,14 @@
 -- Customers that are wanted, and the commands that lead to them.
 use Rattle.std.specs.Prelude.{◌≡◌, ◌≢◌, ℕ, Bool, true, false, Option, Some, option_map, option_to_list, IfSome, IsSome, List, [], ◌∷◌, All, map, find, Contains, AllPairs}
-use Rattle.std.specs.declared.alloc.Global.{Global}
-use Rattle.std.specs.Int.NonZero.{non_zero_u16_get}
-use Rattle.ntp_customer.specs.declared.numbered_key.NumberedKey.{NumberedKey}
-use Rattle.ntp_customer.specs.Customer.{Enrolment, numbers_in}
-use Rattle.ntp_service.specs.declared.address.Address.{Address}
-use Rattle.ntp_service.specs.Address.{address_eq}
-use Rattle.ntp_service.specs.Commands.{address_named, numbered}
+use Rattle.std.specs.{declared.alloc.Global.Global, Int.NonZero.non_zero_u16_get}
+use Rattle.ntp_customer.specs.{declared.numbered_key.NumberedKey.NumberedKey, Customer.Enrolment, Customer.numbers_in}
+use Rattle.ntp_service.specs.{declared.address.Address.Address, Address.address_eq, Commands.address_named, Commands.numbered}
+use Rattle.ntp_service.specs.{declared.command.Command.Command, declared.event.Event.Event, Headline.StandsFor, Headline.Tells}
 use Rattle.ntp_service.specs.Registry.{Registry, customer_at, terms_at}
-use Rattle.ntp_service.specs.declared.command.Command.{Command}
 use Rattle.ntp_service.specs.declared.command.Command.TheVariants as command
-use Rattle.ntp_service.specs.declared.event.Event.{Event}
 use Rattle.ntp_service.specs.declared.event.Event.TheVariants as event
 use Rattle.ntp_service.specs.declared.outcome.Outcome.TheVariants as outcome
-use Rattle.ntp_service.specs.Headline.{StandsFor, Tells}
-use Rattle.ntp_clerk.specs.declared.wanted.GivenKey.{GivenKey}
-use Rattle.ntp_clerk.specs.declared.wanted.Terms.{Terms}
-use Rattle.ntp_clerk.specs.declared.wanted.Wanted.{Wanted}
+use Rattle.ntp_clerk.specs.{declared.wanted.GivenKey.GivenKey, declared.wanted.Terms.Terms, declared.wanted.Wanted.Wanted}
 
 -- a key with its number
 abbrev pub key_given : GivenKey → NumberedKey

@@ -1,7 +1,6 @@
 -- What stands before the IPv4 packet of a frame.
 use Rattle.std.specs.Prelude.{◌≡◌, ℕ, ◌==◌, ◌%◌, if◌then◌else◌, List, [], ◌++◌, length, Option, None, Some}
-use Rattle.ntp_clerk.specs.Wide.{two_octets}
-use Rattle.ntp_clerk.specs.declared.link.Link.{Link}
+use Rattle.ntp_clerk.specs.{Wide.two_octets, declared.link.Link.Link}
 use Rattle.ntp_clerk.specs.declared.link.Link.TheVariants.{Ethernet, Cooked, CookedSecond, Packet}
 
 -- the type of link by its number, whose lower 16 bits count (pcap-savefile(5), pcap-linktype(7))

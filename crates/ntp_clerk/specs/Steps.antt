@@ -1,18 +1,14 @@
 -- Not to be believed: for proofs. The steps from what an address has to what it is to have.
 use Rattle.std.specs.Prelude.{ℕ, ◌≡◌, ◌≢◌, ◌==◌, if◌then◌else◌, ◌++◌, [], ◌∷◌, Bool, true, false, Option, None, Some, option_map, option_and_then, List, All, IfSome, IsSome, Contains, fold, filter_map}
-use Rattle.std.specs.Option.{option_map_or}
-use Rattle.std.specs.Int.NonZero.{non_zero_u16_get}
+use Rattle.std.specs.{Option.option_map_or, Int.NonZero.non_zero_u16_get}
 use Rattle.indexmap.specs.IndexMap.{IndexMap, get}
 use Rattle.ntp_customer.specs.Tally.{tally}
 use Rattle.ntp_customer.specs.Customer.{Enrolment, enrolment_at, new_customer, numbers_in}
-use Rattle.ntp_service.specs.declared.address.Address.{Address}
-use Rattle.ntp_service.specs.Address.{address_eq}
+use Rattle.ntp_service.specs.{declared.address.Address.Address, Address.address_eq, declared.command.Command.Command}
+use Rattle.ntp_service.specs.declared.command.Command.TheVariants.{Budget}
 use Rattle.ntp_service.specs.Commands.{address_named, number_wanted, once_done, refusal_of}
 use Rattle.ntp_service.specs.Registry.{Registry, customer_at, terms_at}
-use Rattle.ntp_service.specs.declared.command.Command.{Command}
-use Rattle.ntp_service.specs.declared.command.Command.TheVariants.{Budget}
-use Rattle.ntp_clerk.specs.declared.wanted.Terms.{Terms}
-use Rattle.ntp_clerk.specs.declared.wanted.Wanted.{Wanted}
+use Rattle.ntp_clerk.specs.{declared.wanted.Terms.Terms, declared.wanted.Wanted.Wanted}
 use Rattle.ntp_clerk.specs.Leading.{enrolment_if, enrolment_with, enrolment_among, AreTwo, IsNeededAt, KeepsNoKey, LeadsTo, NobodyIsForgotten}
 
 -- the commands of steps

@@ -1,7 +1,6 @@
 //! A capture file in pcap form: its header, and its records in order.
 ghost use Rattle.std.specs.Prelude.{◌≡◌, ◌↔◌, ◌≤◌, ◌<◌, ◌+◌, List, ℕ, length, Some, None, Err, IfOk, IfErr, IfSome, IfNone};
-ghost use Rattle.ntp_clerk.specs.Wide.{four_octets};
-ghost use Rattle.ntp_clerk.specs.Link.{link_of};
+ghost use Rattle.ntp_clerk.specs.{Wide.four_octets, Link.link_of};
 ghost use Rattle.ntp_clerk.specs.Capture.{order_of, number_at, HasHead, IsRecord};
 
 use crate::link::{Link, link_of};

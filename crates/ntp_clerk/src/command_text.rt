@@ -1,8 +1,7 @@
 //! How commands are written.
 ghost use Rattle.std.specs.Prelude.{◌≡◌, ◌++◌, IfOk, IfSome, codes, string_bytes};
 ghost use Rattle.hex.specs.Hex.{encode_lower, IsBytes};
-ghost use Rattle.ntp_admin.specs.Words.{address_text, number_behind};
-ghost use Rattle.ntp_admin.specs.Answers.{line_feed};
+ghost use Rattle.ntp_admin.specs.{Words.address_text, Words.number_behind, Answers.line_feed};
 ghost use Rattle.ntp_clerk.specs.CommandText.{algorithm_text, budget_named, command_text, key_behind, key_digits, key_named, AreKeyOctets, IsAddress, IsCommand, IsNumber, WritesCommand};
 
 use ntp_mac::{Algorithm, Key};

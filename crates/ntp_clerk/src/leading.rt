@@ -1,10 +1,7 @@
 //! The commands that lead from the customers of a service to others.
 ghost use Rattle.std.specs.Prelude.{◌≡◌, ◌↔◌, ◌⊎◌, ℕ, ◌++◌, [], ◌∷◌, false, All, Contains, None, Some, IfErr, IfOk, IfSome, IsTrue, OnOk, nat_eq, option_map};
-ghost use Rattle.indexmap.specs.IndexMap.{get};
-ghost use Rattle.indexmap.specs.IndexSet.{contains};
-ghost use Rattle.ntp_service.specs.Address.{address_eq};
-ghost use Rattle.ntp_service.specs.Commands.{address_named};
-ghost use Rattle.ntp_service.specs.Registry.{terms_at};
+ghost use Rattle.indexmap.specs.{IndexMap.get, IndexSet.contains};
+ghost use Rattle.ntp_service.specs.{Address.address_eq, Commands.address_named, Registry.terms_at};
 ghost use Rattle.ntp_service.specs.declared.address.Address.{Address};
 ghost use Rattle.ntp_service.specs.declared.command.Command.TheVariants as command;
 ghost use Rattle.ntp_clerk.specs.Leading.{ends, enrolment_if, enrolment_with, key_given, AreApart, AreTwo, HasExactly, HasNumber, IsNeeded, IsNeededAt, LeadsTo, NobodyIsForgotten};

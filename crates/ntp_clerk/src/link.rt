@@ -1,7 +1,6 @@
 //! What stands before the IPv4 packet of a frame.
 ghost use Rattle.std.specs.Prelude.{◌≡◌, ◌+◌, ◌≤◌, ◌++◌, List, ℕ, length, IfSome, IfNone};
-ghost use Rattle.ntp_clerk.specs.Wide.{two_octets};
-ghost use Rattle.ntp_clerk.specs.Link.{link_of, IsPacketOf};
+ghost use Rattle.ntp_clerk.specs.{Wide.two_octets, Link.link_of, Link.IsPacketOf};
 
 use crate::wide::two_octets;
 

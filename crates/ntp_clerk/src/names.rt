@@ -1,8 +1,6 @@
 //! The names of customers, and the records of orders: comment lines of the commands file.
 ghost use Rattle.std.specs.Prelude.{◌≡◌, ◌++◌, ◌∷◌, [], List, ℕ, Some, IfOk, codes, option_map, string_bytes, true};
-ghost use Rattle.ntp_admin.specs.Answers.{line_feed};
-ghost use Rattle.ntp_admin.specs.Spells.{is_passed_over};
-ghost use Rattle.ntp_admin.specs.Words.{address_text, parts};
+ghost use Rattle.ntp_admin.specs.{Answers.line_feed, Spells.is_passed_over, Words.address_text, Words.parts};
 ghost use Rattle.ntp_clerk.specs.CommandText.{IsAddress};
 ghost use Rattle.ntp_clerk.specs.Names.{name_behind, name_in, IsName};
 

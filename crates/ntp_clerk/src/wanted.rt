@@ -1,10 +1,8 @@
 //! Customers with their terms: those that a clerk wants, and those that a service has.
 ghost use Rattle.std.specs.Prelude.{◌≡◌, ◌↔◌, ◌<◌, IfOk, IfSome, IsTrue, option_map};
-ghost use Rattle.std.specs.Int.NonZero.{non_zero_u16_get};
-ghost use Rattle.std.specs.List.Sorted.{IsNonDecreasingBy};
-ghost use Rattle.ntp_customer.specs.Customer.{enrolment_at};
+ghost use Rattle.std.specs.{Int.NonZero.non_zero_u16_get, List.Sorted.IsNonDecreasingBy};
+ghost use Rattle.ntp_customer.specs.{Customer.enrolment_at, declared.numbered_key.NumberedKey.NumberedKey};
 ghost use Rattle.ntp_service.specs.Registry.{terms_at};
-ghost use Rattle.ntp_customer.specs.declared.numbered_key.NumberedKey.{NumberedKey};
 ghost use Rattle.ntp_clerk.specs.Leading.{enrolment_if, enrolment_with, key_given, AreTwo, HasExactly};
 
 use ntp_mac::Key;

@@ -1,8 +1,7 @@
 -- Parts of a file that are read as pieces.
 use Rattle.std.proofs.Common.{◌≡◌, ◌≢◌, ℕ, ◌+◌, ◌-◌, ◌≤◌, ◌<◌, List, [], length, take, drop, get_or, ap, sym, ◌∙◌, inl, inr, refl, arith}
 use Rattle.std.specs.Prelude.{IsTrue, IsFalse, slice_index, slice_range}
-use Rattle.std.proofs.lemmas.List.{take-take}
-use Rattle.std.proofs.lemmas.List.Edits.{get_or-between}
+use Rattle.std.proofs.{lemmas.List.take-take, lemmas.List.Edits.get_or-between}
 use Rattle.std.proofs.lemmas.Bool.{cases_lt, le-leb, lt-leb}
 use Rattle.ntp_host.specs.declared.progress.Progress.{Progress}
 use Rattle.ntp_host.specs.Progress.{next_from, StandsAt, HasNoEnd, GivesPart}

@@ -1,7 +1,6 @@
 -- What a clock shows, as a moment.
 use Rattle.std.specs.Prelude.{ℕ, pos, ◌/◌, ◌%◌}
-use Rattle.ntp_packet.specs.declared.moment.Moment.{Moment}
-use Rattle.ntp_packet.specs.Unix.{second_nanos, IsUnixTime}
+use Rattle.ntp_packet.specs.{declared.moment.Moment.Moment, Unix.second_nanos, Unix.IsUnixTime}
 
 -- a moment is that of a count of nanoseconds from 1970-01-01 at 00:00 UTC (RFC 5905, 6)
 abbrev pub IsMomentOf : Moment → ℕ → Type 0

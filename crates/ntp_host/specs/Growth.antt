@@ -1,7 +1,6 @@
 -- Not to be believed: for proofs. When a file counts as written anew.
 use Rattle.std.specs.Prelude.{ℕ, ◌≤◌, Option, None, Some, IsSomeAnd}
-use Rattle.ntp_packet.specs.declared.stamp.Stamp.{Stamp}
-use Rattle.ntp_packet.specs.declared.moment.Moment.{Moment}
+use Rattle.ntp_packet.specs.{declared.stamp.Stamp.Stamp, declared.moment.Moment.Moment}
 use Rattle.ntp_host.specs.Pacing.{units_since}
 
 -- five seconds, in units of 2^-32 seconds

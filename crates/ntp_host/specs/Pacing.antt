@@ -1,9 +1,7 @@
 -- When it is time to ask again.
 use Rattle.std.specs.Prelude.{ℕ, ◌+◌, ◌-◌, ◌%◌, ◌^◌, Bool, true, ◌==◌, ◌||◌, nat_le, Option, None, Some, List, [], ◌∷◌, ◌++◌, drop, if◌then◌else◌}
-use Rattle.ntp_packet.specs.declared.stamp.Stamp.{Stamp}
-use Rattle.ntp_packet.specs.declared.moment.Moment.{Moment}
-use Rattle.ntp_port.specs.Sequence.{firsts}
-use Rattle.ntp_port.specs.Sources.{Coming}
+use Rattle.ntp_packet.specs.{declared.stamp.Stamp.Stamp, declared.moment.Moment.Moment}
+use Rattle.ntp_port.specs.{Sequence.firsts, Sources.Coming}
 
 -- a thousandth of a second, in units of 2^-32 seconds, rounded down
 abbrev pub millisecond : ℕ

@@ -1,6 +1,5 @@
-use Rattle.ntp_clerk.specs.Leading.{enrolment_if}
+use Rattle.ntp_clerk.specs.{Leading.enrolment_if, Steps.wanted_in}
 use Rattle.std.proofs.Common.{◌∙◌, sym}
-use Rattle.ntp_clerk.specs.Steps.{wanted_in}
 use Rattle.ntp_clerk.proofs.Stepping.{moves-given, free-to-give}
 use Rattle.ntp_clerk.proofs.leading.give.Goals as goal
 

@@ -1,13 +1,9 @@
 use Rattle.std.proofs.Common.{ap, subst, take, arith, ℕ}
 use Rattle.std.specs.Prelude.{nat_eq}
-use Rattle.std.specs.Map.{lookup}
-use Rattle.std.specs.List.{list_any}
-use Rattle.std.proofs.lemmas.List.{take_more, take_all}
-use Rattle.std.proofs.lemmas.Result.{err_from_is_err_and}
-use Rattle.indexmap.specs.IndexMap.{get}
-use Rattle.indexmap.specs.IndexSet.{contains}
-use Rattle.ntp_service.specs.declared.address.Address.{Address}
-use Rattle.ntp_service.specs.Address.{address_eq}
+use Rattle.std.specs.{Map.lookup, List.list_any}
+use Rattle.std.proofs.{lemmas.List.take_more, lemmas.List.take_all, lemmas.Result.err_from_is_err_and}
+use Rattle.indexmap.specs.{IndexMap.get, IndexSet.contains}
+use Rattle.ntp_service.specs.{declared.address.Address.Address, Address.address_eq}
 use Rattle.ntp_clerk.specs.Leading.{AreApart}
 use Rattle.ntp_clerk.proofs.Judging.{judged-none, judged-more, are-terms, address-free, numbers-free, two-numbers, Judged}
 use Rattle.ntp_clerk.proofs.leading.judged.Goals as goal

@@ -1,7 +1,6 @@
 use Rattle.std.proofs.Common.{take}
 use Rattle.std.specs.Prelude.{nat_eq}
-use Rattle.indexmap.specs.IndexMap.{get}
-use Rattle.indexmap.specs.IndexSet.{contains}
+use Rattle.indexmap.specs.{IndexMap.get, IndexSet.contains}
 use Rattle.ntp_service.specs.Address.{address_eq}
 use Rattle.ntp_clerk.proofs.Judging.{Judged}
 use Rattle.ntp_clerk.proofs.leading.judged.Given as goal

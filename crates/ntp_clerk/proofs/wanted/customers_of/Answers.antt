@@ -1,7 +1,6 @@
 use Rattle.std.proofs.Common.{List, [], sym, subst, arith, rules}
 use Rattle.std.specs.Prelude.{Contains}
-use Rattle.std.proofs.lemmas.List.{drop_all, drop_more}
-use Rattle.std.proofs.lemmas.List.Sorted.{IsNonDecreasingBy-from_sort_by_key}
+use Rattle.std.proofs.{lemmas.List.drop_all, lemmas.List.drop_more, lemmas.List.Sorted.IsNonDecreasingBy-from_sort_by_key}
 use Rattle.ntp_clerk.specs.declared.wanted.Wanted.{Wanted}
 use Rattle.ntp_service.specs.declared.address.Address.{Address}
 use Rattle.ntp_clerk.proofs.Having.{having-none, having-one, having-no, having-permuted, having-exactly}

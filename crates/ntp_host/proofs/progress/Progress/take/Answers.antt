@@ -1,10 +1,8 @@
 use Rattle.std.proofs.Common.{◌≡◌, ◌∙◌, ◌∷◌, [], ◌++◌, ◌+◌, ◌-◌, length, ap, subst, inl, rules, tests, inr, arith}
 use Rattle.std.specs.Prelude.{slice_set}
 use Rattle.std.proofs.lemmas.Bool.{false≢true, true≢false, both_ways, iff_false}
-use Rattle.std.proofs.lemmas.Grind.{take-set_at}
-use Rattle.std.proofs.lemmas.Iterator.{IsFirst-from_position, YieldsList-from_slice}
-use Rattle.std.proofs.lemmas.List.{length-set}
-use Rattle.std.proofs.option.Match.{if_some, if_none}
+use Rattle.std.proofs.{lemmas.Grind.take-set_at, lemmas.Iterator.IsFirst-from_position, lemmas.Iterator.YieldsList-from_slice}
+use Rattle.std.proofs.{lemmas.List.length-set, option.Match.if_some, option.Match.if_none}
 use Rattle.ntp_host.specs.Progress.{StandsAt}
 use Rattle.ntp_host.proofs.FileParts.{octet_at, front_of, part_of, nothing_of, no_end_in, no_end_joined, next_from-ended, next_from-long, next_from-short}
 use Rattle.ntp_host.proofs.progress.Progress.take.Goals as goal

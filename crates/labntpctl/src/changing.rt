@@ -125,7 +125,7 @@ fn confirmed<'a>(
 // Says when each key of an address was last used, and returns whether another key than this was, in a count of a day or more.
 fn uses(clerk: &Clerk<'_>, address: Address, number: NonZero<u16>) -> Result<(String, bool), Stop> {
     let (desk, alloc) = (clerk.desk, clerk.desk.alloc());
-    let text = clerk.reported(&clerk.configuration.customers)?;
+    let text = clerk.renewed_customers()?;
     let lines = customer_lines(desk, text.as_ref().map_or("", |text| text.as_str()))?;
     let address = format!(in alloc; "{}", Dotted(address))?;
     let (mut said, mut is_used) = (String::new(alloc), false);

@@ -141,7 +141,7 @@ pub fn list(desk: Desk<'_>, config: &str, listing: Listing<'_>) -> Result<(), St
         Some(address) => format!(in desk.alloc(); "\"{}\"", Dotted(address))?,
         None => String::new(desk.alloc()),
     };
-    let reported = clerk.reported(&clerk.configuration.customers)?;
+    let reported = clerk.renewed_customers()?;
     let reported = reported.filter(|text| text.as_str().contains(address.as_str()));
     // That labntpd reads no more bars a change, but no list.
     let _ = judge_reading(clerk);

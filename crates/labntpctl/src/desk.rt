@@ -1,11 +1,12 @@
 //! Gives a clerk the host, the configuration of labntpd, and ways to ask and to print.
 
 use crate::commands_file::Loaded;
+use crate::replacing::new_for_owner;
 use crate::shown::{date, seconds_of};
 use labntpd_assembly::{configuration_at, start_lines};
 use labntpd_files::{Configuration, Endpoint, Listen, Text, is_name};
 use ntp_admin::{Escaped, Status, failed_status, memory_status, write_status};
-use ntp_host::{StartLines, read_regular_file};
+use ntp_host::{StartLines, pause, read_regular_file};
 use ntp_mac::{Algorithm, Key};
 use ntp_query::Server;
 use ntp_service::Address;
@@ -19,6 +20,9 @@ use std::{env, fs};
 
 /// The most octets of a file in which labntpd reports.
 pub const MOST_REPORTED_OCTETS: u32 = 268_435_456;
+
+/// How often it is looked, each hundredth of a second, whether labntpd has written its customers file anew.
+const MOST_LOOKS: u32 = 150;
 
 /// The most octets of an answer that is a yes, with its line feed.
 const MOST_YES_OCTETS: usize = 16;
@@ -82,11 +86,14 @@ impl<'a> Desk<'a> {
         self.at("standard output", out)
     }
 
-    /// Returns the time in a form of strftime(3).
-    pub fn time(self, form: &'static str) -> Result<String, Stop> {
-        let seconds = seconds_of(self.at("clock", SystemTime::now(self.rt))?);
-        let date = seconds.and_then(|seconds| date(self.alloc(), seconds, form));
-        date.ok_or_else(|| self.refusal("clock: a time from 1970 to 9999 is wanted"))
+    /// Returns the time in a form of strftime(3); `no-date` where the clock shows none from 1970 to 9999.
+    pub fn time(self, form: &'static str) -> Result<String, AllocError> {
+        let now = SystemTime::now(self.rt).ok();
+        let seconds = now.and_then(|now| seconds_of(now));
+        match seconds.and_then(|seconds| date(self.alloc(), seconds, form)) {
+            Some(date) => Ok(date),
+            None => format!(in self.alloc(); "no-date"),
+        }
     }
 
     /// Returns when the file at a path was last written, in seconds since 1970, if it is there.
@@ -250,8 +257,38 @@ impl<'a> Clerk<'a> {
         }
     }
 
+    /// Reads labntpd's customers file, which labntpd writes anew before, if it serves and a file can be put beside it.
+    pub fn renewed_customers(&self) -> Result<Option<String>, Stop> {
+        if let Some(path) = &self.configuration.customers {
+            renew(self.desk, path.as_str())?;
+        }
+        self.reported(&self.configuration.customers)
+    }
+
     /// Reports why something is refused at the commands file.
     pub fn refusal<D: Display + Drop>(&self, why: D) -> Stop {
         self.desk.refusal_at(self.commands(), why)
     }
+}
+
+// Has labntpd write its customers file at a path anew, by a file beside it, and waits until another one stands there.
+fn renew(desk: Desk<'_>, path: &str) -> Result<(), AllocError> {
+    let before = node_at(desk, path);
+    let wanted = format!(in desk.alloc(); "{path}.wanted")?;
+    if before.is_none() || new_for_owner(desk.rt, wanted.as_str()).is_err() {
+        return Ok(());
+    }
+    for _ in 0..MOST_LOOKS {
+        pause(10);
+        if node_at(desk, path) != before {
+            return Ok(());
+        }
+    }
+    let _ = fs::remove_file(desk.rt, wanted.as_str());
+    Ok(())
+}
+
+// Returns which file stands at a path, if one does.
+fn node_at(desk: Desk<'_>, path: &str) -> Option<u64> {
+    Some(fs::metadata(desk.rt, path).ok()?.ino())
 }

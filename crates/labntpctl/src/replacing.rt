@@ -50,8 +50,8 @@ fn write_like(rt: &HostRuntime, path: &str, text: &str, like: &str) -> io::Resul
     or_removed(rt, path, done)
 }
 
-// Opens a new file that its owner alone may read, where there is none.
-fn new_for_owner(rt: &HostRuntime, path: &str) -> io::Result<File> {
+/// Opens a new file that its owner alone may read, where there is none.
+pub fn new_for_owner(rt: &HostRuntime, path: &str) -> io::Result<File> {
     OpenOptions::new()
         .write(true)
         .create_new(true)

@@ -166,21 +166,7 @@ impl<'a> Report<'a> {
         let Some(text) = self.small_text(path) else {
             return Ok(None);
         };
-        match read_configuration(alloc, text.as_str()) {
-            Ok(configuration) => {
-                let several = SeveralAddresses::configured(rt, alloc, configuration.listen);
-                if let (None, Some(several)) = (configuration.served_as, several) {
-                    self.warning(path, several);
-                }
-            }
-            Err(ConfigurationFault::NoMemory) => return Err(Stop::Memory),
-            Err(_) => {
-                self.take(Status::TextFaulty);
-                for fault in configuration_faults(alloc, text.as_str())?.iter() {
-                    self.fault(path, FoundAt(fault));
-                }
-            }
-        }
+        self.check_settings(path, text.as_str())?;
         let Ok(document) = toml::table_from_str(alloc, text.as_str()) else {
             return Ok(None);
         };
@@ -193,6 +179,27 @@ impl<'a> Report<'a> {
         }
         let commands = named.commands.map(|path| String::from_str(alloc, path));
         Ok(commands.transpose()?)
+    }
+
+    // Reports every fault of a configuration, or warns of 0.0.0.0 where the host has several addresses and it names none for customers.
+    fn check_settings(&mut self, path: &str, text: &str) -> Result<(), Stop> {
+        let (rt, alloc) = (self.desk.rt, self.desk.alloc());
+        match &read_configuration(alloc, text) {
+            Ok(configuration) => {
+                let several = SeveralAddresses::configured(rt, alloc, configuration.listen);
+                if let (None, Some(several)) = (configuration.served_as, several) {
+                    self.warning(path, several);
+                }
+            }
+            Err(ConfigurationFault::NoMemory) => return Err(Stop::Memory),
+            Err(_) => {
+                self.take(Status::TextFaulty);
+                for fault in configuration_faults(alloc, text)?.iter() {
+                    self.fault(path, FoundAt(fault));
+                }
+            }
+        }
+        Ok(())
     }
 
     // Reports what is wrong with the file of the clock's key.

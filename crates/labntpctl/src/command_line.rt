@@ -263,7 +263,11 @@ fn customers<'a>(alloc: Global) -> Result<Command<'a>, AllocError> {
         .about("Lists the customers, and what differs at labntpd")
         .arg(arg!(in alloc; ["ADDRESS|COMMANDS"] "One customer; or a commands file, for --config"))?
         .arg(arg!(in alloc; --json "Prints an object of JSON for each customer"))?
-        .arg(compare.conflicts_with_all(&["json", "ADDRESS|COMMANDS"])?)
+        .arg(
+            compare
+                .conflicts_with("json")?
+                .conflicts_with("ADDRESS|COMMANDS")?,
+        )
 }
 
 fn check<'a>(alloc: Global) -> Result<Command<'a>, AllocError> {
@@ -375,7 +379,10 @@ fn with_key<'a>(alloc: Global, name: &'a str) -> Result<Command<'a>, AllocError>
         .arg(
             arg!(in alloc; --"text-key" "Makes a key of 20 characters, for devices that take text"),
         )?
-        .arg(file.conflicts_with_all(&["algorithm", "text-key"])?)?
+        .arg(
+            file.conflicts_with("algorithm")?
+                .conflicts_with("text-key")?,
+        )?
         .arg(counted(arg!(in alloc; --number <N> "The key's number in that file")))?
         .arg(arg!(in alloc; --output <FILE> "[default: ADDRESS-NUMBER.keys]"))?
         .arg(arg!(in alloc; --server <"ADDRESS[:PORT]"> "[default: what the configuration says]"))

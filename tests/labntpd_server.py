@@ -228,7 +228,9 @@ class Daemon:
         for number in os.listdir(folder):
             with contextlib.suppress(FileNotFoundError):
                 target = os.readlink(f"{folder}/{number}").removesuffix(" (deleted)")
-                found["the commands file" if target.startswith(self.commands) else target] += 1
+                # Of the kernel's list of sockets a part is read each second, so it stays open where other tests have many.
+                if not target.endswith("/net/udp"):
+                    found["the commands file" if target.startswith(self.commands) else target] += 1
         return found
 
     def is_quiet(self):

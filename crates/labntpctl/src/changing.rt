@@ -206,7 +206,7 @@ fn commands_for(
     Ok(commands)
 }
 
-// Returns the customers of which one has another address, or reports that there is no such customer, or that the address has one.
+// Returns the customers, one with another address, or reports that there is no such customer, or that the address has one.
 fn moved(desk: Desk<'_>, loaded: &Loaded, from: Address, to: Address) -> Result<Vec<Wanted>, Stop> {
     let mut customers = customers_of(desk.alloc(), &loaded.service)?;
     if customers.iter().any(|customer| customer.address == to) {

@@ -95,7 +95,7 @@ pub struct Listing<'a> {
     pub json: bool,
 }
 
-// Reads a line, of which `place` others stand in front, or reports that it is no line of a customer.
+// Reads a line behind `place` others, or reports that it is no line of a customer.
 fn customer_in<'a>(desk: Desk<'_>, place: usize, line: &'a str) -> Result<CustomerLine<'a>, Stop> {
     let read = serde_json::from_str::<CustomerLine<'a>>(desk.alloc(), line);
     read.map_err(|error| if error.is_memory() {

@@ -5,6 +5,7 @@ another. A room is a small tree of its own, with the sources of one crate and of
 """
 import contextlib
 import os
+import pathlib
 import re
 import shutil
 import subprocess
@@ -34,13 +35,10 @@ def crates_of(top=TOP):
 
 def below(name, crates):
     """All crates that a crate stands on, without itself."""
-    found, left = set(), [*crates[name]]
-    while left:
-        it = left.pop()
-        if it not in found:
-            found.add(it)
-            left += crates[it]
-    return found
+    found = [*crates[name]]
+    for it in found:
+        found += [other for other in crates[it] if other not in found]
+    return {*found}
 
 
 def is_program(name, top=TOP):
@@ -53,13 +51,8 @@ def has_tests(name, top=TOP):
 
 def lines_of(name, top=TOP):
     """How many lines a check of the crate reads of its own: a measure of how long it takes."""
-    count = 0
-    for part in PARTS:
-        for at, _, files in os.walk(f"{top}/crates/{name}/{part}"):
-            for file in files:
-                with open(f"{at}/{file}", "rb") as it:
-                    count += it.read().count(b"\n")
-    return count
+    paths = [f"{at}/{it}" for part in PARTS for at, _, files in os.walk(f"{top}/crates/{name}/{part}") for it in files]
+    return sum(pathlib.Path(it).read_bytes().count(b"\n") for it in paths)
 
 
 def longest_chain(tasks, weights):
@@ -126,10 +119,10 @@ def room(name, crates, top=TOP, kept="moved"):
                     shutil.copytree(f"{top}/crates/{it}/{part}", f"{root}/crates/{it}/{part}")
             if it != name and os.path.isdir(f"{top}/crates/{it}/out/rlib"):
                 link_tree(f"{top}/crates/{it}/out/rlib", f"{root}/crates/{it}/out/rlib")
-        for file in ("crates.txt", "HANDLES"):
-            if os.path.isfile(f"{top}/{file}"):
-                shutil.copy(f"{top}/{file}", root)
-        keep_only([name, *below(name, crates)], root)
+        if os.path.isfile(f"{top}/HANDLES"):
+            shutil.copy(f"{top}/HANDLES", root)
+        with open(f"{top}/crates.txt", encoding="utf-8") as every, open(f"{root}/crates.txt", "w", encoding="utf-8") as own:
+            own.writelines(line for line in every if line.partition(":")[0].strip() in {name, *below(name, crates)})
         there, here = f"{top}/crates/{name}/out", f"{root}/crates/{name}/out"
         try:
             if kept == "left":
@@ -144,14 +137,6 @@ def room(name, crates, top=TOP, kept="moved"):
             if kept == "moved" and os.path.isdir(here):
                 shutil.rmtree(there, ignore_errors=True)
                 shutil.move(here, there)
-
-
-def keep_only(names, root):
-    """Leaves only these crates in the crates.txt of a room."""
-    with open(f"{root}/crates.txt", encoding="utf-8") as it:
-        lines = it.readlines()
-    with open(f"{root}/crates.txt", "w", encoding="utf-8") as it:
-        it.writelines(line for line in lines if re.match(r"\s*(\w+)", line) and re.match(r"\s*(\w+)", line)[1] in names)
 
 
 class Ticker:

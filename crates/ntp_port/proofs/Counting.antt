@@ -26,12 +26,7 @@ pub record CountsOne (c d : Served) : Type 0 where
   pub departed : d.departed ≤ c.departed + 1
 
 pub counts-one : (o : TurnOutcome) (c : Served) → CountsOne c (counted o c)
-counts-one NothingReceived c = record { arrivals = omega arith; sent = omega arith; departed = omega arith }
-counts-one (Answered x a sending) c = record {
-  arrivals = omega arith;
-  sent = omega (arith, at-most-one (was_sent sending));
-  departed = omega (arith, at-most-one (was_noted sending));
-}
+counts-one o c = grind (arith, at-most-one)
 
 -- what became of a reply tells what its turn sends, and whether its departure is noted
 record SendsOne (m : Made) (sending : Sending) : Type 0 where
@@ -61,12 +56,7 @@ record Counted (m : Made) (c d : Served) : Type 0 where
   departed : d.departed ≡ c.departed + if_so (has_departed m)
 
 counted-made : (m : Made) (c : Served) → Counted m c (counted (turn_outcome m) c)
-counted-made (Missed clock sends) c = record { arrivals = omega arith; sent = omega arith; departed = omega arith }
-counted-made (Received d clock sends a noted) c = record {
-  arrivals = refl;
-  sent = ap (λ n. c.sent + n) (sent-one d clock sends a noted);
-  departed = ap (λ b. c.departed + if_so b) (noted-one d clock sends a noted);
-}
+counted-made m c = grind (arith, sent-one, if_so, noted-one)
 
 sent-more : (made : List Made) (m : Made) → length (sent_of (made ++ m ∷ [])) ≡ length (sent_of made) + length (sent_in m)
 sent-more made m = grind (arith, flat_map-append, length-append, sent_of, append-nil)

@@ -14,8 +14,7 @@ All-cons P x xs e f = grind arith
 -- when it may be looked again stays in time
 LooksAgain-more : (longest next : ℕ) (event : QueueEvent) (history : List QueueEvent) → IsInOrder (event ∷ history)
     → LooksAgain longest history next → LooksAgain longest (event ∷ history) next
-LooksAgain-more longest next event history ordered (inl at_once) = inl at_once
-LooksAgain-more longest next event history ordered (inr watched) = inr (watched-more longest next event history ordered watched)
+LooksAgain-more longest next event history ordered h = grind (arith, inl, inr, watched-more)
 
 -- an event that is no take leaves what was counted
 Counts-quiet : (watch : QueueWatch) (event : QueueEvent) (history : List QueueEvent)
@@ -44,16 +43,7 @@ StandsFor-event : (watch after : QueueWatch) (reading now next : ℕ) (history :
     → moment_of event ≡ now → longest_of after ≡ longest_of watch → KeepsHistory watch reading next history → Watches after (event ∷ history)
     → Counts after (event ∷ history) → KeepsHistory after now next (event ∷ history)
 StandsFor-event watch after reading now next history event later is longest stands watches counts =
-    let past : All (λ e. moment_of e ≤ now) history = λ k d below. omega (arith, later, stands.past k d below) in
-    let ordered : IsInOrder (event ∷ history) = ((λ k d below. omega (arith, is, past k d below)), stands.ordered) in
-    record {
-      watches = watches;
-      counts = counts;
-      looks_again = LooksAgain-more (longest_of after) next event history ordered
-          (subst (λ n. LooksAgain n history next) (sym longest) stands.looks_again);
-      ordered = ordered;
-      past = All-cons (λ e. moment_of e ≤ now) event history (omega (arith, is)) past;
-    }
+    grind (arith, LooksAgain-more, All-cons)
 
 -- what was seen of the queue, by a call that told a watch of it
 pub StandsFor-Held : (watch after : QueueWatch) (reading next count : ℕ) → longest_of after ≡ longest_of watch → (count ≡ 0) ⊎ (IsWaiting watch → ⊥)

@@ -6,7 +6,6 @@ mod Taking
 mod OneTurn
 mod Answering
 mod Counting
-mod Receiving
 mod Watching
 mod Seeing
 mod Keeping

@@ -4,7 +4,7 @@ use Rattle.std.specs.Prelude.{flat_map, Result, is_err, option_map, if◌then◌
 use Rattle.std.specs.Result.{result_ok}
 use Rattle.std.proofs.{lemmas.List.map-append, lemmas.List.drop-drop, lemmas.List.Elements.filter-append}
 use Rattle.std.proofs.lemmas.Grind.{flat_map-append}
-use Rattle.ntp_port.specs.{declared.memory_port.Sent.Sent, declared.port.PortCounts.PortCounts, declared.port.PortFault.PortFault}
+use Rattle.ntp_port.specs.{declared.sent.Sent.Sent, declared.port.PortCounts.PortCounts, declared.port.PortFault.PortFault}
 use Rattle.ntp_service.specs.declared.observation.Arrival.{Arrival}
 use Rattle.ntp_port.specs.Port.{Told, TurnValue, failed_calls, counted_send, CountsReceive}
 use Rattle.ntp_port.specs.Made.{Made, turn_of, sent_in, arrival_of, is_missed, is_unsent}
@@ -25,10 +25,7 @@ abbrev pub if_so : Bool → ℕ
 if_so b = if b then 1 else 0
 
 pub count-one : (is : Made → Bool) (m : Made) → count_of is (m ∷ []) ≡ if_so (is m)
-count-one is m = chosen (is m)
-  where
-    chosen : (b : Bool) → length (if b then m ∷ [] else []) ≡ if_so b
-    chosen b = grind arith
+count-one is m = grind arith
 
 pub count-more : (is : Made → Bool) (made : List Made) (m : Made) → count_of is (made ++ m ∷ []) ≡ count_of is made + if_so (is m)
 count-more is made m = count-append is made (m ∷ []) ∙ ap (λ n. count_of is made + n) (count-one is m)

@@ -11,7 +11,7 @@ use Rattle.ntp_service.specs.declared.observation.Sending.TheVariants.{NoReply, 
 use Rattle.ntp_service.specs.declared.event.Event.TheVariants as event
 use Rattle.ntp_service.specs.Headline.{StandsFor, Tells, TellsOne}
 use Rattle.ntp_service.proofs.PublicLaws.{Tells-nil, Tells-one}
-use Rattle.ntp_port.specs.{declared.memory_port.Sent.Sent, declared.port.PortCounts.PortCounts, declared.port.PortFault.PortFault}
+use Rattle.ntp_port.specs.{declared.sent.Sent.Sent, declared.port.PortCounts.PortCounts, declared.port.PortFault.PortFault}
 use Rattle.ntp_port.specs.{declared.port.PortFault.TheVariants.Send, Serving.FollowsList, Serving.Follows}
 use Rattle.ntp_port.specs.Port.{IncomingValue, Readings, later, TurnValue, Told, counted_send, NowTells, SendTells}
 use Rattle.ntp_port.specs.Made.{Made, Received, turn_of, reply_in, departing, sent_in, sending_of, is_unsent}

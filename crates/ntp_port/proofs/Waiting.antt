@@ -41,8 +41,7 @@ earlier_dropped (Swept events calm at) seen quiet = Swept (events ++ seen) (quie
 history_dropped-earlier : (one : Dropped) (seen history : List QueueEvent) (quiet : takes seen ≡ 0)
     → history_dropped (earlier_dropped one seen quiet) history ≡ history_dropped one (seen ++ history)
 unfolding earlier_dropped
-history_dropped-earlier (InHand take) seen history quiet = history_after-earlier take seen history quiet
-history_dropped-earlier (Swept events calm at) seen history quiet = ap (λ xs. Taken at ∷ xs) (append_assoc events seen history)
+history_dropped-earlier one seen history quiet = grind (arith, history_after-earlier, append_assoc)
 
 IsStale-earlier : (longest : ℕ) (one : Dropped) (seen history : List QueueEvent) (quiet : takes seen ≡ 0)
     → IsStale longest (seen ++ history) one → IsStale longest history (earlier_dropped one seen quiet)
@@ -61,8 +60,7 @@ IsStale-earlier longest (Swept events calm at) seen history quiet stale =
 in_hand-earlier : (one : Dropped) (dropped : List Dropped) (seen : List QueueEvent) (quiet : takes seen ≡ 0)
     → in_hand (earlier_dropped one seen quiet ∷ dropped) ≡ in_hand (one ∷ dropped)
 unfolding earlier_dropped
-in_hand-earlier (InHand take) dropped seen quiet = refl
-in_hand-earlier (Swept events calm at) dropped seen quiet = refl
+in_hand-earlier one dropped seen quiet = grind arith
 
 -- what is passed on, where more was seen before
 PassesOn-earlier : (longest : ℕ) (seen history after : List QueueEvent) (result : Option (Result Arrival PortFault)) → takes seen ≡ 0
@@ -125,8 +123,7 @@ Goes-earlier longest seen history between after (one ∷ dropped) result quiet s
 
 WasAsked-more : (m n : ℕ) (history after : List QueueEvent) (result : Option (Result Arrival PortFault)) → WasAsked n history result after
     → WasAsked (m + n) history result after
-WasAsked-more m n history after (Some received) asked = tt
-WasAsked-more m n history after None asked = λ few. asked (omega (arith, few))
+WasAsked-more m n history after result asked = grind arith
 
 -- nothing was passed on, and then this
 ReceivesFresh-more : (a b c : Kept) (m n i j : ℕ) (h k l : List QueueEvent) (result : Option (Result Arrival PortFault))
@@ -184,5 +181,4 @@ Passes-after count a b c result datagram later (inr first) second = Passes-more 
 
 -- nothing, after some
 pub Passes-nothing : (count : ℕ) (a b : Kept) (datagram : List ℕ) → 0 < count → HasWaited count a b datagram → PassesOnFresh a b None datagram
-Passes-nothing count a b datagram some (inl none) = absurd (omega (arith, none.0, some))
-Passes-nothing count a b datagram some (inr passes) = passes
+Passes-nothing count a b datagram some h = grind (arith, inl, inr)

@@ -1,7 +1,6 @@
 pub mod Sequence
 pub mod Sources
 pub mod Port
-pub mod Memory
 pub mod Made
 pub mod Serving
 pub mod Sending
@@ -11,4 +10,3 @@ pub mod Watch
 pub mod Passing
 pub mod Fresh
 pub mod Next
-pub mod MemoryQueue

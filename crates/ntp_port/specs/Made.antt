@@ -10,7 +10,7 @@ use Rattle.ntp_service.specs.{declared.event.Event.Event, declared.outcome.Outco
 use Rattle.ntp_service.specs.declared.observation.Sending.TheVariants.{NoReply, NotSent, Sent as WasSent, Noted, NotNoted}
 use Rattle.ntp_service.specs.declared.event.Event.TheVariants as event
 use Rattle.ntp_service.specs.declared.outcome.Outcome.TheVariants as outcome
-use Rattle.ntp_port.specs.declared.memory_port.Sent.{Sent}
+use Rattle.ntp_port.specs.declared.sent.Sent.{Sent}
 use Rattle.ntp_port.specs.Port.{IncomingValue, Readings, TurnValue, received}
 
 -- a turn in which nothing was received; and one with its datagram, its answer, and whether the departure is noted of the reply, if it is

@@ -3,7 +3,7 @@ use Rattle.std.specs.Prelude.{◌≡◌, ℕ, zero, suc, ◌+◌, ◌^◌, ◌<�
 use Rattle.ntp_packet.specs.declared.moment.Moment.{Moment}
 use Rattle.ntp_mac.specs.Mac.{most_reply_octets}
 use Rattle.ntp_service.specs.{declared.address.Address.Address, declared.observation.Arrival.Arrival}
-use Rattle.ntp_port.specs.{declared.memory_port.Sent.Sent, declared.port.PortCounts.PortCounts, declared.port.PortFault.PortFault}
+use Rattle.ntp_port.specs.{declared.sent.Sent.Sent, declared.port.PortCounts.PortCounts, declared.port.PortFault.PortFault}
 use Rattle.ntp_port.specs.declared.port.PortFault.TheVariants.{Receive, Send}
 
 -- how many octets of a datagram are taken

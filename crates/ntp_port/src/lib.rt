@@ -1,4 +1,4 @@
-//! Ports: where datagrams come from and replies go to. What a port tells of its turns; what a server does in a turn; a port in memory;
+//! Ports: where datagrams come from and replies go to. What a port tells of its turns; what a server does in a turn;
 //! and what a server with commands asks of their source and of its clock's state.
 //!
 //! A port over a queue passes on no stale datagram: only one that can have waited for less than a given time. A datagram's receipt is
@@ -8,24 +8,20 @@
 #![tactic(auto)]
 
 mod fresh_port;
-mod memory_port;
-mod memory_queue;
 mod port;
 mod queue_event;
 mod queue_watch;
 mod queued_port;
+mod sent;
 mod serving;
 mod sources;
-mod turn;
 
 pub use fresh_port::FreshPort;
-pub use memory_port::{MemoryPort, Sent};
-pub use memory_queue::MemoryQueue;
 pub use ntp_service::Arrival;
 pub use port::{DatagramRoom, MOST_RECEIVED_OCTETS, Port, PortCounts, PortFault, TimedPort};
 pub use queue_event::QueueEvent;
 pub use queue_watch::QueueWatch;
 pub use queued_port::QueuedPort;
+pub use sent::Sent;
 pub use serving::{Served, answer_received, serve};
 pub use sources::{CommandsSource, FixedReference, ReferenceSource};
-pub use turn::{Incoming, Turn};

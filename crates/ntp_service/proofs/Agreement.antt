@@ -10,7 +10,7 @@ use Rattle.ntp_service.specs.{declared.address.Address.Address, Address.address_
 use Rattle.ntp_service.specs.{declared.refusal.Refusal.TheVariants.NotEnrolled, declared.command.Command.Command}
 use Rattle.ntp_service.specs.Commands.{numbered, refusal_of}
 use Rattle.ntp_customer.specs.declared.numbered_key.NumberedKey.{NumberedKey}
-use Rattle.ntp_customer.specs.Customer.{Enrolment, CustomerState, enrolment_of, enrolment_at, new_customer, revoked, rebudgeted, rolled_over, retired, is_enrolled, numbers_in, numbers_of}
+use Rattle.ntp_customer.specs.Customer.{CustomerState, enrolment_of, enrolment_at, new_customer, revoked, rebudgeted, rolled_over, retired, is_enrolled, numbers_of}
 use Rattle.ntp_customer.proofs.PublicLaws.{revoked-absent, numbers-rebudgeted}
 use Rattle.ntp_service.specs.declared.command.Command.TheVariants.{Enrol, Revoke, Budget, Rollover, Retire}
 use Rattle.ntp_service.specs.Registry.{Registry, Agrees, empty_registry, customer_at, is_enrolled_at, numbers_at, holder_of, with_customer, with_holder, without_holder, without_holders, after_command, own_refusal, holder_in_way}
@@ -172,29 +172,16 @@ module _ (r : Registry) (address : Address) (c : CustomerState) (there : custome
 -- what refuses an address that is not enrolled, and not this one, is told of a customer that is
 enrolled-there : (c : Command) → refusal_of None c ≡ Some NotEnrolled → (o : Option CustomerState)
     → refusal_of (option_map_or enrolment_at o None) c ≡ None → (d : CustomerState) × (o ≡ Some d) × (is_enrolled d ≡ true)
-enrolled-there c asks None own = cc
-enrolled-there c asks (Some d) own = by_enrolment (enrolment_at d) refl
-  where
-    by_enrolment : (o : Option Enrolment) → enrolment_at d ≡ o → (w : CustomerState) × (Some d ≡ Some w) × (is_enrolled w ≡ true)
-    by_enrolment None is = let refused = subst (λ o. refusal_of o c ≡ None) is own in cc
-    by_enrolment (Some e) is = (d, refl, ap is_some is)
+enrolled-there c asks o own = grind (arith, is_some)
 
 unenrolled-there : (o : Option CustomerState) (address : Address) (number budget : NonZeroU16) (key : SymmetricKey)
     → refusal_of (option_map_or enrolment_at o None) (Enrol address number key budget) ≡ None → option_map_or is_enrolled o false ≡ false
-unenrolled-there None address number budget key own = refl
-unenrolled-there (Some d) address number budget key own = by_enrolment (enrolment_at d) own
-  where
-    by_enrolment : (o : Option Enrolment) → refusal_of o (Enrol address number key budget) ≡ None → is_some o ≡ false
-    by_enrolment o e = grind arith
+unenrolled-there o address number budget key own = grind (arith, is_some)
 
 -- a key that is taken is one that is held
 retired-held : (d : CustomerState) (address : Address) (number : NonZeroU16) → refusal_of (enrolment_at d) (Retire address number) ≡ None
     → Contains (numbers_of d) (non_zero_u16_get number)
-retired-held d address number own = by_enrolment (enrolment_at d) own
-  where
-    by_enrolment : (o : Option Enrolment) → refusal_of o (Retire address number) ≡ None
-        → Contains (option_map_or numbers_in o []) (non_zero_u16_get number)
-    by_enrolment o e = grind (arith, found-number, nat_tests)
+retired-held d address number own = grind (arith, found-number, nat_tests)
 
 -- a command that nothing is in the way of keeps the agreement
 pub agrees-after : (r : Registry) (c : Command) → own_refusal r c ≡ None → holder_in_way r c ≡ None → Agrees r → Agrees (after_command r c)

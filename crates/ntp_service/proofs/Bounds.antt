@@ -9,14 +9,13 @@ use Rattle.ntp_packet.specs.declared.malformed.Malformed.{Malformed}
 use Rattle.ntp_mac.specs.{Mac.nak_octets, Key.SymmetricKey, Reading.reading_of}
 use Rattle.ntp_customer.specs.Customer.{Enrolment, AccountOf, enrolment_at, is_enrolled}
 use Rattle.ntp_reply.specs.{Life.Life, Life.enrolment_in, Replies.basic_fields, Replies.kiss_fields}
-use Rattle.ntp_reply.specs.{declared.kiss.Kiss.TheVariants.Deny, Exchanged.stamps_of, Exchanged.after_departure}
+use Rattle.ntp_reply.specs.{declared.kiss.Kiss.TheVariants.Deny, Exchanged.stamps_of}
 use Rattle.ntp_reply.specs.{declared.answers.Answer.Answer, declared.occasion.Occasion.Occasion}
 use Rattle.ntp_reply.specs.Kind.{Kind, PassedOver, RefusedByDeny, RefusedByNak, Signed, octets_kind, kind_of}
 use Rattle.ntp_reply.specs.Verdict.{window_at, refused, refusals_sent, signed_answer, after_signed, kind_answer, after_kind, verdict, after_datagram}
 use Rattle.ntp_reply.specs.declared.answers.Answer.TheVariants as answer
 use Rattle.ntp_service.specs.{declared.event.Event.Event, declared.outcome.Outcome.Outcome, Model.answer_to, Model.after}
 use Rattle.ntp_service.specs.Forgery.{is_signed_query}
-use Rattle.ntp_service.specs.declared.event.Event.TheVariants as event
 use Rattle.ntp_service.specs.declared.outcome.Outcome.TheVariants as outcome
 use Rattle.ntp_service.specs.Bound.{is_query_reply, is_refusal_reply, receipt_window, most_query_replies}
 use Rattle.ntp_service.proofs.Lives.{by_life, undone}
@@ -47,10 +46,7 @@ one-more windows w = count_in-append windows w w ∙ ap (λ b. cond b (1 + count
 spends-refusal : (past : Past) (o : Occasion) (reply : Answer) → is_query_reply (outcome.Datagram reply) ≡ false
     → is_refusal_reply (outcome.Datagram reply) ≡ true
     → Spends (Some past) (Some (with_refusal past (window_at o))) (window_at o) (outcome.Datagram (refused past o reply))
-spends-refusal past o reply no_query refusal = record {
-  queries = grind arith;
-  refusals = grind (arith, nat_tests, one-more past.refusals (window_at o));
-}
+spends-refusal past o reply no_query refusal = grind (arith, nat_tests, one-more)
 
 -- ---- a signed query of an enrolled address
 module _ (a : AccountOf (List ℕ)) (refusals : List ℕ) (o : Occasion) (key : SymmetricKey) (number : ℕ) (request : HeaderFields) where
@@ -94,8 +90,7 @@ spends-datagram (Some past) o octets =
 
 -- ---- the enrolment after a datagram
 enrolment-kind : (o : Occasion) (k : Kind) (past : Past) → enrolment_at (after_kind past o k) ≡ enrolment_at past
-enrolment-kind o (Signed key number h) = by_past _ (λ refusals. grind arith) (λ a refusals. grind arith)
-enrolment-kind o other = λ past. refl
+enrolment-kind o k = grind (arith, by_past)
 
 pub same-enrolment : (life : Life) (o : Occasion) (octets : List ℕ) → enrolment_in (after_datagram life o octets) ≡ enrolment_in life
 same-enrolment life o octets = grind (arith, enrolment-kind)
@@ -109,11 +104,7 @@ counts w life = (queries_left life w, refusals_left life w, most_query_replies l
 
 pub same-counts : {A : Type 0} (w : ℕ) (life : Life) (e : Event A) → receipt_window e ≡ None → answer_to life e ≢ outcome.Done
     → counts w (after life e) ≡ counts w life
-same-counts w life (event.Datagram address receipt transmit reference octets) none plain = absurd (none-some _ (sym none))
-same-counts w life (event.Departed address receive m) none plain =
-    by_life (λ l. counts w (option_map (λ past. after_departure past receive m) l) ≡ counts w l)
-    refl (λ refusals. refl) (λ a refusals. refl) life
-same-counts w life (event.Command c) none plain = ap (counts w) (undone c life plain)
+same-counts w life e none plain = grind (arith, none-some, by_life, option_map, undone)
 
 -- ---- what is left is no more than what a window can have
 pub left-at-most : (w : ℕ) (life : Life) → queries_left life w ≤ most_query_replies life

@@ -2,16 +2,14 @@
 use Rattle.std.proofs.Common.{◌≡◌, ◌≢◌, ℕ, Bool, true, false, Option, Some, None, Result, Ok, Err, IsSome, is_some, option_map, List, [], ◌∷◌, ◌++◌, refl, sym, ap, ◌∙◌, subst, true≢false, arith}
 use Rattle.std.specs.Prelude.{◌↔◌, OnErr, if◌then◌else◌, option_and_then}
 use Rattle.std.specs.Option.{option_map_or}
-use Rattle.std.specs.FinMap as map
 use Rattle.ntp_customer.specs.{Tally.tally, Customer.Enrolment, Customer.CustomerState, Past.short}
 use Rattle.ntp_service.specs.{declared.address.Address.Address, declared.refusal.Refusal.Refusal}
 use Rattle.ntp_service.specs.{declared.refusal.Refusal.TheVariants.KeyTaken, declared.command.Command.Command}
 use Rattle.ntp_service.specs.declared.event.Event.{Event}
 use Rattle.ntp_service.specs.{declared.outcome.Outcome.TheVariants.Done, declared.outcome.Outcome.TheVariants.Refused, Events.own}
 use Rattle.ntp_service.specs.Model.{life_of}
-use Rattle.ntp_service.specs.declared.command.Command.TheVariants.{Enrol, Rollover, Retire}
 use Rattle.ntp_service.specs.Commands.{address_named, number_wanted, refusal_of, is_foreign, once_done}
-use Rattle.ntp_service.specs.Registry.{Registry, Agrees, AnswersCommand, customer_at, terms_at, holder_of, holders_after, after_command, own_refusal, holder_in_way}
+use Rattle.ntp_service.specs.Registry.{Registry, Agrees, AnswersCommand, customer_at, terms_at, holder_of, after_command, own_refusal, holder_in_way}
 use Rattle.ntp_service.proofs.{Lookups.customer_at-with_customer, Lookups.customer_at-with_customer-other, Lives.undone}
 use Rattle.ntp_service.proofs.{KeptLives.kept-done, Holders.taken-so, Holders.terms-are}
 use Rattle.ntp_reply.specs.Life.{Life, enrolment_in}
@@ -22,52 +20,35 @@ use Rattle.ntp_service.proofs.Histories.{stands-step, stands-same, tells-one}
 -- ---- the register after a command that is done
 -- no command that is done takes a customer away
 stays-customer : (c : Command) (o : Option CustomerState) → once_done (tally []) o c ≡ None → o ≡ None
-stays-customer c None is = refl
-stays-customer (Enrol address number key budget) (Some customer) is = cc
-stays-customer other (Some customer) is = cc
+stays-customer c o is = grind arith
 
 -- its address has what the command makes of what it had
 done-here : (r : Registry) (c : Command)
     → customer_at (after_command r c) (address_named c) ≡ once_done (tally []) (customer_at r (address_named c)) c
-done-here r c = written (once_done (tally []) (customer_at r (address_named c)) c) refl
-  where
-    written : (o : Option CustomerState) → once_done (tally []) (customer_at r (address_named c)) c ≡ o
-        → customer_at (option_map_or (λ d. record { customers = map.insert r.customers (address_named c) d; holders = holders_after r c }) o r) (address_named c) ≡ o
-    written None is = stays-customer c (customer_at r (address_named c)) is
-    written (Some d) is = customer_at-with_customer r (address_named c) d
+done-here r c = grind (arith, stays-customer, customer_at-with_customer)
 
 -- all others have what they had
 done-there : (r : Registry) (c : Command) (a : Address) → a ≢ address_named c → customer_at (after_command r c) a ≡ customer_at r a
-done-there r c a ne = written (once_done (tally []) (customer_at r (address_named c)) c)
-  where
-    written : (o : Option CustomerState)
-        → customer_at (option_map_or (λ d. record { customers = map.insert r.customers (address_named c) d; holders = holders_after r c }) o r) a ≡ customer_at r a
-    written None = refl
-    written (Some d) = customer_at-with_customer-other r (address_named c) d a ne
+done-there r c a ne = grind (arith, customer_at-with_customer-other)
 
 -- ---- what a register does on a command
 -- an address has terms, or none
 by_terms : (P : Option Enrolment → Type 0) → P None → ((e : Enrolment) → P (Some e)) → (terms : Option Enrolment) → P terms
-by_terms P out enrolled None = out
-by_terms P out enrolled (Some e) = enrolled e
+by_terms P out enrolled terms = grind arith
 
 -- a refusal for what the address itself has is no neighbour's
 own-refusal : (c : Command) (terms : Option Enrolment) → option_map_or is_foreign (refusal_of terms c) false ≡ false
-own-refusal (Rollover address number key) = by_terms _ refl (λ e. grind arith)
-own-refusal (Retire address number) = by_terms _ refl (λ e. grind arith)
-own-refusal other = by_terms _ refl (λ e. refl)
+own-refusal c = grind (arith, by_terms)
 
 -- only a refusal has its outcome
 told-refusal : (result : Result (Unit {0}) Refusal) (refusal : Refusal) → command_outcome result ≡ Refused refusal → result ≡ Err refusal
-told-refusal (Ok done) refusal is = cc
-told-refusal (Err other) refusal is = cc
+told-refusal result refusal is = grind arith
 
 same-refusal : (one other : Refusal) → ◌≡◌ {A = Result (Unit {0}) Refusal} (Err one) (Err other) → one ≡ other
 same-refusal one other is = cc
 
 the-number : (o : Option ℕ) → IsSome o → (n : ℕ) × (o ≡ Some n)
-the-number None h = absurd (true≢false (sym h))
-the-number (Some n) h = (n, refl)
+the-number o h = grind (arith, true≢false)
 
 module _ {A : Type 0} (r s : Registry) (c : Command) (history : List (Event A)) (stands : StandsFor r history) where
   abbrev order : Event A

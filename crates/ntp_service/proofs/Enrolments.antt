@@ -8,7 +8,6 @@ use Rattle.ntp_service.specs.{Events.address_of, Events.own, Commands.numbered, 
 use Rattle.ntp_service.specs.{Headline.IsTaken, Headline.number_asked, Split.is_command}
 use Rattle.ntp_reply.specs.Life.{Life, enrolment_in}
 use Rattle.ntp_service.specs.declared.command.Command.TheVariants.{Enrol, Revoke, Budget, Rollover, Retire}
-use Rattle.ntp_service.specs.declared.event.Event.TheVariants as event
 use Rattle.ntp_service.specs.Model.{answer_to, after, life_of}
 use Rattle.ntp_service.proofs.Lives.{by_life, command_answer, life_after_command}
 use Rattle.ntp_service.proofs.Bounds.{same-enrolment}

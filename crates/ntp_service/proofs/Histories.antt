@@ -1,5 +1,5 @@
 -- What one more event does to a history.
-use Rattle.std.proofs.Common.{◌≡◌, ◌≢◌, Bool, true, false, option_map, List, [], ◌∷◌, ◌++◌, map, refl, sym, ap, ◌∙◌, subst, append-nil, ⊎_elim, arith}
+use Rattle.std.proofs.Common.{◌≡◌, ◌≢◌, true, false, option_map, List, [], ◌∷◌, ◌++◌, map, sym, ap, ◌∙◌, subst, append-nil, ⊎_elim, arith}
 use Rattle.std.proofs.{lemmas.Grind.common_steps, lemmas.List.Elements.filter-append}
 use Rattle.std.specs.{Ordering.is_eq, declared.cmp.Ordering.Ordering, declared.cmp.Ordering.TheVariants.Equal, FinMap.get-empty}
 use Rattle.ntp_service.specs.{declared.address.Address.Address, Address.address_eq, Address.address_cmp}
@@ -21,10 +21,7 @@ pub same-address : (a b : Address) → address_eq a b ≡ true → a ≡ b
 same-address a b equal = addresses.same a b (tie (address_cmp a b) (sym (addresses.ties a b) ∙ equal))
 
 pub other-address : (a b : Address) → a ≢ b → address_eq a b ≡ false
-other-address a b ne = decided (address_eq a b) refl
-  where
-    decided : (t : Bool) → address_eq a b ≡ t → address_eq a b ≡ false
-    decided t e = grind (arith, same-address)
+other-address a b ne = grind (arith, same-address)
 
 module _ {A : Type 0} where
   -- the events of what happened

@@ -9,7 +9,6 @@ use Rattle.ntp_customer.specs.Customer.{Enrolment, HasKeys, enrolment_of, with_t
 use Rattle.ntp_customer.proofs.PublicLaws.{with_key, without_key}
 use Rattle.ntp_service.specs.{declared.refusal.Refusal.Refusal, declared.command.Command.Command, declared.event.Event.Event}
 use Rattle.ntp_reply.specs.Life.{Life, enrolment_in}
-use Rattle.ntp_service.specs.declared.event.Event.TheVariants as event
 use Rattle.ntp_service.specs.Commands.{rollover_refusal, retire_refusal, refusal_of, once_done}
 use Rattle.ntp_service.specs.Model.{after, life_after, life_of}
 use Rattle.ntp_service.proofs.{Lives.by_life, Holders.held-number, Bounds.same-enrolment}

@@ -1,12 +1,12 @@
 -- Lives by their cases, what is kept of them, and the commands that leave them as they are.
-use Rattle.std.proofs.Common.{◌≡◌, ◌≢◌, ℕ, List, [], Option, Some, None, is_some, option_map, refl, arith}
+use Rattle.std.proofs.Common.{◌≡◌, ◌≢◌, ℕ, List, [], Some, None, is_some, option_map, refl, arith}
 use Rattle.std.specs.Prelude.{if◌then◌else◌}
 use Rattle.std.specs.Option.{option_map_or}
 use Rattle.std.proofs.lemmas.Option.{none-some, same_Some}
 use Rattle.ntp_customer.specs.Customer.{AccountOf, CustomerState, enrolment_at}
 use Rattle.ntp_customer.specs.Past.{Past, short}
 use Rattle.ntp_customer.proofs.PublicLaws.{by_past}
-use Rattle.ntp_service.specs.{declared.refusal.Refusal.Refusal, declared.command.Command.Command}
+use Rattle.ntp_service.specs.{declared.command.Command.Command}
 use Rattle.ntp_service.specs.declared.outcome.Outcome.{Outcome}
 use Rattle.ntp_service.specs.declared.outcome.Outcome.TheVariants.{Done, Refused}
 use Rattle.ntp_service.specs.Commands.{refusal_of, once_done}
@@ -40,7 +40,4 @@ life_after_command life c = if is_some (refusal_of (enrolment_in life) c) then l
 
 -- a command that is not done leaves the life
 pub undone : (c : Command) (life : Life) → command_answer life c ≢ Done → life_after_command life c ≡ life
-undone c life = by_refusal (refusal_of (enrolment_in life) c)
-  where
-    by_refusal : (o : Option Refusal) → option_map_or Refused o Done ≢ Done → (if is_some o then life else once_done [] life c) ≡ life
-    by_refusal o e = grind arith
+undone c life = grind (arith, is_some)

@@ -7,7 +7,6 @@ use Rattle.ntp_service.specs.{Registry.Registry, declared.event.Event.Event, dec
 use Rattle.ntp_service.proofs.{AddressLaws.same_or_other_address, Histories.events_of, Histories.other-address}
 use Rattle.ntp_service.proofs.Parts.{IsTold, tell-alike}
 use Rattle.ntp_reply.specs.Life.{Life, enrolment_in}
-use Rattle.ntp_service.specs.declared.event.Event.TheVariants as event
 use Rattle.ntp_service.specs.declared.outcome.Outcome.TheVariants as outcome
 use Rattle.ntp_service.specs.Events.{address_of, names, own}
 use Rattle.ntp_service.specs.Model.{answer_to, after, life_after, life_of}

@@ -1,7 +1,7 @@
 //! A service, one event at a time.
 ghost use Rattle.std.specs.Prelude.{◌≡◌, ◌↔◌, ◌≤◌, List, [], length, Contains, IsNone, IsSome, IsTrue, IfOk, OnErr, option_copied};
 ghost use Rattle.std.specs.Bool.{OnFalse};
-ghost use Rattle.ntp_service.specs.Registry.{customer_at, Agrees, AnswersCommand};
+ghost use Rattle.ntp_service.specs.Registry.{customer_at, holder_of, Agrees, AnswersCommand};
 ghost use Rattle.ntp_service.specs.{declared.address.Address.Address, declared.event.Event.Event, Events.own};
 ghost use Rattle.ntp_service.specs.Forgery.{is_genuine, genuine};
 ghost use Rattle.ntp_reply.specs.Verdict.{reply_length};
@@ -54,6 +54,13 @@ impl<A: Allocator + Copy> Service<A> {
         ensures { IfOk result (λ addresses. (address : Address) → Contains addresses.items address ↔ IsSome (customer_at self.now address)) }
     {
         self.register.addresses()
+    }
+
+    /// The address that is enrolled with a key number, if one is.
+    pub fn holder(&self, number: u16) -> Option<Address>
+        ensures { result ≡ holder_of self.now number }
+    {
+        self.register.holder(number)
     }
 
     /// The customer at an address: none exactly where the address was never enrolled.

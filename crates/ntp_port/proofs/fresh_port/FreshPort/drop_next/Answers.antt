@@ -1,5 +1,5 @@
 use Rattle.std.proofs.Common.{◌≡◌, true, arith}
-use Rattle.ntp_port.proofs.DroppingStale.{Drops-none, Drops-swept, Drops-unswept}
+use Rattle.ntp_port.proofs.DroppingStale.{Drops-none, Drops-swept}
 use Rattle.ntp_port.proofs.fresh_port.FreshPort.drop_next.Goals as goal
 
 pub returns-then-not-is_waiting-clause-drops : goal.returns-then-not-is_waiting-clause-drops
@@ -15,5 +15,4 @@ returns-then-has_dropped-clause-drops g c =
     c.if-has_dropped.ensures.turns c.if-has_dropped.ensures.history c.saturating_add-self.ensures (omega arith)
 
 pub returns-else-has_dropped-clause-drops : goal.returns-else-has_dropped-clause-drops
-returns-else-has_dropped-clause-drops g c =
-    Drops-unswept _ _ _ (omega arith) (omega arith) c.if-has_dropped.ensures.turns c.if-has_dropped.ensures.history
+returns-else-has_dropped-clause-drops g c = grind arith

@@ -4,5 +4,4 @@ pub mod Faults
 pub mod Pacing
 pub mod Progress
 pub mod FixedClock
-pub mod Growth
 pub mod Reading

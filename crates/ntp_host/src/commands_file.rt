@@ -3,17 +3,16 @@ ghost use Rattle.std.specs.Prelude.{◌≡◌, ◌+◌, ◌≤◌, None, [], ◌
 ghost use Rattle.ntp_port.specs.Sources.{Gives};
 ghost use Rattle.ntp_host.specs.Progress.{next_from};
 
+use crate::clock::HostClocks;
 use crate::growth::{FileState, Growth};
-use crate::pacing::{TENTH, is_due};
 use crate::progress::{MOST_COMMANDS_OCTETS, Progress};
 use crate::whole_file::open_regular_file;
-use ntp_packet::{Moment, Stamp};
+use ntp_packet::Moment;
 use ntp_port::CommandsSource;
 use std::alloc::Allocator;
 use std::fmt;
 use std::fs::{self, Files, OpenFile};
 use std::io::{self, Read, Seek, SeekFrom, Write};
-use std::os::unix::fs::MetadataExt;
 
 /// The octets from which on a commands file is nearly full: 80 in 100 of the most, rounded up.
 const NEARLY_FULL_OCTETS: u64 = 53_687_092;
@@ -84,45 +83,40 @@ impl fmt::Display for CommandsFault {
 
 /// The commands file of a server. It stays open, and is read on where its metadata show that it has grown.
 ///
-/// The metadata of its path are read where a tenth of a second has passed by the receipts, and where no datagram waits. One that is written
-/// anew and becomes longer looks as one that has grown; one of the same length, within a tick of the file system's clock, as unchanged.
+/// Each look reads the metadata of what stands at its path. A file that is written anew and becomes longer looks as one that has grown; one
+/// of the same length, within a tick of the file system's clock, as unchanged.
 #[derive(Drop)]
 pub struct CommandsFile<'a, R: Files> {
     files: &'a R,
     path: &'a str,
+    clocks: &'a HostClocks,
     file: R::File,
-    // Which file it is.
-    device: u64,
-    node: u64,
-    // The octets in front of what the next read gives, where that is known.
-    position: Option<u64>,
     progress: Progress,
     growth: Growth,
     // Whether it was read to its end once. Until then what stands at its path does not matter, so that a start carries out one file, and no
     // part of one.
     was_read: bool,
-    // When what stands at the path was last asked for.
-    asked: Option<Stamp>,
     fault: Option<CommandsFault>,
 }
 
 impl<'a, R: Files> CommandsFile<'a, R> {
     /// Opens the regular file at `path`, and reads it once without a use, so that no start carries out a part of one that cannot be read to
-    /// its end. The error is the system's, or says that a regular file is wanted.
-    pub fn open(files: &'a R, path: &'a str) -> io::Result<CommandsFile<'a, R>> {
+    /// its end. `clocks` have the time of each look. The error is the system's, or says that a regular file is wanted.
+    pub fn open(
+        files: &'a R,
+        path: &'a str,
+        clocks: &'a HostClocks,
+    ) -> io::Result<CommandsFile<'a, R>> {
         let (mut file, metadata) = open_regular_file(files, path)?;
         io::copy(&mut (&mut file).take(MOST_COMMANDS_OCTETS), &mut io::sink())?;
         Ok(CommandsFile {
             files,
             path,
+            clocks,
             file,
-            device: metadata.dev(),
-            node: metadata.ino(),
-            position: None,
             progress: Progress::new(),
             growth: Growth::new(FileState::of(&metadata)),
             was_read: false,
-            asked: None,
             fault: None,
         })
     }
@@ -138,46 +132,38 @@ impl<'a, R: Files> CommandsFile<'a, R> {
     }
 
     // Does what `look` does, where it is not given up, and notes whether it has too many octets.
-    fn read_on<A: Allocator>(
-        &mut self,
-        alloc: A,
-        receipt: Option<Moment>,
-    ) -> Result<Option<Vec<u8, A>>, CommandsFault>
+    fn read_on<A: Allocator>(&mut self, alloc: A) -> Result<Option<Vec<u8, A>>, CommandsFault>
         ensures { IfOk result (λ lines. IfSome lines (λ octets. vec_len octets ≤ 65536)) }
     {
-        if self.was_read {
-            self.ask_path(receipt)?;
+        let found = self.state()?;
+        if !self.growth.is_of_file(found) {
+            return Err(CommandsFault::Replaced);
         }
-        let found = FileState::of(&self.file.metadata()?);
         if found.length < self.octets() {
             return Err(CommandsFault::Shorter);
         }
-        self.growth.see(found, receipt);
+        let now = self.clocks.ticks.get();
+        self.growth.see(found, now);
         self.fault = (found.length > MOST_COMMANDS_OCTETS).then_some(CommandsFault::Full);
         let count = self.progress.next_count(found.length);
         if count > 0 {
             return Ok(self.lines(alloc, count, found.length)?);
         }
         self.was_read = true;
-        if self.growth.is_rewritten(receipt) {
+        if self.growth.is_rewritten(now) {
             return Err(CommandsFault::Rewritten);
         }
         Ok(None)
     }
 
-    // Asks what stands at the path, where it is time to.
-    fn ask_path(&mut self, receipt: Option<Moment>) -> Result<(), CommandsFault> {
-        if !is_due(self.asked, receipt, TENTH) {
-            return Ok(());
-        }
-        if let Some(receipt) = receipt {
-            self.asked = Some(receipt.stamp);
-        }
-        let found = fs::metadata(self.files, self.path)?;
-        if found.dev() != self.device || found.ino() != self.node {
-            return Err(CommandsFault::Replaced);
-        }
-        Ok(())
+    // The state of what stands at the path, and before it matters that of the file.
+    fn state(&self) -> io::Result<FileState> {
+        let metadata = if self.was_read {
+            fs::metadata(self.files, self.path)?
+        } else {
+            self.file.metadata()?
+        };
+        Ok(FileState::of(&metadata))
     }
 
     // Reads the next piece, which has `count` octets, and returns its lines; nothing where it has none, and a file of this length has
@@ -194,12 +180,8 @@ impl<'a, R: Files> CommandsFile<'a, R> {
         ensures { IfOk result (λ lines. IfSome lines (λ octets. vec_len octets ≤ 65536)) }
     {
         let mut octets = vec![in alloc; 0; count]?;
-        let from = self.progress.next_from();
-        if self.position.take() != Some(from) {
-            self.file.seek(SeekFrom::Start(from))?;
-        }
+        self.file.seek(SeekFrom::Start(self.progress.next_from()))?;
         self.file.read_exact(&mut octets)?;
-        self.position = Some(from + count as u64);
         let given = self.progress.take(&mut octets);
         octets.truncate(given);
         if given == 0 && self.progress.next_count(length) == 0 {
@@ -222,15 +204,11 @@ impl<'a, R: Files, A: Allocator> CommandsSource<A> for CommandsFile<'a, R> {
         ensures most { IfSome result (λ octets. vec_len octets ≤ 65536) }
         ensures ended { IfSome self.old.fault (λ fault. IsTrue (is_final fault) → (result ≡ None) × (self.new ≡ self.old)) }
     {
-        let is_tried = match &self.fault {
-            Some(CommandsFault::Unreadable(_)) => is_due(self.asked, receipt, TENTH),
-            Some(fault) => !fault.is_final(),
-            None => true,
-        };
-        if !is_tried {
-            return None;
+        match &self.fault {
+            Some(fault) if fault.is_final() => return None,
+            _ => {}
         }
-        match self.read_on(alloc, receipt) {
+        match self.read_on(alloc) {
             Ok(lines) => lines,
             Err(fault) => {
                 self.fault = Some(fault);

@@ -1,7 +1,6 @@
 //! The state of the clock, from the register file or from the host's clock daemon.
 
-use crate::moment_now;
-use crate::queued_udp::HostClocks;
+use crate::clock::{HostClocks, moment_now};
 use ntp_client::{
     Distrust, Follower, Reading, Taken, is_read, reference_unsynchronised, reference_where_read,
 };
@@ -42,9 +41,8 @@ pub struct FollowedClock<'a, C: Clock + Copy + Drop> {
     is_outstanding: bool,
     // When an answer was looked for last.
     looked: u64,
-    has_answered: bool,
-    // Whether the last answer said that its clock is not synchronised.
-    is_unsynchronised: bool,
+    // Whether the last answer said that its clock is synchronised, where one came.
+    answer: Option<bool>,
 }
 
 impl<'a, C: Clock + Copy + Drop> FollowedClock<'a, C> {
@@ -63,8 +61,7 @@ impl<'a, C: Clock + Copy + Drop> FollowedClock<'a, C> {
             asked: None,
             is_outstanding: false,
             looked: 0,
-            has_answered: false,
-            is_unsynchronised: false,
+            answer: None,
         }
     }
 
@@ -75,28 +72,28 @@ impl<'a, C: Clock + Copy + Drop> FollowedClock<'a, C> {
 
     /// Whether the daemon has told the state of its clock at all, even if only that it is not synchronised.
     pub fn has_answered(&self) -> bool {
-        self.has_answered
+        self.answer.is_some()
     }
 
     /// Whether the daemon's last answer said that its clock is not synchronised.
     pub fn is_unsynchronised(&self) -> bool {
-        self.is_unsynchronised
+        self.answer == Some(false)
     }
 
     // What both clocks show together; nothing where the host's could not be read. Where the process was held up between their
     // readings, they are read again.
     fn reading(&self) -> Option<Reading> {
-        let (mut best, mut shortest) = self.timed_reading();
+        let mut best = self.timed_reading();
         for _ in 1..MOST_READINGS {
-            if shortest <= LONGEST_READING {
+            if best.1 <= LONGEST_READING {
                 break;
             }
-            let (reading, took) = self.timed_reading();
-            if took < shortest {
-                (best, shortest) = (reading, took);
+            let next = self.timed_reading();
+            if next.1 < best.1 {
+                best = next;
             }
         }
-        Some(best).filter(|it| is_read(it.clock))
+        Some(best.0).filter(|it| is_read(it.clock))
     }
 
     // Reads the host's clock between two readings of the ticks, and tells how long that took, in nanoseconds.
@@ -185,25 +182,16 @@ impl<'a, C: Clock + Copy + Drop> FollowedClock<'a, C> {
                 return;
             };
             self.look(now);
-            let taken = self.follower.take(&octets[..length], now);
-            if is_answer(taken) {
-                if taken != Taken::Rate {
-                    self.has_answered = true;
-                    self.is_unsynchronised = !matches!(taken, Taken::Sample(_));
-                }
-                self.expect_nothing();
-                return;
+            match self.follower.take(&octets[..length], now) {
+                Taken::Sample(_) => self.answer = Some(true),
+                Taken::Refused(Distrust::Unsynchronised) => self.answer = Some(false),
+                Taken::Rate => {}
+                _ => continue,
             }
+            self.expect_nothing();
+            return;
         }
     }
-}
-
-// Whether octets were taken for the daemon's answer to the question.
-fn is_answer(taken: Taken) -> bool {
-    matches!(
-        taken,
-        Taken::Sample(_) | Taken::Rate | Taken::Refused(Distrust::Unsynchronised)
-    )
 }
 
 impl<'a, C: Clock + Copy + Drop> ReferenceSource for FollowedClock<'a, C> {

@@ -1,21 +1,18 @@
 //! Whether a file that grows was written anew in its place.
-ghost use Rattle.std.specs.Prelude.{◌≡◌, ◌≢◌, ◌≤◌, IsTrue, option_map};
-ghost use Rattle.ntp_host.specs.Growth.{HasStayed};
+ghost use Rattle.std.specs.Prelude.{◌≡◌, ◌≢◌, ◌↔◌, ◌+◌, ◌≤◌, IsTrue};
 
-use ntp_packet::{Moment, Stamp};
 use std::fs::Metadata;
 use std::os::unix::fs::MetadataExt;
 
-/// How long a file that was modified may become no longer, in units of 2^-32 seconds: 5 s. A write changes the time first, and the length
-/// when its octets are stored, for which a busy disk takes a while.
-const LONGEST_WRITE: u64 = 21_474_836_480;
+/// How long a file that was modified may become no longer, in nanoseconds: 5 s. A write changes the time first, and the length when its
+/// octets are stored, for which a busy disk takes a while.
+const LONGEST_WRITE: u64 = 5_000_000_000;
 
-/// Looks with no datagram that take as long: in front of each stands a wait of `LONGEST_WAIT`.
-const IDLE_LOOKS: u8 = 250;
-
-/// The length of a file, in octets, and when it was last modified.
+/// Which file it is, its length in octets, and when it was last modified.
 #[derive(Clone, Copy, PartialEq, Eq)]
 pub(crate) struct FileState {
+    device: u64,
+    node: u64,
     pub length: u64,
     seconds: i64,
     nanos: i64,
@@ -25,6 +22,8 @@ impl FileState {
     /// Reads them in the metadata of a file.
     pub(crate) fn of(metadata: &Metadata) -> FileState {
         FileState {
+            device: metadata.dev(),
+            node: metadata.ino(),
             length: metadata.len(),
             seconds: metadata.mtime(),
             nanos: metadata.mtime_nsec(),
@@ -32,15 +31,13 @@ impl FileState {
     }
 }
 
-/// What was seen of a file that grows.
+/// What was seen of a file that grows. Moments are in nanoseconds of a clock that never goes back.
 #[derive(Drop)]
 pub(crate) struct Growth {
-    // Its state when it was longest, and the last one.
+    // Its state when it was longest, and the last one, with the first look that found it in that.
     longest: FileState,
     last: FileState,
-    // The first receipt with which it was found in the last one, and at how many looks it was with none.
-    since: Option<Stamp>,
-    idle: u8,
+    since: u64,
     ghost below: { last.length ≤ longest.length },
 }
 
@@ -50,48 +47,35 @@ impl Growth {
         Growth {
             longest: state,
             last: state,
-            since: None,
-            idle: 0,
+            since: 0,
         }
     }
 
-    /// Notes in which state it is found at a look with this receipt.
-    pub(crate) fn see(&mut self, found: FileState, receipt: Option<Moment>)
+    /// Returns whether this is the state of that file.
+    pub(crate) fn is_of_file(&self, found: FileState) -> bool {
+        found.device == self.last.device && found.node == self.last.node
+    }
+
+    /// Notes in which state it is found at a look at `now`.
+    pub(crate) fn see(&mut self, found: FileState, now: u64)
         ensures last { self.new.last ≡ found }
-        ensures first { found ≢ self.old.last → (self.new.since ≡ option_map (λ r. r.stamp) receipt) × (self.new.idle ≡ 0) }
+        ensures since { found ≢ self.old.last → self.new.since ≡ now }
         ensures again { found ≡ self.old.last → self.new ≡ self.old }
     {
         if found == self.last {
             return;
         }
         self.last = found;
-        self.since = receipt.map(|receipt| receipt.stamp);
-        self.idle = 0;
+        self.since = now;
         if found.length > self.longest.length {
             self.longest = found;
         }
     }
 
-    /// Returns whether it stayed in another state than the longest for `LONGEST_WRITE`, at a look with this receipt at which nothing is
-    /// to be read.
-    pub(crate) fn is_rewritten(&mut self, receipt: Option<Moment>) -> bool
-        ensures other { IsTrue result → self.old.last ≢ self.old.longest }
-        ensures stayed { IsTrue result → HasStayed self.old.since self.old.idle receipt }
-        ensures states { (self.new.last ≡ self.old.last) × (self.new.longest ≡ self.old.longest) }
+    /// Returns whether it has stayed in another state than the longest for `LONGEST_WRITE`, at a look at `now`.
+    pub(crate) fn is_rewritten(&self, now: u64) -> bool
+        ensures { IsTrue result ↔ ((self.now.last ≢ self.now.longest) × (self.now.since + 5000000000 ≤ now)) }
     {
-        if self.last == self.longest {
-            return false;
-        }
-        match (receipt, self.since) {
-            (Some(receipt), Some(since)) => receipt.stamp.0.wrapping_sub(since.0) >= LONGEST_WRITE,
-            (Some(receipt), None) => {
-                self.since = Some(receipt.stamp);
-                false
-            }
-            (None, _) => {
-                self.idle = self.idle.saturating_add(1);
-                self.idle > IDLE_LOOKS
-            }
-        }
+        self.last != self.longest && now.saturating_sub(self.since) >= LONGEST_WRITE
     }
 }

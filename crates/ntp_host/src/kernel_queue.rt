@@ -1,5 +1,7 @@
 //! What the kernel tells of a socket's queue.
+ghost use Rattle.std.specs.Prelude.{◌≡◌, ◌+◌, ◌/◌, IfSome, IfNone};
 
+use crate::clock::HostClocks;
 use std::alloc::{AllocError, Global};
 use std::fs::{self, Files};
 use std::io::Read;
@@ -17,22 +19,58 @@ const MOST_PARTS_AT_ONCE: u32 = 16;
 /// The kernel's list of UDP sockets (proc(5)).
 const UDP_LIST: &str = "/proc/net/udp";
 
+/// The kernel's lists of IPv4 sockets that receive datagrams and are none of UDP (proc(5)).
+const OTHER_LISTS: [&str; 3] = ["/proc/net/udplite", "/proc/net/raw", "/proc/net/icmp"];
+
 /// How many octets of a receive buffer a queued datagram takes at least, as Linux counts them: 576 for what it keeps of each
 /// datagram, and its headers.
 const LEAST_QUEUED_OCTETS: u32 = 640;
 
-/// How many datagrams `octets` octets of a receive buffer hold at most.
-pub(crate) fn most_datagrams(octets: u32) -> u64 {
-    u64::from(octets / LEAST_QUEUED_OCTETS)
+/// What is known of a bound socket.
+#[derive(Clone, Copy)]
+pub struct BoundAt {
+    /// Its own address.
+    pub local: SocketAddrV4,
+    /// The size of its receive buffer, in octets as the kernel counts.
+    pub buffer: u32,
+    /// Whether a wait for its datagrams never sleeps, and takes a whole processor.
+    pub spins: bool,
 }
 
-/// How many octets of its receive buffer the datagrams take that wait at a UDP socket, as the kernel counts; nothing where it does not
-/// tell, or where 2,048 other sockets or more stand before. `room` is for a part of the list.
-pub(crate) fn used_octets<R: Files>(
-    files: &R,
-    local: SocketAddrV4,
-    room: &mut Vec<u8>,
-) -> Option<u32> {
+/// What a port keeps to ask for the queue of its socket.
+#[derive(Drop)]
+pub struct KernelQueue<'a> {
+    /// The clock that never goes back, and the other socket whose answer ends a wait.
+    pub clocks: &'a HostClocks,
+    /// The socket, which does not block.
+    pub bound: BoundAt,
+    /// Room for a part of the kernel's list of sockets.
+    pub room: Vec<u8>,
+}
+
+impl<'a> KernelQueue<'a> {
+    /// How many datagrams are in the queue at most.
+    pub(crate) fn most_held<R: Files>(&mut self, files: &R) -> u64 {
+        let used = used_octets(files, self.bound.local, &mut self.room);
+        most_held(used, self.bound.buffer)
+    }
+}
+
+// How many datagrams are at most in a queue that takes `used` octets of a receive buffer. Where these are not known it is not taken for
+// empty: then it is as many as the whole buffer holds, and one more, which the kernel takes in while what is used does not exceed the buffer.
+fn most_held(used: Option<u32>, buffer: u32) -> u64
+    ensures known { IfSome used (λ octets. result ≡ octets / 640) }
+    ensures unknown { IfNone used (result ≡ buffer / 640 + 1) }
+{
+    match used {
+        Some(used) => u64::from(used / LEAST_QUEUED_OCTETS),
+        None => u64::from(buffer / LEAST_QUEUED_OCTETS) + 1,
+    }
+}
+
+// How many octets of its receive buffer the datagrams take that wait at a UDP socket, as the kernel counts; nothing where it does not
+// tell, or where 2,048 other sockets or more stand before.
+fn used_octets<R: Files>(files: &R, local: SocketAddrV4, room: &mut Vec<u8>) -> Option<u32> {
     let mut list = fs::open(files, UDP_LIST).ok()?;
     for _ in 0..MOST_PARTS_AT_ONCE {
         if let Some((used, _)) = queue_in(next_part(&mut list, room)?, local) {
@@ -91,9 +129,6 @@ impl<R: Files> KernelDrops<R> {
     }
 }
 
-/// The kernel's lists of IPv4 sockets that receive datagrams and are none of UDP (proc(5)).
-const OTHER_LISTS: [&str; 3] = ["/proc/net/udplite", "/proc/net/raw", "/proc/net/icmp"];
-
 /// Whether the kernel lists a socket of this inode among those that receive datagrams and are none of UDP. `room` is for a part of a
 /// list.
 pub fn is_of_other_protocol<R: Files>(files: &R, inode: u64, room: &mut Vec<u8>) -> bool {
@@ -130,10 +165,8 @@ fn next_part<'a, F: Read>(file: &mut F, room: &'a mut Vec<u8>) -> Option<&'a str
 
 // Whether a line is that of the socket: its second word is the address and the port, in hexadecimal digits.
 fn is_of(line: &str, local: SocketAddrV4) -> bool {
-    let Some(word) = line.split_ascii_whitespace().nth(1) else {
-        return false;
-    };
-    let Some((address, port)) = word.split_once(':') else {
+    let word = line.split_ascii_whitespace().nth(1);
+    let Some((address, port)) = word.and_then(|word| word.split_once(':')) else {
         return false;
     };
     u32::from_str_radix(address, 16) == Ok(u32::from_ne_bytes(local.ip().octets()))

@@ -8,24 +8,20 @@ mod followed_clock;
 mod growth;
 mod kernel_queue;
 mod log;
-mod notify;
 mod pacing;
 mod progress;
-mod queued_udp;
 mod socket;
 mod udp_port;
 mod whole_file;
 
-pub use clock::moment_now;
+pub use clock::{HostClocks, moment_now};
 pub use commands_file::{CommandsFault, CommandsFile, is_nearly_full, write_nearly_full};
 pub use followed_clock::{ClockSource, FollowedClock};
-pub use kernel_queue::{KernelDrops, SOCKETS_ROOM, is_of_other_protocol};
+pub use kernel_queue::{BoundAt, KernelDrops, KernelQueue, SOCKETS_ROOM, is_of_other_protocol};
 pub use log::{Log, LogForm, Priority, StartLines, form_for, has_standard_streams, pause};
-pub use notify::ServiceManager;
 pub use pacing::EachMillisecond;
 pub use progress::MOST_COMMANDS_OCTETS;
-pub use queued_udp::{BoundAt, HostClocks, LONGEST_WAIT, QueuedUdp};
-pub use socket::{inherited, receive_buffer, set_receive_buffer, set_send_buffer};
+pub use socket::{ServiceManager, inherited, receive_buffer, set_receive_buffer, set_send_buffer};
 pub use udp_port::UdpPort;
 pub use whole_file::{
     emptied_file, new_file, not_regular, put_in_place, read_regular_file, replace_file,

@@ -1,7 +1,7 @@
 //! The log of the daemon, for which nothing waits.
 
+use crate::socket::awaited;
 use libc::net::{POLLNVAL, POLLOUT, poll};
-use libc::types::pollfd;
 use std::alloc::{AllocError, Global};
 use std::fs::{self, Files};
 use std::io::{self, Write};
@@ -131,16 +131,16 @@ impl<W: Write + Drop> Write for StartLines<W> {
 
 // Whether standard error would take a line at once.
 fn would_take() -> bool {
-    let asked = asked(STANDARD_ERROR, POLLOUT);
-    asked.revents & POLLOUT != 0 && asked.revents & POLLNVAL == 0
+    asked(STANDARD_ERROR, POLLOUT) & (POLLOUT | POLLNVAL) == POLLOUT
 }
 
 /// How lines have to begin for who reads standard error: with priorities where that is the journal. `stream` is the word JOURNAL_STREAM
 /// of the environment, which names the device and the inode of what the journal reads (systemd.exec(5)).
 pub fn form_for<R: Files>(files: &R, stream: &str) -> LogForm {
-    match is_stream(files, stream) {
-        Some(true) => LogForm::WithPriorities,
-        Some(false) | None => LogForm::Plain,
+    if is_stream(files, stream) == Some(true) {
+        LogForm::WithPriorities
+    } else {
+        LogForm::Plain
     }
 }
 
@@ -159,7 +159,7 @@ pub fn has_standard_streams() -> bool {
 
 // Whether a descriptor is open.
 fn is_open(descriptor: i32) -> bool {
-    asked(descriptor, 0).revents & POLLNVAL == 0
+    asked(descriptor, 0) & POLLNVAL == 0
 }
 
 /// Waits for `milliseconds` thousandths of a second.
@@ -168,12 +168,8 @@ pub fn pause(milliseconds: i32) {
 }
 
 // What a descriptor is ready for, of these events, without waiting.
-fn asked(descriptor: i32, events: i16) -> pollfd {
-    let mut asked = [pollfd {
-        fd: descriptor,
-        events,
-        revents: 0,
-    }];
+fn asked(descriptor: i32, events: i16) -> i16 {
+    let mut asked = [awaited(descriptor, events)];
     poll(&mut asked, 0);
-    asked[0]
+    asked[0].revents
 }

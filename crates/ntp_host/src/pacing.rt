@@ -1,7 +1,7 @@
-//! How often files are asked.
+//! How often a source of commands is asked.
 ghost use Rattle.std.specs.Prelude.{◌≡◌, None, false, IsTrue, [], ◌∷◌, option_map};
 ghost use Rattle.ntp_port.specs.Sources.{Gives};
-ghost use Rattle.ntp_host.specs.Pacing.{millisecond, is_due, asked_after, each_millisecond};
+ghost use Rattle.ntp_host.specs.Pacing.{is_due, asked_after, each_millisecond};
 
 use ntp_packet::{Moment, Stamp};
 use ntp_port::CommandsSource;
@@ -9,9 +9,6 @@ use std::alloc::Allocator;
 
 /// A thousandth of a second, in units of 2^-32 seconds.
 const MILLISECOND: u64 = 4_294_967;
-
-/// A tenth of a second, in these units.
-pub(crate) const TENTH: u64 = 429_496_729;
 
 /// A source of commands that is asked at most once in a thousandth of a second, by the receipts of the datagrams; and always where no
 /// datagram waits, and where the clock was set back. In between a look costs and gives nothing.
@@ -49,12 +46,12 @@ impl<C: CommandsSource<A>, A: Allocator> CommandsSource<A> for EachMillisecond<C
     /// What the source gives, where it is asked, and else nothing. It takes memory only as the source does.
     fn look(&mut self, alloc: A, receipt: Option<Moment>) -> Option<Vec<u8, A>>
         // The source is asked once, with the same receipt, and what it gives is given.
-        ensures asked { IsTrue (is_due self.old.asked receipt millisecond)
+        ensures asked { IsTrue (is_due self.old.asked receipt)
             → Gives (C.coming self.old.source) (C.coming self.new.source) (receipt ∷ []) (option_map (λ octets. octets.items) result ∷ []) }
-        ensures noted { IsTrue (is_due self.old.asked receipt millisecond) → self.new.asked ≡ asked_after self.old.asked receipt }
-        ensures between { is_due self.old.asked receipt millisecond ≡ false → (result ≡ None) × (self.new ≡ self.old) }
+        ensures noted { IsTrue (is_due self.old.asked receipt) → self.new.asked ≡ asked_after self.old.asked receipt }
+        ensures between { is_due self.old.asked receipt ≡ false → (result ≡ None) × (self.new ≡ self.old) }
     {
-        if !is_due(self.asked, receipt, MILLISECOND) {
+        if !is_due(self.asked, receipt) {
             return None;
         }
         if let Some(receipt) = receipt {
@@ -64,14 +61,14 @@ impl<C: CommandsSource<A>, A: Allocator> CommandsSource<A> for EachMillisecond<C
     }
 }
 
-/// Returns whether it is time to ask again for what was last asked for then: where a datagram has come, by its receipt, and always where
-/// the clock could not be read.
-pub(crate) fn is_due(asked: Option<Stamp>, receipt: Option<Moment>, period: u64) -> bool
-    ensures { result ≡ is_due asked receipt period }
+// Returns whether it is time to ask again for what was last asked for then: where a datagram has come, by its receipt, and always where
+// the clock could not be read.
+fn is_due(asked: Option<Stamp>, receipt: Option<Moment>) -> bool
+    ensures { result ≡ is_due asked receipt }
 {
     match (asked, receipt) {
         (Some(asked), Some(receipt)) => {
-            receipt.stamp.0 == 0 || receipt.stamp.0.wrapping_sub(asked.0) >= period
+            receipt.stamp.0 == 0 || receipt.stamp.0.wrapping_sub(asked.0) >= MILLISECOND
         }
         _ => true,
     }

@@ -1,12 +1,12 @@
-//! The sockets of the daemon.
+//! The sockets of the daemon: the one that it serves at, and its service manager's.
 ghost use Rattle.std.specs.Prelude.{◌≤◌, pos};
 ghost use Rattle.libc.specs.Net.{SockOption};
 
 use libc::net::{
-    AF_INET, AF_UNIX, IPPROTO_TCP, MSG_DONTWAIT, MSG_NOSIGNAL, SO_RCVBUF, SO_SNDBUF, SOCK_CLOEXEC,
-    SOCK_DGRAM, SOL_SOCKET, TCP_NODELAY, getsockopt, recv, sendto, setsockopt, socket,
+    AF_UNIX, IPPROTO_TCP, MSG_DONTWAIT, MSG_NOSIGNAL, SO_RCVBUF, SO_SNDBUF, SOCK_CLOEXEC,
+    SOCK_DGRAM, SOL_SOCKET, TCP_NODELAY, getsockopt, sendto, setsockopt, socket,
 };
-use ntp_service::Address;
+use libc::types::pollfd;
 use os::{FromRawFd, errno};
 use std::io::{self, ErrorKind};
 use std::net::{SocketAddr, UdpSocket};
@@ -19,8 +19,11 @@ const FIRST_INHERITED: i32 = 3;
 /// wanted, or is the system's.
 pub fn inherited() -> io::Result<UdpSocket> {
     let socket = unsafe { UdpSocket::from_raw_fd(FIRST_INHERITED) };
-    let SocketAddr::V4(local) = socket.local_addr()? else {
-        return Err(unsuited("an IPv4 socket is wanted"));
+    let local = match socket.local_addr() {
+        Ok(SocketAddr::V4(local)) => local,
+        // An address of another family than the two of IP is an invalid one.
+        Err(error) if error.kind() != ErrorKind::InvalidInput => return Err(error),
+        _ => return Err(unsuited("an IPv4 socket is wanted")),
     };
     // Only a socket of TCP has this option (tcp(7)).
     if option_of(&socket, IPPROTO_TCP, TCP_NODELAY).is_ok() {
@@ -28,6 +31,9 @@ pub fn inherited() -> io::Result<UdpSocket> {
     }
     if local.port() == 0 {
         return Err(unsuited("a socket that is bound is wanted"));
+    }
+    if socket.peer_addr().is_ok() {
+        return Err(unsuited("a socket that is not connected is wanted"));
     }
     Ok(socket)
 }
@@ -81,72 +87,60 @@ fn option_of(socket: &UdpSocket, level: i32, name: i32) -> io::Result<u32>
     }
 }
 
-/// How many octets an address of IPv4 has, as the kernel takes it (ip(7)).
-const INET_OCTETS: u32 = 16;
-
 /// The most octets of the name of a socket of this host (unix(7)).
 const MOST_NAME_OCTETS: usize = 108;
 
-/// An address of a socket, as the kernel takes it: so many of these octets.
+/// The service manager that started the daemon, which hears of it by datagrams (sd_notify(3)).
 #[derive(Clone, Copy)]
-pub(crate) struct SocketAddress {
-    octets: [u8; 128],
+pub struct ServiceManager {
+    descriptor: i32,
+    // The address of its socket, as the kernel takes it, and how many of these octets it has.
+    address: [u8; 128],
     length: u32,
     ghost fits: { length ≤ 128 },
 }
 
-/// Sends a datagram to an address, if that needs no waiting. The error is the system's.
-pub(crate) fn send_at_once(
-    descriptor: i32,
-    octets: &[u8],
-    target: &SocketAddress,
-) -> io::Result<()> {
-    let flags = MSG_NOSIGNAL | MSG_DONTWAIT;
-    let sent = unsafe { sendto(descriptor, octets, flags, &target.octets, target.length) };
-    if sent == octets.len() as isize {
-        Ok(())
-    } else {
-        Err(io::Error::from_raw_os_error(errno()))
+impl ServiceManager {
+    /// The one that hears at the socket `name`, the word NOTIFY_SOCKET of the environment: a path, or a name behind `@` that is no
+    /// file's; nothing where it is neither, or is too long.
+    pub fn at(name: &str) -> Option<ServiceManager> {
+        let name = name.as_bytes();
+        if name.len() > MOST_NAME_OCTETS || !matches!(name.first(), Some(&(b'/' | b'@'))) {
+            return None;
+        }
+        let mut address = [0; 128];
+        address[..2].copy_from_slice(&(AF_UNIX as u16).to_ne_bytes());
+        address[2..2 + name.len()].copy_from_slice(name);
+        if address[2] == b'@' {
+            address[2] = 0;
+        }
+        Some(ServiceManager {
+            descriptor: unsafe { socket(AF_UNIX, SOCK_DGRAM | SOCK_CLOEXEC, 0) },
+            address,
+            length: 2 + name.len() as u32,
+        })
+    }
+
+    /// Sends it what sd_notify(3) has for a state, if that needs no waiting.
+    pub fn hear(&self, state: &str) {
+        let flags = MSG_NOSIGNAL | MSG_DONTWAIT;
+        unsafe {
+            sendto(
+                self.descriptor,
+                state.as_bytes(),
+                flags,
+                &self.address,
+                self.length,
+            )
+        };
     }
 }
 
-/// An address and a UDP port.
-pub(crate) fn inet_address(address: Address, port: u16) -> SocketAddress {
-    let mut octets = [0; 128];
-    octets[..2].copy_from_slice(&(AF_INET as u16).to_ne_bytes());
-    octets[2..4].copy_from_slice(&port.to_be_bytes());
-    octets[4..8].copy_from_slice(&address.0);
-    SocketAddress {
-        octets,
-        length: INET_OCTETS,
+/// A descriptor that is waited for until it is ready for one of these events.
+pub(crate) fn awaited(descriptor: i32, events: i16) -> pollfd {
+    pollfd {
+        fd: descriptor,
+        events,
+        revents: 0,
     }
-}
-
-/// The name of a socket of this host: a path, or a name behind `@` that is no file's; nothing where it is neither, or is too long.
-pub(crate) fn unix_address(name: &str) -> Option<SocketAddress> {
-    let name = name.as_bytes();
-    if name.len() > MOST_NAME_OCTETS || !matches!(name.first(), Some(&(b'/' | b'@'))) {
-        return None;
-    }
-    let mut octets = [0; 128];
-    octets[..2].copy_from_slice(&(AF_UNIX as u16).to_ne_bytes());
-    octets[2..2 + name.len()].copy_from_slice(name);
-    if octets[2] == b'@' {
-        octets[2] = 0;
-    }
-    Some(SocketAddress {
-        octets,
-        length: 2 + name.len() as u32,
-    })
-}
-
-/// A new socket from which datagrams go to sockets of this host; -1 where there can be none.
-pub(crate) fn unix_socket() -> i32 {
-    unsafe { socket(AF_UNIX, SOCK_DGRAM | SOCK_CLOEXEC, 0) }
-}
-
-/// Takes a datagram that has come, and drops it. Whether one was there.
-pub(crate) fn drop_at_once(descriptor: i32) -> bool {
-    let mut first = [0];
-    unsafe { recv(descriptor, &mut first, MSG_DONTWAIT) >= 0 }
 }

@@ -1,7 +1,0 @@
-use Rattle.std.proofs.Common.{◌≡◌}
-use Rattle.ntp_host.proofs.udp_port.UdpPortTimedPort.receive_in_time.Given as goal
-
-abbrev pub invariant-loop : goal.invariant-loop
-invariant-loop g l = record {
-  counts : l.self.counts ≡ l.fn.self.counts;
-}

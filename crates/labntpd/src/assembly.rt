@@ -2,31 +2,31 @@
 ghost use Rattle.std.specs.Prelude.{◌≡◌, ◌+◌, IfOk};
 
 use labntpd_assembly::{
-    Assembly, Begun, FollowedDaemon, Host, Parts, Prepared, ReportingObserver, ServeFault,
-    answers_file, clock_source, commands_at, log_form, observer, open_socket, service_manager,
-    set_up, start_lines, watch_from_now,
+    Assembly, Host, Parts, ReportingObserver, ServeFault, StartupFacts, observer,
 };
 use labntpd_files::Configuration;
+use labntpd_start::{
+    Prepared, PreparedClock, answers_file, clock_source, commands_at, log_form, open_socket,
+    service_manager, set_up, start_lines, watch_from_now,
+};
 use ntp_admin::{Status, memory_status, write_status};
 use ntp_host::{
-    BoundAt, ClockSource, CommandsFile, HostClocks, Log, QueuedUdp, SOCKETS_ROOM, UdpPort,
+    BoundAt, ClockSource, CommandsFile, HostClocks, KernelQueue, Log, SOCKETS_ROOM, UdpPort,
     has_standard_streams,
 };
 use ntp_port::FreshPort;
-use ntp_reports::CustomerCounts;
+use ntp_reports::{AnswerLines, CustomerCounts};
 use std::alloc::Global;
 use std::fs::File;
 use std::io::{LineWriter, Stderr};
 
 // Where the datagrams of the daemon come from.
-type UdpQueue<'a> = FreshPort<
-    QueuedUdp<'a, UdpPort<&'a HostRuntime>, &'a HostRuntime, HostRuntime>,
->;
+type UdpQueue<'a> = FreshPort<UdpPort<&'a HostRuntime, KernelQueue<'a>>>;
 
-// Who is told what it does.
+// Who hears what it does.
 type HostObserver<'a> = ReportingObserver<'a, Stderr, LineWriter<File>>;
 
-/// Serves by what was prepared, for ever. Gives the exit status where that cannot begin; a fault is told in one line on
+/// Serves by what was prepared, for ever. Returns the exit status where that cannot start; a fault is printed in one line on
 /// standard error.
 pub fn serve(rt: &HostRuntime, alloc: Global, prepared: Prepared) -> Result<(), Status> {
     if !has_standard_streams() {
@@ -34,19 +34,20 @@ pub fn serve(rt: &HostRuntime, alloc: Global, prepared: Prepared) -> Result<(), 
     }
     let Prepared {
         configuration,
-        followed,
+        clock,
         digest,
     } = prepared;
-    // It is judged before anything is written.
-    let commands = commands_at(rt, configuration.commands.as_str(), &mut start_lines(rt))?;
     let clocks = HostClocks::new();
+    // It is judged before anything is written.
+    let path = configuration.commands.as_str();
+    let commands = commands_at(rt, path, &clocks, &mut start_lines(rt))?;
     let host = Host {
         rt,
         alloc,
         clocks: &clocks,
         configuration: &configuration,
     };
-    let opened = Opened::open(rt, alloc, &clocks, &configuration, followed)?;
+    let opened = Opened::open(rt, alloc, &clocks, &configuration, clock)?;
     serve_opened(host, digest, commands, opened)
 }
 
@@ -66,21 +67,25 @@ impl<'a> Opened<'a> {
         alloc: Global,
         clocks: &'a HostClocks,
         configuration: &Configuration,
-        followed: Option<FollowedDaemon>,
+        clock: PreparedClock,
     ) -> Result<Opened<'a>, Status>
         ensures { IfOk result (λ opened. opened.port.counts.failed_receives + opened.port.counts.failed_sends ≡ 0) }
     {
         let watch = watch_from_now(rt, clocks, configuration);
         let socket = open_socket(rt, alloc, configuration.listen)?;
         let bound = set_up(rt, &socket, configuration)?;
-        let reference = clock_source(rt, clocks, &configuration.clock, followed)?;
+        let reference = clock_source(rt, clocks, clock)?;
         let observer = open_observer(rt, alloc, clocks, configuration)?;
         let Ok(room) = Vec::with_capacity(alloc, SOCKETS_ROOM) else {
             return Err(memory_status(&mut start_lines(rt)));
         };
-        let queued = QueuedUdp::new(socket, bound, rt, clocks, rt, room);
+        let queue = KernelQueue {
+            clocks,
+            bound,
+            room,
+        };
         Ok(Opened {
-            port: FreshPort::new(queued, watch),
+            port: FreshPort::new(UdpPort::with_queue(socket, rt, queue), watch),
             bound,
             reference,
             observer,
@@ -98,9 +103,8 @@ fn serve_opened<'a>(
     requires { opened.port.counts.failed_receives + opened.port.counts.failed_sends ≡ 0 }
 {
     let rt = host.rt;
-    let begun = Begun {
+    let startup = StartupFacts {
         bound: opened.bound,
-        wanted_buffer: host.configuration.receive_buffer,
         digest,
         form: log_form(rt),
         manager: service_manager(rt),
@@ -112,7 +116,7 @@ fn serve_opened<'a>(
         observer: opened.observer,
         log: rt.stderr(),
     };
-    let mut assembly = match Assembly::begin(host, parts, begun, &mut rt.stdout()) {
+    let mut assembly = match Assembly::begin(host, parts, startup, &mut rt.stdout()) {
         Ok(assembly) => assembly,
         Err(fault) => return Err(serve_fault_status(rt, fault)),
     };
@@ -128,14 +132,14 @@ fn serve_fault_status(rt: &HostRuntime, fault: ServeFault) -> Status {
     }
 }
 
-// Who is told what the daemon does: it counts, answers lines of commands, logs them, and reports on customers.
+// Who hears what the daemon does: it counts, answers lines of commands, logs them, and reports on customers.
 fn open_observer<'a>(
     rt: &'a HostRuntime,
     alloc: Global,
     clocks: &'a HostClocks,
     configuration: &Configuration,
 ) -> Result<HostObserver<'a>, Status> {
-    let answers = answers_file(rt, alloc, configuration)?;
+    let answers = answers_file(rt, alloc, configuration)?.map(|file| AnswerLines::new(file));
     let Ok(log) = Log::new(alloc, rt.stderr(), log_form(rt)) else {
         return Err(memory_status(&mut start_lines(rt)));
     };

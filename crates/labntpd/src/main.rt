@@ -4,11 +4,11 @@
 mod assembly;
 
 use assembly::serve;
-use labntpd_assembly::{commands_at, prepare, start_lines};
 use labntpd_files::Configuration;
 use labntpd_files::command_line::{Asked, parse, refused_status};
+use labntpd_start::{commands_at, prepare, start_lines};
 use ntp_admin::{Escaped, Status, unread_status, write_status};
-use ntp_host::{is_nearly_full, write_nearly_full};
+use ntp_host::{HostClocks, is_nearly_full, write_nearly_full};
 use std::io::Write;
 use std::process::ExitCode;
 use std::{env, fs, io};
@@ -52,7 +52,8 @@ fn do_job(rt: &HostRuntime, check: bool, config: &str) -> Result<(), Status> {
 fn check_commands(rt: &HostRuntime, configuration: &Configuration) -> Result<(), Status> {
     let mut faults = start_lines(rt);
     let path = configuration.commands.as_str();
-    commands_at(rt, path, &mut faults)?;
+    let clocks = HostClocks::new();
+    commands_at(rt, path, &clocks, &mut faults)?;
     let octets = fs::metadata(rt, path).map_or(0, |metadata| metadata.len());
     if is_nearly_full(octets) {
         let _ = write!(faults.warning(), "{}: ", Escaped(path));

@@ -10,8 +10,8 @@ use std::io::Write;
 /// A minute, in nanoseconds.
 const MINUTE_NANOS: u64 = 60_000_000_000;
 
-/// Logs lines of commands, and counts the customers that are enrolled. In a minute it logs ten lines that were done at most, ten that were
-/// not, and one for those of either kind that were held back. Lines that are done once more at a start are not logged.
+/// Logs lines of commands, and counts the customers that are enrolled. In a minute it logs ten lines that were done at most, ten
+/// that were not, and one for those of either kind that were held back. Lines that are done once more at a start are not logged.
 #[derive(Drop)]
 pub struct CommandLog<'a, W: Write + Drop> {
     log: Log<W>,

@@ -11,7 +11,7 @@ use std::io::{self, Write};
 /// How many seconds lie between two writings where nothing changed.
 const PERIOD: u64 = 60;
 
-/// How many seconds after its begin a writing is tried again that failed.
+/// How many seconds after its start a writing is tried again that failed.
 const PATIENCE: u64 = 10;
 
 // A file that is being written, and how many customers were written of.
@@ -21,8 +21,8 @@ struct Writing<F: Drop> {
     customers: usize,
 }
 
-/// Writes the customers file: it is replaced as a whole when a command was carried out or a tool asks, and each minute. Each piece of it has
-/// the customers as they are when it is written.
+/// Writes the customers file: it is replaced as a whole when a command was carried out or a tool asks, and each minute. Each
+/// piece of it has the customers as they are when it is written.
 #[derive(Drop)]
 pub struct CustomersFile<'a, R: Files> {
     files: &'a R,
@@ -35,8 +35,8 @@ pub struct CustomersFile<'a, R: Files> {
     writing: Option<Writing<R::File>>,
     // After how many seconds it is written again, whatever happens.
     due: u64,
-    // After how many seconds it was begun last, and how many commands were carried out then.
-    begun: u64,
+    // After how many seconds its last writing started, and how many commands were carried out then.
+    started: u64,
     done: u64,
     fault: Option<FileFault>,
 }
@@ -57,20 +57,20 @@ impl<'a, R: Files> CustomersFile<'a, R> {
             text: Vec::new(alloc),
             writing: None,
             due: 0,
-            begun: 0,
+            started: 0,
             done: 0,
             fault: None,
         })
     }
 
-    /// Opens the file to write it, where it is due after `seconds` seconds, where `done`, the count of commands carried out, has changed, or
-    /// where a tool asks. Returns what is wrong with it by now, if anything.
+    /// Opens the file to write it, where it is due after `seconds` seconds, where `done`, the count of commands carried out, has
+    /// changed, or where a tool asks. Returns what is wrong with it by now, if anything.
     pub fn begin_in_time(&mut self, seconds: u64, done: u64) -> Option<FileFault> {
         let is_due = seconds >= self.due || done != self.done;
         if self.writing.is_some() || !(is_due || self.is_wanted()) {
             return self.fault;
         }
-        self.begun = seconds;
+        self.started = seconds;
         self.done = done;
         match new_file(self.files, self.beside.as_str()) {
             Ok(file) => {
@@ -82,7 +82,7 @@ impl<'a, R: Files> CustomersFile<'a, R> {
         self.fault
     }
 
-    /// Writes the next piece, of `piece` customers, where writing has begun.
+    /// Writes the next piece, of `piece` customers, where writing has started.
     pub fn go_on(&mut self, counts: &CustomerCounts, service: &Service, piece: usize) {
         let Some(mut writing) = self.writing.take() else {
             return;
@@ -105,9 +105,9 @@ impl<'a, R: Files> CustomersFile<'a, R> {
         fs::remove_file(self.files, self.wanted.as_str()).is_ok()
     }
 
-    // The writing that was begun last has failed.
+    // The last writing has failed.
     fn fail(&mut self, error: io::Error) {
-        self.due = self.begun.saturating_add(PATIENCE);
+        self.due = self.started.saturating_add(PATIENCE);
         self.fault = Some(FileFault::Unwritten(error));
     }
 

@@ -1,13 +1,15 @@
 //! What the daemon reads and writes while it serves, and why that fails.
 
+use labntpd_files::{Configuration, Text};
 use ntp_host::{CommandsFault, CommandsFile};
 use ntp_port::CommandsSource;
+use ntp_reports::FileGauges;
 use std::alloc::Global;
 use std::fmt;
 use std::fs::Files;
 use std::io::{self, ErrorKind};
 
-/// The commands of a daemon, and what its log and its statistics tell of their file.
+/// The commands of a daemon, and what its log and its statistics say of their file.
 pub trait DaemonCommands: CommandsSource<Global> {
     /// What is wrong with the file by now, if anything.
     fn fault(&self) -> Option<CommandsFault>;
@@ -62,13 +64,69 @@ impl FileFault {
     }
 }
 
-/// What the log tells of it.
+/// What the log says of it.
 impl fmt::Display for FileFault {
     fn fmt<W: fmt::Write>(&self, f: &mut fmt::Formatter<W>) -> fmt::Result {
         match self {
             FileFault::Commands(fault) => write!(f, "{fault}"),
             FileFault::Unwritten(error) => write!(f, "cannot be written: {error}"),
             FileFault::Incomplete => f.write_str("lacks a customer, for want of memory"),
+        }
+    }
+}
+
+/// A file that can fail while the daemon serves.
+#[derive(Clone, Copy)]
+pub(crate) struct WatchedFile<'a> {
+    /// Its name in the log.
+    pub name: &'a str,
+    /// Its path; empty where the configuration has none.
+    pub path: &'a str,
+    /// What is wrong with it, if anything.
+    pub fault: Option<FileFault>,
+    /// What was logged of it last.
+    pub logged: Option<FileFault>,
+}
+
+impl<'a> WatchedFile<'a> {
+    // A file of which nothing wrong was seen yet.
+    fn new(name: &'a str, path: Option<&'a Text>) -> WatchedFile<'a> {
+        WatchedFile {
+            name,
+            path: path.map_or("", |path| path.as_str()),
+            fault: None,
+            logged: None,
+        }
+    }
+}
+
+/// The files that can fail while the daemon serves.
+#[derive(Clone, Copy)]
+pub(crate) struct WatchedFiles<'a> {
+    pub commands: WatchedFile<'a>,
+    pub answers: WatchedFile<'a>,
+    pub statistics: WatchedFile<'a>,
+    pub customers: WatchedFile<'a>,
+}
+
+impl<'a> WatchedFiles<'a> {
+    /// The files of a configuration, of which nothing wrong was seen yet.
+    pub(crate) fn of(configuration: &'a Configuration) -> WatchedFiles<'a> {
+        WatchedFiles {
+            commands: WatchedFile::new("commands", Some(&configuration.commands)),
+            answers: WatchedFile::new("answers", configuration.answers.as_ref()),
+            statistics: WatchedFile::new("statistics", configuration.statistics.as_ref()),
+            customers: WatchedFile::new("customers", configuration.customers.as_ref()),
+        }
+    }
+
+    /// Returns which files are well.
+    pub(crate) fn gauges(&self) -> FileGauges {
+        FileGauges {
+            commands: self.commands.fault.is_none(),
+            answers: self.answers.fault.is_none(),
+            statistics: self.statistics.fault.is_none(),
+            customers: self.customers.fault.is_none(),
         }
     }
 }

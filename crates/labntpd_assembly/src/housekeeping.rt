@@ -2,18 +2,17 @@
 ghost use Rattle.std.specs.Prelude.{◌≡◌};
 ghost use Rattle.ntp_reports.specs.{declared.kind.Kind.TheVariants.NothingReceived, Counted.count_at};
 
-use crate::clock_told::DaemonClock;
 use crate::customers_file::CustomersFile;
-use crate::files::{DaemonCommands, FileFault};
+use crate::daemon_clock::DaemonClock;
+use crate::files::{DaemonCommands, FileFault, WatchedFiles};
 use crate::news::News;
 use crate::observers::DaemonObserver;
-use crate::parts::{Begun, Daemon, DaemonPort, Host};
-use crate::watched::{Watched, WatchedFiles};
+use crate::parts::{Daemon, DaemonPort, Host, StartupFacts};
 use labntpd_files::command_line::VERSION;
 use ntp_client::Reading;
 use ntp_host::{HostClocks, KernelDrops, Priority, moment_now, pause, replace_file};
 use ntp_packet::Moment;
-use ntp_reports::{ClockGauges, Counts, CustomerCounts, Gauges, Kind, write_statistics};
+use ntp_reports::{Belief, ClockGauges, Counts, CustomerCounts, Gauges, Kind, write_statistics};
 use ntp_server::Reporter;
 use ntp_service::Service;
 use std::alloc::AllocError;
@@ -52,12 +51,14 @@ const PAUSE_MILLISECONDS: i32 = 30;
 /// How much room the statistics have, in octets.
 const STATISTICS_ROOM: usize = 16_384;
 
-// The path of the statistics file, that of the file beside it in which they are written, and room for their text.
+// The path of the statistics file, that of the file beside it in which they are written, room for their text, and why they could
+// not be written last.
 #[derive(Drop)]
 struct StatisticsFile<'a> {
     path: &'a str,
     beside: String,
     text: Vec<u8>,
+    fault: Option<FileFault>,
 }
 
 impl<'a> StatisticsFile<'a> {
@@ -87,8 +88,8 @@ struct Written<'a, R: Files> {
 struct Times {
     // The start, in nanoseconds since 1970.
     start: u64,
-    // What the monotonic clock shows when something is to be done next, in nanoseconds; and when the next piece of the customers file may
-    // be written beside datagrams.
+    // What the monotonic clock shows when something is to be done next, in nanoseconds; and when the next piece of the customers
+    // file may be written beside datagrams.
     next: u64,
     piece: u64,
     // How many whole seconds have passed, and after how many statistics and totals are due.
@@ -98,7 +99,7 @@ struct Times {
 }
 
 impl Times {
-    // Whether another second has begun by what the monotonic clock shows.
+    // Whether another second has started by what the monotonic clock shows.
     fn has_come(&mut self, clocks: &HostClocks) -> bool {
         let ticks = clocks.ticks.get();
         if ticks < self.next {
@@ -118,12 +119,14 @@ impl Times {
 
 // What was seen of the server and of its host.
 #[derive(Clone, Copy)]
-struct Seen {
-    files: WatchedFiles,
+struct Seen<'a> {
+    files: WatchedFiles<'a>,
     // How many receives have failed, one after another.
     failed_in_a_row: u64,
-    // How long a datagram that was taken since the statistics were written last can have waited at most, where that is known.
-    queue_wait: Option<u64>,
+    // How long a datagram that was judged since the statistics were written last can have waited at most, in nanoseconds.
+    queue_wait: u64,
+    // What the monotonic clock showed, at the last turn, after which the next datagram came; nothing where that is not known.
+    next_came: Option<u64>,
     // How many receives had failed, and how many stale datagrams had been dropped, when the server was shown last.
     failed: u64,
     stale: u64,
@@ -133,11 +136,11 @@ struct Seen {
 #[derive(Drop)]
 pub struct Housekeeping<'a, R: Files + Clock, L: Write + Drop> {
     host: Host<'a, R>,
-    begun: Begun,
+    startup: StartupFacts,
     news: News<L>,
     written: Written<'a, R>,
     times: Times,
-    seen: Seen,
+    seen: Seen<'a>,
 }
 
 impl<'a, R: Files + Clock, L: Write + Drop> Housekeeping<'a, R, L> {
@@ -145,14 +148,15 @@ impl<'a, R: Files + Clock, L: Write + Drop> Housekeeping<'a, R, L> {
     pub fn new(
         host: Host<'a, R>,
         log: L,
-        begun: Begun,
+        startup: StartupFacts,
     ) -> Result<Housekeeping<'a, R, L>, AllocError> {
-        let news = News::new(host.alloc, log, begun.form)?;
-        let written = written_by(&host, begun.bound.local)?;
+        let news = News::new(host.alloc, log, startup.form)?;
+        let written = written_by(&host, startup.bound.local)?;
         let start = nanos_since_1970(host.rt);
+        let files = WatchedFiles::of(host.configuration);
         Ok(Housekeeping {
             host,
-            begun,
+            startup,
             news,
             written,
             times: Times {
@@ -164,9 +168,10 @@ impl<'a, R: Files + Clock, L: Write + Drop> Housekeeping<'a, R, L> {
                 totals: TOTALS_PERIOD,
             },
             seen: Seen {
-                files: WatchedFiles::new(),
+                files,
                 failed_in_a_row: 0,
-                queue_wait: Some(0),
+                queue_wait: 0,
+                next_came: None,
                 failed: 0,
                 stale: 0,
             },
@@ -175,7 +180,8 @@ impl<'a, R: Files + Clock, L: Write + Drop> Housekeeping<'a, R, L> {
 
     /// Logs the start lines.
     pub fn say_start(&mut self) {
-        self.news.say_start(&self.begun);
+        let wanted = self.host.configuration.receive_buffer;
+        self.news.say_start(&self.startup, wanted);
     }
 
     // Returns whether datagrams can be received.
@@ -207,14 +213,13 @@ impl<'a, R: Files + Clock, L: Write + Drop> Housekeeping<'a, R, L> {
             );
         }
         // A clock's daemon that was just asked may not have answered yet.
-        if server.reference.has_answered() || seconds >= CLOCK_PATIENCE {
+        if state.belief != Belief::NoAnswer || seconds >= CLOCK_PATIENCE {
             self.news.see_clock(&state);
         }
         self.news.see_stale(server.port.stale());
         let is_receiving = self.is_receiving();
         self.news.see_receiving(is_receiving);
-        self.begin_customers(server.observer.counts().count(Kind::Done));
-        self.see_files(server.commands.inner(), server.observer.answers_fault());
+        self.see_files(server.commands.inner(), &server.observer);
         self.written.drops.look(rt);
         if seconds >= self.times.statistics {
             let notice = if self.times.statistics == 0 {
@@ -224,7 +229,7 @@ impl<'a, R: Files + Clock, L: Write + Drop> Housekeeping<'a, R, L> {
             };
             self.times.statistics = seconds.saturating_add(STATISTICS_PERIOD);
             self.write_statistics(server, server.reference.gauges(&state, now));
-            if let Some(manager) = &self.begun.manager {
+            if let Some(manager) = &self.startup.manager {
                 manager.hear(notice);
             }
         }
@@ -234,40 +239,28 @@ impl<'a, R: Files + Clock, L: Write + Drop> Housekeeping<'a, R, L> {
         }
     }
 
-    // Looks at the commands file, and at why answers are not written, if they are not; and logs of each file what is wrong from now on, or
-    // is no longer.
-    fn see_files<C: DaemonCommands>(&mut self, commands: &C, unwritten: Option<io::Error>) {
+    // Begins to write the customers, where it is time to; and logs of each file what is wrong from now on, or is no longer.
+    fn see_files<C: DaemonCommands, O: DaemonObserver>(&mut self, commands: &C, observer: &O) {
+        let (seconds, done) = (self.times.seconds, observer.counts().count(Kind::Done));
+        let written = &mut self.written;
+        let customers = match &mut written.customers {
+            Some(file) => file.begin_in_time(seconds, done),
+            None => None,
+        };
+        let statistics = written.statistics.as_ref().and_then(|file| file.fault);
+        let (news, files) = (&mut self.news, &mut self.seen.files);
         let fault = commands.fault();
-        self.seen
-            .files
-            .see(Watched::Commands, fault.map(FileFault::Commands));
         if fault.is_none() {
-            let path = self.host.configuration.commands.as_str();
-            self.news.see_nearly_full(path, commands.octets());
+            news.see_nearly_full(files.commands.path, commands.octets());
         }
-        self.seen
-            .files
-            .see(Watched::Answers, unwritten.map(FileFault::Unwritten));
-        for which in [
-            Watched::Commands,
-            Watched::Answers,
-            Watched::Statistics,
-            Watched::Customers,
-        ] {
-            let fault = self.seen.files.fault(which);
-            self.news.see_file(which, fault, self.host.configuration);
-        }
+        news.see_file(&mut files.commands, fault.map(FileFault::Commands));
+        let unwritten = observer.answers_fault().map(FileFault::Unwritten);
+        news.see_file(&mut files.answers, unwritten);
+        news.see_file(&mut files.statistics, statistics);
+        news.see_file(&mut files.customers, customers);
     }
 
-    // Begins to write the customers, where it is time to, and sees whether that goes well. `done` commands were carried out.
-    fn begin_customers(&mut self, done: u64) {
-        if let Some(customers) = &mut self.written.customers {
-            let fault = customers.begin_in_time(self.times.seconds, done);
-            self.seen.files.see(Watched::Customers, fault);
-        }
-    }
-
-    // Goes on to write the customers, where that was begun: few of them beside datagrams, and more while none comes.
+    // Goes on to write the customers, where that was started: few of them beside datagrams, and more while none comes.
     fn write_customers(
         &mut self,
         reports: &CustomerCounts,
@@ -285,14 +278,17 @@ impl<'a, R: Files + Clock, L: Write + Drop> Housekeeping<'a, R, L> {
         }
     }
 
-    // Keeps how long a datagram can have waited, where one was taken and that is longer than what is kept.
+    // Keeps how long the datagram of a turn can have waited, where that is known and longer than what is kept: it came after the moment that
+    // was known at the last turn, unless others were dropped before it. The next one can have `waited` by now.
     fn see_wait(&mut self, stale: u64, waited: Option<u64>, receipt: Option<Moment>) {
-        if receipt.is_some() || stale != self.seen.stale {
-            self.seen.queue_wait = match (self.seen.queue_wait, waited) {
-                (Some(longest), Some(waited)) => Some(longest.max(waited)),
-                _ => None,
-            };
+        let now = self.host.clocks.ticks.get();
+        if receipt.is_some()
+            && stale == self.seen.stale
+            && let Some(came) = self.seen.next_came
+        {
+            self.seen.queue_wait = self.seen.queue_wait.max(now.saturating_sub(came));
         }
+        self.seen.next_came = waited.map(|waited| now.saturating_sub(waited));
     }
 
     // Writes the statistics, where there is a file for them.
@@ -303,34 +299,31 @@ impl<'a, R: Files + Clock, L: Write + Drop> Housekeeping<'a, R, L> {
         S: DaemonClock,
         O: DaemonObserver,
     {
+        let (commands, dropped) = (server.commands.inner(), self.news.log.dropped());
         let gauges = Gauges {
             stale: server.port.stale(),
             kernel_drops: self.written.drops.count(),
-            receive_buffer: u64::from(self.begun.bound.buffer),
-            queue_wait: self.seen.queue_wait,
+            receive_buffer: u64::from(self.startup.bound.buffer),
+            queue_wait: Some(self.seen.queue_wait),
             send_would_wait: server.port.port().would_wait(),
             sweeps: server.port.sweeps(),
             commands_lines: server.applied,
-            commands_octets: server.commands.inner().octets(),
-            commands_changed: self.seen.files.has_changed(),
+            commands_octets: commands.octets(),
+            commands_changed: commands.fault().is_some_and(|fault| fault.is_final()),
             customers: server.observer.customers(),
             clock,
-            log_lines_dropped: self
-                .news
-                .log
-                .dropped()
-                .saturating_add(server.observer.log_lines_dropped()),
+            log_lines_dropped: dropped.saturating_add(server.observer.log_lines_dropped()),
             files: self.seen.files.gauges(),
-            files_unreadable: self.seen.files.failures,
+            files_unreadable: self.news.failures,
             start_time: self.times.start,
             version: VERSION,
         };
-        self.seen.queue_wait = Some(0);
+        self.seen.queue_wait = 0;
         let Some(file) = &mut self.written.statistics else {
             return;
         };
         let written = file.replace(self.host.rt, server.observer.counts(), &gauges);
-        self.seen.files.see(Watched::Statistics, written.err().map(FileFault::Unwritten));
+        file.fault = written.err().map(FileFault::Unwritten);
     }
 
     // Logs what was done so far.
@@ -397,6 +390,7 @@ fn written_by<'a, R: Files + Clock>(
             path: path.as_str(),
             beside: format!(in alloc; "{path}.new")?,
             text: Vec::with_capacity(alloc, STATISTICS_ROOM)?,
+            fault: None,
         }),
     };
     let customers = match &configuration.customers {

@@ -1,10 +1,8 @@
 //! Log lines for changes of the daemon's state. A `LineAllowance` bounds the lines of each kind in a minute.
 
-use crate::clock_told::{ClockState, is_synchronised};
-use crate::files::{FileFault, have_same_words};
-use crate::parts::Begun;
-use crate::watched::Watched;
-use labntpd_files::Configuration;
+use crate::daemon_clock::{ClockState, is_synchronised};
+use crate::files::{FileFault, WatchedFile, have_same_words};
+use crate::parts::StartupFacts;
 use labntpd_files::command_line::VERSION;
 use ntp_admin::Escaped;
 use ntp_host::{BoundAt, Log, LogForm, Priority, is_nearly_full, write_nearly_full};
@@ -28,8 +26,6 @@ struct Logged {
     stale: u64,
     is_receiving: bool,
     is_nearly_full: bool,
-    // What was wrong with each file.
-    files: [Option<FileFault>; 4],
 }
 
 // The kinds of lines, each with an allowance of its own.
@@ -47,6 +43,8 @@ pub(crate) struct News<L: Write + Drop> {
     pub log: Log<L>,
     /// How many seconds have passed.
     pub seconds: u64,
+    /// How often a file began to fail.
+    pub failures: u64,
     allowances: [LineAllowance; 4],
     logged: Logged,
 }
@@ -57,6 +55,7 @@ impl<L: Write + Drop> News<L> {
         Ok(News {
             log: Log::new(alloc, log, form)?,
             seconds: 0,
+            failures: 0,
             allowances: [LineAllowance::new(); 4],
             logged: Logged {
                 clock: None,
@@ -64,36 +63,31 @@ impl<L: Write + Drop> News<L> {
                 stale: 0,
                 is_receiving: true,
                 is_nearly_full: false,
-                files: [None; 4],
             },
         })
     }
 
-    // Returns whether a line of a kind may be written now, and counts it. Asked only for a line that is due, so that none is counted as held.
+    // Returns whether a line of a kind may be written now, and counts it. Asked only for a line that is due, so that none is
+    // counted as held.
     fn may_say(&mut self, kind: LineKind) -> bool {
         let minute = self.seconds / MINUTE;
         let allowance = &mut self.allowances[kind as usize];
         allowance.has_room(minute) && allowance.ask(minute) != Ask::Hold
     }
 
-    /// Logs the start lines.
-    pub(crate) fn say_start(&mut self, begun: &Begun) {
-        let Begun {
-            bound: BoundAt { local, buffer, .. },
-            wanted_buffer,
-            digest,
-            ..
-        } = *begun;
+    /// Logs the start lines. `wanted` octets of a receive buffer are configured.
+    pub(crate) fn say_start(&mut self, startup: &StartupFacts, wanted: u32) {
+        let BoundAt { local, buffer, .. } = startup.bound;
         let line = self.log.begin(Priority::Information);
         let _ = write!(line, "labntpd {VERSION}: at {local}, configuration ");
-        for octet in digest {
+        for octet in startup.digest {
             let _ = write!(line, "{octet:02x}");
         }
         self.log.end();
         self.say(
             Priority::Information,
             format_args!(
-                "receive buffer: {wanted_buffer} octets wanted, {buffer} given, as the kernel counts"
+                "receive buffer: {wanted} octets wanted, {buffer} given, as the kernel counts"
             ),
         );
     }
@@ -104,8 +98,8 @@ impl<L: Write + Drop> News<L> {
         self.log.end();
     }
 
-    /// Logs whether the clock is synchronised and why, of one that is also its stratum and its reference, where other words were logged
-    /// last; and the leap second that it announces, where that is another.
+    /// Logs whether the clock is synchronised and why, of one that is also its stratum and its reference, where other words were
+    /// logged last; and the leap second that it announces, where that is another.
     pub(crate) fn see_clock(&mut self, state: &ClockState) {
         if !is_logged_as(&self.logged.clock, state) {
             self.say_state(state);
@@ -196,20 +190,22 @@ impl<L: Write + Drop> News<L> {
         }
     }
 
-    /// Logs what is wrong with a file, or that nothing is, where something else was logged of it last.
-    pub(crate) fn see_file(
-        &mut self,
-        which: Watched,
-        fault: Option<FileFault>,
-        configuration: &Configuration,
-    ) {
-        let place = which as usize;
-        if have_same_words(&fault, &self.logged.files[place]) || !self.may_say(LineKind::Files) {
+    /// Notes what is wrong with a file, counts that where it was not so before, and logs it, or that nothing is, where something
+    /// else was logged last.
+    pub(crate) fn see_file(&mut self, file: &mut WatchedFile<'_>, fault: Option<FileFault>) {
+        if fault.is_some() && !have_same_words(&fault, &file.fault) {
+            self.failures = self.failures.saturating_add(1);
+        }
+        file.fault = fault;
+        if have_same_words(&fault, &file.logged) || !self.may_say(LineKind::Files) {
             return;
         }
-        self.logged.files[place] = fault;
-        let path = Escaped(which.path_in(configuration));
-        let (name, again) = which.words();
+        let (name, path) = (file.name, Escaped(file.path));
+        let again = match file.logged {
+            Some(FileFault::Commands(_)) => "is read again",
+            _ => "is written again",
+        };
+        file.logged = fault;
         match fault {
             Some(fault) => {
                 self.say(Priority::Error, format_args!("{name} file {path}: {fault}"));

@@ -59,8 +59,8 @@ impl<'a, L: Write + Drop, W: Write + Drop> DaemonObserver for ReportingObserver<
     }
 }
 
-/// The observer of a daemon that has no customer yet. Nothing is counted. `answers` answers lines, and `reports` reports on customers,
-/// where these are given.
+/// The observer of a daemon that has no customer yet. Nothing is counted. `answers` answers lines, and `reports` reports on
+/// customers, where these are given.
 pub fn observer<'a, L: Write + Drop, W: Write + Drop>(
     answers: Option<AnswerLines<W>>,
     log: Log<L>,

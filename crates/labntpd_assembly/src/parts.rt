@@ -1,7 +1,9 @@
 //! What a daemon works with.
 use labntpd_files::Configuration;
-use ntp_host::{BoundAt, EachMillisecond, HostClocks, LogForm, QueuedUdp, ServiceManager};
-use ntp_port::{FreshPort, QueuedPort, TimedPort};
+use ntp_host::{
+    BoundAt, EachMillisecond, HostClocks, KernelQueue, LogForm, ServiceManager, UdpPort,
+};
+use ntp_port::{FreshPort, QueuedPort};
 use ntp_server::Server;
 use std::alloc::Global;
 use std::fs::Files;
@@ -13,14 +15,14 @@ pub trait DaemonPort: QueuedPort {
     fn would_wait(&self) -> u64;
 }
 
-impl<'a, P: TimedPort, C: Clock + Copy + Drop, R: Files> DaemonPort for QueuedUdp<'a, P, C, R> {
+impl<'a, C: Clock + Files + Drop> DaemonPort for UdpPort<C, KernelQueue<'a>> {
     fn would_wait(&self) -> u64 {
         self.would_wait()
     }
 }
 
-/// A server of a daemon: its port stands over `P` and its commands over `C`, its clock's state comes from `S`, and `O` is told what it
-/// does.
+/// A server of a daemon: its port stands over `P` and its commands over `C`, its clock's state comes from `S`, and `O` hears what
+/// it does.
 pub type Daemon<P, C, S, O> = Server<FreshPort<P>, EachMillisecond<C>, S, O, Global>;
 
 /// Where a daemon runs, and by which configuration: `rt` has its files and its clock.
@@ -30,7 +32,7 @@ pub struct Host<'a, R: Files + Clock> {
     pub rt: &'a R,
     /// Where memory is taken from.
     pub alloc: Global,
-    /// What the parts tell each other of the clocks.
+    /// What the parts share of the clocks.
     pub clocks: &'a HostClocks,
     /// The configuration.
     pub configuration: &'a Configuration,
@@ -38,11 +40,9 @@ pub struct Host<'a, R: Files + Clock> {
 
 /// What is known of a daemon when it begins to serve.
 #[derive(Clone, Copy)]
-pub struct Begun {
+pub struct StartupFacts {
     /// Its own address, and the receive buffer that the kernel gave.
     pub bound: BoundAt,
-    /// The receive buffer that its configuration wants, in octets.
-    pub wanted_buffer: u32,
     /// The SHA-256 digest of its configuration file.
     pub digest: [u8; 32],
     /// How the lines of its log begin.
@@ -60,7 +60,7 @@ pub struct Parts<P: DaemonPort, C, S, O, L> {
     pub commands: C,
     /// Where the state of the clock comes from.
     pub reference: S,
-    /// Who is told what it does.
+    /// Who hears what it does.
     pub observer: O,
     /// Where the other lines of its log are written.
     pub log: L,

@@ -7,11 +7,11 @@ ghost use Rattle.ntp_port.specs.Port.{failed_calls};
 ghost use Rattle.ntp_host.specs.Pacing.{each_millisecond};
 ghost use Rattle.ntp_server.specs.Rounds.{ServesRounds};
 
-use crate::clock_told::DaemonClock;
+use crate::daemon_clock::DaemonClock;
 use crate::files::DaemonCommands;
 use crate::housekeeping::Housekeeping;
 use crate::observers::DaemonObserver;
-use crate::parts::{Begun, Daemon, DaemonPort, Host, Parts};
+use crate::parts::{Daemon, DaemonPort, Host, Parts, StartupFacts};
 use ntp_host::EachMillisecond;
 use ntp_reports::Kind;
 use ntp_server::{Server, Totals};
@@ -46,12 +46,13 @@ where
     R: Files + Clock,
     L: Write + Drop,
 {
-    /// Puts a daemon together out of its parts, and says on `out` that it serves. It has no customer yet, and no line of its commands is
-    /// applied. It takes the room for what is done beside it from the host's memory: `NoMemory` where that is refused.
+    /// Puts a daemon together out of its parts, and says on `out` that it serves. It has no customer yet, and no line of its
+    /// commands is applied. It takes the room for what is done beside it from the host's memory: `NoMemory` where that is
+    /// refused.
     pub fn begin<N: Write>(
         host: Host<'a, R>,
         parts: Parts<P, C, S, O, L>,
-        begun: Begun,
+        startup: StartupFacts,
         out: &mut N,
     ) -> Result<Assembly<'a, P, C, S, O, R, L>, ServeFault>
         ensures port { IfOk result (λ assembly. assembly.daemon.port ≡ parts.port) }
@@ -63,10 +64,10 @@ where
         ensures service { IfOk result (λ assembly. StandsFor {A = Global} assembly.daemon.service []) }
     {
         let service = Service::new(host.alloc);
-        let Ok(mut beside) = Housekeeping::new(host, parts.log, begun) else {
+        let Ok(mut beside) = Housekeeping::new(host, parts.log, startup) else {
             return Err(ServeFault::NoMemory);
         };
-        if writeln!(out, "serving {}", begun.bound.local).is_err() {
+        if writeln!(out, "serving {}", startup.bound.local).is_err() {
             return Err(ServeFault::NotSaid);
         }
         beside.say_start();
@@ -85,9 +86,10 @@ where
 
     /// Serves for `turns` turns, with all that is done beside it. It cannot fail.
     ///
-    /// First it carries out the lines that stand in its commands file; then it makes the rounds of `serve_reported`. Where the port below `FreshPort` tells its turns, the rounds have these, but those whose
-    /// datagrams were dropped and counted as stale, and what it sent is the replies; and so with the commands, as `EachMillisecond` asks
-    /// for them, with the states of the clock and with the observer: each as far as it tells.
+    /// First it carries out the lines that stand in its commands file; then it makes the rounds of `serve_reported`. Where the
+    /// port below `FreshPort` tells its turns, the rounds have these, but those whose datagrams were dropped and counted as
+    /// stale, and what it sent is the replies; and so with the commands, as `EachMillisecond` asks for them, with the states of
+    /// the clock and with the observer: each as far as it tells.
     pub fn serve(&mut self, turns: u64) -> Totals
         requires failures { failed_calls self.old.daemon.port.counts + turns < 2 ^ 64 }
         ensures serves { ServesRounds self.old.daemon self.new.daemon

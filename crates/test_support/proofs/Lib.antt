@@ -1,3 +1,4 @@
 mod Asking
 mod Handed
 mod Walking
+mod Receiving

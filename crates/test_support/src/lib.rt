@@ -1,4 +1,4 @@
-//! What several test crates share: an allocator that refuses, a stream whose every call fails, and data.
+//! What several test crates share: the parts of a server in memory, an allocator that refuses, a stream whose every call fails, and data.
 //!
 //! The data are one customer and the state of a clock, an exchange of the customer as lines of a script, and the packets of
 //! three turns of a server. Nothing here was taken from what the program answered: packets and lines are written out from the
@@ -10,6 +10,10 @@ mod agreeing;
 mod broken;
 mod customer_and_clock;
 mod exchange_lines;
+mod memory_port;
+mod memory_queue;
+mod memory_server;
+mod memory_turn;
 mod packets;
 mod plain_calls;
 mod refusing;
@@ -19,6 +23,10 @@ pub use agreeing::Agreeing;
 pub use broken::Broken;
 pub use customer_and_clock::{CUSTOMER, enrolled_service, moment, reference};
 pub use exchange_lines::{ANSWERS, SCRIPT, events, printed};
+pub use memory_port::MemoryPort;
+pub use memory_queue::MemoryQueue;
+pub use memory_server::{MemoryCommands, MemoryObserver, MemoryStates};
+pub use memory_turn::{Incoming, Turn};
 pub use packets::{PRIMARY, packet, query, reply, stamps};
 pub use plain_calls::{answered, ordered, run};
 pub use refusing::Refusing;

@@ -1,9 +1,9 @@
 //! The packets of three turns of a server, and a turn with a datagram of the customer.
 
 use crate::customer_and_clock::{CUSTOMER, moment};
+use crate::memory_turn::{Incoming, Turn};
 use crate::packets::{PRIMARY, query, reply};
 use ntp_admin::Octets;
-use ntp_port::{Incoming, Turn};
 use std::alloc::Allocator;
 use std::test::Fail;
 

@@ -1,6 +1,6 @@
 //! The daemon's port in memory, whose clock moves its host's.
 ghost use Rattle.std.specs.Prelude.{Some};
-ghost use Rattle.ntp_port.specs.Memory.{told_by, memory_counts};
+ghost use Rattle.test_support.specs.Memory.{told_by, memory_counts};
 
 use crate::files::{COMMANDS, Place};
 use crate::host::MemoryHost;
@@ -8,9 +8,10 @@ use crate::script::DueLine;
 use labntpd_assembly::DaemonPort;
 use ntp_host::HostClocks;
 use ntp_packet::Moment;
-use ntp_port::{Arrival, DatagramRoom, MemoryQueue, Port, PortFault, QueuedPort, Sent, TimedPort};
+use ntp_port::{Arrival, DatagramRoom, Port, PortFault, QueuedPort, Sent, TimedPort};
 use ntp_service::Address;
 use std::io;
+use test_support::MemoryQueue;
 
 /// A queue in memory whose clock the clocks of its host show too. As time passes, lines are appended to the commands file, each once its
 /// moment has come. Once `readings` readings were made, no wait ends any longer: what is left is received, and then nothing.

@@ -8,12 +8,12 @@ use crate::judging::Expected;
 use crate::queue::YearQueue;
 use crate::script::{DueLine, Given, Script};
 use labntpd_assembly::{
-    Assembly, Begun, DaemonClock, DaemonObserver, DaemonPort, Host, Parts, ReportingObserver,
-    ServeFault, observer,
+    Assembly, DaemonClock, DaemonObserver, DaemonPort, Host, Parts, ReportingObserver, ServeFault,
+    StartupFacts, observer,
 };
-use labntpd_files::{Configuration, read_configuration};
+use labntpd_files::read_configuration;
 use ntp_host::{BoundAt, ClockSource, CommandsFile, HostClocks, Log, LogForm, emptied_file};
-use ntp_port::{FreshPort, MemoryPort, MemoryQueue, Port, QueueWatch};
+use ntp_port::{FreshPort, Port, QueueWatch};
 use ntp_reply::Reference;
 use ntp_reports::{AnswerLines, Counts, CustomerCounts};
 use std::alloc::Global;
@@ -23,6 +23,7 @@ use std::io::{LineWriter, Write};
 use std::net::{Ipv4Addr, SocketAddrV4};
 use std::test::Fail;
 use std::time::Clock;
+use test_support::{MemoryPort, MemoryQueue};
 
 /// The configuration of the daemon. What it names of the host beside files is not there.
 const CONFIGURATION: &str = "listen = \"192.0.2.1:123\"\n\
@@ -104,8 +105,8 @@ fn judged<'a, 'd>(
     if parts.port.failures() != 0 {
         return Err(Fail::new("a call has failed by now"));
     }
-    let begun = known_at_start(host.configuration.receive_buffer);
-    let Ok(assembly) = served(host, parts, begun, expected.turns) else {
+    let startup = known_at_start();
+    let Ok(assembly) = served(host, parts, startup, expected.turns) else {
         return Err(Fail::new("the daemon does not begin to serve"));
     };
     let daemon = &assembly.daemon;
@@ -122,7 +123,7 @@ fn judged<'a, 'd>(
 fn served<'a, P, S, O, R, L>(
     host: Host<'a, R>,
     parts: Parts<P, CommandsFile<'a, R>, S, O, L>,
-    begun: Begun,
+    startup: StartupFacts,
     turns: u64,
 ) -> Result<Assembly<'a, P, CommandsFile<'a, R>, S, O, R, L>, ServeFault>
 where
@@ -134,7 +135,7 @@ where
     requires { failed_calls parts.port.counts ≡ 0 }
 {
     let mut said = Vec::new(host.alloc);
-    let mut assembly = Assembly::begin(host, parts, begun, &mut said)?;
+    let mut assembly = Assembly::begin(host, parts, startup, &mut said)?;
     assembly.serve(turns);
     Ok(assembly)
 }
@@ -148,7 +149,7 @@ fn year_parts<'a, 'd>(
     let watch = QueueWatch::new(host.configuration.longest_wait);
     Ok(Parts {
         port: FreshPort::new(queue, watch),
-        commands: commands_at(host.rt, host.configuration)?,
+        commands: commands_at(host)?,
         reference: ClockSource::Fixed(reference),
         observer: year_observer(host.alloc, host.rt, host.clocks)?,
         log: emptied_file(host.rt, LOG)?,
@@ -156,14 +157,13 @@ fn year_parts<'a, 'd>(
 }
 
 // What is known of the daemon when it begins.
-fn known_at_start(wanted_buffer: u32) -> Begun {
-    Begun {
+fn known_at_start() -> StartupFacts {
+    StartupFacts {
         bound: BoundAt {
             local: SocketAddrV4::new(Ipv4Addr::new(192, 0, 2, 1), 123),
             buffer: 0,
             spins: false,
         },
-        wanted_buffer,
         digest: [0; 32],
         form: LogForm::Plain,
         manager: None,
@@ -172,10 +172,9 @@ fn known_at_start(wanted_buffer: u32) -> Begun {
 
 // The commands file, which is empty.
 fn commands_at<'a, 'd>(
-    host: &'a MemoryHost<'d>,
-    configuration: &'a Configuration,
+    host: &Host<'a, MemoryHost<'d>>,
 ) -> Result<CommandsFile<'a, MemoryHost<'d>>, Fail> {
-    match CommandsFile::open(host, configuration.commands.as_str()) {
+    match CommandsFile::open(host.rt, host.configuration.commands.as_str(), host.clocks) {
         Ok(commands) => Ok(commands),
         Err(_) => Err(Fail::new("the commands file cannot be opened")),
     }

@@ -4,11 +4,12 @@ use crate::host::{SECOND, moment_at};
 use ntp_admin::{is_passed_over, parse_command};
 use ntp_mac::Reply;
 use ntp_packet::{Moment, Stamp};
-use ntp_port::{Incoming, MOST_RECEIVED_OCTETS, Turn};
+use ntp_port::MOST_RECEIVED_OCTETS;
 use ntp_reply::{Answer, Reference};
 use ntp_service::{Address, Arrival, Event, LineFault, Octets, Service};
 use std::alloc::Global;
 use std::test::Fail;
+use test_support::{Incoming, Turn};
 
 /// How long before a datagram a wait ends with none: a hundredth of a second, in nanoseconds.
 const WAIT: u64 = 10_000_000;

@@ -2,13 +2,15 @@
 //! reckoned by hand, in milliseconds.
 
 use ntp_port::{
-    FixedReference, FreshPort, MOST_RECEIVED_OCTETS, MemoryPort, MemoryQueue, Port, PortFault,
-    QueueWatch, TimedPort, Turn,
+    FixedReference, FreshPort, MOST_RECEIVED_OCTETS, Port, PortFault, QueueWatch, TimedPort,
 };
-use ntp_server::{MemoryCommands, MemoryObserver, Server};
+use ntp_server::Server;
 use std::alloc::{AllocError, Global};
 use std::test::Fail;
-use test_support::{CUSTOMER, RECEIPTS, enrolled_service, queries, reference, replies, turn};
+use test_support::{
+    CUSTOMER, MemoryCommands, MemoryObserver, MemoryPort, MemoryQueue, RECEIPTS, Turn,
+    enrolled_service, queries, reference, replies, turn,
+};
 
 /// A datagram may have waited for less than 250 ms.
 const LONGEST: u64 = 250_000_000;

@@ -1,7 +1,7 @@
 //! Commands in memory.
 
-use ntp_server::MemoryCommands;
 use std::alloc::{AllocError, Allocator};
+use test_support::MemoryCommands;
 
 // What a look gives, where there is something.
 fn given<A: Allocator + Copy>(

@@ -6,12 +6,13 @@ use labntp_jobs::{ReplayFaultKind, Watched, replay};
 use ntp_admin::{Event, LineFault, NoMemory, parse_event, print_answer};
 use ntp_customer::Slots;
 use ntp_packet::Stamp;
-use ntp_port::{MemoryPort, Turn};
 use ntp_service::Service;
 use std::alloc::{Allocator, Global};
 use std::process::Abort;
 use std::test::Fail;
-use test_support::{ANSWERS, CUSTOMER, Refusing, SCRIPT, events, moment, printed, run};
+use test_support::{
+    ANSWERS, CUSTOMER, MemoryPort, Refusing, SCRIPT, Turn, events, moment, printed, run,
+};
 
 // What was refused a call that tells it by `NoMemory`, and else is right.
 fn call_refused(

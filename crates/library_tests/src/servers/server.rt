@@ -8,16 +8,17 @@ use crate::servers::looks::commands;
 use ntp_admin::parse_command;
 use ntp_mac::Reply;
 use ntp_packet::{Moment, Stamp};
-use ntp_port::{FixedReference, MemoryPort, ReferenceSource, TimedPort};
+use ntp_port::{FixedReference, ReferenceSource, TimedPort};
 use ntp_reply::{Answer, Reason, Reference};
-use ntp_server::{
-    MemoryCommands, MemoryObserver, MemoryStates, NoReports, Reporter, Server, Totals,
-};
+use ntp_server::{NoReports, Reporter, Server, Totals};
 use ntp_service::{Arrival, LineOutcome, Observation, Sending, Service, TurnOutcome};
 use std::alloc::{Allocator, Global};
 use std::process::Abort;
 use std::test::Fail;
-use test_support::{CUSTOMER, Refusing, moment, queries, reference, replies, turn};
+use test_support::{
+    CUSTOMER, MemoryCommands, MemoryObserver, MemoryPort, MemoryStates, Refusing, moment, queries,
+    reference, replies, turn,
+};
 
 /// Pieces of commands.
 const ENROLMENT: &[u8] = b"enrol 192.0.2.10 7 md5 6b6579 10\n";

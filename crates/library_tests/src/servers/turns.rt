@@ -2,14 +2,15 @@
 //! serving takes no memory; and a port about which nothing is known.
 
 use crate::servers::failing_port::FailingPort;
-use ntp_port::{MemoryPort, Port, Sent, Turn, serve};
+use ntp_port::{Port, Sent, serve};
 use ntp_reply::Reference;
 use ntp_service::Service;
 use std::alloc::{Allocator, Global};
 use std::process::Abort;
 use std::test::Fail;
 use test_support::{
-    CUSTOMER, RECEIPTS, Refusing, enrolled_service, moment, queries, reference, replies, turn,
+    CUSTOMER, MemoryPort, RECEIPTS, Refusing, Turn, enrolled_service, moment, queries, reference,
+    replies, turn,
 };
 
 // The UDP ports of three turns.

@@ -1,7 +1,7 @@
 //! Looks at sources of commands, with receipts that were made up.
 
 use crate::host::counting::Counting;
-use ntp_host::{CommandsFile, EachMillisecond};
+use ntp_host::{CommandsFile, EachMillisecond, HostClocks};
 use ntp_packet::{Moment, Stamp};
 use ntp_port::CommandsSource;
 use std::alloc::{Allocator, Global};
@@ -69,17 +69,14 @@ pub fn show_calls(rt: &HostRuntime) -> io::Result<()> {
     let calls = Cell::new(0);
     let files = Counting::new(rt, &calls);
     fs::write(rt, PATH, "one\n")?;
-    let mut file = CommandsFile::open(&files, PATH)?;
+    let clocks = HostClocks::new();
+    let mut file = CommandsFile::open(&files, PATH, &clocks)?;
     show_looks(rt, &mut file, &calls, "a file", &[None])?;
     // Its metadata alone: it was not read to its end before.
     show_looks(rt, &mut file, &calls, "unchanged", &[receipt(SECOND)])?;
-    // Its metadata each time, and once what stands at its path.
+    // The metadata of what stands at its path.
     let soon = [receipt(SECOND + MILLISECOND / 2); 10];
     show_looks(rt, &mut file, &calls, "ten looks", &soon)?;
-    // Both, after a tenth of a second, where the clock was set back, and with no datagram.
-    let later = [receipt(SECOND + SECOND / 9)];
-    show_looks(rt, &mut file, &calls, "later", &later)?;
-    show_looks(rt, &mut file, &calls, "set back", &[receipt(SECOND)])?;
     show_looks(rt, &mut file, &calls, "no datagram", &[None])?;
     fs::write(rt, PATH, "one\ntwo")?;
     let soon = [receipt(SECOND + MILLISECOND)];

@@ -5,16 +5,14 @@ mod clocks;
 mod counting;
 mod looks;
 mod refused;
-mod waiting;
 
 use std::io;
 
 /// Prints the moments of four clocks, what a source gives that is asked once in a thousandth of a second, how many calls the looks at a
-/// commands file take, what a port waits for, and what comes of refused memory.
+/// commands file take, and what comes of refused memory.
 pub(crate) fn show(rt: &HostRuntime) -> io::Result<()> {
     clocks::show(rt)?;
     looks::show_paced(rt)?;
     looks::show_calls(rt)?;
-    waiting::show(rt)?;
     refused::show(rt)
 }

@@ -22,49 +22,42 @@ pub struct SeveralAddresses {
 }
 
 impl SeveralAddresses {
-    /// Returns what there is to warn of where a configuration listens: 0.0.0.0, where the host has several addresses beside loopback.
-    /// Returns `None` too if the kernel's table cannot be read.
+    /// Returns what there is to warn of where a configuration listens: 0.0.0.0, where the host has several addresses beside
+    /// loopback. Returns `None` too if the kernel's table cannot be read.
     pub fn configured<R: Files>(
         files: &R,
         alloc: Global,
         listen: Listen,
     ) -> Option<SeveralAddresses> {
         match listen {
-            Listen::Bound(endpoint) => at(files, alloc, endpoint.socket_address(), false),
+            Listen::Bound(endpoint) => {
+                SeveralAddresses::at(files, alloc, endpoint.socket_address(), false)
+            }
             Listen::Inherited => None,
         }
     }
 
-    /// Returns what there is to warn of at a socket that was handed down and is bound at `local`.
-    pub(crate) fn handed_down<R: Files>(
+    /// Returns what there is to warn of at a socket that is bound at `local`, and perhaps was handed down.
+    pub(crate) fn at<R: Files>(
         files: &R,
         alloc: Global,
         local: SocketAddrV4,
+        is_inherited: bool,
     ) -> Option<SeveralAddresses> {
-        at(files, alloc, local, true)
+        if !local.ip().is_unspecified() {
+            return None;
+        }
+        let mut table = fs::open(files, ROUTES).ok()?.take(MOST_OCTETS);
+        let [first, second] = two_addresses(alloc, &mut table)?;
+        let port = local.port();
+        Some(SeveralAddresses {
+            addresses: [
+                SocketAddrV4::new(first, port),
+                SocketAddrV4::new(second, port),
+            ],
+            is_inherited,
+        })
     }
-}
-
-// Returns what there is to warn of at a socket that is bound at `local`.
-fn at<R: Files>(
-    files: &R,
-    alloc: Global,
-    local: SocketAddrV4,
-    is_inherited: bool,
-) -> Option<SeveralAddresses> {
-    if !local.ip().is_unspecified() {
-        return None;
-    }
-    let mut table = fs::open(files, ROUTES).ok()?.take(MOST_OCTETS);
-    let [first, second] = two_addresses(alloc, &mut table)?;
-    let port = local.port();
-    Some(SeveralAddresses {
-        addresses: [
-            SocketAddrV4::new(first, port),
-            SocketAddrV4::new(second, port),
-        ],
-        is_inherited,
-    })
 }
 
 /// The warning in one line, with what to write.
@@ -85,8 +78,8 @@ impl fmt::Display for SeveralAddresses {
     }
 }
 
-// Returns the first two addresses of the host in the kernel's table, beside loopback. A line with an address stands before the lines that
-// say what it is.
+// Returns the first two addresses of the host in the kernel's table, beside loopback. A line with an address stands before the
+// lines that say what it is.
 fn two_addresses<F: Read>(alloc: Global, table: &mut F) -> Option<[Ipv4Addr; 2]> {
     let mut table = BufReader::new(alloc, table).ok()?;
     let mut line = Vec::new(alloc);

@@ -1,7 +1,7 @@
 //! What a server begins with, read from its files.
 
 use crate::host_addresses::SeveralAddresses;
-use crate::places::{judge_places, tell_readers};
+use crate::places::{NamedFiles, tell_places, tell_readers};
 use labntpd_files::{
     Clock, ClockDaemon, Configuration, ConfigurationFault, Endpoint, key_in_file,
     read_configuration,
@@ -10,6 +10,7 @@ use ntp_admin::{Escaped, Status, failed_status, memory_status};
 use ntp_client::{ClockLimits, Follower};
 use ntp_host::{StartLines, read_regular_file};
 use ntp_packet::Short;
+use ntp_reply::Reference;
 use sha2::{Digest, Sha256};
 use std::alloc::Global;
 use std::fs::Files;
@@ -26,23 +27,24 @@ pub const KEY_LINE_WANTED: &str = "one line of 2 to 64 hexadecimal digits is wan
 pub struct Prepared {
     /// What the configuration file says.
     pub configuration: Configuration,
-    /// The host's clock daemon, where one is asked.
-    pub followed: Option<FollowedDaemon>,
+    /// Who says how good the host's clock is.
+    pub clock: PreparedClock,
     /// The SHA-256 digest of the configuration file.
     pub digest: [u8; 32],
 }
 
-/// The host's clock daemon, which is followed.
+/// Who says how good the host's clock is.
 #[derive(Drop)]
-pub struct FollowedDaemon {
-    /// Where it answers.
-    pub source: Endpoint,
-    /// Who follows it; it was not asked yet.
-    pub follower: Follower,
+pub enum PreparedClock {
+    /// Nobody: replies tell this reference state.
+    Fixed(Reference),
+    /// The host's clock daemon, which answers there and was not asked yet.
+    Followed(Endpoint, Follower),
 }
 
-/// Reads the configuration file at a path, and the key file that it names. A fault is told in one line to `faults`, where a failed write
-/// is passed over, and gives the exit status. Files with keys that others may read are told too.
+/// Reads the configuration file at a path, and the key file that it names, and judges where its files stand. Writes a fault in
+/// one line to `faults`, where a failed write is passed over, and returns the exit status. Warns of files with keys that others
+/// may read.
 pub fn prepare<R: Files, F: Write + Drop>(
     files: &R,
     alloc: Global,
@@ -51,10 +53,13 @@ pub fn prepare<R: Files, F: Write + Drop>(
 ) -> Result<Prepared, Status> {
     let text = small_text(files, alloc, path, faults)?;
     let configuration = configuration_in(alloc, path, text.as_str(), faults)?;
-    judge_places(files, alloc, path, &configuration, faults)?;
-    let followed = match &configuration.clock {
-        Clock::Fixed(_) => None,
-        Clock::Followed(daemon) => Some(followed(files, alloc, daemon, faults)?),
+    let named = NamedFiles::of(path, &configuration);
+    if tell_places(files, alloc, named, 1, faults)? > 0 {
+        return Err(Status::TextFaulty);
+    }
+    let clock = match &configuration.clock {
+        Clock::Fixed(reference) => PreparedClock::Fixed(*reference),
+        Clock::Followed(daemon) => followed(files, alloc, daemon, faults)?,
     };
     tell_readers(files, configuration.commands.as_str(), faults);
     if let Some(several) = SeveralAddresses::configured(files, alloc, configuration.listen) {
@@ -62,13 +67,13 @@ pub fn prepare<R: Files, F: Write + Drop>(
     }
     Ok(Prepared {
         configuration,
-        followed,
+        clock,
         digest: Sha256::digest(text.as_bytes()),
     })
 }
 
-/// The configuration of the file at a path, and nothing that it names. A fault is told in one line to `faults`, and gives the exit
-/// status.
+/// Reads the configuration file at a path, and nothing that it names. Writes a fault in one line to `faults`, and returns the
+/// exit status.
 pub fn configuration_at<R: Files, F: Write>(
     files: &R,
     alloc: Global,
@@ -102,7 +107,7 @@ fn followed<R: Files, F: Write + Drop>(
     alloc: Global,
     daemon: &ClockDaemon,
     faults: &mut StartLines<F>,
-) -> Result<FollowedDaemon, Status> {
+) -> Result<PreparedClock, Status> {
     let path = daemon.key_file.as_str();
     let text = small_text(files, alloc, path, faults)?;
     let Some(key) = key_in_file(&text, daemon.algorithm) else {
@@ -116,13 +121,11 @@ fn followed<R: Files, F: Write + Drop>(
         most_step: daemon.most_step,
     };
     tell_readers(files, path, faults);
-    Ok(FollowedDaemon {
-        source: daemon.source,
-        follower: Follower::new(key, daemon.number.get(), limits),
-    })
+    let follower = Follower::new(key, daemon.number.get(), limits);
+    Ok(PreparedClock::Followed(daemon.source, follower))
 }
 
-/// The text of a file that has at most 65,536 octets. A fault is told in one line to `faults`, and gives the exit status.
+/// Reads the text of a file that has at most 65,536 octets. Writes a fault in one line to `faults`, and returns the exit status.
 pub fn small_text<R: Files, F: Write>(
     files: &R,
     alloc: Global,

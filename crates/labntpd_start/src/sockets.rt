@@ -5,14 +5,13 @@ use crate::lines::{judged, start_lines};
 use labntpd_files::{Configuration, Listen};
 use ntp_admin::Status;
 use ntp_host::{
-    BoundAt, LONGEST_WAIT, SOCKETS_ROOM, inherited, is_of_other_protocol, receive_buffer,
-    set_receive_buffer, set_send_buffer,
+    BoundAt, SOCKETS_ROOM, inherited, is_of_other_protocol, receive_buffer, set_receive_buffer,
+    set_send_buffer,
 };
 use std::alloc::Global;
 use std::io::{self, ErrorKind, Write};
 use std::net::{SocketAddr, SocketAddrV4, UdpSocket};
 use std::os::unix::fs::MetadataExt;
-use std::time::Duration;
 use std::{env, fs, process};
 
 /// The socket that was handed down, among what this process has open (proc(5)).
@@ -27,15 +26,13 @@ pub fn open_socket(rt: &HostRuntime, alloc: Global, listen: Listen) -> Result<Ud
     judged(rt, "listen", made)
 }
 
-/// Gives the socket its time limit and its buffers, has it block where no wait spins, and returns what is known of it.
+/// Has the socket never block, gives it its buffers, and returns what is known of it.
 pub fn set_up(
     rt: &HostRuntime,
     socket: &UdpSocket,
     configuration: &Configuration,
 ) -> Result<BoundAt, Status> {
-    let limit = Duration::from_millis(u64::from(LONGEST_WAIT));
-    judged(rt, "listen", socket.set_read_timeout(Some(limit)))?;
-    judged(rt, "listen", socket.set_nonblocking(configuration.spin))?;
+    judged(rt, "listen", socket.set_nonblocking(true))?;
     // A socket that was handed down keeps its buffers, which may be larger than this process could have them made.
     if matches!(configuration.listen, Listen::Bound(_)) {
         let set = set_receive_buffer(socket, configuration.receive_buffer);
@@ -48,7 +45,7 @@ pub fn set_up(
         SocketAddr::V4(local) => {
             // One that the configuration names was judged with it.
             if matches!(configuration.listen, Listen::Inherited)
-                && let Some(several) = SeveralAddresses::handed_down(rt, rt.alloc(), local)
+                && let Some(several) = SeveralAddresses::at(rt, rt.alloc(), local, true)
             {
                 let _ = writeln!(start_lines(rt).warning(), "{several}");
             }

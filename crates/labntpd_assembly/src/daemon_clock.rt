@@ -13,10 +13,10 @@ const SECOND_NANOS: i128 = 1_000_000_000;
 /// The leap indicator of an unsynchronised clock (RFC 5905, 7.3).
 const UNSYNCHRONISED_LEAP: u8 = 3;
 
-/// The state of the clock that replies tell, and whether its daemon is believed or why not.
+/// The state of the clock in replies, and whether its daemon is believed or why not.
 #[derive(Clone, Copy)]
 pub struct ClockState {
-    /// What replies tell.
+    /// What replies say.
     pub reference: Reference,
     /// Whether the daemon is believed.
     pub belief: Belief,
@@ -26,10 +26,6 @@ pub struct ClockState {
 pub trait DaemonClock: ReferenceSource {
     /// The state of the clock by a reading of the host's clocks.
     fn state(&self, now: Reading) -> ClockState;
-
-    /// Whether the state of the clock is known by now, even if only that it is not synchronised: it is not, where somebody was asked for it
-    /// who has not answered yet.
-    fn has_answered(&self) -> bool;
 
     /// Returns the gauges of the clock, where it has this state.
     fn gauges(&self, state: &ClockState, now: Reading) -> ClockGauges;
@@ -44,13 +40,6 @@ impl<'a, C: Clock + Copy + Drop> DaemonClock for ClockSource<'a, C> {
         ClockState {
             reference: self.state(now),
             belief,
-        }
-    }
-
-    fn has_answered(&self) -> bool {
-        match self {
-            ClockSource::Fixed(_) => true,
-            ClockSource::Followed(followed) => followed.has_answered(),
         }
     }
 
@@ -122,8 +111,8 @@ fn belief_in<C: Clock + Copy + Drop>(followed: &FollowedClock<'_, C>, now: Readi
     match follower.doubt(now) {
         Some(doubt) => Belief::Doubted(doubt),
         None if follower.learned().is_some() => Belief::Believed,
-        // An answer is forgotten where a later one says that its clock is not synchronised, and where none shows an update since the host's
-        // clock was set.
+        // An answer is forgotten where a later one says that its clock is not synchronised, and where none shows an update since
+        // the host's clock was set.
         None if followed.is_unsynchronised() => Belief::Doubted(Doubt::Unsynchronised),
         None if followed.has_answered() => Belief::Doubted(Doubt::Set),
         None => Belief::NoAnswer,

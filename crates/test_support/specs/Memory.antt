@@ -1,0 +1,72 @@
+-- What parts in memory tell.
+use Rattle.std.specs.Prelude.{ℕ, zero, suc, ◌-◌, ◌<◌, Option, None, Some, option_map, List, length, map, drop, reverse, slice_get, vec_len, vec_capacity, if◌then◌else◌}
+use Rattle.std.specs.Option.{option_map_or}
+use Rattle.ntp_packet.specs.declared.moment.Moment.{Moment}
+use Rattle.ntp_reply.specs.Reference.{ReferenceState}
+use Rattle.ntp_service.specs.declared.observation.Observation.{Observation}
+use Rattle.ntp_port.specs.{declared.port.PortCounts.PortCounts, declared.queue_event.QueueEvent.QueueEvent}
+use Rattle.ntp_port.specs.Port.{IncomingValue, Readings, later, TurnValue, no_turn, Told}
+use Rattle.ntp_port.specs.{Sequence.firsts, Sources.Coming}
+use Rattle.test_support.specs.{declared.memory_turn.Incoming.Incoming, declared.memory_turn.Turn.Turn, declared.memory_port.MemoryPort.MemoryPort}
+use Rattle.test_support.specs.{declared.memory_queue.Log.Log, declared.memory_server.MemoryCommands.MemoryCommands}
+use Rattle.test_support.specs.{declared.memory_server.MemoryStates.MemoryStates, declared.memory_server.MemoryObserver.MemoryObserver}
+
+-- a datagram of a list of turns, as a port tells it
+abbrev pub incoming_told : {A : Type 0} → Incoming A → IncomingValue
+incoming_told d = record { address = d.address; port = d.port; receipt = d.receipt; octets = d.octets }
+
+-- the first reading, and all later ones
+abbrev pub readings : Moment → Moment → Readings
+readings first behind tried zero = first
+readings first behind tried (suc n) = behind
+
+-- a turn of that list
+abbrev pub turn_told : {A : Type 0} → Turn A → TurnValue
+turn_told turn =
+    record { arrival = option_map incoming_told turn.arrival; clock = readings turn.transmit turn.departure; sends = turn.sends }
+
+-- the present turn
+abbrev pub present_of : {A : Type 0} → MemoryPort A → TurnValue
+present_of p = if p.is_present then option_map_or turn_told (slice_get p.turns.items (p.begun - 1)) no_turn else no_turn
+
+-- what the calls will answer from here on
+abbrev pub told_by : {A : Type 0} → MemoryPort A → Told
+told_by p = record {
+  coming = map turn_told (drop p.begun p.turns.items);
+  present = present_of p;
+  clock = if p.has_read_clock then later (present_of p).clock else (present_of p).clock;
+  has_tried_send = p.has_tried_send;
+  sent = p.sent.items;
+}
+
+-- what is counted: it drops nothing of itself, and no wait of it ends with nothing
+abbrev pub memory_counts : {A : Type 0} → MemoryPort A → PortCounts
+memory_counts p = record { failed_receives = p.failed_receives; failed_sends = p.failed_sends; dropped = 0; idle_waits = 0 }
+
+-- the history that is kept, newest first, where there was room for all of it
+abbrev pub history_in : {A : Type 0} → Log A → Option (List QueueEvent)
+history_in log = if log.has_missed then None else Some (reverse log.events.items)
+
+-- these and then nothing more, whatever is asked with
+abbrev pub commands_coming : List (Option (List ℕ)) → Coming (Option (List ℕ))
+commands_coming looks = λ asked. firsts None (length asked) looks
+
+-- what a commands file in memory will give
+abbrev pub commands_told : {A : Type 0} → MemoryCommands A → Coming (Option (List ℕ))
+commands_told m = commands_coming (map (λ look. option_map (λ octets. octets.items) look) (drop m.made m.looks.items))
+
+-- these states and then one for ever, whatever is asked with
+abbrev pub states_coming : List ReferenceState → ReferenceState → Coming ReferenceState
+states_coming states behind = λ asked. firsts behind (length asked) states
+
+-- what a list of states will give
+abbrev pub states_told : {A : Type 0} → MemoryStates A → Coming ReferenceState
+states_told m = states_coming (drop m.given m.states.items) m.behind
+
+-- what an observer in memory has seen, where it missed nothing
+abbrev pub seen_by : {A : Type 0} → MemoryObserver A → Option (List Observation)
+seen_by m = if m.has_missed then None else Some m.seen.items
+
+-- an observer in memory has room for one observation more
+abbrev pub HasRoom : {A : Type 0} → MemoryObserver A → Type 0
+HasRoom m = vec_len m.seen < vec_capacity m.seen

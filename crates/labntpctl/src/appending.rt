@@ -208,8 +208,8 @@ fn lost(clerk: &Clerk<'_>, shown: &str, is_alone: bool) -> Stop {
             "appended at a line that is not known; look at the answers",
         )
     };
-    let _ = clerk.refusal(format_args!("{why} at the same time: {shown}: {what}"));
-    Stop::Printed(Status::IoFailed)
+    let why = format_args!("{why} at the same time: {shown}: {what}");
+    clerk.desk.failure_at(clerk.commands(), why)
 }
 
 // Removes the customer's new file, if there is one, or reports why it stays.
@@ -307,7 +307,7 @@ impl<'a> Answers<'a> {
         Ok(Some(all))
     }
 
-    // Reads what a file answers behind so many octets of old answers.
+    // Reads what a file answers behind `old` octets of old answers.
     fn answered(&self, path: &str, old: u64) -> Result<Answered, Stop> {
         let desk = self.desk;
         let mut answered = Answered {

@@ -5,13 +5,16 @@ use crate::commands_file::{ByAddress, HeldFile, Loaded};
 use crate::desk::{Clerk, Desk, Stop};
 use crate::differing::judge_daemon;
 use crate::replacing::write_new;
-use crate::shown::{Dotted, FoundAt, Keys, seen_terms};
+use crate::shown::FoundAt;
 use indexmap::IndexMap;
 use labntpd_files::{
     KeyLines, Text, WantedCustomer, WantedFault, WantedKey, read_wanted, write_wanted,
 };
 use ntp_admin::{Command, Status};
-use ntp_clerk::{GivenKey, LeadFault, Terms, Wanted, commands_to, customers_of, name_line};
+use ntp_clerk::{
+    Dotted, GivenKey, Keys, LeadFault, Terms, Wanted, commands_to, customers_of, ends_many,
+    have_same_keys, name_line, seen_terms,
+};
 use ntp_host::MOST_COMMANDS_OCTETS;
 use std::alloc::{AllocError, Global};
 use std::fmt::Write as _;
@@ -39,25 +42,38 @@ pub fn apply(clerk: &Clerk<'_>, application: &Application<'_>) -> Result<(), Sto
         return Ok(());
     }
     let (held, mut loaded) = HeldFile::hold(desk, clerk.commands())?;
-    let changes = show_changes(clerk, &loaded, &wanted)?;
-    if changes.shown.is_empty() {
+    let Some(addition) = addition_for(clerk, application, &mut loaded, &wanted)? else {
         return Ok(());
-    }
-    let (ending, enrolled) = (changes.ending, changes.enrolled);
-    if ending > enrolled / 4 && !application.ends_many {
-        return Err(desk.refusal(format_args!(
-            "{ending} of {enrolled} enrolments would end: --end-many is wanted"
-        )));
-    }
-    judge_daemon(clerk, &loaded)?;
-    let commands = commands_for(desk, &mut loaded, &wanted)?;
-    let addition = Addition::new(clerk, &loaded, changes.names, commands)?;
+    };
     let answers = Answers::new(clerk, application.patience, addition.numbers)?;
     if application.asks {
         let (commands, names) = (addition.commands.len(), addition.names);
         desk.ask(format_args!("apply {commands} commands and {names} names? [y/N] "))?;
     }
     append(clerk, held, &addition, &answers)
+}
+
+// Returns the lines that make the customers the wanted ones, and shows what they change; nothing where nothing changes.
+fn addition_for(
+    clerk: &Clerk<'_>,
+    application: &Application<'_>,
+    loaded: &mut Loaded,
+    wanted: &[WantedCustomer],
+) -> Result<Option<Addition>, Stop> {
+    let desk = clerk.desk;
+    let changes = show_changes(clerk, loaded, wanted)?;
+    if changes.shown.is_empty() {
+        return Ok(None);
+    }
+    let (ending, enrolled) = (changes.ending, changes.enrolled);
+    if ends_many(ending, enrolled) && !application.ends_many {
+        return Err(desk.refusal(format_args!(
+            "{ending} of {enrolled} enrolments would end: --end-many is wanted"
+        )));
+    }
+    judge_daemon(clerk, loaded)?;
+    let commands = commands_for(desk, loaded, wanted)?;
+    Ok(Some(Addition::new(clerk, loaded, changes.names, commands)?))
 }
 
 // Reads the customers of a file, or reports each fault in it.
@@ -90,12 +106,12 @@ fn show_changes(
     Ok(changes)
 }
 
-/// Returns what leads to wanted customers, or reports that nothing does.
-pub fn or_unled<T>(desk: Desk<'_>, led: Result<T, LeadFault>) -> Result<T, Stop> {
-    led.map_err(|fault| match fault {
+/// Reports why no commands lead to wanted customers.
+pub fn unled(desk: Desk<'_>, fault: LeadFault) -> Stop {
+    match fault {
         LeadFault::NoMemory => Stop::Memory,
         _ => desk.refusal("no commands lead to these customers: nothing was changed"),
-    })
+    }
 }
 
 // Returns the commands that make the customers of a commands file the wanted ones, and gives them to its service.
@@ -110,7 +126,7 @@ fn commands_for(
         targets.push(Wanted { address, terms })?;
     }
     let commands = commands_to(desk.alloc(), &mut loaded.service, &targets);
-    or_unled(desk, commands)
+    commands.map_err(|fault| unled(desk, fault))
 }
 
 // Returns what a wanted customer is enrolled with.
@@ -178,14 +194,16 @@ impl Changes {
             .as_ref()
             .map_or(old_name, |name| name.as_str());
         let after = terms_for(customer);
-        let (keys, budget) = (Keys(seen_terms(&after)), after.budget);
+        let (seen, budget) = (seen_terms(&after), after.budget);
+        let keys = Keys(seen);
         if let Some(before) = before {
-            let (old_keys, old_budget) = (Keys(seen_terms(&before)), before.budget);
+            let (old_seen, old_budget) = (seen_terms(&before), before.budget);
+            let old_keys = Keys(old_seen);
             if old_budget != budget {
                 writeln!(self.shown, "~ {address} budget {old_budget} -> {budget}")?;
             }
             if (before.older, before.newer) != (after.older, after.newer) {
-                let is_shown = !old_keys.are_alike(&keys);
+                let is_shown = !have_same_keys(&old_seen, &seen);
                 let how = if is_shown { "" } else { ", with other octets" };
                 writeln!(self.shown, "~ {address} {old_keys} -> {keys}{how}")?;
             }
@@ -229,6 +247,6 @@ pub fn export(clerk: &Clerk<'_>, path: Option<&str>, keys: KeyLines) -> Result<(
     let Some(path) = path else {
         return desk.printed(desk.rt.stdout().write_all(&text));
     };
-    desk.at(path, write_new(desk.rt, path, &text))?;
+    write_new(desk, path, &text)?;
     desk.print(format_args!("{} customers\n", customers.len()))
 }

@@ -1,19 +1,20 @@
 //! Changes one customer, and writes the file for one who gets a key.
 
 use crate::appending::{Addition, Answers, Patience, append};
-use crate::applying::or_unled;
+use crate::applying::unled;
 use crate::commands_file::{HeldFile, Loaded};
 use crate::customers::customer_lines;
 use crate::desk::{Clerk, Desk, NTP_PORT, Stop};
 use crate::differing::judge_daemon;
 use crate::replacing::write_new;
-use crate::shown::{Called, Dotted, SIGNED_FORM, date, signed_date, whole_seconds};
-use labntpd_assembly::SeveralAddresses;
+use crate::shown::{Called, SIGNED_FORM, date, signed_date, whole_seconds};
 use labntpd_files::refusal_meaning;
+use labntpd_start::SeveralAddresses;
 use ntp_admin::{Command, Escaped, words};
 use ntp_clerk::{
-    GivenKey, Grant, Wanted, commands_to, customer_text, customers_of, key_named, name_line,
-    next_free, rollover, terms_of,
+    Dotted, GivenKey, Grant, Keys, LeadFault, Seen, commands_to_move, customer_text,
+    is_read_two_ways, key_named, may_retire, name_line, number_for_a_key, number_to_retire,
+    rollover, seen_at, terms_of,
 };
 use ntp_mac::Algorithm;
 use ntp_query::{KeyFileFault, KeyLineFault, Server, key_in_text, spaced};
@@ -22,6 +23,9 @@ use std::alloc::{AllocError, Global};
 use std::fmt::Write as _;
 use std::io::Write as _;
 use std::num::NonZero;
+
+/// The most octets of a key file.
+const MOST_KEY_FILE_OCTETS: u32 = 65_536;
 
 /// A change that is asked for.
 #[derive(Clone, Copy)]
@@ -87,10 +91,20 @@ pub fn make_change(clerk: &Clerk<'_>, request: &ChangeRequest<'_>) -> Result<(),
     let request = confirmed(clerk, request)?;
     let (held, mut loaded) = HeldFile::hold(desk, clerk.commands())?;
     judge_daemon(clerk, &loaded)?;
-    let mut addition = addition_for(clerk, &request, &mut loaded)?;
+    let addition = addition_for(clerk, &request, &mut loaded)?;
+    append_given(clerk, held, &request, addition)
+}
+
+// Writes the new file of a customer who gets a key, appends the lines of the change, and prints what came of them.
+fn append_given(
+    clerk: &Clerk<'_>,
+    held: HeldFile<'_>,
+    request: &ChangeRequest<'_>,
+    mut addition: Addition,
+) -> Result<(), Stop> {
     let answers = Answers::new(clerk, request.patience, addition.numbers)?;
     if let Some(command) = addition.commands.first() {
-        addition.given = give(clerk, &request, command)?;
+        addition.given = give(clerk, request, command)?;
     }
     append(clerk, held, &addition, &answers)
 }
@@ -108,13 +122,8 @@ fn confirmed<'a>(
     let Some(Command::Retire { number, .. }) = addition.commands.first() else {
         return Ok(*request);
     };
-    let (desk, (said, are_ground)) = (clerk.desk, uses(clerk, request.address, *number)?);
     let customer = Called(request.address, loaded.name(request.address));
-    if !are_ground {
-        let why = "that the key that stays is in use is not known: --yes is wanted";
-        return Err(desk.refusal(format_args!("{customer}: {said}: {why}")));
-    }
-    desk.ask(format_args!("{customer}: {said}; retire key {number}? [y/N] "))?;
+    ask_to_retire(clerk, customer, *number)?;
     let change = Change::Retire {
         number: Some(*number),
         asks: false,
@@ -122,20 +131,39 @@ fn confirmed<'a>(
     Ok(ChangeRequest { change, ..*request })
 }
 
-// Says when each key of an address was last used, and returns whether another key than this was, in a count of a day or more.
+// Asks whether a customer's key is to be retired, once its other key is known to be in use.
+fn ask_to_retire(
+    clerk: &Clerk<'_>,
+    customer: Called<'_>,
+    number: NonZero<u16>,
+) -> Result<(), Stop> {
+    let (said, are_ground) = uses(clerk, customer.0, number)?;
+    if !are_ground {
+        let why = "that the key that stays is in use is not known: --yes is wanted";
+        return Err(
+            clerk
+                .desk
+                .refusal(format_args!("{customer}: {said}: {why}")),
+        );
+    }
+    clerk.desk.ask(format_args!("{customer}: {said}; retire key {number}? [y/N] "))
+}
+
+// Says when each key of an address was last used, and returns whether that is ground to retire this one.
 fn uses(clerk: &Clerk<'_>, address: Address, number: NonZero<u16>) -> Result<(String, bool), Stop> {
     let (desk, alloc) = (clerk.desk, clerk.desk.alloc());
-    let text = clerk.renewed_customers()?;
+    clerk.renew_customers()?;
+    let text = clerk.reported(&clerk.configuration.customers)?;
     let lines = customer_lines(desk, text.as_ref().map_or("", |text| text.as_str()))?;
     let address = format!(in alloc; "{}", Dotted(address))?;
-    let (mut said, mut is_used) = (String::new(alloc), false);
+    let (mut said, mut used) = (String::new(alloc), Vec::new(alloc));
     let customer = lines.iter().filter(|line| line.address == address.as_str());
     for key in customer.flat_map(|customer| customer.keys.iter()) {
         let other = key.number;
         if let Some(seconds) = key.last_signed {
             let date = signed_date(alloc, seconds)?;
             write!(said, "key {other} last used {date}, ")?;
-            is_used = is_used || other != number.get();
+            used.push(other)?;
         } else {
             write!(said, "key {other} not used, ")?;
         }
@@ -153,7 +181,7 @@ fn uses(clerk: &Clerk<'_>, address: Address, number: NonZero<u16>) -> Result<(St
     }
     let begun = begun.unwrap_or(u64::MAX);
     let counted = written.unwrap_or(0).saturating_sub(begun);
-    Ok((said, is_used && counted >= 86_400))
+    Ok((said, may_retire(number, &used, counted)))
 }
 
 // Returns the lines for a change, once labntpd will do it and the commands file has room. It changes the customers in `loaded`.
@@ -193,30 +221,29 @@ fn commands_for(
     loaded: &mut Loaded,
 ) -> Result<Vec<Command>, Stop> {
     if let Change::Move(to) = request.change {
-        let wanted = moved(desk, loaded, request.address, to)?;
-        let led = commands_to(desk.alloc(), &mut loaded.service, &wanted);
-        return or_unled(desk, led);
+        let led = commands_to_move(desk.alloc(), &mut loaded.service, request.address, to);
+        return led.map_err(|fault| match fault {
+            LeadFault::Refused(refusal) => refused(desk, refusal),
+            fault => unled(desk, fault),
+        });
     }
     let mut commands = Vec::new(desk.alloc());
     if let Some(command) = command_for(desk, request, loaded)? {
         let done = loaded.service.command(&command);
-        done.map_err(|refusal| refused(desk, refusal))?;
+        let there = seen_at(&loaded.service, request.address);
+        done.map_err(|refusal| match (refusal, there) {
+            (Refusal::NotHeld, Seen::Enrolled(terms)) => not_held(desk, Keys(terms)),
+            _ => refused(desk, refusal),
+        })?;
         commands.push(command)?;
     }
     Ok(commands)
 }
 
-// Returns the customers, one with another address, or reports that there is no such customer, or that the address has one.
-fn moved(desk: Desk<'_>, loaded: &Loaded, from: Address, to: Address) -> Result<Vec<Wanted>, Stop> {
-    let mut customers = customers_of(desk.alloc(), &loaded.service)?;
-    if customers.iter().any(|customer| customer.address == to) {
-        return Err(refused(desk, Refusal::AlreadyEnrolled));
-    }
-    let moved = customers.iter_mut().find(|it| it.address == from);
-    moved
-        .ok_or_else(|| refused(desk, Refusal::NotEnrolled))?
-        .address = to;
-    Ok(customers)
+// Reports that an address that has these keys has none of a number.
+fn not_held(desk: Desk<'_>, keys: Keys) -> Stop {
+    let (word, meaning) = (Refusal::NotHeld.word(), refusal_meaning(Refusal::NotHeld));
+    desk.refusal(format_args!("refused {word}: {meaning}, but {keys}"))
 }
 
 // Reports why a command is refused.
@@ -249,7 +276,7 @@ fn command_for(
         Change::Rollover(key) => rollover(address, &key_for(desk, &key, loaded)?),
         Change::Retire { number, .. } => {
             let terms = customer.and_then(|customer| terms_of(customer));
-            let number = number.or(terms.map(|terms| terms.older.number));
+            let number = number_to_retire(&terms, number);
             let number = number.ok_or_else(|| refused(desk, Refusal::NotEnrolled))?;
             Command::Retire { address, number }
         }
@@ -274,7 +301,7 @@ fn key_for(desk: Desk<'_>, wanted: &KeyRequest<'_>, loaded: &Loaded) -> Result<G
 
 // Reads the key with a number, or the only one, from a key file in the form of chrony.
 fn key_in_file(desk: Desk<'_>, path: &str, number: Option<NonZero<u16>>) -> Result<GivenKey, Stop> {
-    let octets = spaced(desk.alloc(), &desk.octets(path, 65_536)?)?;
+    let octets = spaced(desk.alloc(), &desk.octets(path, MOST_KEY_FILE_OCTETS)?)?;
     let Ok(text) = str::from_utf8(&octets) else {
         return Err(desk.refusal_at(path, "this is no UTF-8"));
     };
@@ -296,8 +323,7 @@ fn key_in_file(desk: Desk<'_>, path: &str, number: Option<NonZero<u16>>) -> Resu
             return Err(desk.refusal_at(path, format_args!("line {line}: {wanted}")));
         }
     };
-    // ntpd reads more than 20 digits as hexadecimal ones, and chrony as characters.
-    if key.octet_count() > 20 && key.octets().iter().all(|octet| octet.is_ascii_hexdigit()) {
+    if is_read_two_ways(key.octets()) {
         let why = "HEX: is wanted in front of more than 20 digits";
         return Err(desk.refusal_at(path, format_args!("key {number}: {why}")));
     }
@@ -307,33 +333,33 @@ fn key_in_file(desk: Desk<'_>, path: &str, number: Option<NonZero<u16>>) -> Resu
 // Returns the only number of a key in the text of a key file.
 fn only_number(desk: Desk<'_>, path: &str, text: &str) -> Result<NonZero<u16>, Stop> {
     let first = |line: &str| words::number(line.split_ascii_whitespace().next()?);
-    let mut numbers = text.lines().filter_map(first);
-    let Some(number) = numbers.next() else {
-        return Err(desk.refusal_at(path, "there is no key"));
-    };
-    match numbers.find(|other| *other != number) {
-        None => Ok(number),
-        Some(other) => {
-            let both = format_args!("there are keys {number} and {other}: --number N is wanted");
-            Err(desk.refusal_at(path, both))
+    let mut said = String::from_str(desk.alloc(), "there are keys")?;
+    let mut numbers: Vec<NonZero<u16>> = Vec::new(desk.alloc());
+    for number in text.lines().filter_map(first) {
+        if !numbers.contains(&number) {
+            numbers.push(number)?;
+            write!(said, " {number},")?;
+        }
+    }
+    match numbers.as_slice() {
+        [] => Err(desk.refusal_at(path, "there is no key")),
+        [number] => Ok(*number),
+        _ => {
+            let said = said.as_str().trim_end_matches(',');
+            Err(desk.refusal_at(path, format_args!("{said}: --number N is wanted")))
         }
     }
 }
 
 // Returns the next free key number.
 fn free_number(alloc: Global, loaded: &Loaded) -> Result<Option<NonZero<u16>>, AllocError> {
-    let (mut used, mut held) = (Vec::new(alloc), Vec::new(alloc));
+    let mut used = Vec::new(alloc);
     for line in loaded.heard.lines.iter() {
         if let (Some(command), LineOutcome::Done) = (line.command, line.outcome) {
             used.extend(command.number_wanted().map(|number| number.get()))?;
         }
     }
-    for customer in customers_of(alloc, &loaded.service)?.iter() {
-        for key in [Some(customer.terms.older), customer.terms.newer] {
-            held.extend(key.map(|key| key.number.get()))?;
-        }
-    }
-    Ok(next_free(&used, &held))
+    Ok(number_for_a_key(&loaded.service, &used))
 }
 
 // Writes the new file for a customer who gets a key by this command, and returns its path.
@@ -372,7 +398,6 @@ fn give(
         key,
     };
     let text = customer_text(alloc, &grant)?;
-    let written = write_new(desk.rt, path.as_str(), text.as_bytes());
-    desk.at(path.as_str(), written)?;
+    write_new(desk, path.as_str(), text.as_bytes())?;
     Ok(Some(path))
 }

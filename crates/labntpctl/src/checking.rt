@@ -3,14 +3,14 @@
 use crate::commands_file::{HeardLine, Loaded, complete_lines};
 use crate::desk::{Desk, Stop};
 use crate::shown::FoundAt;
-use labntpd_assembly::{
-    KEY_LINE_WANTED, NamedFiles, SeveralAddresses, readers_of, small_text, tell_places,
-};
 use labntpd_files::{
     ConfigurationFault, Setting, WantedFault, address_warning, budget_warning,
     configuration_faults, fault_meaning, faulty_place, is_fixed, key_in_file, key_warning,
     key_wrong, path_at, read_configuration, read_wanted, refusal_meaning, shown_word, value_at,
     word_at,
+};
+use labntpd_start::{
+    KEY_LINE_WANTED, NamedFiles, SeveralAddresses, readers_of, small_text, tell_places,
 };
 use ntp_admin::{Command, Escaped, LineFault, Status, failed_status, line_without_text};
 use ntp_clerk::{budget_named, customers_of, key_named};

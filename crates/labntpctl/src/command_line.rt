@@ -291,7 +291,9 @@ fn door<'a>(alloc: Global) -> Result<Command<'a>, AllocError> {
         arg!(in alloc; --rate <N> "A customer's datagrams in a second; at once, twice as many");
     with_config(alloc, "door")?
         .about("Prints rules of nftables for what customers send")
-        .arg(arg!(in alloc; --address <"ADDRESS[:PORT]"> "[default: where labntpd listens]"))?
+        .arg(
+            arg!(in alloc; --address <"ADDRESS[:PORT]"> "[default: where labntpd listens, or `served_as`]"),
+        )?
         .arg(counted(rate).default_value("200"))
 }
 

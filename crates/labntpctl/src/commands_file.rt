@@ -3,7 +3,7 @@
 use crate::desk::{Clerk, Desk, Stop};
 use indexmap::IndexMap;
 use labntpd_files::is_name;
-use ntp_admin::{Command, Escaped, Status, apply_lines};
+use ntp_admin::{Command, Escaped, apply_lines};
 use ntp_clerk::name_in;
 use ntp_host::{MOST_COMMANDS_OCTETS, not_regular, pause, read_regular_file};
 use ntp_reports::CustomerCounts;
@@ -86,7 +86,7 @@ impl Loaded {
         self.records.get(&address).map_or("", |it| it.as_str())
     }
 
-    /// Checks that a line feed ends the commands file, and that so many octets more fit into it.
+    /// Checks that a line feed ends the commands file, and that `more` octets fit into it.
     pub fn judge_room(&self, clerk: &Clerk<'_>, more: usize) -> Result<(), Stop> {
         if self.octets.saturating_add(more as u64) > MOST_COMMANDS_OCTETS {
             return Err(clerk.refusal(format_args!(
@@ -199,8 +199,7 @@ impl<'a> HeldFile<'a> {
                 let holder = holder(desk, path);
                 let holder = holder.as_ref().map_or("", |holder| holder.as_str());
                 let why = format_args!("somebody else has held it for ten seconds{holder}");
-                let _ = desk.refusal_at(path, why);
-                return Err(Stop::Printed(Status::IoFailed));
+                return Err(desk.failure_at(path, why));
             }
             file => desk.at(path, file)?,
         };
@@ -232,7 +231,7 @@ impl<'a> HeldFile<'a> {
         done
     }
 
-    /// Returns whether the file has so many octets more than when it was read.
+    /// Returns whether the file has this count of octets more than when it was read.
     pub fn has_grown_by(&self, octets: usize) -> bool {
         let length = self.octets.saturating_add(octets as u64);
         let there = self.file.metadata();

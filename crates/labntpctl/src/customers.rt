@@ -3,14 +3,15 @@
 use crate::commands_file::{ByAddress, Loaded};
 use crate::desk::{Clerk, Desk, Stop};
 use crate::differing::{judge_reading, lasting_differences};
-use crate::shown::{Dotted, Seen, SeenKey, SeenTerms, signed_date};
+use crate::shown::signed_date;
 use indexmap::IndexMap;
 use ntp_admin::{Escaped, Status, words};
+use ntp_clerk::{Dotted, Seen, SeenKey, SeenTerms};
 use ntp_reports::customer_line;
 use ntp_service::Address;
 use serde::Deserialize;
 use std::alloc::{AllocError, Global};
-use std::fmt::Write as _;
+use std::fmt::{Display, Write as _};
 use std::fs;
 use std::io::Write as _;
 
@@ -136,20 +137,31 @@ pub fn list(desk: Desk<'_>, config: &str, listing: Listing<'_>) -> Result<(), St
         return list_file(desk, path, listing);
     }
     let clerk = &Clerk::new(desk, config)?;
-    // A customer of the last seconds is not reported yet.
-    let address = match listing.address {
-        Some(address) => format!(in desk.alloc(); "\"{}\"", Dotted(address))?,
-        None => String::new(desk.alloc()),
-    };
-    let reported = clerk.renewed_customers()?;
-    let reported = reported.filter(|text| text.as_str().contains(address.as_str()));
+    clerk.renew_customers()?;
+    let reported = clerk.reported(&clerk.configuration.customers)?;
     // That labntpd reads no more bars a change, but no list.
     let _ = judge_reading(clerk);
-    let Some(text) = reported else {
-        return list_file(desk, clerk.commands(), listing);
+    match &reported {
+        Some(text) if names(desk.alloc(), text.as_str(), listing.address)? => {
+            list_reported(clerk, text.as_str(), listing)
+        }
+        _ => list_file(desk, clerk.commands(), listing),
+    }
+}
+
+// Returns whether a report names an address: it lacks a customer of the last seconds.
+fn names(alloc: Global, report: &str, address: Option<Address>) -> Result<bool, AllocError> {
+    let Some(address) = address else {
+        return Ok(true);
     };
-    let loaded = clerk.load();
-    write(desk, text.as_str(), loaded.as_ref().ok(), listing)?;
+    let quoted = format!(in alloc; "\"{}\"", Dotted(address))?;
+    Ok(report.contains(quoted.as_str()))
+}
+
+// Lists the customers of labntpd's report, and reports where the commands file has others.
+fn list_reported(clerk: &Clerk<'_>, report: &str, listing: Listing<'_>) -> Result<(), Stop> {
+    let (desk, loaded) = (clerk.desk, clerk.load());
+    write(desk, report, loaded.as_ref().ok(), listing)?;
     for difference in lasting_differences(clerk, &loaded?)?.iter() {
         if listing.address.unwrap_or(difference.address) == difference.address {
             let _ = write!(desk.faults(), "{difference}");
@@ -173,6 +185,7 @@ pub fn compare(clerk: &Clerk<'_>) -> Result<(), Stop> {
         return Err(desk.refusal_at(clerk.config, why));
     };
     desk.at(path.as_str(), fs::metadata(desk.rt, path.as_str()))?;
+    clerk.renew_customers()?;
     let differing = lasting_differences(clerk, &clerk.load()?)?;
     for difference in differing.iter() {
         desk.print(*difference)?;
@@ -250,35 +263,61 @@ fn write_rows(
     customer: &CustomerLine<'_>,
     name: &str,
 ) -> Result<(), AllocError> {
-    let (line, counts) = (customer.line, customer.answers);
-    let address = format!(in alloc; "{}", Escaped(customer.address))?;
-    let state = format!(in alloc; "{}", Escaped(customer.state))?;
-    let budget = match customer.budget {
-        Some(budget) => format!(in alloc; "{budget}")?,
-        None => String::from_str(alloc, "-")?,
-    };
-    let key = key_cells(alloc, customer.keys.first())?;
-    let row = format!(in alloc;
-        "{address:<15} {state:<8} {budget:<6} {line:<7} {key} {:<11} {:<11} {:<11} {:<11} {:<11} {name}",
-        counts.basic, counts.interleaved, counts.rate, counts.nak, counts.over_budget
-    )?;
-    writeln!(table, "{}", row.trim_end())?;
+    let mut row = String::new(alloc);
+    write_cell(&mut row, 15, Escaped(customer.address))?;
+    write_cell(&mut row, 8, Escaped(customer.state))?;
+    match customer.budget {
+        Some(budget) => write_cell(&mut row, 6, budget)?,
+        None => write_cell(&mut row, 6, "-")?,
+    }
+    write_cell(&mut row, 7, customer.line)?;
+    write_key(alloc, &mut row, customer.keys.first())?;
+    let counts = customer.answers;
+    for count in [
+        counts.basic,
+        counts.interleaved,
+        counts.rate,
+        counts.nak,
+        counts.over_budget,
+    ] {
+        write_cell(&mut row, 11, count)?;
+    }
+    row.push_str(name)?;
+    writeln!(table, "{}", row.as_str().trim_end())?;
     for key in customer.keys.iter().skip(1) {
-        let key = key_cells(alloc, Some(key))?;
-        writeln!(table, "{:39} {}", "", key.trim_end())?;
+        row.clear();
+        write_cell(&mut row, 39, "")?;
+        write_key(alloc, &mut row, Some(key))?;
+        writeln!(table, "{}", row.as_str().trim_end())?;
     }
     Ok(())
 }
 
-// Returns the part of a row for a key, if there is one.
-fn key_cells(alloc: Global, key: Option<&KeyLine<'_>>) -> Result<String, AllocError> {
+// Writes the cells of a key, if there is one.
+fn write_key(alloc: Global, row: &mut String, key: Option<&KeyLine<'_>>) -> Result<(), AllocError> {
     let Some(key) = key else {
-        return format!(in alloc; "{:<6} {:<8} {:<29}", "-", "-", "-");
+        write_cell(row, 6, "-")?;
+        write_cell(row, 8, "-")?;
+        return write_cell(row, 29, "-");
     };
-    let kind = format!(in alloc; "{} {}", Escaped(key.algorithm), key.octets)?;
-    let signed = match key.last_signed {
-        Some(seconds) => signed_date(alloc, seconds)?,
-        None => String::from_str(alloc, "-")?,
-    };
-    format!(in alloc; "{:<6} {kind:<8} {signed:<29}", key.number)
+    write_cell(row, 6, key.number)?;
+    let (algorithm, octets) = (Escaped(key.algorithm), key.octets);
+    write_cell(row, 8, format_args!("{algorithm} {octets}"))?;
+    match key.last_signed {
+        Some(seconds) => write_cell(row, 29, signed_date(alloc, seconds)?),
+        None => write_cell(row, 29, "-"),
+    }
+}
+
+// Writes a value, the spaces that its column has left, and one behind it.
+fn write_cell<D: Display + Drop>(
+    row: &mut String,
+    width: usize,
+    value: D,
+) -> Result<(), AllocError> {
+    let start = row.len();
+    write!(row, "{value}")?;
+    let written = row.len().saturating_sub(start);
+    let left = width.saturating_sub(written);
+    write!(row, "{:left$} ", "")
 }

@@ -3,9 +3,10 @@
 use crate::commands_file::Loaded;
 use crate::replacing::new_for_owner;
 use crate::shown::{date, seconds_of};
-use labntpd_assembly::{configuration_at, start_lines};
 use labntpd_files::{Configuration, Endpoint, Listen, Text, is_name};
+use labntpd_start::{configuration_at, start_lines};
 use ntp_admin::{Escaped, Status, failed_status, memory_status, write_status};
+use ntp_clerk::may_be_renewed;
 use ntp_host::{StartLines, pause, read_regular_file};
 use ntp_mac::{Algorithm, Key};
 use ntp_query::Server;
@@ -86,11 +87,14 @@ impl<'a> Desk<'a> {
         self.at("standard output", out)
     }
 
+    /// Returns the time, in seconds since 1970.
+    pub fn now(self) -> Option<u64> {
+        seconds_of(SystemTime::now(self.rt).ok()?)
+    }
+
     /// Returns the time in a form of strftime(3); `no-date` where the clock shows none from 1970 to 9999.
     pub fn time(self, form: &'static str) -> Result<String, AllocError> {
-        let now = SystemTime::now(self.rt).ok();
-        let seconds = now.and_then(|now| seconds_of(now));
-        match seconds.and_then(|seconds| date(self.alloc(), seconds, form)) {
+        match self.now().and_then(|now| date(self.alloc(), now, form)) {
             Some(date) => Ok(date),
             None => format!(in self.alloc(); "no-date"),
         }
@@ -167,6 +171,12 @@ impl<'a> Desk<'a> {
     pub fn refusal_at<D: Display + Drop>(self, path: &str, why: D) -> Stop {
         let path = Escaped(path);
         self.refusal(format_args!("{path}: {why}"))
+    }
+
+    /// Reports what failed at the file at a path.
+    pub fn failure_at<D: Display + Drop>(self, path: &str, why: D) -> Stop {
+        let _ = self.refusal_at(path, why);
+        Stop::Printed(Status::IoFailed)
     }
 
     /// Returns what the system gave for something with this name, or reports its error.
@@ -257,12 +267,12 @@ impl<'a> Clerk<'a> {
         }
     }
 
-    /// Reads labntpd's customers file, which labntpd writes anew before, if it serves and a file can be put beside it.
-    pub fn renewed_customers(&self) -> Result<Option<String>, Stop> {
-        if let Some(path) = &self.configuration.customers {
-            renew(self.desk, path.as_str())?;
+    /// Has labntpd write its customers file anew, if it serves and a file can be put beside it.
+    pub fn renew_customers(&self) -> Result<(), AllocError> {
+        match &self.configuration.customers {
+            Some(path) => renew(self.desk, path.as_str()),
+            None => Ok(()),
         }
-        self.reported(&self.configuration.customers)
     }
 
     /// Reports why something is refused at the commands file.
@@ -274,16 +284,21 @@ impl<'a> Clerk<'a> {
 // Has labntpd write its customers file at a path anew, by a file beside it, and waits until another one stands there.
 fn renew(desk: Desk<'_>, path: &str) -> Result<(), AllocError> {
     let before = node_at(desk, path);
+    let is_kept = match (desk.written_at(path), desk.now()) {
+        (Some(written), Some(now)) => may_be_renewed(written, now),
+        _ => false,
+    };
     let wanted = format!(in desk.alloc(); "{path}.wanted")?;
-    if before.is_none() || new_for_owner(desk.rt, wanted.as_str()).is_err() {
+    if !is_kept || new_for_owner(desk.rt, wanted.as_str()).is_err() {
         return Ok(());
     }
     for _ in 0..MOST_LOOKS {
         pause(10);
         if node_at(desk, path) != before {
-            return Ok(());
+            break;
         }
     }
+    // labntpd leaves it where it writes for another reason.
     let _ = fs::remove_file(desk.rt, wanted.as_str());
     Ok(())
 }

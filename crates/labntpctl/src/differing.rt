@@ -3,59 +3,10 @@
 use crate::commands_file::{ByAddress, Loaded};
 use crate::customers::reported_in;
 use crate::desk::{Clerk, Desk, Stop};
-use crate::shown::{Dotted, Keys, Seen, seen_at};
 use indexmap::IndexMap;
-use ntp_service::{Address, LineOutcome, Refusal, Service};
-use std::fmt::{self, Display};
+use ntp_clerk::{Difference, Seen, differing_at, is_settled};
+use ntp_service::{LineOutcome, Refusal, Service};
 use std::io::Write;
-
-/// The seconds within which labntpd carries out and reports a line.
-const SETTLED_SECONDS: u64 = 2;
-
-/// An address at which labntpd has something else than the commands file.
-#[derive(Clone, Copy)]
-pub struct Difference {
-    pub address: Address,
-    /// What labntpd has.
-    pub daemon: Seen,
-    /// What the commands file comes to.
-    pub file: Seen,
-}
-
-/// Writes a line, or two where budget and keys differ.
-impl Display for Difference {
-    fn fmt<W: fmt::Write>(&self, f: &mut fmt::Formatter<W>) -> fmt::Result {
-        let address = Dotted(self.address);
-        let (Seen::Enrolled(daemon), Seen::Enrolled(file)) = (self.daemon, self.file) else {
-            let (daemon, file) = (state_word(&self.daemon), state_word(&self.file));
-            return writeln!(
-                f,
-                "{address}: {daemon} at labntpd, {file} in the commands file"
-            );
-        };
-        if daemon.budget != file.budget {
-            let (one, other) = (daemon.budget, file.budget);
-            writeln!(
-                f,
-                "{address}: labntpd has budget {one}, the commands file {other}"
-            )?;
-        }
-        let (one, other) = (Keys(daemon), Keys(file));
-        if !one.are_alike(&other) {
-            writeln!(f, "{address}: labntpd has {one}, the commands file {other}")?;
-        }
-        Ok(())
-    }
-}
-
-// Returns the word for what an address has.
-fn state_word(seen: &Seen) -> &'static str {
-    match seen {
-        Seen::Nothing => "unknown",
-        Seen::Revoked => "revoked",
-        Seen::Enrolled(_) => "enrolled",
-    }
-}
 
 // Returns the differences between labntpd's customers and those of the commands file, first at the addresses of the former.
 fn differences(desk: Desk<'_>, text: &str, loaded: &Loaded) -> Result<Vec<Difference>, Stop> {
@@ -67,14 +18,7 @@ fn differences(desk: Desk<'_>, text: &str, loaded: &Loaded) -> Result<Vec<Differ
     }
     let mut differences = Vec::new(desk.alloc());
     for (address, daemon) in reported.iter() {
-        let file = seen_at(&loaded.service, *address);
-        if *daemon != file {
-            differences.push(Difference {
-                address: *address,
-                daemon: *daemon,
-                file,
-            })?;
-        }
+        differences.extend(differing_at(&loaded.service, *address, *daemon))?;
     }
     Ok(differences)
 }
@@ -108,12 +52,12 @@ pub fn judge_reading(clerk: &Clerk<'_>) -> Result<(), Stop> {
 pub fn lasting_differences(clerk: &Clerk<'_>, loaded: &Loaded) -> Result<Vec<Difference>, Stop> {
     let alloc = clerk.desk.alloc();
     // The report that is read below is no older.
-    let is_settled = is_settled(clerk).unwrap_or(false);
+    let has_all_lines = has_all_lines(clerk).unwrap_or(false);
     let Some(text) = clerk.reported(&clerk.configuration.customers)? else {
         return Ok(Vec::new(alloc));
     };
     let all = differences(clerk.desk, text.as_str(), loaded)?;
-    if is_settled {
+    if has_all_lines {
         return Ok(all);
     }
     let mut service = Service::new(alloc);
@@ -131,9 +75,10 @@ pub fn lasting_differences(clerk: &Clerk<'_>, loaded: &Loaded) -> Result<Vec<Dif
             return Err(Stop::Memory);
         }
         let address = command.address();
-        let seen = seen_at(&service, address);
-        let difference = open.get(&address);
-        if difference.is_some_and(|it| it.daemon == seen) {
+        let Some(daemon) = open.get(&address).map(|open| open.daemon) else {
+            continue;
+        };
+        if differing_at(&service, address, daemon).is_none() {
             open.shift_remove(&address);
         }
     }
@@ -141,10 +86,10 @@ pub fn lasting_differences(clerk: &Clerk<'_>, loaded: &Loaded) -> Result<Vec<Dif
 }
 
 // Returns whether labntpd's report has all lines of the commands file, if both are there.
-fn is_settled(clerk: &Clerk<'_>) -> Option<bool> {
+fn has_all_lines(clerk: &Clerk<'_>) -> Option<bool> {
     let report = clerk
         .desk
         .written_at(clerk.configuration.customers.as_ref()?.as_str())?;
     let commands = clerk.desk.written_at(clerk.commands())?;
-    Some(report > commands.saturating_add(SETTLED_SECONDS))
+    Some(is_settled(report, commands))
 }

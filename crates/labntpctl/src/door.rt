@@ -1,7 +1,7 @@
 //! Writes the rules by which nftables polices the door.
 
 use crate::desk::{Clerk, Stop};
-use crate::shown::Dotted;
+use ntp_clerk::Dotted;
 use ntp_query::Server;
 use ntp_service::Address;
 use std::alloc::{AllocError, Global};
@@ -24,16 +24,16 @@ pub fn print_door(clerk: &Clerk<'_>, place: Option<Place>, rate: NonZero<u16>) -
     clerk.desk.print(rules.as_str())
 }
 
-// Returns where the rules apply: where the words say it, else where labntpd listens.
+// Returns where the rules apply: where the words say it, else where labntpd listens, or else where customers ask.
 fn server_for(clerk: &Clerk<'_>, place: Option<Place>) -> Result<Server, Stop> {
-    match (place, clerk.listening()) {
+    match (place, clerk.listening().or(clerk.server())) {
         (Some(Place { address, port }), _) => Ok(Server {
             address,
             port: port.unwrap_or(clerk.port()),
         }),
         (None, Some(server)) => Ok(server),
         (None, None) => {
-            let why = "`listen` is no address of this host: --address ADDRESS is wanted";
+            let why = "`listen` and `served_as` name no address: --address ADDRESS is wanted";
             Err(clerk.desk.refusal_at(clerk.config, why))
         }
     }

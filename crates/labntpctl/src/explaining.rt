@@ -1,12 +1,12 @@
 //! Explains what datagrams would get, and why.
 
 use crate::commands_file::Loaded;
-use crate::desk::{Clerk, Stop};
+use crate::desk::{Clerk, Desk, Stop};
 use crate::shown::Called;
 use ntp_admin::{Outcome, print_answer};
 use ntp_clerk::{
-    Capture, GivenKey, Record, Terms, algorithm_word, capture_in, datagram_in, next_record,
-    packet_in, terms_of,
+    Capture, GivenKey, Record, Terms, algorithm_under, algorithm_word, capture_in, datagram_in,
+    next_record, packet_in, terms_of,
 };
 use ntp_client::reference_unsynchronised;
 use ntp_host::moment_now;
@@ -44,28 +44,8 @@ pub fn explain(clerk: &Clerk<'_>, explained: Explained<'_>) -> Result<(), Stop> 
         explained: 0,
     };
     match explained {
-        Explained::Datagram { octets, from } => {
-            let octets = hex::decode(desk.alloc(), octets).map_err(|fault| match fault {
-                hex::FromHexError::OutOfMemory => Stop::Memory,
-                _ => desk.refusal("DATAGRAM: hexadecimal digits, an even number, are wanted"),
-            })?;
-            let _ = writeln!(explainer.out, "{HEAD}");
-            explainer.datagram(from, &octets)?;
-            desk.printed(explainer.out.flush())
-        }
-        Explained::Capture(path) => {
-            let octets = desk.octets(path, MOST_CAPTURE_OCTETS)?;
-            let capture = capture_in(&octets).map_err(|fault| desk.refusal_at(path, fault))?;
-            let _ = writeln!(explainer.out, "{HEAD}");
-            let cut = explainer.capture(capture, clerk.port())?;
-            desk.printed(explainer.out.flush())?;
-            match cut {
-                None => Ok(()),
-                Some(record) => {
-                    Err(desk.refusal_at(path, format_args!("record {record} is cut short")))
-                }
-            }
-        }
+        Explained::Datagram { octets, from } => explainer.digits(desk, from, octets),
+        Explained::Capture(path) => explainer.file(clerk, path),
     }
 }
 
@@ -81,6 +61,34 @@ struct Explainer {
 }
 
 impl Explainer {
+    // Explains a datagram whose octets are given in hexadecimal digits.
+    fn digits(&mut self, desk: Desk<'_>, from: Address, digits: &str) -> Result<(), Stop> {
+        let octets = hex::decode(self.alloc, digits).map_err(|fault| match fault {
+            hex::FromHexError::OutOfMemory => Stop::Memory,
+            _ => desk.refusal("DATAGRAM: hexadecimal digits, an even number, are wanted"),
+        })?;
+        let _ = writeln!(self.out, "{HEAD}");
+        self.datagram(from, &octets)?;
+        desk.printed(self.out.flush())
+    }
+
+    // Explains the datagrams of the capture file at a path, as far as it is whole.
+    fn file(&mut self, clerk: &Clerk<'_>, path: &str) -> Result<(), Stop> {
+        let desk = clerk.desk;
+        let octets = desk.octets(path, MOST_CAPTURE_OCTETS)?;
+        let capture = capture_in(&octets).map_err(|fault| desk.refusal_at(path, fault))?;
+        let _ = writeln!(self.out, "{HEAD}");
+        let cut = self.capture(capture, clerk.port())?;
+        desk.printed(self.out.flush())?;
+        match cut {
+            None => Ok(()),
+            Some(record) => Err(desk.refusal_at(
+                path,
+                format_args!("record {record} is cut short"),
+            )),
+        }
+    }
+
     // Explains the datagrams of a capture file to a port. Returns the number of the record that is cut short, if one is.
     fn capture(&mut self, capture: Capture<'_>, port: u16) -> Result<Option<u64>, AllocError> {
         let mut whole: u64 = 0;
@@ -192,7 +200,11 @@ impl Explainer {
             Tail::Sha1 { number, .. } => (number, Algorithm::Sha1),
             _ => return write!(out, "its MAC is under no key of the customer"),
         };
-        match algorithm_under(terms, number) {
+        let wanted = match &terms {
+            Some(terms) => algorithm_under(terms, number),
+            None => None,
+        };
+        match wanted {
             None => write!(out, "key number {number} is none of the customer's"),
             Some(wanted) if wanted != there => {
                 let (wanted, there) = (algorithm_word(wanted), algorithm_word(there));
@@ -235,12 +247,4 @@ impl Explainer {
             Reason::OverBudget => write!(out, "the budget of the window is spent"),
         }
     }
-}
-
-// Returns the algorithm of the key with a number, if these terms have it.
-fn algorithm_under(terms: Option<Terms>, number: u32) -> Option<Algorithm> {
-    let Terms { older, newer, .. } = terms?;
-    let mut keys = [Some(older), newer].into_iter().flatten();
-    let given = keys.find(|given| u32::from(given.number.get()) == number)?;
-    Some(given.key.algorithm())
 }

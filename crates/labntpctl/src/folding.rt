@@ -1,6 +1,6 @@
 //! Writes the commands file anew in fewer lines.
 
-use crate::applying::or_unled;
+use crate::applying::unled;
 use crate::commands_file::{HeldFile, Loaded};
 use crate::desk::{Clerk, Stop};
 use crate::replacing::{put_in_place, store_name};
@@ -60,7 +60,7 @@ fn folded(clerk: &Clerk<'_>, loaded: &Loaded) -> Result<Option<String>, Stop> {
         loaded.judge_room(clerk, 0)?;
     }
     let spare = desk.random_key(Algorithm::Sha1, false)?;
-    let text = or_unled(desk, folded_text(desk.alloc(), loaded, spare))?;
+    let text = folded_text(desk.alloc(), loaded, spare).map_err(|fault| unled(desk, fault))?;
     let customers = customers_of(desk.alloc(), &loaded.service)?.len();
     let (octets, before) = (text.len() as u64, loaded.octets);
     if octets >= before {

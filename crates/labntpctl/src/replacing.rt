@@ -1,16 +1,23 @@
 //! Writes new files, and puts them in the place of others.
 
 use crate::desk::{Desk, Stop};
-use labntpd_assembly::directory_of;
+use labntpd_start::directory_of;
 use std::fs::{self, File, OpenOptions, Permissions};
 use std::io::{self, ErrorKind, Write};
 use std::os::unix::fs::{MetadataExt, OpenOptionsExt, PermissionsExt, fchown};
 
 /// Writes a new file that its owner alone may read, and has the system store it with its name. Leaves none where that fails.
-pub fn write_new(rt: &HostRuntime, path: &str, octets: &[u8]) -> io::Result<()> {
-    let mut file = new_for_owner(rt, path)?;
+pub fn write_new(desk: Desk<'_>, path: &str, octets: &[u8]) -> Result<(), Stop> {
+    let rt = desk.rt;
+    let mut file = match new_for_owner(rt, path) {
+        Err(error) if error.kind() == ErrorKind::AlreadyExists => {
+            let why = "a file is there: name a new one, or move it away";
+            return Err(desk.failure_at(path, why));
+        }
+        file => desk.at(path, file)?,
+    };
     let done = write_stored(&mut file, octets).and_then(|()| store_name(rt, path));
-    or_removed(rt, path, done)
+    desk.at(path, or_removed(rt, path, done))
 }
 
 /// Replaces the file at a path by this text with its owner, group and mode. Keeps it under the name that is returned.

@@ -1,22 +1,25 @@
 -- What commands that are done make of a service.
-use Rattle.std.proofs.Common.{◌≡◌, ◌≢◌, Bool, true, Option, Some, None, List, [], ◌∷◌, ◌++◌, map, length, drop, get_or, ℕ, zero, suc, ◌+◌, ◌<◌, ◌==◌, eq-eqb, arith, append-nil, append_assoc, ⊎_elim, refl, sym, ap, ◌∙◌, subst}
+use Rattle.std.proofs.Common.{◌≡◌, ◌≢◌, Bool, true, true≢false, cond, Option, Some, None, List, [], ◌∷◌, ◌++◌, map, length, drop, get_or, ℕ, zero, suc, ◌+◌, ◌<◌, ◌==◌, eq-eqb, arith, append-nil, append_assoc, ⊎_elim, refl, sym, ap, ◌∙◌, subst}
 use Rattle.std.specs.Prelude.{option_and_then, fold, find, if◌then◌else◌, is_some, Contains, IfSome, IsSome, Err}
-use Rattle.std.specs.{Option.option_map_or, declared.alloc.Global.Global}
+use Rattle.std.specs.{Option.option_map_or, Ordering.eq_by_cmp, Ordering.nat_cmp, declared.alloc.Global.Global}
 use Rattle.std.specs.FinMap as map
 use Rattle.std.proofs.lemmas.List.{map-append, drop_more}
+use Rattle.std.proofs.lemmas.Cmp.{eq_by_cmp_equiv, nat_cmp_total}
 use Rattle.std.proofs.{lemmas.List.Elements.All-head, lemmas.List.Elements.All-tail, lemmas.List.Sums.fold-append}
 use Rattle.ntp_customer.specs.{Tally.tally, declared.numbered_key.NumberedKey.NumberedKey}
-use Rattle.ntp_customer.specs.Customer.{CustomerState, Account, Enrolment, enrolment_at, numbers_in}
+use Rattle.ntp_customer.specs.Customer.{CustomerState, Account, Enrolment, enrolment_at, numbers_in, numbers_of}
 use Rattle.ntp_service.specs.{declared.address.Address.Address, declared.command.Command.Command, declared.event.Event.Event}
 use Rattle.ntp_service.specs.{declared.outcome.Outcome.Outcome, declared.refusal.Refusal.Refusal}
 use Rattle.ntp_service.specs.{declared.refusal.Refusal.TheVariants.NoMemory, Headline.StandsFor, Headline.TellsOne}
+use Rattle.ntp_service.specs.declared.command.Command.TheVariants.{Revoke}
 use Rattle.ntp_service.specs.declared.event.Event.TheVariants as event
 use Rattle.ntp_service.specs.declared.outcome.Outcome.TheVariants as outcome
 use Rattle.ntp_service.specs.Commands.{address_named, number_wanted, once_done, refusal_of}
 use Rattle.ntp_service.specs.Registry.{Registry, Agrees, AnswersCommand, customer_at, terms_at, numbers_at, after_command, holder_in_way, holder_of, holders_after}
 use Rattle.ntp_service.proofs.PublicLaws.{customer_at-with_customer, customer_at-with_customer-other, same_or_other_address, Tells-nil, Tells-one, Tells-append}
-use Rattle.ntp_clerk.specs.Leading.{LeadsTo}
-use Rattle.ntp_clerk.specs.Steps.{done_in, terms_after, AreDone, CanDo, CanDoAll, Holds, IsFree}
+use Rattle.ntp_clerk.specs.Leading.{Holds, LeadsTo}
+use Rattle.ntp_clerk.specs.Steps.{done_in, terms_after, AreDone, CanDo, CanDoAll, IsFree}
+use Rattle.ntp_clerk.proofs.Stepping.{Contains-cases, Contains-none}
 
 -- ---- one command
 
@@ -175,3 +178,34 @@ going-all from now a all old commands going = (sym (append-nil commands) ∙ goi
 pub at-step : (steps : List (Option Command)) (i : ℕ) (d step : Option Command) → i < length steps → get_or steps i d ≡ step
     → done_in (drop i steps) ≡ done_in (step ∷ drop (i + 1) steps)
 at-step steps i d step inside is = ap done_in (drop_more steps i d inside) ∙ ap (λ step. done_in (step ∷ drop (i + 1) steps)) is
+
+-- ---- numbers that a revocation frees
+
+-- what is not there is not there once keys are removed; nor are those keys
+stays-away : (m : map.FinMap nat_cmp Address) (ns : List ℕ) (n : ℕ) → map.get m n ≡ None → map.get (fold map.remove m ns) n ≡ None
+stays-away m [] n none = none
+stays-away m (k ∷ ks) n none = stays-away (map.remove m k) ks n (map.get-remove nat_cmp_total m k n ∙ if-none (eq_by_cmp nat_cmp n k) (map.get m n) none)
+  where
+    if-none : (b : Bool) (o : Option Address) → o ≡ None → cond b None o ≡ None
+    if-none b o e = grind arith
+
+removed : (m : map.FinMap nat_cmp Address) (ns : List ℕ) (n : ℕ) → Contains ns n → map.get (fold map.remove m ns) n ≡ None
+removed m [] n there = absurd (Contains-none n there)
+removed m (k ∷ ks) n there = ⊎_elim
+    (λ same. stays-away (map.remove m k) ks n (map.get-remove nat_cmp_total m k n
+    ∙ ap (λ b. cond b None (map.get m n)) (subst (λ k. eq_by_cmp nat_cmp n k ≡ true) (sym same) ((eq_by_cmp_equiv nat_cmp_total).refl n))))
+    (removed (map.remove m k) ks n) (Contains-cases k ks n there)
+
+-- nobody holds a number that an address held before it was revoked
+pub revoked-free : (r s : Registry) (a q : Address) (n : ℕ) → s ≡ after_command r (Revoke a) → Agrees s → Holds (terms_at r a) n → Holds (terms_at s q) n → ⊥
+revoked-free r s a q n after agrees held holds = by-customer (customer_at r a) refl
+  where
+    taken : holder_of s n ≡ Some q
+    taken = agrees.held q n (subst (λ ns. Contains ns n) (sym (holds-at s q)) holds)
+
+    by-customer : (o : Option CustomerState) → customer_at r a ≡ o → ⊥
+    by-customer None is = Contains-none n (subst (λ o. Holds (option_map_or enrolment_at o None) n) is held)
+    by-customer (Some x) is =
+        let freed = removed r.holders (numbers_of x) n (subst (λ o. Holds (option_map_or enrolment_at o None) n) is held) in
+        let now : holder_of (after_command r (Revoke a)) n ≡ None = rw is freed in
+        true≢false (ap is_some (sym taken ∙ ap (λ t. holder_of t n) after ∙ now))

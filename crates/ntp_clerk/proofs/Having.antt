@@ -71,7 +71,7 @@ found (v ∷ vs) q w P all is = decided (address_eq q v.address) refl is (found 
         → (find (λ w. address_eq q w.address) vs ≡ Some w → P w × (q ≡ w.address)) → P w × (q ≡ w.address)
     decided b e f g = grind (arith, All-head, same-address)
 
-none-found : (customers : List Wanted) (q : Address) → find (λ w. address_eq q w.address) customers ≡ None → Contains (map (λ w. w.address) customers) q → ⊥
+pub none-found : (customers : List Wanted) (q : Address) → find (λ w. address_eq q w.address) customers ≡ None → Contains (map (λ w. w.address) customers) q → ⊥
 none-found [] q none there = Contains-none q there
 none-found (v ∷ vs) q none there = decided (address_eq q v.address) refl none (none-found vs q)
   where

@@ -5,14 +5,14 @@ use Rattle.std.specs.Option.{option_or}
 use Rattle.std.proofs.lemmas.List.{get_or_default, get_or-take, length-take}
 use Rattle.std.proofs.lemmas.List.Elements.{All-nil, All-push, All-contains_itself, Contains-push_cases, Contains-append_left, Contains-push, Contains-get_or}
 use Rattle.std.proofs.{lemmas.List.Quantifiers.all_pairs_push, lemmas.List.Folds.find-append}
-use Rattle.ntp_service.specs.{declared.address.Address.Address, Address.address_eq}
+use Rattle.ntp_service.specs.{declared.address.Address.Address, Address.address_eq, Registry.Registry, Registry.terms_at}
 use Rattle.ntp_service.proofs.PublicLaws.{same_or_other_address, address_eq_equiv, other-address}
 use Rattle.ntp_customer.specs.Customer.{Enrolment, numbers_in}
+use Rattle.ntp_customer.proofs.PublicLaws.{Contains-map}
 use Rattle.ntp_clerk.specs.{declared.wanted.GivenKey.GivenKey, declared.wanted.Terms.Terms, declared.wanted.Wanted.Wanted}
-use Rattle.indexmap.specs.IndexMap.{IndexMap, get}
-use Rattle.ntp_clerk.specs.Leading.{enrolment_among, enrolment_with, key_given, AreApart, AreTwo, HasNumber, enrolment_if}
-use Rattle.ntp_clerk.specs.Steps.{AreTerms, Holds, Notes, NotesAll, NotesOne, ShareNone}
-use Rattle.ntp_clerk.proofs.{Having.found, Stepping.Contains-cases, Stepping.Contains-none}
+use Rattle.ntp_clerk.specs.Leading.{enrolment_among, enrolment_with, key_given, AreApart, AreTwo, HasNumber, Holds, enrolment_if}
+use Rattle.ntp_clerk.specs.Steps.{Notes, NotesAll, NotesOne, OnlyWanted}
+use Rattle.ntp_clerk.proofs.{Having.found, Having.none-found, Stepping.Contains-cases, Stepping.Contains-none, Stepping.only-holds}
 use Rattle.std.proofs.lemmas.Bool.{cases_eq, cases_lt, false_from_ne_true}
 
 -- ---- one number after another
@@ -59,7 +59,6 @@ own w = numbers_in (enrolment_with w.terms)
 
 pub record Judged (taken : List Wanted) (terms : Address → Option Terms) (numbers : ℕ → Bool) : Type 0 where
   pub among : (q : Address) → enrolment_if (terms q) ≡ enrolment_among taken q
-  pub two : (q : Address) → IfSome (terms q) AreTwo
   pub apart : AreApart taken
   pub listed : (v : Wanted) → Contains taken v → IsSome (terms v.address)
   pub noted : (v : Wanted) (n : ℕ) → Contains taken v → HasNumber v.terms n → numbers n ≡ true
@@ -69,7 +68,6 @@ pub judged-none : (terms : Address → Option Terms) (numbers : ℕ → Bool) �
     → Judged [] terms numbers
 judged-none terms numbers none nothing = record {
   among = λ q. ap enrolment_if (none q);
-  two = λ q. rw (none q) tt;
   apart = record {
     addresses = λ i j d before inside. absurd (omega (arith, inside));
     numbers = λ i j d before inside. absurd (omega (arith, inside));
@@ -96,7 +94,7 @@ or-none o = grind arith
 pub judged-more : (taken : List Wanted) (w : Wanted) (old new : Address → Option Terms) (numbers noted : ℕ → Bool) → Judged taken old numbers
     → Notes w.address w.terms old new numbers noted → Judged (taken ++ w ∷ []) new noted
 judged-more taken w old new numbers now judged notes =
-    record { among = among; two = two; apart = apart; listed = listed; noted = noted; by_number = by-noted }
+    record { among = among; apart = apart; listed = listed; noted = noted; by_number = by-noted }
   where
     are-two : AreTwo w.terms
     are-two = noted-two w.terms.older w.terms.newer numbers now notes.all
@@ -117,10 +115,6 @@ judged-more taken w old new numbers now judged notes =
 
     among : (q : Address) → enrolment_if (new q) ≡ enrolment_among (taken ++ w ∷ []) q
     among q = ⊎_elim (among-here q) (among-there q) (same_or_other_address q w.address)
-
-    two : (q : Address) → IfSome (new q) AreTwo
-    two q = ⊎_elim (λ same. subst (λ o. IfSome o AreTwo) (sym (ap new same ∙ notes.here)) are-two)
-        (λ ne. subst (λ o. IfSome o AreTwo) (sym (notes.others q ne)) (judged.two q)) (same_or_other_address q w.address)
 
     apart : AreApart (taken ++ w ∷ [])
     apart = record {
@@ -150,12 +144,12 @@ judged-more taken w old new numbers now judged notes =
         (λ has. (w, Contains-push taken w, has))
         (noted-only (own w) numbers now notes.all n is)
 
--- what holds of a pair holds of two members, in whatever order they stand
+-- what holds of a pair holds of two members that differ, in whatever order they stand
 of-both : (R : Wanted → Wanted → Type 0) (customers : List Wanted) (v w : Wanted) → AllPairs R customers → ((x y : Wanted) → R x y → R y x)
-    → v ≢ w → Contains customers v → Contains customers w → R v w
-of-both R customers v w all turned ne (i, inside, is) (j, within, at) = ⊎_elim
-    (λ before. ordered i j v w before within is at)
-    (λ behind. ⊎_elim (λ before. turned w v (ordered j i w v before inside at is)) (λ past. absurd (ne (same (omega (arith, behind, past))))) (cases_lt j i))
+    → Contains customers v → Contains customers w → R v w ⊎ (v ≡ w)
+of-both R customers v w all turned (i, inside, is) (j, within, at) = ⊎_elim
+    (λ before. inl (ordered i j v w before within is at))
+    (λ behind. ⊎_elim (λ before. inl (turned w v (ordered j i w v before inside at is))) (λ past. inr (same (omega (arith, behind, past)))) (cases_lt j i))
     (cases_lt i j)
   where
     ordered : (i j : ℕ) (v w : Wanted) → i < j → j < length customers → get_or customers i v ≡ v → get_or customers j w ≡ w → R v w
@@ -176,23 +170,28 @@ one-among customers q n = by-found (find (λ w. address_eq q w.address) customer
     by-found None is has = absurd (Contains-none n has)
     by-found (Some v) is has = let there = found customers q v (Contains customers) (All-contains_itself customers) is in (v, there.0, there.1, has)
 
-pub share-none : (customers : List Wanted) → AreApart customers → ShareNone (enrolment_among customers)
-share-none customers apart one other n ne has has_too =
-    let v = one-among customers one n has in
-    let w = one-among customers other n has_too in
-    of-both (λ one other. (n : ℕ) → HasNumber one.terms n → HasNumber other.terms n → ⊥) customers v.0 w.0 apart.numbers
-    (λ x y none n has has_too. none n has_too has) (λ same. ne (v.2 ∙ ap (λ v. v.address) same ∙ sym w.2)) v.1 w.1 n v.3 w.3
-
-pub are-terms : {S : Type 0} → (terms : IndexMap Address Terms S) (customers : List Wanted) (numbers : ℕ → Bool)
-    → Judged customers (λ q. get address_eq terms q) numbers → AreTerms terms customers
-are-terms terms customers numbers judged = record {
-  among = judged.among;
-  two = judged.two;
-  apart = λ one other n ne has has_too.
-      share-none customers judged.apart one other n ne (subst (λ o. Holds o n) (judged.among one) has) (subst (λ o. Holds o n) (judged.among other) has_too);
-}
-
 -- ---- customers that are apart
+
+-- one of them has at its address what it is to have
+pub has-own : (customers : List Wanted) (w : Wanted) → AreApart customers → Contains customers w → enrolment_among customers w.address ≡ Some (enrolment_with w.terms)
+has-own customers w apart there = by-found (find (λ v. address_eq w.address v.address) customers) refl
+  where
+    by-found : (o : Option Wanted) → find (λ v. address_eq w.address v.address) customers ≡ o → enrolment_among customers w.address ≡ Some (enrolment_with w.terms)
+    by-found None is = absurd (none-found customers w.address is (Contains-map (λ w. w.address) customers w there))
+    by-found (Some v) is =
+        let at = found customers w.address v (Contains customers) (All-contains_itself customers) is in
+        ap (option_map (λ w. enrolment_with w.terms)) is ∙ ⊎_elim (λ ne. absurd (ne (sym at.1))) (ap (λ w. Some (enrolment_with w.terms)))
+        (of-both (λ one other. one.address ≢ other.address) customers v w apart.addresses (λ x y ne same. ne (sym same)) at.0 there)
+
+-- where no address has what is not wanted of it, others do not hold a number of one
+pub others-lack : (customers : List Wanted) (w : Wanted) (r : Registry) → AreApart customers → Contains customers w
+    → ((q : Address) → OnlyWanted (terms_at r q) (enrolment_among customers q)) → (other : Address) (n : ℕ) → other ≢ w.address
+    → HasNumber w.terms n → Holds (terms_at r other) n → ⊥
+others-lack customers w r apart there only other n ne has held =
+    let v = one-among customers other n (only-holds (terms_at r other) (enrolment_among customers other) n (only other) held) in
+    ⊎_elim (λ none. none n v.3 has) (λ same. ne (v.2 ∙ ap (λ w. w.address) same))
+    (of-both (λ one other. (n : ℕ) → HasNumber one.terms n → HasNumber other.terms n → ⊥) customers v.0 w apart.numbers
+    (λ x y none n has has_too. none n has_too has) v.1 there)
 
 module _ (customers : List Wanted) (i : ℕ) (w : Wanted) (inside : i < length customers) (is : w ≡ get_or customers i w) where
   -- a pair with one before it

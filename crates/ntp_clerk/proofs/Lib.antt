@@ -1,4 +1,3 @@
-mod Held
 mod Joined
 mod Spelled
 mod CommandLines
@@ -9,5 +8,6 @@ mod Doing
 mod Judging
 mod Leads
 mod Having
+mod Lowest
 mod Revoking
 mod NameLines

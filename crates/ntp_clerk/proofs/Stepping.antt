@@ -11,8 +11,8 @@ use Rattle.ntp_service.specs.declared.command.Command.{Command}
 use Rattle.ntp_service.specs.Commands.{address_named, number_wanted, refusal_of}
 use Rattle.ntp_service.specs.declared.command.Command.TheVariants as command
 use Rattle.ntp_clerk.specs.{declared.wanted.GivenKey.GivenKey, declared.wanted.Terms.Terms}
-use Rattle.ntp_clerk.specs.Leading.{ends, enrolment_with, key_given, AreTwo, IsNeededAt, KeepsNoKey}
-use Rattle.ntp_clerk.specs.Steps.{done_in, rebudgeting, terms_after, AreDone, AsksOf, Frees, Goes, Holds, IsFree, Moves, OnlyWanted, ShareNone}
+use Rattle.ntp_clerk.specs.Leading.{Holds, ends, enrolment_with, key_given, AreTwo, IsNeededAt, KeepsNoKey}
+use Rattle.ntp_clerk.specs.Steps.{done_in, rebudgeting, terms_after, AreDone, AsksOf, Frees, Goes, IsFree, Moves, OnlyWanted}
 
 -- ---- members
 
@@ -249,7 +249,7 @@ pub free-of-none : (r : Registry) (cs : List Command) → All (λ c. number_want
 free-of-none r cs all = All-weaker (λ c. number_wanted c ≡ None) (IsFree r) (λ c none other ne. rw none tt) cs all
 
 -- a number of keys that are wanted is wanted
-only-holds : (held wanted : Option Enrolment) (n : ℕ) → OnlyWanted held wanted → Holds held n → Holds wanted n
+pub only-holds : (held wanted : Option Enrolment) (n : ℕ) → OnlyWanted held wanted → Holds held n → Holds wanted n
 only-holds None wanted n only there = absurd (Contains-none n there)
 only-holds (Some e) None n only there = absurd only
 only-holds (Some e) (Some f) n only there = by-keys e.keys only there
@@ -261,14 +261,15 @@ only-holds (Some e) (Some f) n only there = by-keys e.keys only there
         (λ more. by-keys ks (All-tail (Contains f.keys) k ks all) more)
         (Contains-cases k.number (map (λ k. k.number) ks) n there)
 
--- where no address has what is not wanted of it, others do not hold a number that is wanted of one
-pub free-to-give : (r : Registry) (want : Address → Option Enrolment) (a : Address) (cs : List Command) → ShareNone want
-    → ((q : Address) → OnlyWanted (terms_at r q) (want q)) → All (λ c. address_named c ≡ a) cs → All (AsksOf (want a)) cs → All (IsFree r) cs
-free-to-give r want a cs apart only named asks = λ i d inside. one (get_or cs i d) (named i d inside) (asks i d inside)
+-- commands that ask only for numbers of one address, which others do not hold
+pub free-to-give : (r : Registry) (wanted : Option Enrolment) (a : Address) (cs : List Command)
+    → ((other : Address) (n : ℕ) → other ≢ a → Holds wanted n → Holds (terms_at r other) n → ⊥)
+    → All (λ c. address_named c ≡ a) cs → All (AsksOf wanted) cs → All (IsFree r) cs
+free-to-give r wanted a cs lack named asks = λ i d inside. one (get_or cs i d) (named i d inside) (asks i d inside)
   where
-    one : (c : Command) → address_named c ≡ a → AsksOf (want a) c → IsFree r c
+    one : (c : Command) → address_named c ≡ a → AsksOf wanted c → IsFree r c
     one c here asks = λ other ne. by-number other (λ same. ne (same ∙ sym here)) (number_wanted c) asks
       where
-        by-number : (other : Address) → other ≢ a → (o : Option ℕ) → IfSome o (Holds (want a)) → IfSome o (λ n. Holds (terms_at r other) n → ⊥)
+        by-number : (other : Address) → other ≢ a → (o : Option ℕ) → IfSome o (Holds wanted) → IfSome o (λ n. Holds (terms_at r other) n → ⊥)
         by-number other ne None asks = tt
-        by-number other ne (Some n) asks = λ held. apart other a n ne (only-holds (terms_at r other) (want other) n (only other) held) asks
+        by-number other ne (Some n) asks = lack other n ne asks

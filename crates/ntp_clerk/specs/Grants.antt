@@ -16,7 +16,7 @@ abbrev pub chrony_algorithm : Algorithm → List ℕ
 chrony_algorithm Md5 = codes "MD5"
 chrony_algorithm Sha1 = codes "SHA1"
 
--- octets that key files take as they stand: printable characters, none of which begins a comment, and 20 at most (ntp.keys(5))
+-- octets that key files take as they stand: 20 printable characters at most, and no `#`, which begins a comment (ntp.keys(5))
 abbrev pub is_text_octet : ℕ → Bool
 is_text_octet octet = is_ascii_graphic octet && not (octet == 35)
 

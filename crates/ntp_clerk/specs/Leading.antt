@@ -1,6 +1,6 @@
 -- Customers that are wanted, and the commands that lead to them.
 use Rattle.std.specs.Prelude.{◌≡◌, ◌≢◌, ℕ, Bool, true, false, Option, Some, option_map, option_to_list, IfSome, IsSome, List, [], ◌∷◌, All, map, find, Contains, AllPairs}
-use Rattle.std.specs.{declared.alloc.Global.Global, Int.NonZero.non_zero_u16_get}
+use Rattle.std.specs.{declared.alloc.Global.Global, Option.option_map_or, Int.NonZero.non_zero_u16_get}
 use Rattle.ntp_customer.specs.{declared.numbered_key.NumberedKey.NumberedKey, Customer.Enrolment, Customer.numbers_in}
 use Rattle.ntp_service.specs.{declared.address.Address.Address, Address.address_eq, Commands.address_named, Commands.numbered}
 use Rattle.ntp_service.specs.{declared.command.Command.Command, declared.event.Event.Event, Headline.StandsFor, Headline.Tells}
@@ -39,6 +39,10 @@ AreTwo terms = IfSome terms.newer (λ newer. non_zero_u16_get terms.older.number
 
 abbrev pub HasNumber : Terms → ℕ → Type 0
 HasNumber terms number = Contains (numbers_in (enrolment_with terms)) number
+
+-- an enrolment, where there is one, has a number
+abbrev pub Holds : Option Enrolment → ℕ → Type 0
+Holds held number = Contains (option_map_or numbers_in held []) number
 
 -- customers are apart: no two have one address, and no two keys one number, of one customer or of two
 pub record AreApart (customers : List Wanted) : Type 0 where

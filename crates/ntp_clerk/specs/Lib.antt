@@ -8,3 +8,6 @@ pub mod Wide
 pub mod Capture
 pub mod Link
 pub mod Datagram
+pub mod Seen
+pub mod Confirming
+pub mod Moving

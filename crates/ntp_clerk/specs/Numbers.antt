@@ -1,12 +1,19 @@
 -- Key numbers that are free.
-use Rattle.std.specs.Prelude.{ℕ, ◌⊎◌, ◌≤◌, ◌<◌, List, Contains}
+use Rattle.std.specs.Prelude.{◌≡◌, ℕ, ◌⊎◌, ◌≤◌, ◌<◌, None, List, Contains}
+use Rattle.ntp_service.specs.Registry.{Registry, holder_of}
 
--- a key number that is none of these, where each smaller one is
-abbrev pub IsLowestFree : List ℕ → ℕ → Type 0
-IsLowestFree held number =
-    (1 ≤ number) × (Contains held number → ⊥) × ((smaller : ℕ) → 1 ≤ smaller → smaller < number → Contains held smaller)
+-- the lowest key number with a property
+abbrev pub IsLowest : (ℕ → Type 0) → ℕ → Type 0
+IsLowest P number = (1 ≤ number) × P number × ((smaller : ℕ) → 1 ≤ smaller → smaller < number → P smaller → ⊥)
 
--- the lowest number that was never used; where there is none, or it is held, the lowest that is not held; it is never held
-abbrev pub IsNextFree : List ℕ → List ℕ → ℕ → Type 0
-IsNextFree used held number = (Contains held number → ⊥) × (IsLowestFree used number
-    ⊎ (((each : ℕ) → each ≤ 65535 → IsLowestFree used each → Contains held each) × IsLowestFree held number))
+-- a key number that nobody holds, and that was not used either
+abbrev pub IsUnheld : Registry → ℕ → Type 0
+IsUnheld service number = holder_of service number ≡ None
+
+abbrev pub IsNew : List ℕ → Registry → ℕ → Type 0
+IsNew used service number = IsUnheld service number × (Contains used number → ⊥)
+
+-- the lowest that was never used and that nobody holds; where there is none, the lowest that nobody holds
+abbrev pub IsNextFree : List ℕ → Registry → ℕ → Type 0
+IsNextFree used service number = IsLowest (IsNew used service) number
+    ⊎ (((each : ℕ) → 1 ≤ each → each ≤ 65535 → IsNew used service each → ⊥) × IsLowest (IsUnheld service) number)

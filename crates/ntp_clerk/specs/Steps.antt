@@ -1,37 +1,18 @@
 -- Not to be believed: for proofs. The steps from what an address has to what it is to have.
 use Rattle.std.specs.Prelude.{ℕ, ◌≡◌, ◌≢◌, ◌==◌, if◌then◌else◌, ◌++◌, [], ◌∷◌, Bool, true, false, Option, None, Some, option_map, option_and_then, List, All, IfSome, IsSome, Contains, fold, filter_map}
-use Rattle.std.specs.{Option.option_map_or, Int.NonZero.non_zero_u16_get}
-use Rattle.indexmap.specs.IndexMap.{IndexMap, get}
+use Rattle.std.specs.Int.NonZero.{non_zero_u16_get}
 use Rattle.ntp_customer.specs.Tally.{tally}
 use Rattle.ntp_customer.specs.Customer.{Enrolment, enrolment_at, new_customer, numbers_in}
-use Rattle.ntp_service.specs.{declared.address.Address.Address, Address.address_eq, declared.command.Command.Command}
+use Rattle.ntp_service.specs.{declared.address.Address.Address, declared.command.Command.Command}
 use Rattle.ntp_service.specs.declared.command.Command.TheVariants.{Budget}
 use Rattle.ntp_service.specs.Commands.{address_named, number_wanted, once_done, refusal_of}
 use Rattle.ntp_service.specs.Registry.{Registry, customer_at, terms_at}
-use Rattle.ntp_clerk.specs.{declared.wanted.Terms.Terms, declared.wanted.Wanted.Wanted}
-use Rattle.ntp_clerk.specs.Leading.{enrolment_if, enrolment_with, enrolment_among, AreTwo, IsNeededAt, KeepsNoKey, LeadsTo, NobodyIsForgotten}
+use Rattle.ntp_clerk.specs.{declared.wanted.Terms.Terms}
+use Rattle.ntp_clerk.specs.Leading.{Holds, enrolment_with, IsNeededAt, KeepsNoKey, LeadsTo, NobodyIsForgotten}
 
 -- the commands of steps
 abbrev pub done_in : List (Option Command) → List Command
 done_in steps = filter_map (λ step. step) steps
-
--- the enrolment that a map of terms has for an address
-abbrev pub wanted_in : {S : Type 0} → IndexMap Address Terms S → Address → Option Enrolment
-wanted_in terms address = enrolment_if (get address_eq terms address)
-
--- an enrolment, where there is one, has a number
-abbrev pub Holds : Option Enrolment → ℕ → Type 0
-Holds held number = Contains (option_map_or numbers_in held []) number
-
--- no two addresses are to have one number
-abbrev pub ShareNone : (Address → Option Enrolment) → Type 0
-ShareNone want = (one other : Address) (number : ℕ) → one ≢ other → Holds (want one) number → Holds (want other) number → ⊥
-
--- these are the terms of customers by their addresses, and no number stands twice
-pub record AreTerms {S : Type 0} (terms : IndexMap Address Terms S) (customers : List Wanted) : Type 0 where
-  pub among : (address : Address) → wanted_in terms address ≡ enrolment_among customers address
-  pub two : (address : Address) → IfSome (get address_eq terms address) AreTwo
-  pub apart : ShareNone (wanted_in terms)
 
 -- a number is noted that was not
 pub record NotesOne (number : ℕ) (old new : ℕ → Bool) : Type 0 where
@@ -108,7 +89,7 @@ pub record Kept (held wanted now : Option Enrolment) : Type 0 where
   pub same : held ≡ wanted → now ≡ held
   pub keeps : KeepsNoKey now wanted → KeepsNoKey held wanted
 
--- commands, none of which is refused, take from an address what is not wanted of it
+-- commands that are not refused take from an address what is not wanted of it
 pub record Frees (address : Address) (held wanted : Option Enrolment) (cs : List Command) : Type 0 where
   pub refused : RefusesNone held cs
   pub asks : All (λ c. number_wanted c ≡ None) cs

@@ -57,7 +57,9 @@ pub enum CaptureFault {
 impl fmt::Display for CaptureFault {
     fn fmt<W: fmt::Write>(&self, f: &mut fmt::Formatter<W>) -> fmt::Result {
         match self {
-            CaptureFault::NextGeneration => f.write_str("this is pcapng: pcap is wanted"),
+            CaptureFault::NextGeneration => f.write_str(
+                "this is pcapng: pcap is wanted, which tcpdump -w writes",
+            ),
             CaptureFault::Head => f.write_str("this is no capture file in pcap form"),
             CaptureFault::Link(number) => write!(
                 f,

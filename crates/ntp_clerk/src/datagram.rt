@@ -44,11 +44,7 @@ fn ip_head(packet: &[u8]) -> Option<(&[u8], &[u8])>
         return None;
     }
     let (ip, behind) = split(packet, usize::from(first - 64) * 4)?;
-    if ip[9] == UDP && ip[6] % 64 == 0 && ip[7] == 0 {
-        Some((ip, behind))
-    } else {
-        None
-    }
+    (ip[9] == UDP && ip[6] % 64 == 0 && ip[7] == 0).then_some((ip, behind))
 }
 
 // How many octets a payload has, by the header of UDP before it, if that names the port.
@@ -57,12 +53,8 @@ fn payload_octets(udp: &[u8], port: u16) -> Option<usize>
     ensures whole { IfSome result (λ octets. IsUdpHead udp.now port octets) }
     ensures none { IfNone result ((octets : ℕ) → IsUdpHead udp.now port octets → ⊥) }
 {
-    let octets = two_octets(udp, 4) as usize;
-    if two_octets(udp, 2) == u64::from(port) && octets >= UDP_HEAD_OCTETS {
-        Some(octets - UDP_HEAD_OCTETS)
-    } else {
-        None
-    }
+    let octets = (two_octets(udp, 4) as usize).checked_sub(UDP_HEAD_OCTETS)?;
+    (two_octets(udp, 2) == u64::from(port)).then_some(octets)
 }
 
 // The source of a header of IPv4.

@@ -1,7 +1,6 @@
 //! Few commands that make the customers of a service.
-ghost use Rattle.std.specs.Prelude.{◌++◌, ◌∷◌, None, All, IfOk, IfSome, IsSome, OnOk};
-ghost use Rattle.ntp_service.specs.Registry.{customer_at, terms_at};
-ghost use Rattle.ntp_clerk.specs.Leading.{LeadsTo, Makes, NobodyIsForgotten};
+ghost use Rattle.std.specs.Prelude.{IfOk, OnOk};
+ghost use Rattle.ntp_clerk.specs.Leading.{Makes};
 ghost use Rattle.ntp_clerk.specs.Steps.{NobodyIsEnrolled, Revokes};
 
 use crate::leading::{LeadFault, carry_out, commands_to};

@@ -1,6 +1,6 @@
 //! What a customer gets for its key.
-ghost use Rattle.std.specs.Prelude.{◌≡◌, ◌∷◌, ◌++◌, [], true, codes, IfOk, IfSome, IfNone, IsTrue, Ok, false, string_bytes};
-ghost use Rattle.std.specs.List.{list_all};
+ghost use Rattle.std.specs.Prelude.{◌≡◌, ◌↔◌, ◌<◌, ◌∷◌, ◌++◌, true, length, IfOk, IfSome, IfNone, IsTrue, Ok, false, string_bytes};
+ghost use Rattle.std.specs.{Char.is_ascii_hexdigit, List.list_all};
 ghost use Rattle.hex.specs.Hex.{IsBytes};
 ghost use Rattle.ntp_query.specs.KeyFile.{key_in_text};
 ghost use Rattle.ntp_clerk.specs.CommandText.{AreKeyOctets, IsNumber};
@@ -107,6 +107,20 @@ fn key_word(alloc: Global, octets: &[u8], text: &str, digits: &str) -> Result<St
     }
 }
 
+/// Whether key files read octets in two ways: ntpd reads more than 20 digits as hexadecimal ones, and chrony as characters.
+pub fn is_read_two_ways(octets: &[u8]) -> bool
+    ensures { IsTrue result ↔ ((20 < length octets.now) × (list_all is_ascii_hexdigit octets.now ≡ true)) }
+{
+    octets.len() > MOST_TEXT_OCTETS && are_digits(octets)
+}
+
+// Whether octets are hexadecimal digits.
+fn are_digits(octets: &[u8]) -> bool
+    ensures { result ≡ list_all is_ascii_hexdigit octets.now }
+{
+    octets.iter().all(|octet| octet.is_ascii_hexdigit())
+}
+
 // Octets as text, if each key file takes them as that.
 fn text_in(octets: &[u8]) -> Option<&str>
     ensures text { IfSome result (λ text. (text.now ≡ octets.now) × (is_text octets.now ≡ true)) }
@@ -121,7 +135,7 @@ fn text_in(octets: &[u8]) -> Option<&str>
     }
 }
 
-// Whether octets are printable characters, of which none begins a comment.
+// Whether octets are printable characters other than `#`, which begins a comment.
 fn are_text_octets(octets: &[u8]) -> bool
     ensures { result ≡ list_all is_text_octet octets.now }
 {

@@ -1,11 +1,11 @@
 //! The commands that lead from the customers of a service to others.
-ghost use Rattle.std.specs.Prelude.{◌≡◌, ◌↔◌, ◌⊎◌, ℕ, ◌++◌, [], ◌∷◌, false, All, Contains, None, Some, IfErr, IfOk, IfSome, IsTrue, OnOk, nat_eq, option_map};
+ghost use Rattle.std.specs.Prelude.{◌≡◌, ◌≢◌, ◌↔◌, ℕ, ◌++◌, [], ◌∷◌, false, All, Contains, None, Some, IfErr, IfOk, IfSome, IsTrue, OnOk, nat_eq, option_map};
 ghost use Rattle.indexmap.specs.{IndexMap.get, IndexSet.contains};
-ghost use Rattle.ntp_service.specs.{Address.address_eq, Commands.address_named, Registry.terms_at};
+ghost use Rattle.ntp_service.specs.{Address.address_eq, Commands.address_named, Registry.terms_at, Registry.after_command, Registry.Agrees};
 ghost use Rattle.ntp_service.specs.declared.address.Address.{Address};
 ghost use Rattle.ntp_service.specs.declared.command.Command.TheVariants as command;
-ghost use Rattle.ntp_clerk.specs.Leading.{ends, enrolment_if, enrolment_with, key_given, AreApart, AreTwo, HasExactly, HasNumber, IsNeeded, IsNeededAt, LeadsTo, NobodyIsForgotten};
-ghost use Rattle.ntp_clerk.specs.Steps.{done_in, rebudgeting, terms_after, wanted_in, AreDone, AreTerms, CanDo, CanDoAll, Frees, Goes, Notes, NotesOne, Moves, OnlyWanted, ShareNone};
+ghost use Rattle.ntp_clerk.specs.Leading.{ends, enrolment_among, enrolment_if, enrolment_with, key_given, AreApart, AreTwo, HasExactly, HasNumber, Holds, IsNeeded, IsNeededAt, LeadsTo, NobodyIsForgotten};
+ghost use Rattle.ntp_clerk.specs.Steps.{done_in, rebudgeting, AreDone, CanDo, CanDoAll, Frees, Goes, Notes, NotesOne, Moves, OnlyWanted};
 
 use crate::wanted::{GivenKey, Terms, Wanted, are_same_key, terms_at};
 use indexmap::{IndexMap, IndexSet};
@@ -29,6 +29,8 @@ pub enum LeadFault {
     SameAddress(Address),
     /// Two of their keys have this number.
     SameNumber(u16),
+    /// The service refuses it: a customer that moves is not enrolled, or its new address is.
+    Refused(Refusal),
     /// Memory ran out.
     NoMemory,
 }
@@ -58,20 +60,21 @@ pub fn commands_to(
     ensures apart { OnOk result (AreApart wanted.now) }
     ensures fault { AreApart wanted.now → IfErr result (λ fault. fault ≡ LeadFault.NoMemory) }
 {
-    let terms = &judged(alloc, wanted)?;
+    let terms = judged(alloc, wanted)?;
     let mut commands = Vec::new(alloc);
     for address in &service.addresses()? {
-        free(service, &mut commands, *address, terms)?;
+        let terms = terms.get(address).copied();
+        free(service, &mut commands, *address, &terms)?;
     }
     for customer in wanted {
-        give(service, &mut commands, customer.address, terms)?;
+        give(service, &mut commands, customer.address, &customer.terms)?;
     }
     Ok(commands)
 }
 
 // What is wanted of each address, where no address and no number is wanted twice.
 fn judged(alloc: Global, wanted: &[Wanted]) -> Result<ByAddress, LeadFault>
-    ensures terms { IfOk result (λ terms. AreTerms terms wanted.now) }
+    ensures terms { IfOk result (λ terms. (address : Address) → enrolment_if (get address_eq terms address) ≡ enrolment_among wanted.now address) }
     ensures apart { OnOk result (AreApart wanted.now) }
     ensures fault { AreApart wanted.now → IfErr result (λ fault. fault ≡ LeadFault.NoMemory) }
 {
@@ -125,34 +128,35 @@ fn free(
     service: &mut Service,
     commands: &mut Vec<Command>,
     address: Address,
-    wanted: &ByAddress,
+    wanted: &Option<Terms>,
 ) -> Result<(), AllocError>
     ensures moves { OnOk result
-        (Moves service.old address (wanted_in wanted.now address) commands.old.items commands.new.items service.new) }
-    ensures only { OnOk result (OnlyWanted (terms_at service.new address) (wanted_in wanted.now address)) }
+        (Moves service.old address (enrolment_if wanted.now) commands.old.items commands.new.items service.new) }
+    ensures only { OnOk result (OnlyWanted (terms_at service.new address) (enrolment_if wanted.now)) }
 {
     let held = terms_at(service, address);
-    let step = freeing(address, &held, &wanted.get(&address).copied());
+    let step = freeing(address, &held, wanted);
     order(service, commands, address, [step, None, None, None])?;
     Ok(())
 }
 
-// Gives an address what is wanted of it, where no address has anything else: so the numbers are free.
-fn give(
+// Gives an address what is wanted of it, where it has nothing else, and no other address has a number of it.
+pub(crate) fn give(
     service: &mut Service,
     commands: &mut Vec<Command>,
     address: Address,
-    wanted: &ByAddress,
+    wanted: &Terms,
 ) -> Result<(), AllocError>
-    requires only { (q : Address) → OnlyWanted (terms_at service.old q) (wanted_in wanted.now q) }
-    requires two { IfSome (get address_eq wanted.now address) AreTwo }
-    requires apart { ShareNone (wanted_in wanted.now) }
+    requires only { OnlyWanted (terms_at service.old address) (Some (enrolment_with wanted.now)) }
+    requires two { AreTwo wanted.now }
+    requires free { (other : Address) (number : ℕ) → other ≢ address → HasNumber wanted.now number
+        → Holds (terms_at service.old other) number → ⊥ }
     ensures moves { OnOk result
-        (Moves service.old address (wanted_in wanted.now address) commands.old.items commands.new.items service.new) }
-    ensures has { OnOk result (terms_at service.new address ≡ wanted_in wanted.now address) }
+        (Moves service.old address (Some (enrolment_with wanted.now)) commands.old.items commands.new.items service.new) }
+    ensures has { OnOk result (terms_at service.new address ≡ Some (enrolment_with wanted.now)) }
 {
     let held = terms_at(service, address);
-    let steps = giving(address, &held, &wanted.get(&address).copied());
+    let steps = giving(address, &held, wanted);
     order(service, commands, address, steps)?;
     Ok(())
 }
@@ -185,13 +189,12 @@ pub(crate) fn carry_out(
     requires { CanDo service.old command }
     ensures noted { OnOk result (commands.new.items ≡ commands.old.items ++ command ∷ []) }
     ensures done { OnOk result (AreDone service.old (address_named command) (command ∷ []) service.new) }
+    ensures after { OnOk result (service.new ≡ after_command service.old command) }
+    ensures agrees { OnOk result (Agrees service.new) }
 {
-    match service.command(&command) {
-        Ok(()) => {}
-        Err(refusal) => {
-            prove!(matches!(refusal, Refusal::NoMemory));
-            return Err(AllocError);
-        }
+    if let Err(refusal) = service.command(&command) {
+        prove!(matches!(refusal, Refusal::NoMemory));
+        return Err(AllocError);
     }
     commands.push(command)?;
     Ok(())
@@ -231,15 +234,12 @@ fn freeing_keys(address: Address, held: &Terms, wanted: &Terms) -> Option<Comman
 }
 
 // What gives an address what is wanted of it, where it has nothing else.
-fn giving(address: Address, held: &Option<Terms>, wanted: &Option<Terms>) -> [Option<Command>; 4]
-    requires only { OnlyWanted (enrolment_if held.now) (enrolment_if wanted.now) }
-    requires two { IfSome held.now AreTwo × IfSome wanted.now AreTwo }
-    ensures needed { All (IsNeededAt address (enrolment_if held.now) (enrolment_if wanted.now)) (done_in result) }
-    ensures goes { Goes (enrolment_if held.now) (done_in result) (enrolment_if wanted.now) }
+fn giving(address: Address, held: &Option<Terms>, wanted: &Terms) -> [Option<Command>; 4]
+    requires only { OnlyWanted (enrolment_if held.now) (Some (enrolment_with wanted.now)) }
+    requires two { IfSome held.now AreTwo × AreTwo wanted.now }
+    ensures needed { All (IsNeededAt address (enrolment_if held.now) (Some (enrolment_with wanted.now))) (done_in result) }
+    ensures goes { Goes (enrolment_if held.now) (done_in result) (Some (enrolment_with wanted.now)) }
 {
-    let Some(wanted) = wanted else {
-        return [None; 4];
-    };
     match held {
         Some(held) => arranging(address, held, wanted),
         None => enrolling(address, wanted),
@@ -267,7 +267,7 @@ fn enrolling(address: Address, terms: &Terms) -> [Option<Command>; 4]
     ]
 }
 
-// What makes of terms, of which each key is wanted, the wanted ones: the older key is taken once the newer is given.
+// What makes the wanted terms of others that have no other keys: the older key is taken once the newer is given.
 fn arranging(address: Address, held: &Terms, wanted: &Terms) -> [Option<Command>; 4]
     requires only { OnlyWanted (Some (enrolment_with held.now)) (Some (enrolment_with wanted.now)) }
     requires two { AreTwo held.now × AreTwo wanted.now }
@@ -293,10 +293,7 @@ fn rebudgeting(address: Address, held: &Terms, wanted: &Terms) -> Option<Command
     ensures { result ≡ rebudgeting address held.now wanted.now }
 {
     let budget = wanted.budget;
-    if held.budget.get() == budget.get() {
-        return None;
-    }
-    Some(Command::Budget { address, budget })
+    (held.budget.get() != budget.get()).then_some(Command::Budget { address, budget })
 }
 
 // The rollover to a newer key, if there is one.
@@ -331,11 +328,6 @@ pub fn rollover(address: Address, key: &GivenKey) -> Command
 fn has_key(terms: &Terms, key: &GivenKey) -> bool
     ensures { IsTrue result ↔ Contains (enrolment_with terms.now).keys (key_given key.now) }
 {
-    if are_same_key(&terms.older, key) {
-        return true;
-    }
-    match &terms.newer {
-        Some(newer) => are_same_key(newer, key),
-        None => false,
-    }
+    are_same_key(&terms.older, key)
+        || matches!(&terms.newer, Some(newer) if are_same_key(newer, key))
 }

@@ -53,9 +53,5 @@ fn behind_head(frame: &[u8], octets: usize, at: usize) -> Option<&[u8]>
     ensures none { IfNone result ((head : List ℕ) (packet : List ℕ) → frame.now ≡ head ++ packet → length head ≡ octets → two_octets head at ≡ 2048 → ⊥) }
 {
     let (head, packet) = frame.split_at_checked(octets)?;
-    if two_octets(head, at) == IPV4 {
-        Some(packet)
-    } else {
-        None
-    }
+    (two_octets(head, at) == IPV4).then_some(packet)
 }

@@ -2,7 +2,7 @@
 ghost use Rattle.std.specs.Prelude.{◌≡◌, ◌++◌, ◌∷◌, [], List, ℕ, Some, IfOk, codes, option_map, string_bytes, true};
 ghost use Rattle.ntp_admin.specs.{Answers.line_feed, Spells.is_passed_over, Words.address_text, Words.parts};
 ghost use Rattle.ntp_clerk.specs.CommandText.{IsAddress};
-ghost use Rattle.ntp_clerk.specs.Names.{name_behind, name_in, IsName};
+ghost use Rattle.ntp_clerk.specs.Names.{name_in, IsName};
 
 use crate::command_text::address_word;
 use ntp_admin::words;
@@ -32,15 +32,7 @@ fn name_text(alloc: Global, address: Address, name: &str) -> Result<String, Allo
 pub fn name_in(line: &str) -> Option<(Address, &str)>
     ensures { option_map (λ said. (said.0, said.1.now)) result ≡ name_in line.now }
 {
-    let said = line.strip_prefix("# name ")?;
-    name_behind(said)
-}
-
-// The name behind an address.
-fn name_behind(said: &str) -> Option<(Address, &str)>
-    ensures { option_map (λ said. (said.0, said.1.now)) result ≡ name_behind said.now }
-{
-    let (word, name) = said.split_once(' ')?;
+    let (word, name) = line.strip_prefix("# name ")?.split_once(' ')?;
     if name.is_empty() {
         return None;
     }

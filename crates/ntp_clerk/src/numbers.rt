@@ -1,31 +1,25 @@
 //! Key numbers that are free.
-ghost use Rattle.std.specs.Prelude.{ℕ, ◌≤◌, Contains, IfSome, IfNone};
-ghost use Rattle.ntp_clerk.specs.Numbers.{IsLowestFree, IsNextFree};
+ghost use Rattle.std.specs.Prelude.{◌≤◌, ℕ, IfSome, IfNone, IsSome};
+ghost use Rattle.ntp_service.specs.Registry.{holder_of};
+ghost use Rattle.ntp_clerk.specs.Numbers.{IsNextFree};
 
+use ntp_service::Service;
 use std::num::NonZero;
 
-/// The lowest key number that was never used; once all were, or it is held, the lowest that is not held. Nothing where all are.
-pub fn next_free(used: &[u16], held: &[u16]) -> Option<NonZero<u16>>
-    ensures next { IfSome result (λ number. IsNextFree used.now held.now number.value) }
-    ensures none { IfNone result ((number : ℕ) → 1 ≤ number → number ≤ 65535 → Contains held.now number) }
+/// The lowest key number that was never used and that nobody holds; where there is none, the lowest that nobody holds. Nothing where
+/// each is held.
+pub fn number_for_a_key(service: &Service, used: &[u16]) -> Option<NonZero<u16>>
+    ensures next { IfSome result (λ number. IsNextFree used.now service.now number.value) }
+    ensures none { IfNone result ((number : ℕ) → 1 ≤ number → number ≤ 65535 → IsSome (holder_of service.now number)) }
 {
-    match lowest_free(used) {
-        Some(number) if !held.contains(&number.get()) => Some(number),
-        _ => lowest_free(held),
+    let mut lowest = None;
+    for number in 1..=u16::MAX {
+        if service.holder(number).is_none() {
+            if !used.contains(&number) {
+                return NonZero::<u16>::new(number);
+            }
+            lowest = lowest.or(NonZero::<u16>::new(number));
+        }
     }
-}
-
-/// The lowest key number, 1 to 65,535, that is none of those that are held; nothing where all are.
-pub fn lowest_free(held: &[u16]) -> Option<NonZero<u16>>
-    ensures free { IfSome result (λ number. IsLowestFree held.now number.value) }
-    ensures none { IfNone result ((number : ℕ) → 1 ≤ number → number ≤ 65535 → Contains held.now number) }
-{
-    let mut number = 1;
-    while number < u16::MAX && held.contains(&number) {
-        number += 1;
-    }
-    if held.contains(&number) {
-        return None;
-    }
-    NonZero::<u16>::new(number)
+    lowest
 }

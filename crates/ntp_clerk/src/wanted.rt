@@ -1,11 +1,11 @@
 //! Customers with their terms: those that a clerk wants, and those that a service has.
 ghost use Rattle.std.specs.Prelude.{◌≡◌, ◌↔◌, ◌<◌, IfOk, IfSome, IsTrue, option_map};
 ghost use Rattle.std.specs.{Int.NonZero.non_zero_u16_get, List.Sorted.IsNonDecreasingBy};
-ghost use Rattle.ntp_customer.specs.{Customer.enrolment_at, declared.numbered_key.NumberedKey.NumberedKey};
+ghost use Rattle.ntp_customer.specs.{Customer.enrolment_at, Customer.held_in, declared.numbered_key.NumberedKey.NumberedKey};
 ghost use Rattle.ntp_service.specs.Registry.{terms_at};
 ghost use Rattle.ntp_clerk.specs.Leading.{enrolment_if, enrolment_with, key_given, AreTwo, HasExactly};
 
-use ntp_mac::Key;
+use ntp_mac::{Algorithm, Key};
 use ntp_service::{Address, Customer, NumberedKey, Service};
 use std::alloc::{AllocError, Global};
 use std::num::NonZero;
@@ -91,16 +91,24 @@ fn given(numbered: &NumberedKey) -> GivenKey
     }
 }
 
+/// The algorithm of the key with a number, if these terms have it.
+pub fn algorithm_under(terms: &Terms, number: u32) -> Option<Algorithm>
+    ensures { result ≡ option_map (λ k. k.key.algorithm) (held_in (enrolment_with terms.now) number) }
+{
+    if u32::from(terms.older.number.get()) == number {
+        return Some(terms.older.key.algorithm());
+    }
+    match &terms.newer {
+        Some(newer) if u32::from(newer.number.get()) == number => Some(newer.key.algorithm()),
+        _ => None,
+    }
+}
+
 // Whether keys are the same, and have one number.
 pub(crate) fn are_same_key(one: &GivenKey, other: &GivenKey) -> bool
     ensures { IsTrue result ↔ (key_given one.now ≡ key_given other.now) }
 {
-    one.number.get() == other.number.get() && have_same_octets(&one.key, &other.key)
-}
-
-// Whether keys are for one algorithm and have the same octets.
-fn have_same_octets(one: &Key, other: &Key) -> bool
-    ensures { IsTrue result ↔ (one.now ≡ other.now) }
-{
-    one.algorithm() == other.algorithm() && one.octets() == other.octets()
+    one.number.get() == other.number.get()
+        && one.key.algorithm() == other.key.algorithm()
+        && one.key.octets() == other.key.octets()
 }

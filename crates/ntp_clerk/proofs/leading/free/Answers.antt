@@ -1,18 +1,17 @@
 use Rattle.ntp_clerk.specs.Leading.{enrolment_if}
-use Rattle.std.proofs.Common.{◌∙◌, sym}
+use Rattle.std.proofs.Common.{sym}
 use Rattle.ntp_clerk.proofs.Stepping.{moves-freed, free-of-none}
 use Rattle.ntp_clerk.proofs.leading.free.Goals as goal
 
 pub returns : goal.returns
 returns c =
-    let w = c.copied.ensures ∙ c.get.ensures.value in
     let freed = moves-freed c.args.service.now c.order.new.service c.args.address _ c.args.commands.now.items c.order.new.commands.items _
-    c.in_ok-order.ensures.noted c.in_ok-order.ensures.done (enrolment_if c.terms_at-held.result) c.terms_at-held.ensures.terms (rw w at c.freeing-step.ensures) in
+    c.in_ok-order.ensures.noted c.in_ok-order.ensures.done (enrolment_if c.terms_at-held.result) c.terms_at-held.ensures.terms c.freeing-step.ensures in
     record { moves = freed.0; only = freed.1 }
 
 pub order-requires : goal.order-requires
 order-requires c =
-    let frees = rw (c.copied.ensures ∙ c.get.ensures.value) at c.freeing-step.ensures in
+    let frees = c.freeing-step.ensures in
     record {
       named = λ k d inside. (frees.needed k d inside).named;
       refused = rw (sym c.terms_at-held.ensures.terms) frees.refused;

@@ -1,11 +1,10 @@
-use Rattle.std.proofs.Common.{ap, subst, take, arith, ℕ}
+use Rattle.std.proofs.Common.{ap, take, arith, ℕ}
 use Rattle.std.specs.Prelude.{nat_eq}
 use Rattle.std.specs.{Map.lookup, List.list_any}
 use Rattle.std.proofs.{lemmas.List.take_more, lemmas.List.take_all, lemmas.Result.err_from_is_err_and}
 use Rattle.indexmap.specs.{IndexMap.get, IndexSet.contains}
 use Rattle.ntp_service.specs.{declared.address.Address.Address, Address.address_eq}
-use Rattle.ntp_clerk.specs.Leading.{AreApart}
-use Rattle.ntp_clerk.proofs.Judging.{judged-none, judged-more, are-terms, address-free, numbers-free, two-numbers, Judged}
+use Rattle.ntp_clerk.proofs.Judging.{judged-none, judged-more, address-free, numbers-free, two-numbers}
 use Rattle.ntp_clerk.proofs.leading.judged.Goals as goal
 
 pub loop-customer-init : goal.loop-customer-init
@@ -20,14 +19,10 @@ loop-customer-preserved c =
     let one = judged-more (take i all) w _ _ _ _ c.loop-customer.invariant c.in_ok-note.ensures.notes in
     rw (take_more all i w c.loop-customer-test.true, ← c.customer-item.is) one
 
-pub returns-clause-terms : goal.returns-clause-terms
-returns-clause-terms c =
-    let numbers = λ (n : ℕ). contains nat_eq c.loop-customer.numbers n in
-    are-terms c.loop-customer.terms c.args.wanted.now numbers (subst (λ taken. Judged taken (λ q. get address_eq c.loop-customer.terms q) numbers)
-    (take_all c.loop-customer.customer-index c.args.wanted.now (omega arith)) c.loop-customer.invariant)
-
-pub returns-clause-apart : goal.returns-clause-apart
-returns-clause-apart c = subst AreApart (take_all c.loop-customer.customer-index c.args.wanted.now (omega arith)) c.loop-customer.invariant.apart
+pub returns : goal.returns
+returns c =
+    let judged = rw (take_all c.loop-customer.customer-index c.args.wanted.now (omega arith)) at c.loop-customer.invariant in
+    record { terms = judged.among; apart = judged.apart; fault = λ apart. tt }
 
 pub returns-in_err-note-clause-fault : goal.returns-in_err-note-clause-fault
 returns-in_err-note-clause-fault c = λ apart.

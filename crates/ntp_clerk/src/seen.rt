@@ -1,0 +1,124 @@
+//! What is seen of customers: all but the octets of their keys.
+ghost use Rattle.std.specs.Prelude.{◌≡◌, ◌≢◌, ◌↔◌, ◌<◌, Some, IfSome, IfNone, IsTrue};
+ghost use Rattle.ntp_service.specs.Registry.{customer_at};
+ghost use Rattle.ntp_clerk.specs.Leading.{key_given};
+ghost use Rattle.ntp_clerk.specs.Seen.{seen_key, seen_terms, HaveSameKeys, IsSeen};
+
+use crate::wanted::{GivenKey, Terms, terms_of};
+use ntp_mac::Algorithm;
+use ntp_service::{Address, Service};
+
+/// A key as it is seen: without its octets.
+#[derive(Clone, Copy, PartialEq, Eq)]
+pub struct SeenKey {
+    /// Its number.
+    pub number: u16,
+    /// The digest that it is for.
+    pub algorithm: Algorithm,
+    /// How many octets it has.
+    pub octets: u64,
+}
+
+/// What a customer is seen to be enrolled with.
+#[derive(Clone, Copy, PartialEq, Eq)]
+pub struct SeenTerms {
+    /// Its older key, or its only one.
+    pub older: SeenKey,
+    /// Its newer key, if it has two.
+    pub newer: Option<SeenKey>,
+    /// How many signed queries are answered with the time in a window.
+    pub budget: u16,
+}
+
+/// What an address is seen to have.
+#[derive(Clone, Copy, PartialEq, Eq)]
+pub enum Seen {
+    /// It was never enrolled.
+    Nothing,
+    /// It is revoked.
+    Revoked,
+    /// It is enrolled.
+    Enrolled(SeenTerms),
+}
+
+/// What is seen of an address.
+pub fn seen_at(service: &Service, address: Address) -> Seen
+    ensures { IsSeen (customer_at service.now address) result }
+{
+    let Some(customer) = service.customer(address) else {
+        return Seen::Nothing;
+    };
+    match terms_of(customer) {
+        None => Seen::Revoked,
+        Some(terms) => Seen::Enrolled(seen_terms(&terms)),
+    }
+}
+
+/// What is seen of terms.
+pub fn seen_terms(terms: &Terms) -> SeenTerms
+    ensures { result ≡ seen_terms terms.now }
+{
+    SeenTerms {
+        older: seen_key(&terms.older),
+        newer: terms.newer.map(|newer| seen_key(&newer)),
+        budget: terms.budget.get(),
+    }
+}
+
+// What is seen of a key.
+fn seen_key(given: &GivenKey) -> SeenKey
+    ensures { result ≡ seen_key (key_given given.now) }
+{
+    SeenKey {
+        number: given.number.get(),
+        algorithm: given.key.algorithm(),
+        octets: given.key.octet_count() as u64,
+    }
+}
+
+/// An address at which labntpd has something else than the commands file.
+#[derive(Clone, Copy)]
+pub struct Difference {
+    /// Where they differ.
+    pub address: Address,
+    /// What labntpd has.
+    pub daemon: Seen,
+    /// What the commands file comes to.
+    pub file: Seen,
+}
+
+/// How an address of a service differs from what labntpd reports of it, if it does.
+pub fn differing_at(service: &Service, address: Address, daemon: Seen) -> Option<Difference>
+    ensures differs { IfSome result (λ d. (d.address ≡ address) × (d.daemon ≡ daemon) × IsSeen (customer_at service.now address) d.file × (d.daemon ≢ d.file)) }
+    ensures none { IfNone result (IsSeen (customer_at service.now address) daemon) }
+{
+    let file = seen_at(service, address);
+    if are_same(&daemon, &file) {
+        return None;
+    }
+    Some(Difference {
+        address,
+        daemon,
+        file,
+    })
+}
+
+// Whether the same is seen.
+fn are_same(one: &Seen, other: &Seen) -> bool
+    ensures { IsTrue result ↔ (one.now ≡ other.now) }
+{
+    match (one, other) {
+        (Seen::Nothing, Seen::Nothing) | (Seen::Revoked, Seen::Revoked) => true,
+        (Seen::Enrolled(one), Seen::Enrolled(other)) => {
+            one.budget == other.budget && have_same_keys(one, other)
+        }
+        _ => false,
+    }
+}
+
+/// Whether the keys of terms are seen alike, whatever their budgets are.
+pub fn have_same_keys(one: &SeenTerms, other: &SeenTerms) -> bool
+    ensures { IsTrue result ↔ HaveSameKeys one.now other.now }
+{
+    one.older == other.older && one.newer == other.newer
+}

@@ -3,6 +3,7 @@ import collections
 import contextlib
 import json
 import os
+import pwd
 import re
 import select
 import shutil
@@ -15,6 +16,7 @@ import threading
 import time
 
 import judging
+import peers
 import probe
 from judging import REFERENCE, SECOND, WAIT, Odd, PassedOver, end, enrolments, file_of, same, start, until
 
@@ -571,13 +573,30 @@ def synchronised(host=None, **keys):
 
 def chronyd():
     """Where a copy of the program is: Debian's AppArmor profile has the one in /usr/sbin read no file of the case."""
-    peers = os.environ.get("PEERS")
-    below = f"{peers}/chrony/usr/sbin/chronyd"
-    found = below if peers and os.access(below, os.X_OK) else shutil.which("chronyd", path=f"{os.environ.get('PATH', '')}:/usr/sbin")
-    if not found:
-        raise PassedOver("there is no chronyd")
+    found, _ = peers.tool("chrony", "chronyd")
     copy = room("chronyd")
     return copy if os.path.exists(copy) else shutil.copy(found, copy)
+
+
+def chronyd_at(port, name, *lines, keys=f"1 SHA1 HEX:{CLOCK_KEY}\n"):
+    """The words that start chronyd, which sets no clock and serves this host at this port under these keys."""
+    lines = [*lines, f"port {port}", "bindaddress 127.0.0.1", "allow 127.0.0.0/8", "cmdport 0", "bindcmdaddress /"]
+    lines += [f"keyfile {file_of('chrony.keys', keys)}", f"pidfile {room(name)}.pid"]
+    user = pwd.getpwuid(os.geteuid()).pw_name
+    return [chronyd(), "-d", "-x", "-U", "-u", user, "-f", file_of(f"{name}.conf", "\n".join(lines))]
+
+
+# A program that may not set the clock, whatever its user may.
+WITHOUT_CLOCK = ("setpriv", "--bounding-set", "-sys_time")
+
+
+def ntpsec_with(keys, *lines):
+    """The words that start NTPsec's ntpd, which sets no clock and serves this host under these keys at port 123, the only one it knows."""
+    found, _ = peers.tool("ntpsec", "ntpd", "ntpsec-")
+    numbers = " ".join(it.split()[0] for it in keys.splitlines())
+    lines = ["interface ignore all", "interface ignore wildcard", "interface listen 127.0.0.1", "disable ntp", "disable kernel", *lines]
+    lines += ["tos orphan 2 orphanwait 1", f"keys {file_of('ntp.keys', keys)}", f"trustedkey {numbers}"]
+    return [*WITHOUT_CLOCK, found, "-n", "-c", file_of("ntp.conf", "".join(f"{it}\n" for it in lines))]
 
 
 def begin(words, environment=None):
@@ -586,3 +605,18 @@ def begin(words, environment=None):
     process = subprocess.Popen(words, env=environment, cwd=judging.ROOM, **quiet)
     judging.started.append(process)
     return process
+
+
+@contextlib.contextmanager
+def running(words, answers):
+    """Another server, from its first answer on. One that does not answer is none for this host."""
+    process = begin(words)
+    try:
+        give_up = time.monotonic() + WAIT
+        while not answers():
+            if process.poll() is not None or time.monotonic() > give_up:
+                raise PassedOver(f"{os.path.basename(words[0])} does not serve here")
+            time.sleep(0.02)
+        yield process
+    finally:
+        end(process)

@@ -1,9 +1,9 @@
 //! A server and a client meet in this process.
 ghost use Rattle.std.specs.Prelude.{◌≡◌, ◌≢◌};
-ghost use Rattle.ntp_meeting.specs.Words.{HasMet};
+ghost use Rattle.labntp_jobs.specs.Taken.{HasMet};
 
+use labntp_jobs::{LoopbackFault, meet};
 use ntp_admin::{Status, memory_status, socket_status, write_status};
-use ntp_meeting::{LoopbackFault, meet};
 use std::alloc::Allocator;
 use std::io::Write;
 use std::net::Net;

@@ -1,6 +1,6 @@
 //! Customers are served over a socket.
 ghost use Rattle.std.specs.Prelude.{◌≡◌};
-ghost use Rattle.ntp_host.specs.Failures.{udp_failures};
+ghost use Rattle.ntp_port.specs.Port.{failed_calls};
 
 use crate::whole_commands::WholeCommands;
 use labntp_jobs::Serving;
@@ -86,7 +86,7 @@ fn server<'a, R: Files + Clock, F: Write>(
     loaded: Loaded,
     faults: &'a mut F,
 ) -> Server<UdpPort<&'a R>, WholeCommands<'a, R>, FixedReference, FaultLines<&'a mut F>, Global>
-    ensures { udp_failures result.port ≡ 0 }
+    ensures { failed_calls result.port.counts ≡ 0 }
 {
     let Loaded { reference, service } = loaded;
     Server {

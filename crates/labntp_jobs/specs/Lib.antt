@@ -6,3 +6,5 @@ pub mod Engine
 pub mod Asks
 pub mod Behind
 pub mod Ends
+pub mod Meeting
+pub mod Taken

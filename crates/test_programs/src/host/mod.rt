@@ -1,4 +1,4 @@
-//! What `ntp_host` and `ntp_meeting` make of clocks, files, receipts and memory that are made up: a program, since no clause says it and
+//! What `ntp_host` and `labntp_jobs` make of clocks, files, receipts and memory that are made up: a program, since no clause says it and
 //! no host shows it.
 
 mod clocks;

@@ -1,6 +1,6 @@
 //! A server and a client that meet where memory is refused.
 
-use ntp_meeting::{LoopbackFault, meet};
+use labntp_jobs::{LoopbackFault, meet};
 use std::io::{self, Write};
 use test_support::Refusing;
 

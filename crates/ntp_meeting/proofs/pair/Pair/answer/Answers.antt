@@ -1,7 +1,0 @@
-use Rattle.std.specs.Prelude.{None}
-use Rattle.ntp_meeting.proofs.Answering.{one-fails}
-use Rattle.ntp_meeting.proofs.pair.Pair.answer.Goals as goal
-
-pub returns : goal.returns
-returns g c =
-    one-fails _ _ _ _ _ _ c.args.self.now.port.counts _ _ _ _ _ (c.answer_received-outcome.ensures.makes None tt) c.in-Some.ensures.counts.1

@@ -10,7 +10,7 @@ mod prepared;
 mod sockets;
 
 pub use host_addresses::SeveralAddresses;
-pub use lines::{log_form, service_manager, start_lines};
+pub use lines::{StartLines, log_form, service_manager, start_lines};
 pub use opened::{answers_file, clock_source, commands_at, watch_from_now};
 pub use places::{NamedFiles, directory_of, readers_of, tell_places};
 pub use prepared::{

@@ -1,21 +1,74 @@
 //! The lines on standard error before the daemon serves, and its service manager.
 
 use ntp_admin::{Status, failed_status};
-use ntp_host::{LogForm, ServiceManager, StartLines, form_for};
-use std::env;
-use std::io::{self, Stderr};
+use ntp_host::{LogForm, Priority, ServiceManager};
+use std::io::{self, Stderr, Write};
+use std::os::unix::fs::MetadataExt;
+use std::{env, fs};
+
+/// Writes the faults and warnings before the daemon serves to standard error, for which it waits. Each line begins as those of the log do.
+#[derive(Drop)]
+pub struct StartLines<W: Write + Drop> {
+    out: W,
+    form: LogForm,
+    // How much the line matters, and whether a part of it was written.
+    priority: Priority,
+    is_started: bool,
+}
+
+impl<W: Write + Drop> StartLines<W> {
+    /// Has the next line be a warning; those behind it are faults again.
+    pub fn warning(&mut self) -> &mut StartLines<W> {
+        self.priority = Priority::Warning;
+        self
+    }
+}
+
+impl<W: Write + Drop> Write for StartLines<W> {
+    fn write(&mut self, octets: &[u8]) -> io::Result<usize> {
+        if !self.is_started && self.form == LogForm::WithPriorities {
+            write!(self.out, "<{}>", self.priority as u8)?;
+        }
+        self.is_started = true;
+        let count = self.out.write(octets)?;
+        if octets[..count.min(octets.len())].last() == Some(&b'\n') {
+            self.is_started = false;
+            self.priority = Priority::Error;
+        }
+        Ok(count)
+    }
+
+    fn flush(&mut self) -> io::Result<()> {
+        self.out.flush()
+    }
+}
 
 /// Writes to standard error before the daemon serves.
 pub fn start_lines(rt: &HostRuntime) -> StartLines<Stderr> {
-    StartLines::new(rt.stderr(), log_form(rt))
+    StartLines {
+        out: rt.stderr(),
+        form: log_form(rt),
+        priority: Priority::Error,
+        is_started: false,
+    }
 }
 
-/// How lines of the log begin.
+/// Returns how lines on standard error begin: with priorities where the journal reads them.
 pub fn log_form(rt: &HostRuntime) -> LogForm {
-    let Ok(stream) = env::var(rt, "JOURNAL_STREAM") else {
-        return LogForm::Plain;
-    };
-    form_for(rt, stream.as_str())
+    if is_journal(rt) == Some(true) {
+        LogForm::WithPriorities
+    } else {
+        LogForm::Plain
+    }
+}
+
+// Returns whether standard error is what the journal reads, where both are known: its device and inode are the word JOURNAL_STREAM of the
+// environment (systemd.exec(5)).
+fn is_journal(rt: &HostRuntime) -> Option<bool> {
+    let stream = env::var(rt, "JOURNAL_STREAM").ok()?;
+    let (device, inode) = stream.as_str().split_once(':')?;
+    let standard_error = fs::metadata(rt, "/proc/self/fd/2").ok()?;
+    Some(device.parse() == Ok(standard_error.dev()) && inode.parse() == Ok(standard_error.ino()))
 }
 
 /// The service manager that hears of this process, where there is one.

@@ -1,9 +1,10 @@
 //! Where the files of a configuration stand: no two of them at one place, and those that are written in directories that are
 //! there.
 
+use crate::lines::StartLines;
 use labntpd_files::{Clock, Configuration};
 use ntp_admin::{Escaped, Status, memory_status};
-use ntp_host::{StartLines, not_regular};
+use ntp_host::not_regular;
 use std::alloc::Global;
 use std::fmt;
 use std::fs::{self, Files};

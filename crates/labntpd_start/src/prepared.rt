@@ -1,6 +1,7 @@
 //! What a server begins with, read from its files.
 
 use crate::host_addresses::SeveralAddresses;
+use crate::lines::StartLines;
 use crate::places::{NamedFiles, tell_places, tell_readers};
 use labntpd_files::{
     Clock, ClockDaemon, Configuration, ConfigurationFault, Endpoint, key_in_file,
@@ -8,7 +9,7 @@ use labntpd_files::{
 };
 use ntp_admin::{Escaped, Status, failed_status, memory_status};
 use ntp_client::{ClockLimits, Follower};
-use ntp_host::{StartLines, read_regular_file};
+use ntp_host::read_regular_file;
 use ntp_packet::Short;
 use ntp_reply::Reference;
 use sha2::{Digest, Sha256};

@@ -5,8 +5,7 @@ use crate::lines::{judged, start_lines};
 use labntpd_files::{Configuration, Listen};
 use ntp_admin::Status;
 use ntp_host::{
-    BoundAt, SOCKETS_ROOM, inherited, is_of_other_protocol, receive_buffer, set_receive_buffer,
-    set_send_buffer,
+    BoundAt, inherited, read_regular_file, receive_buffer, set_receive_buffer, set_send_buffer,
 };
 use std::alloc::Global;
 use std::io::{self, ErrorKind, Write};
@@ -16,6 +15,12 @@ use std::{env, fs, process};
 
 /// The socket that was handed down, among what this process has open (proc(5)).
 const INHERITED: &str = "/proc/self/fd/3";
+
+/// The kernel's lists of IPv4 sockets that receive datagrams and are none of UDP (proc(5)).
+const OTHER_LISTS: [&str; 3] = ["/proc/net/udplite", "/proc/net/raw", "/proc/net/icmp"];
+
+/// How many octets of such a list are read at most: 2,048 lines.
+const MOST_LIST_OCTETS: u32 = 262_144;
 
 /// The socket that is bound as the configuration says, or that was handed down.
 pub fn open_socket(rt: &HostRuntime, alloc: Global, listen: Listen) -> Result<UdpSocket, Status> {
@@ -84,20 +89,30 @@ fn handed_down(rt: &HostRuntime, alloc: Global) -> io::Result<UdpSocket> {
         return Err(io::Error::new(ErrorKind::InvalidInput, fault));
     }
     let socket = inherited()?;
-    if is_other(rt, alloc)? {
+    if is_other(rt, alloc) {
         let fault = "a UDP socket is wanted";
         return Err(io::Error::new(ErrorKind::InvalidInput, fault));
     }
     Ok(socket)
 }
 
-// Whether the kernel lists the socket that was handed down among those that are none of UDP.
-fn is_other(rt: &HostRuntime, alloc: Global) -> io::Result<bool> {
-    let mut room = Vec::with_capacity(alloc, SOCKETS_ROOM)?;
-    match fs::metadata(rt, INHERITED) {
-        Ok(metadata) => Ok(is_of_other_protocol(rt, metadata.ino(), &mut room)),
-        Err(_) => Ok(false),
-    }
+// Returns whether the kernel lists the socket that was handed down among those that are none of UDP.
+fn is_other(rt: &HostRuntime, alloc: Global) -> bool {
+    let Ok(metadata) = fs::metadata(rt, INHERITED) else {
+        return false;
+    };
+    let is_listed = |list: &&str| match read_regular_file(rt, alloc, list, MOST_LIST_OCTETS) {
+        Ok(octets) => has_inode(&octets, metadata.ino()),
+        Err(_) => false,
+    };
+    OTHER_LISTS.iter().any(is_listed)
+}
+
+// Returns whether a list of sockets has this inode: it is the tenth word of a line (proc(5)).
+fn has_inode(list: &[u8], inode: u64) -> bool {
+    let mut lines = str::from_utf8(list).unwrap_or("").lines();
+    let inode_of = |line: &str| line.split_ascii_whitespace().nth(9)?.parse().ok();
+    lines.any(|line| inode_of(line) == Some(inode))
 }
 
 // Whether what the environment says of sockets is meant for this process.

@@ -16,27 +16,18 @@ const UNREAD: Moment = Moment {
 
 /// The moment that the clock shows; stamp 0 of era 0 where it cannot be read.
 pub fn moment_now<C: Clock>(clock: &C) -> Moment {
-    let reading = SystemTime::now(clock);
-    moment_of(&reading)
+    moment_of(SystemTime::now(clock))
 }
 
 // The moment of a reading of a clock.
-fn moment_of(reading: &io::Result<SystemTime>) -> Moment
-    requires { IfOk reading.now (λ time. FitsClock (system_time_nanos time)) }
-    ensures shown { IfOk reading.now (λ time. IsMomentOf result (system_time_nanos time)) }
-    ensures unread { IfErr reading.now (λ _. result ≡ unread) }
+fn moment_of(reading: io::Result<SystemTime>) -> Moment
+    requires { IfOk reading (λ time. FitsClock (system_time_nanos time)) }
+    ensures shown { IfOk reading (λ time. IsMomentOf result (system_time_nanos time)) }
+    ensures unread { IfErr reading (λ _. result ≡ unread) }
 {
-    match reading {
-        Ok(time) => moment_at(*time),
-        Err(_) => UNREAD,
-    }
-}
-
-// The moment that a clock shows which could be read.
-fn moment_at(time: SystemTime) -> Moment
-    requires { FitsClock (system_time_nanos time) }
-    ensures { IsMomentOf result (system_time_nanos time) }
-{
+    let Ok(time) = reading else {
+        return UNREAD;
+    };
     let Ok(since_1970) = time.duration_since(UNIX_EPOCH) else {
         return UNREAD;
     };

@@ -1,4 +1,4 @@
-//! The state of the clock, from the register file or from the host's clock daemon.
+//! The state of the clock, from the configuration or from the host's clock daemon.
 
 use crate::clock::{HostClocks, moment_now};
 use ntp_client::{

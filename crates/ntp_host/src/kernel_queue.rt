@@ -19,9 +19,6 @@ const MOST_PARTS_AT_ONCE: u32 = 16;
 /// The kernel's list of UDP sockets (proc(5)).
 const UDP_LIST: &str = "/proc/net/udp";
 
-/// The kernel's lists of IPv4 sockets that receive datagrams and are none of UDP (proc(5)).
-const OTHER_LISTS: [&str; 3] = ["/proc/net/udplite", "/proc/net/raw", "/proc/net/icmp"];
-
 /// How many octets of a receive buffer a queued datagram takes at least, as Linux counts them: 576 for what it keeps of each
 /// datagram, and its headers.
 const LEAST_QUEUED_OCTETS: u32 = 640;
@@ -127,30 +124,6 @@ impl<R: Files> KernelDrops<R> {
             None => {}
         }
     }
-}
-
-/// Whether the kernel lists a socket of this inode among those that receive datagrams and are none of UDP. `room` is for a part of a
-/// list.
-pub fn is_of_other_protocol<R: Files>(files: &R, inode: u64, room: &mut Vec<u8>) -> bool {
-    OTHER_LISTS
-        .iter()
-        .any(|list| is_listed(files, list, inode, room).is_some())
-}
-
-// Nothing where a list has no socket of this inode, or cannot be read.
-fn is_listed<R: Files>(files: &R, list: &str, inode: u64, room: &mut Vec<u8>) -> Option<()> {
-    let mut file = fs::open(files, list).ok()?;
-    for _ in 0..MOST_PARTS_AT_ONCE {
-        let text = next_part(&mut file, room)?;
-        // It is the tenth word (proc(5)).
-        let mut inodes = text
-            .lines()
-            .filter_map(|line| line.split_ascii_whitespace().nth(9));
-        if inodes.any(|word| word.parse() == Ok(inode)) {
-            return Some(());
-        }
-    }
-    None
 }
 
 // The next lines of the kernel's list; nothing behind its end.

@@ -3,9 +3,7 @@
 use crate::socket::awaited;
 use libc::net::{POLLNVAL, POLLOUT, poll};
 use std::alloc::{AllocError, Global};
-use std::fs::{self, Files};
-use std::io::{self, Write};
-use std::os::unix::fs::MetadataExt;
+use std::io::Write;
 
 /// Standard output.
 const STANDARD_OUTPUT: i32 = 1;
@@ -82,84 +80,16 @@ impl<W: Write + Drop> Log<W> {
     }
 }
 
-/// Writes the faults and warnings before the daemon serves to standard error, for which it waits. Each line begins as those of the log do.
-#[derive(Drop)]
-pub struct StartLines<W: Write + Drop> {
-    out: W,
-    form: LogForm,
-    // How much the line matters, and whether a part of it was written.
-    priority: Priority,
-    is_started: bool,
-}
-
-impl<W: Write + Drop> StartLines<W> {
-    /// Lines that are written to `out`, which is standard error.
-    pub fn new(out: W, form: LogForm) -> StartLines<W> {
-        StartLines {
-            out,
-            form,
-            priority: Priority::Error,
-            is_started: false,
-        }
-    }
-
-    /// Has the next line be a warning; those behind it are faults again.
-    pub fn warning(&mut self) -> &mut StartLines<W> {
-        self.priority = Priority::Warning;
-        self
-    }
-}
-
-impl<W: Write + Drop> Write for StartLines<W> {
-    fn write(&mut self, octets: &[u8]) -> io::Result<usize> {
-        if !self.is_started && self.form == LogForm::WithPriorities {
-            write!(self.out, "<{}>", self.priority as u8)?;
-        }
-        self.is_started = true;
-        let count = self.out.write(octets)?;
-        if octets[..count.min(octets.len())].last() == Some(&b'\n') {
-            self.is_started = false;
-            self.priority = Priority::Error;
-        }
-        Ok(count)
-    }
-
-    fn flush(&mut self) -> io::Result<()> {
-        self.out.flush()
-    }
-}
-
 // Whether standard error would take a line at once.
 fn would_take() -> bool {
     asked(STANDARD_ERROR, POLLOUT) & (POLLOUT | POLLNVAL) == POLLOUT
 }
 
-/// How lines have to begin for who reads standard error: with priorities where that is the journal. `stream` is the word JOURNAL_STREAM
-/// of the environment, which names the device and the inode of what the journal reads (systemd.exec(5)).
-pub fn form_for<R: Files>(files: &R, stream: &str) -> LogForm {
-    if is_stream(files, stream) == Some(true) {
-        LogForm::WithPriorities
-    } else {
-        LogForm::Plain
-    }
-}
-
-// Whether standard error is the stream of this device and inode, where both are told.
-fn is_stream<R: Files>(files: &R, stream: &str) -> Option<bool> {
-    let (device, inode) = stream.split_once(':')?;
-    let standard_error = fs::metadata(files, "/proc/self/fd/2").ok()?;
-    Some(device.parse() == Ok(standard_error.dev()) && inode.parse() == Ok(standard_error.ino()))
-}
-
 /// Whether standard output and standard error are open. Where one is not, a file or a socket that is opened takes its place,
 /// and would get what is written to it.
 pub fn has_standard_streams() -> bool {
+    let is_open = |descriptor| asked(descriptor, 0) & POLLNVAL == 0;
     is_open(STANDARD_OUTPUT) && is_open(STANDARD_ERROR)
-}
-
-// Whether a descriptor is open.
-fn is_open(descriptor: i32) -> bool {
-    asked(descriptor, 0) & POLLNVAL == 0
 }
 
 /// Waits for `milliseconds` thousandths of a second.

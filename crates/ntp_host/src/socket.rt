@@ -59,12 +59,7 @@ fn set_option(socket: &UdpSocket, name: i32, number: u32) -> io::Result<()>
 {
     let mut value = [0; 16];
     value[..4].copy_from_slice(&number.to_ne_bytes());
-    let status = unsafe { setsockopt(socket.as_raw_fd(), SOL_SOCKET, name, &value, 4) };
-    if status == 0 {
-        Ok(())
-    } else {
-        Err(io::Error::from_raw_os_error(errno()))
-    }
+    succeeded(unsafe { setsockopt(socket.as_raw_fd(), SOL_SOCKET, name, &value, 4) })
 }
 
 /// The size of the receive buffer, in octets as the kernel counts them: with its own words about each datagram, so twice
@@ -79,12 +74,16 @@ fn option_of(socket: &UdpSocket, level: i32, name: i32) -> io::Result<u32>
 {
     let mut value = [0; 16];
     let mut length = 4;
-    let status = unsafe { getsockopt(socket.as_raw_fd(), level, name, &mut value, &mut length) };
-    if status == 0 {
-        Ok(u32::from_ne_bytes([value[0], value[1], value[2], value[3]]))
-    } else {
-        Err(io::Error::from_raw_os_error(errno()))
+    succeeded(unsafe { getsockopt(socket.as_raw_fd(), level, name, &mut value, &mut length) })?;
+    Ok(u32::from_ne_bytes([value[0], value[1], value[2], value[3]]))
+}
+
+// The system's error, where a call did not return 0.
+fn succeeded(status: i32) -> io::Result<()> {
+    if status != 0 {
+        return Err(io::Error::from_raw_os_error(errno()));
     }
+    Ok(())
 }
 
 /// The most octets of the name of a socket of this host (unix(7)).

@@ -39,23 +39,19 @@ pub struct UdpPort<C: Clock + Drop, Q = ()> {
 }
 
 impl<C: Clock + Drop> UdpPort<C> {
-    ghost use Rattle.ntp_host.specs.Failures.{udp_failures};
-
     /// A port over a bound socket. A time limit of the socket's is the longest that `receive_in_time` takes; with none it
     /// takes as long as nothing comes.
     pub fn new(socket: UdpSocket, clock: C) -> UdpPort<C>
-        ensures { udp_failures result ≡ 0 }
+        ensures { failed_calls result.counts ≡ 0 }
     {
         UdpPort::with_queue(socket, clock, ())
     }
 }
 
 impl<C: Clock + Drop, Q> UdpPort<C, Q> {
-    ghost use Rattle.ntp_host.specs.Failures.{udp_failures};
-
     /// A port over a bound socket whose queue can be asked. It begins with no failure.
     pub fn with_queue(socket: UdpSocket, clock: C, queue: Q) -> UdpPort<C, Q>
-        ensures { udp_failures result ≡ 0 }
+        ensures { failed_calls result.counts ≡ 0 }
     {
         UdpPort {
             socket,

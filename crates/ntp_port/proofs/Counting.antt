@@ -4,7 +4,6 @@ use Rattle.std.proofs.lemmas.Grind.{flat_map-append}
 use Rattle.std.specs.Prelude.{Result, flat_map}
 use Rattle.ntp_service.specs.{Registry.Registry, declared.observation.Arrival.Arrival, declared.observation.Sending.Sending}
 use Rattle.ntp_service.specs.declared.observation.TurnOutcome.{TurnOutcome}
-use Rattle.ntp_service.specs.declared.observation.TurnOutcome.TheVariants.{NothingReceived, Answered}
 use Rattle.ntp_service.specs.{Headline.Tells, Sending.was_sent, Sending.was_noted}
 use Rattle.ntp_reply.specs.{Reference.ReferenceState, declared.answers.Answer.Answer}
 use Rattle.ntp_reply.specs.declared.answers.Answer.TheVariants as answer
@@ -12,7 +11,7 @@ use Rattle.ntp_service.proofs.PublicLaws.{Tells-nil, Tells-append}
 use Rattle.ntp_port.specs.{declared.port.PortCounts.PortCounts, declared.port.PortFault.PortFault, declared.serving.Served.Served}
 use Rattle.ntp_port.specs.{Serving.ServeMakes, Sending.counted}
 use Rattle.ntp_port.specs.Port.{IncomingValue, Readings, Told}
-use Rattle.ntp_port.specs.Made.{Made, Missed, Received, happened_in_turn, sent_in, has_arrived, has_departed, sending_of, turn_outcome}
+use Rattle.ntp_port.specs.Made.{Made, Received, happened_in_turn, sent_in, has_arrived, has_departed, sending_of, turn_outcome}
 use Rattle.ntp_port.proofs.Taking.{TakesTurn}
 use Rattle.ntp_port.proofs.ManyTurns.{sent_of, if_so, count-more, Makes-nil, Makes-append}
 

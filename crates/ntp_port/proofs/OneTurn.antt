@@ -6,7 +6,6 @@ use Rattle.ntp_mac.specs.Mac.{most_reply_octets}
 use Rattle.ntp_service.specs.{declared.address.Address.Address, Registry.Registry, declared.observation.Sending.Sending}
 use Rattle.ntp_service.specs.{declared.event.Event.Event, Model.departure_outcome}
 use Rattle.ntp_reply.specs.declared.answers.Answer.{Answer}
-use Rattle.ntp_reply.specs.declared.answers.Answer.TheVariants as answer
 use Rattle.ntp_service.specs.declared.observation.Sending.TheVariants.{NoReply, NotSent, Sent as WasSent, Noted, NotNoted}
 use Rattle.ntp_service.specs.declared.event.Event.TheVariants as event
 use Rattle.ntp_service.specs.Headline.{StandsFor, Tells, TellsOne}

@@ -10,3 +10,4 @@ pub mod Watch
 pub mod Passing
 pub mod Fresh
 pub mod Next
+pub mod Pacing

@@ -8,6 +8,7 @@
 #![tactic(auto)]
 
 mod fresh_port;
+mod pacing;
 mod port;
 mod queue_event;
 mod queue_watch;
@@ -18,6 +19,7 @@ mod sources;
 
 pub use fresh_port::FreshPort;
 pub use ntp_service::Arrival;
+pub use pacing::EachMillisecond;
 pub use port::{DatagramRoom, MOST_RECEIVED_OCTETS, Port, PortCounts, PortFault, TimedPort};
 pub use queue_event::QueueEvent;
 pub use queue_watch::QueueWatch;

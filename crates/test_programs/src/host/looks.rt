@@ -1,9 +1,9 @@
 //! Looks at sources of commands, with receipts that were made up.
 
 use crate::host::counting::Counting;
-use ntp_host::{CommandsFile, EachMillisecond, HostClocks};
+use ntp_host::{CommandsFile, HostClocks};
 use ntp_packet::{Moment, Stamp};
-use ntp_port::CommandsSource;
+use ntp_port::{CommandsSource, EachMillisecond};
 use std::alloc::{Allocator, Global};
 use std::cell::Cell;
 use std::fs::{self, Files};

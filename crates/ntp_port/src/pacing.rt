@@ -1,10 +1,9 @@
 //! How often a source of commands is asked.
 ghost use Rattle.std.specs.Prelude.{◌≡◌, None, false, IsTrue, [], ◌∷◌, option_map};
-ghost use Rattle.ntp_port.specs.Sources.{Gives};
-ghost use Rattle.ntp_host.specs.Pacing.{is_due, asked_after, each_millisecond};
+ghost use Rattle.ntp_port.specs.{Sources.Gives, Pacing.is_due, Pacing.asked_after, Pacing.each_millisecond};
 
+use crate::CommandsSource;
 use ntp_packet::{Moment, Stamp};
-use ntp_port::CommandsSource;
 use std::alloc::Allocator;
 
 /// A thousandth of a second, in units of 2^-32 seconds.

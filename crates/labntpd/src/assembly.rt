@@ -1,9 +1,7 @@
 //! Customers are served, day and night.
 ghost use Rattle.std.specs.Prelude.{◌≡◌, ◌+◌, IfOk};
 
-use labntpd_assembly::{
-    Assembly, Host, Parts, ReportingObserver, ServeFault, StartupFacts, observer,
-};
+use labntpd_assembly::{Assembly, Host, Parts, ReportingObserver, ServeFault, StartupFacts};
 use labntpd_files::Configuration;
 use labntpd_start::{
     Prepared, PreparedClock, answers_file, clock_source, commands_at, log_form, open_socket,
@@ -147,5 +145,5 @@ fn open_observer<'a>(
         .customers
         .as_ref()
         .map(|_| CustomerCounts::new(alloc));
-    Ok(observer(answers, log, clocks, reports))
+    Ok(ReportingObserver::new(answers, log, clocks, reports))
 }

@@ -1,10 +1,10 @@
 //! What is logged of the lines of commands.
-ghost use Rattle.std.specs.Prelude.{◌≡◌, Some, None};
+ghost use Rattle.std.specs.Prelude.{◌≡◌, option_copied};
 ghost use Rattle.ntp_reports.specs.Logging.{customers_after};
 
 use ntp_host::{HostClocks, Log, Priority};
 use ntp_reports::{Ask, LineAllowance, customers_after, write_logged_line};
-use ntp_service::{Command, LineOutcome, Observer, TurnOutcome};
+use ntp_service::{Command, LineOutcome};
 use std::io::Write;
 
 /// A minute, in nanoseconds.
@@ -20,8 +20,6 @@ pub struct CommandLog<'a, W: Write + Drop> {
     others: LineAllowance,
     clocks: &'a HostClocks,
     customers: u64,
-    // The command that the next line is, if it is one.
-    command: Option<Command>,
 }
 
 impl<'a, W: Write + Drop> CommandLog<'a, W> {
@@ -29,7 +27,6 @@ impl<'a, W: Write + Drop> CommandLog<'a, W> {
     pub fn new(log: Log<W>, clocks: &'a HostClocks) -> CommandLog<'a, W>
         ensures log { result.log ≡ log }
         ensures customers { result.customers ≡ 0 }
-        ensures command { result.command ≡ None }
     {
         CommandLog {
             log,
@@ -37,7 +34,6 @@ impl<'a, W: Write + Drop> CommandLog<'a, W> {
             others: LineAllowance::new(),
             clocks,
             customers: 0,
-            command: None,
         }
     }
 
@@ -53,10 +49,17 @@ impl<'a, W: Write + Drop> CommandLog<'a, W> {
         self.log.dropped()
     }
 
-    // Logs what became of the line with a number, where that may be written.
-    fn log_line(&mut self, number: u64, outcome: LineOutcome)
-        ensures command { self.new.command ≡ self.old.command }
-        ensures customers { self.new.customers ≡ self.old.customers }
+    /// Hears what became of the line with a number, and of its command, if it is one.
+    pub fn line(&mut self, number: u64, command: Option<&Command>, outcome: LineOutcome)
+        ensures { self.new.customers ≡ customers_after self.old.customers (option_copied command.entry) outcome }
+    {
+        self.customers = customers_after(self.customers, command, outcome);
+        self.log_line(number, command, outcome);
+    }
+
+    // Logs it, where that may be written.
+    fn log_line(&mut self, number: u64, command: Option<&Command>, outcome: LineOutcome)
+        ensures { self.new.customers ≡ self.old.customers }
     {
         let minute = self.clocks.ticks.get() / MINUTE_NANOS;
         let (asked, priority, what) = match outcome {
@@ -76,29 +79,7 @@ impl<'a, W: Write + Drop> CommandLog<'a, W> {
             }
         }
         let line = self.log.begin(priority);
-        let _ = write_logged_line(line, number, self.command.as_ref(), outcome);
+        let _ = write_logged_line(line, number, command, outcome);
         self.log.end();
     }
-}
-
-impl<'a, W: Write + Drop> Observer for CommandLog<'a, W> {
-    fn command(&mut self, command: &Command)
-        ensures command { self.new.command ≡ Some command.now }
-        ensures customers { self.new.customers ≡ self.old.customers }
-    {
-        self.command = Some(*command);
-    }
-
-    fn line(&mut self, number: u64, outcome: LineOutcome)
-        ensures command { self.new.command ≡ None }
-        ensures customers { self.new.customers ≡ customers_after self.old.customers self.old.command outcome }
-    {
-        self.customers = customers_after(self.customers, self.command.as_ref(), outcome);
-        self.log_line(number, outcome);
-        self.command = None;
-    }
-
-    fn turn(&mut self, _outcome: &TurnOutcome)
-        ensures { self.new ≡ self.old }
-    {}
 }

@@ -16,6 +16,6 @@ mod parts;
 mod serving;
 
 pub use daemon_clock::DaemonClock;
-pub use observers::{DaemonObserver, ReportingObserver, observer};
+pub use observers::{DaemonObserver, ReportingObserver};
 pub use parts::{DaemonPort, Host, Parts, StartupFacts};
 pub use serving::{Assembly, ServeFault};

@@ -1,11 +1,14 @@
 //! The observers of a daemon.
-ghost use Rattle.std.specs.Prelude.{◌≡◌};
-ghost use Rattle.ntp_reports.specs.{declared.counts.Counts.Counts, Counted.nothing_counted};
+ghost use Rattle.std.specs.Prelude.{◌≡◌, option_copied};
+ghost use Rattle.ntp_service.specs.declared.observation.Observation.{Observation};
+ghost use Rattle.ntp_reports.specs.{declared.counts.Counts.Counts, Counted.nothing_counted, Counted.CountsOneMore};
+ghost use Rattle.ntp_reports.specs.{AnswerText.AnswersLine, Logging.customers_after};
+ghost use Rattle.ntp_reports.specs.Reported.{ReportsLine, ReportsTurn, IfThere};
 
 use crate::command_log::CommandLog;
 use ntp_host::{HostClocks, Log};
-use ntp_reports::{AnswerLines, Both, Counting, Counts, CustomerCounts};
-use ntp_service::Observer;
+use ntp_reports::{AnswerLines, Counts, CustomerCounts};
+use ntp_service::{Command, LineOutcome, Observer, TurnOutcome};
 use std::io::{self, Write};
 
 /// An observer of a daemon that the log and the statistics can report on.
@@ -31,9 +34,69 @@ pub trait DaemonObserver: Observer {
 }
 
 /// It counts, answers lines of commands, logs them, and reports of customers.
-pub type ReportingObserver<'a, L, W> = Counting<
-    Both<Option<AnswerLines<W>>, Both<CommandLog<'a, L>, Option<CustomerCounts>>>,
->;
+#[derive(Drop)]
+pub struct ReportingObserver<'a, L: Write + Drop, W> {
+    counts: Counts,
+    answers: Option<AnswerLines<W>>,
+    log: CommandLog<'a, L>,
+    reports: Option<CustomerCounts>,
+}
+
+impl<'a, L: Write + Drop, W: Write + Drop> ReportingObserver<'a, L, W> {
+    /// The observer of a daemon that has no customer yet. Nothing is counted. `answers` answers lines, and `reports` reports on
+    /// customers, where these are given.
+    pub fn new(
+        answers: Option<AnswerLines<W>>,
+        log: Log<L>,
+        clocks: &'a HostClocks,
+        reports: Option<CustomerCounts>,
+    ) -> ReportingObserver<'a, L, W>
+        ensures counts { result.counts ≡ nothing_counted }
+        ensures answers { result.answers ≡ answers }
+        ensures log { result.log.log ≡ log }
+        ensures customers { result.log.customers ≡ 0 }
+        ensures reports { result.reports ≡ reports }
+    {
+        ReportingObserver {
+            counts: Counts::new(),
+            answers,
+            log: CommandLog::new(log, clocks),
+            reports,
+        }
+    }
+}
+
+impl<'a, L: Write + Drop, W: Write + Drop> Observer for ReportingObserver<'a, L, W> {
+    fn line(&mut self, number: u64, command: Option<&Command>, outcome: LineOutcome)
+        ensures counts { CountsOneMore self.old.counts self.new.counts
+            (Observation.Line number (option_copied command.entry) outcome) }
+        ensures answers { IfThere (AnswersLine W.contents number outcome) self.old.answers self.new.answers }
+        ensures customers { self.new.log.customers
+            ≡ customers_after self.old.log.customers (option_copied command.entry) outcome }
+        ensures reports { IfThere (ReportsLine number (option_copied command.entry) outcome) self.old.reports self.new.reports }
+    {
+        self.counts.count_line(outcome);
+        if let Some(answers) = &mut self.answers {
+            answers.line(number, outcome);
+        }
+        self.log.line(number, command, outcome);
+        if let Some(reports) = &mut self.reports {
+            reports.line(number, command, outcome);
+        }
+    }
+
+    fn turn(&mut self, outcome: &TurnOutcome)
+        ensures counts { CountsOneMore self.old.counts self.new.counts (Observation.Turn outcome.now) }
+        ensures answers { self.new.answers ≡ self.old.answers }
+        ensures log { self.new.log ≡ self.old.log }
+        ensures reports { IfThere (ReportsTurn outcome.now) self.old.reports self.new.reports }
+    {
+        self.counts.count_turn(outcome);
+        if let Some(reports) = &mut self.reports {
+            reports.turn(outcome);
+        }
+    }
+}
 
 impl<'a, L: Write + Drop, W: Write + Drop> DaemonObserver for ReportingObserver<'a, L, W> {
     ghost counted = { λ o. o.counts };
@@ -43,44 +106,18 @@ impl<'a, L: Write + Drop, W: Write + Drop> DaemonObserver for ReportingObserver<
     }
 
     fn answers_fault(&self) -> Option<io::Error> {
-        self.inner.first.as_ref()?.fault()
+        self.answers.as_ref()?.fault()
     }
 
     fn customers(&self) -> u64 {
-        self.inner.second.first.customers()
+        self.log.customers()
     }
 
     fn reports(&self) -> Option<&CustomerCounts> {
-        self.inner.second.second.as_ref()
+        self.reports.as_ref()
     }
 
     fn log_lines_dropped(&self) -> u64 {
-        self.inner.second.first.dropped()
-    }
-}
-
-/// The observer of a daemon that has no customer yet. Nothing is counted. `answers` answers lines, and `reports` reports on
-/// customers, where these are given.
-pub fn observer<'a, L: Write + Drop, W: Write + Drop>(
-    answers: Option<AnswerLines<W>>,
-    log: Log<L>,
-    clocks: &'a HostClocks,
-    reports: Option<CustomerCounts>,
-) -> ReportingObserver<'a, L, W>
-    ensures counts { result.counts ≡ nothing_counted }
-    ensures answers { result.inner.first ≡ answers }
-    ensures log { result.inner.second.first.log ≡ log }
-    ensures customers { result.inner.second.first.customers ≡ 0 }
-    ensures reports { result.inner.second.second ≡ reports }
-{
-    Counting {
-        counts: Counts::new(),
-        inner: Both {
-            first: answers,
-            second: Both {
-                first: CommandLog::new(log, clocks),
-                second: reports,
-            },
-        },
+        self.log.dropped()
     }
 }

@@ -1,9 +1,7 @@
 //! What a daemon works with.
 use labntpd_files::Configuration;
-use ntp_host::{
-    BoundAt, EachMillisecond, HostClocks, KernelQueue, LogForm, ServiceManager, UdpPort,
-};
-use ntp_port::{FreshPort, QueuedPort};
+use ntp_host::{BoundAt, HostClocks, KernelQueue, LogForm, ServiceManager, UdpPort};
+use ntp_port::{EachMillisecond, FreshPort, QueuedPort};
 use ntp_server::Server;
 use std::alloc::Global;
 use std::fs::Files;

@@ -3,8 +3,7 @@ ghost use Rattle.std.specs.Prelude.{◌≡◌, ◌+◌, ◌<◌, ◌^◌, None, 
 ghost use Rattle.std.specs.declared.alloc.Global.{Global};
 ghost use Rattle.ntp_reports.specs.Counted.{count_at};
 ghost use Rattle.ntp_service.specs.Headline.{StandsFor};
-ghost use Rattle.ntp_port.specs.Port.{failed_calls};
-ghost use Rattle.ntp_host.specs.Pacing.{each_millisecond};
+ghost use Rattle.ntp_port.specs.{Port.failed_calls, Pacing.each_millisecond};
 ghost use Rattle.ntp_server.specs.Rounds.{ServesRounds};
 
 use crate::daemon_clock::DaemonClock;
@@ -12,7 +11,7 @@ use crate::files::DaemonCommands;
 use crate::housekeeping::Housekeeping;
 use crate::observers::DaemonObserver;
 use crate::parts::{Daemon, DaemonPort, Host, Parts, StartupFacts};
-use ntp_host::EachMillisecond;
+use ntp_port::EachMillisecond;
 use ntp_reports::Kind;
 use ntp_server::{Server, Totals};
 use ntp_service::Service;

@@ -1,5 +1,5 @@
 -- Lines carried out one after another.
-use Rattle.std.proofs.Common.{◌≡◌, ℕ, ◌+◌, ◌<◌, ◌≤◌, ◌^◌, false, List, [], ◌∷◌, ◌++◌, length, Option, Some, None, Ok, Err, arith, refl, sym, ap, ◌∙◌, subst, append_assoc, append-nil}
+use Rattle.std.proofs.Common.{◌≡◌, ℕ, ◌+◌, ◌<◌, ◌≤◌, ◌^◌, false, List, [], ◌∷◌, ◌++◌, length, Option, Some, Ok, Err, arith, refl, sym, ap, ◌∙◌, subst, append_assoc, append-nil}
 use Rattle.std.specs.Prelude.{Result, IfOk, IfErr, IsUtf8}
 use Rattle.std.proofs.{lemmas.Bool.false_from_ne_true, lemmas.Bool.Decides.nat_tests}
 use Rattle.std.proofs.{lemmas.Str.is_utf8-from_IsUtf8, lemmas.Str.IsUtf8-from_is_utf8, lemmas.List.length-append}
@@ -8,12 +8,12 @@ use Rattle.ntp_service.specs.{declared.event.Event.Event, declared.line_fault.Li
 use Rattle.ntp_service.specs.{declared.line_fault.LineFault.TheVariants.NotUtf8, declared.observation.LineOutcome.LineOutcome}
 use Rattle.ntp_service.specs.{declared.observation.Observation.Observation, Sees.Sees}
 use Rattle.ntp_service.specs.declared.event.Event.TheVariants as event
-use Rattle.ntp_service.specs.declared.observation.Observation.TheVariants as observation
-use Rattle.ntp_service.proofs.PublicLaws.{Sees-nil, Sees-append, Tells-nil, Tells-one}
-use Rattle.ntp_service.specs.Headline.{StandsFor, TellsOne, command_outcome}
+use Rattle.ntp_service.specs.declared.observation.Observation.TheVariants.{Line}
+use Rattle.ntp_service.proofs.PublicLaws.{Tells-nil, Tells-one}
+use Rattle.ntp_service.specs.Headline.{StandsFor, Tells, TellsOne, command_outcome}
 use Rattle.ntp_admin.specs.{Words.words, Spells.command_in, Spells.is_passed_over, FileText.IsText}
-use Rattle.ntp_admin.specs.CommandsFile.{complete_lines, line_reading, count_on, carried_out, CarriesOut, CarriesOutDue}
-use Rattle.ntp_admin.specs.Applying.{told_before, LeadsTo, AppliesLine}
+use Rattle.ntp_admin.specs.CommandsFile.{complete_lines, line_reading, count_on, carried_out, happened_read, observed_read, CarriesOut, CarriesOutDue}
+use Rattle.ntp_admin.specs.Applying.{AppliesLine}
 use Rattle.ntp_admin.proofs.LinesTaken.{count_on-none, CarriesOut-none, CarriesOut-more}
 
 -- ---- what a line is read as
@@ -30,25 +30,20 @@ reads-no-text most line taken short none = grind (arith, nat_tests, false_from_n
 
 -- ---- one line
 -- a command was carried out or refused
-pub LeadsTo-command : (A : Type 0) (old new : Registry) (c : Command) (r : Result (Unit {0}) Refusal) (o : LineOutcome) → o ≡ carried_out r
+pub AppliesLine-command : (A : Type 0) (most number : ℕ) (line : List ℕ) (c : Command) (r : Result (Unit {0}) Refusal) (o : LineOutcome)
+    (old new : Registry) (seen told : Option (List Observation)) → line_reading most line ≡ Some (Ok c) → o ≡ carried_out r
     → ((history : List (Event A)) → StandsFor old history → TellsOne history (event.Command c) (command_outcome r) new)
-    → LeadsTo A (Ok c) o old new
-LeadsTo-command A old new c r o said tells =
-    (r, λ number. ap (λ x. observation.Command c ∷ observation.Line number x ∷ []) (sym said), λ history stands. Tells-one history _ _ new (tells history stands))
+    → Sees seen told (Line number (Some c) o ∷ []) → AppliesLine A most number line old new seen told
+AppliesLine-command A most number line c r o old new seen told read said tells sees =
+    rw read
+    (r, subst (λ x. Sees seen told (Line number (Some c) x ∷ [])) said sees, λ history stands. Tells-one history _ _ new (tells history stands))
 
--- a line that is passed over
-pub AppliesLine-none : (A : Type 0) (most number : ℕ) (line : List ℕ) (s : Registry) (seen : Option (List Observation))
-    → line_reading most line ≡ None → AppliesLine A most number line s s seen seen
-AppliesLine-none A most number line s seen over =
-    rw over (Ok tt, Sees-nil seen, λ history stands. Tells-nil history s stands)
-
--- one that is not, of whose command an observer heard before
-pub AppliesLine-read : (A : Type 0) (most number : ℕ) (line : List ℕ) (read : Result Command LineFault) (o : LineOutcome) (old new : Registry)
-    (seen heard told : Option (List Observation)) → line_reading most line ≡ Some read → LeadsTo A read o old new
-    → Sees seen heard (told_before read) → Sees heard told (observation.Line number o ∷ [])
-    → AppliesLine A most number line old new seen told
-AppliesLine-read A most number line read o old new seen heard told taken c before behind =
-    rw taken (c.0, subst (λ os. Sees seen told os) (sym (c.1 number)) (Sees-append seen heard told _ _ before behind), c.2)
+-- a line that is no command
+pub AppliesLine-none : (A : Type 0) (most number : ℕ) (line : List ℕ) (s : Registry) (seen told : Option (List Observation))
+    → happened_read {A = A} (line_reading most line) (Ok tt) ≡ [] → Sees seen told (observed_read number (line_reading most line) (Ok tt))
+    → AppliesLine A most number line s s seen told
+AppliesLine-none A most number line s seen told none sees =
+    (Ok tt, sees, λ history stands. subst (λ es. Tells history es s) (sym none) (Tells-nil history s stands))
 
 -- ---- the lines of octets
 -- what was carried out of octets, where `rest` is still to be read

@@ -1,23 +1,9 @@
 -- Not to be believed: for proofs. What becomes of a text, and of one line.
-use Rattle.std.specs.Prelude.{◌≡◌, ℕ, max, List, [], ◌∷◌, ◌++◌, length, drop, Option, Some, Result, Ok, Err}
-use Rattle.ntp_service.specs.{declared.refusal.Refusal.Refusal, Registry.Registry, declared.command.Command.Command}
-use Rattle.ntp_service.specs.{declared.event.Event.Event, declared.line_fault.LineFault.LineFault}
-use Rattle.ntp_service.specs.{declared.observation.LineOutcome.LineOutcome, declared.observation.Observation.Observation}
-use Rattle.ntp_service.specs.{Sees.Sees, Headline.StandsFor, Headline.Tells}
-use Rattle.ntp_service.specs.declared.observation.Observation.TheVariants as observation
+use Rattle.std.specs.Prelude.{◌≡◌, ℕ, max, List, length, drop, Option, Result}
+use Rattle.ntp_service.specs.{declared.refusal.Refusal.Refusal, Registry.Registry, declared.event.Event.Event}
+use Rattle.ntp_service.specs.{declared.observation.Observation.Observation, Sees.Sees, Headline.StandsFor, Headline.Tells}
 use Rattle.ntp_admin.specs.FileText.{most_file_octets}
 use Rattle.ntp_admin.specs.CommandsFile.{complete_lines, line_reading, happened_read, observed_read, CarriesOut}
-
--- what an observer is told of a line that is read so, before it is carried out
-abbrev pub told_before : Result Command LineFault → List Observation
-told_before (Ok command) = observation.Command command ∷ []
-told_before (Err fault) = []
-
--- what a line that is read so leads to
-abbrev pub LeadsTo : (A : Type 0) → Result Command LineFault → LineOutcome → Registry → Registry → Type 0
-LeadsTo A read outcome old new = (result : Result (Unit {0}) Refusal)
-    × ((number : ℕ) → observed_read number (Some read) result ≡ told_before read ++ observation.Line number outcome ∷ [])
-    × ((history : List (Event A)) → StandsFor old history → Tells history (happened_read (Some read) result) new)
 
 -- the line with a number was taken
 abbrev pub AppliesLine :

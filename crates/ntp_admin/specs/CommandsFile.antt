@@ -11,7 +11,7 @@ use Rattle.ntp_admin.specs.{Words.words, Words.parts, Spells.command_in, Spells.
 use Rattle.ntp_admin.specs.FileText.{most_file_octets, IsText}
 use Rattle.ntp_service.specs.declared.event.Event.TheVariants as event
 use Rattle.ntp_service.specs.declared.observation.LineOutcome.TheVariants.{Done, Refused, Faulty}
-use Rattle.ntp_service.specs.declared.observation.Observation.TheVariants as observation
+use Rattle.ntp_service.specs.declared.observation.Observation.TheVariants.{Line}
 use Rattle.ntp_service.specs.Headline.{StandsFor, Tells, command_outcome}
 
 -- the lines that a line feed ends: what stands between line feeds, without the last such piece
@@ -46,11 +46,11 @@ abbrev pub carried_out : Result (Unit {0}) Refusal → LineOutcome
 carried_out (Ok done) = Done
 carried_out (Err refusal) = Refused refusal
 
--- what an observer is told of a line with a number, read so: its command first, if it is one, and then what became of it
+-- what an observer is told of a line with a number, read so: its command, if it is one, and what became of it
 abbrev pub observed_read : ℕ → Option (Result Command LineFault) → Result (Unit {0}) Refusal → List Observation
 observed_read number None result = []
-observed_read number (Some (Ok command)) result = observation.Command command ∷ observation.Line number (carried_out result) ∷ []
-observed_read number (Some (Err fault)) result = observation.Line number (Faulty fault) ∷ []
+observed_read number (Some (Ok command)) result = Line number (Some command) (carried_out result) ∷ []
+observed_read number (Some (Err fault)) result = Line number None (Faulty fault) ∷ []
 
 -- what happened at lines of at most `most` octets, in their order
 abbrev pub happened_at_lines : {A : Type 0} → ℕ → List TakenLine → List (Event A × Outcome)

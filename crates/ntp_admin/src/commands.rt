@@ -2,8 +2,7 @@
 ghost use Rattle.std.specs.Prelude.{◌≡◌, ◌<◌, ◌≤◌, ◌==◌, [], ◌∷◌, None, length, drop, position, IfSome, IfNone, MatchOption};
 ghost use Rattle.ntp_admin.specs.FileText.{IsText};
 ghost use Rattle.ntp_admin.specs.CommandsFile.{most_line_octets, complete_lines, line_reading, count_on, carried_out, CarriesOut, CarriesOutDue};
-ghost use Rattle.ntp_admin.specs.Applying.{AppliesText, AppliesLine, LeadsTo, told_before};
-ghost use Rattle.ntp_service.specs.Sees.{Sees};
+ghost use Rattle.ntp_admin.specs.Applying.{AppliesText, AppliesLine};
 
 use crate::fault_lines::FaultLines;
 use crate::file_text::{MOST_FILE_OCTETS, text_of};
@@ -142,9 +141,13 @@ fn carry_out_line<A: Allocator + Copy, O: Observer>(
 )
     ensures { AppliesLine A most number line.now service.old service.new (O.seen observer.old) (O.seen observer.new) }
 {
-    if let Some(read) = read_line(line, most) {
-        let outcome = carry_out(service, read, observer);
-        observer.line(number, outcome);
+    match read_line(line, most) {
+        Some(Ok(command)) => {
+            let outcome = outcome_of(service.command(&command));
+            observer.line(number, Some(&command), outcome);
+        }
+        Some(Err(fault)) => observer.line(number, None, LineOutcome::Faulty(fault)),
+        None => {}
     }
 }
 
@@ -161,24 +164,6 @@ fn read_line(line: &[u8], most: usize) -> Option<Result<Command, LineFault>>
     match str::from_utf8(line) {
         Ok(text) => Some(parse_command(text)),
         Err(_) => Some(Err(LineFault::NotUtf8)),
-    }
-}
-
-// Tells the observer the command that a line says, carries it out, and returns what became of the line.
-fn carry_out<A: Allocator + Copy, O: Observer>(
-    service: &mut Service<A>,
-    read: Result<Command, LineFault>,
-    observer: &mut O,
-) -> LineOutcome
-    ensures leads_to { LeadsTo A read result service.old service.new }
-    ensures seen { Sees (O.seen observer.old) (O.seen observer.new) (told_before read) }
-{
-    match read {
-        Ok(command) => {
-            observer.command(&command);
-            outcome_of(service.command(&command))
-        }
-        Err(fault) => LineOutcome::Faulty(fault),
     }
 }
 

@@ -57,13 +57,8 @@ impl<W: Write> FaultLines<W> {
 }
 
 impl<W: Write> Observer for FaultLines<W> {
-    // A command makes no line.
-    fn command(&mut self, _command: &Command)
-        ensures { self.new ≡ self.old }
-    {}
-
     // Where no write has failed, what is wrong with the line was written, and every write before went well.
-    fn line(&mut self, number: u64, outcome: LineOutcome)
+    fn line(&mut self, number: u64, _command: Option<&Command>, outcome: LineOutcome)
         ensures written { OnFalse self.new.has_failed
             (Appends (W.contents self.old.faults) (W.contents self.new.faults) (line_text number outcome)) }
         ensures done { outcome ≡ LineOutcome.Done → self.new ≡ self.old }

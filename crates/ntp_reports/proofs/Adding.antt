@@ -1,9 +1,9 @@
 -- Counts, after some kinds more were counted.
-use Rattle.std.proofs.Common.{◌≡◌, ◌+◌, ◌-◌, List, [], ◌∷◌, ◌++◌, arith}
+use Rattle.std.proofs.Common.{◌≡◌, List, [], ◌∷◌, ◌++◌, arith}
 use Rattle.std.proofs.{lemmas.Grind.flat_map-append, lemmas.List.Sums.sum_by-append}
 use Rattle.ntp_reply.specs.declared.answers.Answer.{Answer}
 use Rattle.ntp_service.specs.{declared.observation.Arrival.Arrival, declared.observation.Observation.Observation}
-use Rattle.ntp_service.specs.{declared.command.Command.Command, declared.observation.Sending.Sending}
+use Rattle.ntp_service.specs.declared.observation.Sending.{Sending}
 use Rattle.ntp_service.specs.declared.observation.TurnOutcome.TheVariants.{Answered}
 use Rattle.ntp_service.specs.declared.observation.Observation.TheVariants as observation
 use Rattle.ntp_reports.specs.{declared.kind.Kind.Kind, declared.counts.Counts.Counts, Counted.CountsOneMore, Counted.Adds}
@@ -16,10 +16,6 @@ Adds-append a b c xs ys first then = grind (arith, sum_by-append)
 -- the kinds of an observation were counted
 pub counted-Adds : (old new : Counts) (more : Observation) → Adds old new (kinds_of more) → CountsOneMore old new more
 counted-Adds old new more adds = grind (arith, flat_map-append, sum_by-append)
-
--- a command is not counted
-pub counted-command : (old new : Counts) (command : Command) → new ≡ old → CountsOneMore old new (observation.Command command)
-counted-command old new command same = grind (arith, counted-Adds)
 
 -- an answer was counted, and then what became of the reply
 pub counted-answer : (old mid new : Counts) (arrival : Arrival) (a : Answer) (sending : Sending) (k : Kind) → k ≡ answer_kind a

@@ -11,7 +11,7 @@ use Rattle.ntp_reply.specs.{declared.answers.Answer.Answer, declared.answers.Rea
 use Rattle.ntp_reply.specs.declared.answers.Answer.TheVariants as answer
 use Rattle.ntp_reply.specs.declared.answers.Reason.TheVariants as reason
 use Rattle.ntp_service.specs.declared.observation.LineOutcome.TheVariants as line
-use Rattle.ntp_service.specs.declared.observation.Observation.TheVariants.{Command, Line, Turn}
+use Rattle.ntp_service.specs.declared.observation.Observation.TheVariants.{Line, Turn}
 use Rattle.ntp_service.specs.declared.observation.Sending.TheVariants as sending
 use Rattle.ntp_reports.specs.{contracts.kind.Kind.the_type, declared.kind.Kind.Kind, Interleaving.tells_departure}
 use Rattle.ntp_reports.specs.declared.kind.Kind.TheVariants as kind
@@ -74,9 +74,8 @@ line_kind line.Done = kind.Done
 line_kind (line.Refused why) = refusal_kind why
 line_kind (line.Faulty fault) = kind.Faulty
 
--- what an observation is counted as: a command by what became of its line, and a turn by its answer and what became of the reply
+-- what an observation is counted as: a line by what became of it, and a turn by its answer and what became of the reply
 abbrev pub kinds_of : Observation → List Kind
-kinds_of (Command command) = []
-kinds_of (Line number outcome) = line_kind outcome ∷ []
+kinds_of (Line number command outcome) = line_kind outcome ∷ []
 kinds_of (Turn NothingReceived) = kind.NothingReceived ∷ []
 kinds_of (Turn (Answered arrival a sending)) = answer_kind a ∷ sending_kinds sending

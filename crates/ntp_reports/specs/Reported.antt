@@ -1,5 +1,5 @@
 -- What an observer reports of customers.
-use Rattle.std.specs.Prelude.{◌≡◌, ℕ, ◌⊎◌, Bool, false, true, ◌==◌, if◌then◌else◌, Option, None, Some, option_and_then, IfSome, List, filter, filter_map, reverse, slice_get}
+use Rattle.std.specs.Prelude.{◌≡◌, ℕ, ◌⊎◌, Bool, false, true, ◌==◌, if◌then◌else◌, Option, None, Some, is_some, option_and_then, IfSome, IsSomeAnd, List, [], ◌∷◌, ◌++◌, filter, filter_map, reverse, slice_get}
 use Rattle.std.specs.Map.{lookup}
 use Rattle.ntp_packet.specs.declared.moment.Moment.{Moment}
 use Rattle.ntp_service.specs.{declared.address.Address.Address, Address.address_eq, declared.command.Command.Command}
@@ -10,11 +10,6 @@ use Rattle.ntp_service.specs.Commands.{address_named}
 use Rattle.ntp_reports.specs.{declared.signing.Signing.Signing, declared.customer_report.CustomerReport.CustomerReport}
 use Rattle.ntp_reports.specs.{declared.customer_counts.CustomerCounts.CustomerCounts, Counted.AreCounts, Signing.signing_in}
 use Rattle.ntp_reports.specs.Customers.{key_numbered, report_after, Takes}
-
--- the command that a line carried out, if it did: the one that was heard of before
-abbrev pub done_in : Option Command → LineOutcome → Option Command
-done_in heard Done = heard
-done_in heard other = None
 
 -- whether an observation is of a datagram from an address
 abbrev pub comes_from : Address → Observation → Bool
@@ -64,25 +59,29 @@ module _ {A : Type 0} where
   CarriedOut old new command line =
       HasReport old new (address_named command) (report_after (report_at old (address_named command)) command line)
 
-  -- a line carried out this command, or none
-  abbrev pub IsTold : CustomerCounts A → CustomerCounts A → Option Command → ℕ → Type 0
-  IsTold old new None line = AreSame old new
-  IsTold old new (Some command) line = CarriedOut old new command line
-
   -- memory was refused for the report of the address that a command names, which had none: all reports are as they were
   abbrev pub HasMissed : CustomerCounts A → CustomerCounts A → Command → Type 0
   HasMissed old new command = (report_at old (address_named command) ≡ None) × AreSame old new × (new.has_missed ≡ true)
 
-  -- a command was carried out by a line, or its report was missed
-  abbrev pub CarriedOutOrMissed : CustomerCounts A → CustomerCounts A → Command → ℕ → Type 0
-  CarriedOutOrMissed old new command line = CarriedOut old new command line ⊎ HasMissed old new command
-
-  -- so a line carried out this command, or none
-  abbrev pub IsToldOrMissed : CustomerCounts A → CustomerCounts A → Option Command → ℕ → Type 0
-  IsToldOrMissed old new None line = AreSame old new
-  IsToldOrMissed old new (Some command) line = CarriedOutOrMissed old new command line
+  -- a line with this number and command was reported: where a command was done, it was carried out, or its report was missed
+  abbrev pub ReportsLine : ℕ → Option Command → LineOutcome → CustomerCounts A → CustomerCounts A → Type 0
+  ReportsLine number (Some command) Done old new = CarriedOut old new command number ⊎ HasMissed old new command
+  ReportsLine number other outcome old new = AreSame old new
 
   -- a turn of an address was taken; no public clause cites this
   pub record TakesTurn (outcome : TurnOutcome) (address : Address) (old new : CustomerCounts A) : Type 0 where
     pub own : IsTakenInto outcome (report_at old address) (report_at new address)
     pub others : (other : Address) → address_eq address other ≡ false → report_at new other ≡ report_at old other
+
+  -- a turn more was reported, in the counts and in when keys signed: whatever these were of, they are of that and this turn
+  pub record ReportsTurn (outcome : TurnOutcome) (old new : CustomerCounts A) : Type 0 where
+    pub counts : (address : Address) (seen : List Observation) → CountsOf old address seen → CountsOf new address (seen ++ Turn outcome ∷ [])
+    pub signings : (address : Address) (number : ℕ) (seen : List Observation) → SignsAs old address number seen
+        → SignsAs new address number (seen ++ Turn outcome ∷ [])
+    pub customers : (address : Address) → is_some (report_at new address) ≡ is_some (report_at old address)
+    pub missed : new.has_missed ≡ old.has_missed
+
+-- a part that may be absent: none comes and none goes, and one that is there goes this way
+abbrev pub IfThere : {T : Type 0} → (T → T → Type 0) → Option T → Option T → Type 0
+IfThere goes None new = new ≡ None
+IfThere goes (Some old) new = IsSomeAnd new (goes old)

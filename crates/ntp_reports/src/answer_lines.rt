@@ -1,9 +1,9 @@
-//! An observer that answers lines of commands.
-ghost use Rattle.std.specs.Prelude.{◌≡◌, OnOk, None, Some, IfNone, IfSome};
+//! Answers to lines of commands.
+ghost use Rattle.std.specs.Prelude.{◌≡◌, OnOk, None};
 ghost use Rattle.std.specs.Io.KnownBytes.{Appends};
-ghost use Rattle.ntp_reports.specs.AnswerText.{answer_line};
+ghost use Rattle.ntp_reports.specs.AnswerText.{answer_line, AnswersLine};
 
-use ntp_service::{Command, LineOutcome, Observer, TurnOutcome};
+use ntp_service::LineOutcome;
 use std::io::{self, Write};
 
 /// Writes a line for each line of commands: `N done`, `N refused WORD` or `N faulty WORD`, where N counts the file's lines
@@ -50,29 +50,14 @@ impl<W: Write> AnswerLines<W> {
             }
         }
     }
-}
 
-impl<W: Write> Observer for AnswerLines<W> {
-    // A command makes no line.
-    fn command(&mut self, _command: &Command)
-        ensures { self.new ≡ self.old }
-    {}
-
-    // Where no write has failed, the answer was written, and every write before went well.
-    fn line(&mut self, number: u64, outcome: LineOutcome)
-        ensures written { IfNone self.new.fault
-            (Appends (W.contents self.old.answers) (W.contents self.new.answers) (answer_line number outcome)) }
-        ensures noted { IfNone self.new.fault (self.old.fault ≡ None) }
-        ensures first { IfSome self.old.fault (λ fault. self.new.fault ≡ Some fault) }
+    /// Answers the line with a number.
+    pub fn line(&mut self, number: u64, outcome: LineOutcome)
+        ensures { AnswersLine W.contents number outcome self.old self.new }
     {
         // The run goes on whether or not somebody can be told.
         if let Err(error) = self.write_answer(number, outcome) {
             self.fault.get_or_insert(error);
         }
     }
-
-    // A turn makes no line.
-    fn turn(&mut self, _outcome: &TurnOutcome)
-        ensures { self.new ≡ self.old }
-    {}
 }

@@ -1,6 +1,6 @@
 //! How many turns and lines of commands of each kind there were.
-ghost use Rattle.std.specs.Prelude.{◌≡◌, ℕ, List, [], ◌∷◌};
-ghost use Rattle.ntp_service.specs.declared.observation.Observation.{Observation};
+ghost use Rattle.std.specs.Prelude.{◌≡◌, ℕ, Option, List, [], ◌∷◌};
+ghost use Rattle.ntp_service.specs.{declared.command.Command.Command, declared.observation.Observation.Observation};
 ghost use Rattle.ntp_reports.specs.Kinds.{sending_kinds};
 ghost use Rattle.ntp_reports.specs.Counted.{count_at, nothing_counted, AreCounts, CountsOneMore, Adds};
 
@@ -50,9 +50,10 @@ impl Counts {
         }
     }
 
-    /// Counts a line of commands, whatever its number.
+    /// Counts a line of commands, whatever its number and its command.
     pub fn count_line(&mut self, outcome: LineOutcome)
-        ensures { (number : ℕ) → CountsOneMore self.old self.new (Observation.Line number outcome) }
+        ensures { (number : ℕ) (command : Option Command)
+            → CountsOneMore self.old self.new (Observation.Line number command outcome) }
     {
         self.add(line_kind(outcome));
     }

@@ -1,29 +1,26 @@
-//! An observer that reports of each customer.
-ghost use Rattle.std.specs.Prelude.{◌≡◌, ℕ, false, Some, None, is_some, option_copied, option_map, OnOk, OnErr, List, [], ◌∷◌, ◌++◌, length, slice_get};
+//! What is reported of each customer.
+ghost use Rattle.std.specs.Prelude.{◌≡◌, false, Some, None, option_copied, option_map, OnOk, OnErr, length, slice_get};
 ghost use Rattle.std.specs.{Map.Iter.deref_pair, Bool.OnFalse};
-ghost use Rattle.ntp_service.specs.{declared.address.Address.Address, declared.observation.Observation.Observation};
-ghost use Rattle.ntp_service.specs.Commands.{address_named};
-ghost use Rattle.ntp_reports.specs.Reported.{report_at, done_in, AreSame, HasReport, CarriedOut, IsTold, CarriedOutOrMissed, IsToldOrMissed, TakesTurn, CountsOf, SignsAs};
+ghost use Rattle.ntp_service.specs.{declared.address.Address.Address, Commands.address_named};
+ghost use Rattle.ntp_reports.specs.Reported.{report_at, AreSame, HasReport, CarriedOut, ReportsLine, TakesTurn, ReportsTurn};
 
 use crate::customer_report::{CustomerReport, report_after};
 use indexmap::IndexMap;
 use indexmap::map::Iter;
-use ntp_service::{Address, Command, LineOutcome, Observer, TurnOutcome};
+use ntp_service::{Address, Command, LineOutcome, TurnOutcome};
 use std::alloc::{AllocError, Allocator, Global};
 use std::hash::{BuildHasherDefault, FoldHasher};
 
 // How addresses are hashed, as the register's are: only customers have entries, so no sender of datagrams lengthens a look-up.
 type Hashing = BuildHasherDefault<FoldHasher>;
 
-/// What is reported of each customer, by its address: an observer that counts the turns of each, and notes when its keys signed.
+/// What is reported of each customer, by its address: it counts the turns of each, and notes when its keys signed.
 ///
 /// An address has a report from its first enrolment on, also after it is revoked. The memory of a report is taken at that enrolment. A
 /// turn takes none: it looks its address up once.
 #[derive(Drop)]
 pub struct CustomerCounts<A: Allocator = Global> {
     reports: IndexMap<Address, CustomerReport, Hashing, A>,
-    // The command that the next line is, if it is one.
-    heard: Option<Command>,
     has_missed: bool,
 }
 
@@ -35,7 +32,6 @@ impl<A: Allocator + Copy> CustomerCounts<A> {
     {
         CustomerCounts {
             reports: IndexMap::new(alloc),
-            heard: None,
             has_missed: false,
         }
     }
@@ -74,28 +70,36 @@ impl<A: Allocator + Copy> CustomerCounts<A> {
     {
         self.reports.get_index(place)
     }
-}
 
-impl<A: Allocator + Copy> CustomerCounts<A> {
-    // Reports that a command was carried out by a line, or notes that memory was refused.
-    fn note(&mut self, command: &Command, line: u64)
-        ensures reported { OnFalse self.new.has_missed (CarriedOut self.old self.new command.now line) }
-        ensures or_missed { CarriedOutOrMissed self.old self.new command.now line }
+    /// Reports that a line carried out a command, if it did, or notes that memory was refused.
+    pub fn line(&mut self, number: u64, command: Option<&Command>, outcome: LineOutcome)
+        ensures reported { ReportsLine number (option_copied command.entry) outcome self.old self.new }
         ensures missed { OnFalse self.new.has_missed (self.old.has_missed ≡ false) }
-        ensures heard { self.new.heard ≡ self.old.heard }
     {
-        if self.carried_out(command, line).is_err() {
+        if let (Some(command), LineOutcome::Done) = (command, outcome)
+            && self.carried_out(command, number).is_err()
+        {
             self.has_missed = true;
         }
     }
 
+    /// Reports a turn, where the address of its datagram has a report.
+    pub fn turn(&mut self, outcome: &TurnOutcome)
+        ensures { ReportsTurn outcome.now self.old self.new }
+    {
+        if let TurnOutcome::Answered { arrival, .. } = outcome {
+            self.take(arrival.address, outcome);
+        }
+    }
+}
+
+impl<A: Allocator + Copy> CustomerCounts<A> {
     // Reports that a command was carried out by a line.
     fn carried_out(&mut self, command: &Command, line: u64) -> Result<(), AllocError>
         ensures ok { OnOk result (CarriedOut self.old self.new command.now line) }
         ensures absent { OnErr result (report_at self.old (address_named command.now) ≡ None) }
         ensures err { OnErr result (AreSame self.old self.new) }
         ensures missed { self.new.has_missed ≡ self.old.has_missed }
-        ensures heard { self.new.heard ≡ self.old.heard }
     {
         let address = command.address();
         let before = self.report(address).copied();
@@ -111,7 +115,6 @@ impl<A: Allocator + Copy> CustomerCounts<A> {
         ensures absent { OnErr result (report_at self.old address ≡ None) }
         ensures err { OnErr result (AreSame self.old self.new) }
         ensures missed { self.new.has_missed ≡ self.old.has_missed }
-        ensures heard { self.new.heard ≡ self.old.heard }
     {
         self.reports.insert(address, report)?;
         Ok(())
@@ -124,42 +127,6 @@ impl<A: Allocator + Copy> CustomerCounts<A> {
     {
         if let Some(report) = self.reports.get_mut(&address) {
             report.take(outcome);
-        }
-    }
-}
-
-impl<A: Allocator + Copy> Observer for CustomerCounts<A> {
-    fn command(&mut self, command: &Command)
-        ensures heard { self.new.heard ≡ Some command.now }
-        ensures reports { AreSame self.old self.new }
-        ensures missed { self.new.has_missed ≡ self.old.has_missed }
-    {
-        self.heard = Some(*command);
-    }
-
-    // A line that was done carried out the command that was heard of before it.
-    fn line(&mut self, number: u64, outcome: LineOutcome)
-        ensures reported { OnFalse self.new.has_missed (IsTold self.old self.new (done_in self.old.heard outcome) number) }
-        ensures or_missed { IsToldOrMissed self.old self.new (done_in self.old.heard outcome) number }
-        ensures missed { OnFalse self.new.has_missed (self.old.has_missed ≡ false) }
-        ensures heard { self.new.heard ≡ None }
-    {
-        let heard = self.heard.take();
-        if let (Some(command), LineOutcome::Done) = (heard, outcome) {
-            self.note(&command, number);
-        }
-    }
-
-    fn turn(&mut self, outcome: &TurnOutcome)
-        ensures counts { (address : Address) (seen : List Observation) → CountsOf self.old address seen
-            → CountsOf self.new address (seen ++ Observation.Turn outcome.now ∷ []) }
-        ensures signings { (address : Address) (number : ℕ) (seen : List Observation) → SignsAs self.old address number seen
-            → SignsAs self.new address number (seen ++ Observation.Turn outcome.now ∷ []) }
-        ensures customers { (address : Address) → is_some (report_at self.new address) ≡ is_some (report_at self.old address) }
-        ensures missed { self.new.has_missed ≡ self.old.has_missed }
-    {
-        if let TurnOutcome::Answered { arrival, .. } = outcome {
-            self.take(arrival.address, outcome);
         }
     }
 }

@@ -2,9 +2,7 @@
 #![tactic(auto)]
 
 mod answer_lines;
-mod both;
 mod counted_kinds;
-mod counting;
 mod counts;
 mod customer_counts;
 mod customer_report;
@@ -18,8 +16,6 @@ mod stamps;
 mod statistics;
 
 pub use answer_lines::AnswerLines;
-pub use both::Both;
-pub use counting::Counting;
 pub use counts::Counts;
 pub use customer_counts::CustomerCounts;
 pub use customer_report::{CustomerReport, KeyUse};

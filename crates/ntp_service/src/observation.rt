@@ -77,15 +77,15 @@ pub enum LineOutcome {
     Faulty(LineFault),
 }
 
-/// What an observer is told of: a command, a line of commands, or a turn.
+/// What an observer is told of: a line of commands, or a turn.
 #[derive(Clone, Debug, PartialEq, Eq, Drop)]
 pub enum Observation {
-    /// The command of the next line; it is carried out before that line is told.
-    Command(Command),
     /// The line with this number, counted from 1, and what became of it.
     Line {
         /// The number of the line in its file.
         number: u64,
+        /// Its command, if it is one.
+        command: Option<Command>,
         /// What became of it.
         outcome: LineOutcome,
     },

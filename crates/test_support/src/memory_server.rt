@@ -143,12 +143,12 @@ impl<A: Allocator> Observer for MemoryObserver<A> {
 
     ghost seen = { seen_by };
 
-    fn command(&mut self, command: &Command) {
-        self.see(Observation::Command(*command));
-    }
-
-    fn line(&mut self, number: u64, outcome: LineOutcome) {
-        self.see(Observation::Line { number, outcome });
+    fn line(&mut self, number: u64, command: Option<&Command>, outcome: LineOutcome) {
+        self.see(Observation::Line {
+            number,
+            command: command.copied(),
+            outcome,
+        });
     }
 
     fn turn(&mut self, outcome: &TurnOutcome) {

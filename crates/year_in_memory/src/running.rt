@@ -9,7 +9,7 @@ use crate::queue::YearQueue;
 use crate::script::{DueLine, Given, Script};
 use labntpd_assembly::{
     Assembly, DaemonClock, DaemonObserver, DaemonPort, Host, Parts, ReportingObserver, ServeFault,
-    StartupFacts, observer,
+    StartupFacts,
 };
 use labntpd_files::read_configuration;
 use ntp_host::{BoundAt, ClockSource, CommandsFile, HostClocks, Log, LogForm, emptied_file};
@@ -112,7 +112,7 @@ fn judged<'a, 'd>(
     let daemon = &assembly.daemon;
     Ok(Found {
         are_replies_right: expected.are_sent(daemon.port.port().sent()),
-        counts: daemon.observer.counts,
+        counts: *daemon.observer.counts(),
         stale: daemon.port.stale(),
         applied: daemon.applied,
     })
@@ -190,5 +190,5 @@ fn year_observer<'a, 'd>(
     let log = Log::new(alloc, emptied_file(host, LOG)?, LogForm::Plain)?;
     let answers = Some(AnswerLines::new(answers));
     let reports = Some(CustomerCounts::new(alloc));
-    Ok(observer(answers, log, clocks, reports))
+    Ok(ReportingObserver::new(answers, log, clocks, reports))
 }

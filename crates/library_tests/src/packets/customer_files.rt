@@ -234,9 +234,7 @@ struct Heard<M: Allocator> {
 }
 
 impl<M: Allocator> Observer for Heard<M> {
-    fn command(&mut self, _command: &Command) {}
-
-    fn line(&mut self, number: u64, outcome: LineOutcome) {
+    fn line(&mut self, number: u64, _command: Option<&Command>, outcome: LineOutcome) {
         let _ = self.lines.push((number, outcome));
     }
 

@@ -5,9 +5,7 @@ use ntp_mac::Reply;
 use ntp_packet::{Moment, Stamp};
 use ntp_reply::{Answer, Reason};
 use ntp_reports::{CustomerCounts, Kind, customer_line};
-use ntp_service::{
-    Address, Arrival, Command, LineOutcome, Observer, Sending, Service, TurnOutcome,
-};
+use ntp_service::{Address, Arrival, Command, LineOutcome, Sending, Service, TurnOutcome};
 use std::alloc::{Allocator, Global};
 use std::process::Abort;
 use std::test::Fail;
@@ -63,19 +61,16 @@ fn outcome<A: Allocator + Copy>(service: &mut Service<A>, command: &Command) -> 
     }
 }
 
-// A line of a commands file that a service carries out and an observer is told of.
-fn carry_out<A: Allocator + Copy, O: Observer>(
+// A line of a commands file that a service carries out and is reported.
+fn carry_out<A: Allocator + Copy>(
     service: &mut Service<A>,
-    observer: &mut O,
+    counts: &mut CustomerCounts<A>,
     number: u64,
     line: &str,
 ) {
     match parse_command(line) {
-        Ok(command) => {
-            observer.command(&command);
-            observer.line(number, outcome(service, &command));
-        }
-        Err(fault) => observer.line(number, LineOutcome::Faulty(fault)),
+        Ok(command) => counts.line(number, Some(&command), outcome(service, &command)),
+        Err(fault) => counts.line(number, None, LineOutcome::Faulty(fault)),
     }
 }
 
@@ -133,7 +128,7 @@ fn a_customer_is_reported_of(rt: HostRuntime) -> Result<(), Fail> {
 }
 
 // Tells of four datagrams, the last a stranger's, and of a turn in which nothing could be received.
-fn hear<O: Observer>(counts: &mut O, first: Moment) -> Option<()> {
+fn hear<A: Allocator + Copy>(counts: &mut CustomerCounts<A>, first: Moment) -> Option<()> {
     counts.turn(&turn(CUSTOMER, moment(1), Answer::Rate(sealed(7)?)));
     counts.turn(&turn(CUSTOMER, first, time(7)?));
     counts.turn(&turn(CUSTOMER, moment(2), Answer::Deny(sealed(8)?)));
@@ -162,8 +157,8 @@ fn a_report_that_finds_no_memory_is_missed(rt: HostRuntime) -> Result<(), Fail> 
     let memory = Refusing::new(rt.alloc());
     let mut counts = CustomerCounts::new(&memory);
     memory.refuse_all();
-    counts.command(&parse_command("enrol 192.0.2.10 7 md5 6b6579 10")?);
-    counts.line(1, LineOutcome::Done);
+    let command = parse_command("enrol 192.0.2.10 7 md5 6b6579 10")?;
+    counts.line(1, Some(&command), LineOutcome::Done);
     assert!(rt; counts.has_missed() && counts.report(CUSTOMER).is_none());
     Ok(())
 }

@@ -4,12 +4,10 @@ use ntp_mac::Reply;
 use ntp_packet::{Malformed, Short, Stamp};
 use ntp_reply::{Answer, Reason};
 use ntp_reports::{
-    AnswerLines, Ask, Belief, Both, ClockGauges, Counting, Counts, Doubt, FileGauges, Gauges, Kind,
-    LineAllowance, write_statistics,
+    AnswerLines, Ask, Belief, ClockGauges, Counts, Doubt, FileGauges, Gauges, Kind, LineAllowance,
+    write_statistics,
 };
-use ntp_service::{
-    Arrival, Command, LineFault, LineOutcome, Observer, Refusal, Sending, TurnOutcome,
-};
+use ntp_service::{Arrival, LineFault, LineOutcome, Refusal, Sending, TurnOutcome};
 use std::alloc::{AllocError, Global};
 use std::io::Write;
 use std::process::Abort;
@@ -184,24 +182,24 @@ const STAMPS: [(u64, u64); 5] = [
     (1, u64::MAX),
 ];
 
-// Tells an observer of a turn so often.
-fn hear_of<O: Observer>(observer: &mut O, times: u64, outcome: &TurnOutcome) {
+// Counts a turn so often.
+fn count_turns(counts: &mut Counts, times: u64, outcome: &TurnOutcome) {
     for _ in 0..times {
-        observer.turn(outcome);
+        counts.count_turn(outcome);
     }
 }
 
-// Tells an observer of turns with a reply.
-fn hear_of_replies<O: Observer>(observer: &mut O) -> Option<()> {
+// Counts turns with a reply.
+fn count_replies(counts: &mut Counts) -> Option<()> {
     for (receive, transmit) in STAMPS {
-        hear_of(observer, 1, &time(receive, transmit)?);
+        count_turns(counts, 1, &time(receive, transmit)?);
     }
     let rate = Answer::Rate(reply(0, 0)?);
     let deny = Answer::Deny(reply(0, 0)?);
     let nak = Answer::Nak(reply(0, 0)?);
-    hear_of(observer, 4, &answered(rate, Sending::Sent));
-    hear_of(observer, 5, &answered(deny, Sending::NotSent));
-    hear_of(observer, 6, &answered(nak, Sending::Sent));
+    count_turns(counts, 4, &answered(rate, Sending::Sent));
+    count_turns(counts, 5, &answered(deny, Sending::NotSent));
+    count_turns(counts, 6, &answered(nak, Sending::Sent));
     Some(())
 }
 
@@ -233,12 +231,12 @@ const SILENCES: [(u64, Reason, &str); 12] = [
     (21, Reason::OverBudget, "over-budget"),
 ];
 
-// Tells an observer of turns without a reply.
-fn hear_of_silences<O: Observer>(observer: &mut O) {
-    hear_of(observer, 7, &TurnOutcome::NothingReceived);
+// Counts turns without a reply.
+fn count_silences(counts: &mut Counts) {
+    count_turns(counts, 7, &TurnOutcome::NothingReceived);
     for (times, reason, _) in SILENCES {
-        hear_of(
-            observer,
+        count_turns(
+            counts,
             times,
             &answered(Answer::Silent(reason), Sending::NoReply),
         );
@@ -257,19 +255,19 @@ const REFUSALS: [(u64, Refusal, &str); 8] = [
     (37, Refusal::NotHeld, "not-held"),
 ];
 
-// Tells an observer of lines of commands that are answered so.
-fn hear_of_line<O: Observer>(observer: &mut O, times: u64, outcome: LineOutcome) {
-    for number in 0..times {
-        observer.line(number, outcome);
+// Counts lines of commands that are answered so.
+fn count_lines_of(counts: &mut Counts, times: u64, outcome: LineOutcome) {
+    for _ in 0..times {
+        counts.count_line(outcome);
     }
 }
 
-// Tells an observer of lines of commands.
-fn hear_of_lines<O: Observer>(observer: &mut O) {
-    hear_of_line(observer, 8, LineOutcome::Done);
-    hear_of_line(observer, 9, LineOutcome::Faulty(LineFault::Budget));
+// Counts lines of commands.
+fn count_lines(counts: &mut Counts) {
+    count_lines_of(counts, 8, LineOutcome::Done);
+    count_lines_of(counts, 9, LineOutcome::Faulty(LineFault::Budget));
     for (times, refusal, _) in REFUSALS {
-        hear_of_line(observer, times, LineOutcome::Refused(refusal));
+        count_lines_of(counts, times, LineOutcome::Refused(refusal));
     }
 }
 
@@ -330,18 +328,6 @@ const GAUGES: Gauges<'static> = Gauges {
     version: "0.1.0",
 };
 
-// An observer that tells nobody.
-#[derive(Drop)]
-struct Nobody;
-
-impl Observer for Nobody {
-    fn command(&mut self, _command: &Command) {}
-
-    fn line(&mut self, _number: u64, _outcome: LineOutcome) {}
-
-    fn turn(&mut self, _outcome: &TurnOutcome) {}
-}
-
 // Just this is written of these counts, without memory.
 fn assert_statistics(
     rt: &impl Abort,
@@ -359,17 +345,14 @@ fn assert_statistics(
 
 #[test]
 fn statistics_are_written_without_memory(rt: HostRuntime) -> Result<(), Fail> {
-    let mut counting = Counting {
-        counts: Counts::new(),
-        inner: Nobody,
-    };
-    assert!(rt; hear_of_replies(&mut counting) == Some(()));
-    hear_of_silences(&mut counting);
-    hear_of_lines(&mut counting);
-    assert!(rt; counting.counts.count(Kind::Noted) == 5);
+    let mut counts = Counts::new();
+    assert!(rt; count_replies(&mut counts) == Some(()));
+    count_silences(&mut counts);
+    count_lines(&mut counts);
+    assert!(rt; counts.count(Kind::Noted) == 5);
     let memory = Refusing::new(rt.alloc());
     let wanted = statistics(rt.alloc())?;
-    assert_statistics(&rt, &memory, &counting.counts, wanted.as_str())
+    assert_statistics(&rt, &memory, &counts, wanted.as_str())
 }
 
 // Where nothing is known of the clock, and the commands file is as it was.
@@ -422,28 +405,26 @@ fn a_clock_of_which_nothing_is_known_has_no_age(rt: HostRuntime) -> Result<(), F
     Ok(())
 }
 
-// Tells an observer of three lines, between which is a turn.
-fn hear_of_three_lines<O: Observer>(observer: &mut O) {
-    observer.line(1, LineOutcome::Done);
-    observer.turn(&TurnOutcome::NothingReceived);
-    observer.line(3, LineOutcome::Refused(Refusal::AlreadyEnrolled));
-    observer.line(12, LineOutcome::Faulty(LineFault::KeyText));
+// Answers three lines.
+fn answer_three_lines<W: Write>(answers: &mut AnswerLines<W>) {
+    answers.line(1, LineOutcome::Done);
+    answers.line(3, LineOutcome::Refused(Refusal::AlreadyEnrolled));
+    answers.line(12, LineOutcome::Faulty(LineFault::KeyText));
 }
 
 #[test]
 fn lines_are_answered_without_memory(rt: HostRuntime) -> Result<(), Fail> {
     let memory = Refusing::new(rt.alloc());
-    let mut first = Vec::with_capacity(&memory, 100)?;
+    let mut written = Vec::with_capacity(&memory, 100)?;
     memory.refuse_all();
-    let mut both = Both {
-        first: AnswerLines::new(&mut first),
-        second: AnswerLines::new(Broken),
-    };
-    hear_of_three_lines(&mut both);
-    assert!(rt; both.first.fault().is_none() && both.second.fault().is_some());
+    let mut answers = AnswerLines::new(&mut written);
+    let mut broken = AnswerLines::new(Broken);
+    answer_three_lines(&mut answers);
+    answer_three_lines(&mut broken);
+    assert!(rt; answers.fault().is_none() && broken.fault().is_some());
     assert!(rt; memory.refused() == 0);
-    let answers = b"1 done\n3 refused already-enrolled\n12 faulty key\n";
-    assert!(rt; first.as_slice() == answers.as_slice());
+    let wanted = b"1 done\n3 refused already-enrolled\n12 faulty key\n";
+    assert!(rt; written.as_slice() == wanted.as_slice());
     Ok(())
 }
 

@@ -78,18 +78,14 @@ fn answered(port: u16, receipt: u64, answer: Answer, sending: Sending) -> Observ
     })
 }
 
-// What it is told of a command.
-fn command(line: &str) -> Result<Observation, Fail> {
+// What it is told of a line with this command that was carried out.
+fn done(number: u64, line: &str) -> Result<Observation, Fail> {
     let command = parse_command(line).ok().ok_or("no command")?;
-    Ok(Observation::Command(command))
-}
-
-// What it is told of a line that was carried out.
-fn done(number: u64) -> Observation {
-    Observation::Line {
+    Ok(Observation::Line {
         number,
+        command: Some(command),
         outcome: LineOutcome::Done,
-    }
+    })
 }
 
 // What a reporter was shown: when the datagram came, and how many lines of the commands file were applied by then.
@@ -164,7 +160,7 @@ where
 }
 
 // What is told of a datagram before the enrolment, of one behind it, and of one behind the revocation.
-fn told_of_three_turns() -> Result<[Observation; 7], Fail> {
+fn told_of_three_turns() -> Result<[Observation; 5], Fail> {
     let [first, ..] = replies();
     let reply = Reply::from_octets(&first).ok_or("no reply")?;
     let denial = Reply::from_octets(DENIAL).ok_or("no denial")?;
@@ -172,16 +168,14 @@ fn told_of_three_turns() -> Result<[Observation; 7], Fail> {
     let silence = Answer::Silent(Reason::Unregistered);
     Ok([
         answered(5001, FIRST_RECEIPT, silence, Sending::NoReply),
-        command(ENROL)?,
-        done(1),
+        done(1, ENROL)?,
         answered(
             5002,
             SECOND_RECEIPT,
             Answer::Time { reply, saved },
             Sending::Noted,
         ),
-        command(REVOKE)?,
-        done(2),
+        done(2, REVOKE)?,
         answered(5003, THIRD_RECEIPT, Answer::Deny(denial), Sending::Sent),
     ])
 }
@@ -225,7 +219,7 @@ fn commands_are_carried_out_before_the_datagram_is_answered(rt: HostRuntime) -> 
     let told = told_of_three_turns()?;
     let port = port_of_three(alloc)?;
     let commands = commands(alloc, &[None, None, Some(ENROLMENT), Some(REVOCATION)])?;
-    let mut server = server(alloc, port, commands, fixed, 7)?;
+    let mut server = server(alloc, port, commands, fixed, 5)?;
     let mut shown = Shown(Vec::new(alloc));
     assert!(rt; served(&rt, &mut server, 3, &mut shown) == totals(3, 2, 1));
     assert!(rt; server.applied == 2 && is_shown_each(&shown));
@@ -249,7 +243,7 @@ fn signed_server(memory: &Refusing<Global>) -> Result<SignedServer<'_>, Fail> {
     let states = MemoryStates::new(states, reference()?);
     let port = port_of_three_signed(memory)?;
     let commands = commands(memory, &[Some(TWO_KEYS)])?;
-    server(memory, port, commands, states, 5)
+    server(memory, port, commands, states, 3)
 }
 
 #[test]
@@ -261,7 +255,7 @@ fn serving_takes_no_memory_where_no_commands_change(rt: HostRuntime) -> Result<(
     memory.refuse_all();
     assert!(rt; served(&rt, &mut server, 3, &mut NoReports) == totals(2, 2, 2));
     assert!(rt; memory.calls() == before);
-    assert!(rt; server.observer.has_missed() && server.observer.seen().len() == 5);
+    assert!(rt; server.observer.has_missed() && server.observer.seen().len() == 3);
     Ok(())
 }
 
@@ -277,16 +271,14 @@ fn quiet_server(
         times: 0,
     };
     let commands = commands(alloc, &[None, Some(ENROLMENT), Some(REVOCATION)])?;
-    server(alloc, FailingPort::new(2), commands, tended, 5)
+    server(alloc, FailingPort::new(2), commands, tended, 3)
 }
 
 // What is told of its commands, and of a turn in which nothing could be received.
-fn told_while_nothing_comes() -> Result<[Observation; 5], Fail> {
+fn told_while_nothing_comes() -> Result<[Observation; 3], Fail> {
     Ok([
-        command(ENROL)?,
-        done(1),
-        command(REVOKE)?,
-        done(2),
+        done(1, ENROL)?,
+        done(2, REVOKE)?,
         Observation::Turn(TurnOutcome::NothingReceived),
     ])
 }
@@ -322,14 +314,14 @@ fn unbegun_server(
     let pieces = [Some(ENROLMENT), Some(REVOCATION), None, Some(ENROLMENT)];
     let commands = commands(alloc, &pieces)?;
     let fixed = FixedReference(reference()?);
-    server(alloc, port(alloc, &[])?, commands, fixed, 4)
+    server(alloc, port(alloc, &[])?, commands, fixed, 2)
 }
 
 #[test]
 fn commands_of_the_start_are_carried_out_before_the_first_turn(
     rt: HostRuntime,
 ) -> Result<(), Fail> {
-    let told = [command(ENROL)?, done(1), command(REVOKE)?, done(2)];
+    let told = [done(1, ENROL)?, done(2, REVOKE)?];
     let mut server = unbegun_server(rt.alloc())?;
     let mut shown = Shown(Vec::new(rt.alloc()));
     assert!(rt; served(&rt, &mut server, 0, &mut shown) == totals(0, 0, 0));

@@ -4,13 +4,13 @@ use Rattle.std.specs.Prelude.{if◌then◌else◌}
 use Rattle.std.specs.Map.{keys_of}
 use Rattle.toml.specs.View.{members_view}
 use Rattle.toml.proofs.Views.{Entry}
-use Rattle.labntpd_files.specs.{declared.setting.Setting.Setting, Keys.is_known, Keys.unknown_in}
+use Rattle.labntpd_files.specs.Keys.{is_known, unknown_in}
 
 -- the first of some keys that is none of these
-abbrev pub unknown_among : List Setting → List (String Global) → Option (List ℕ)
+abbrev pub unknown_among : List (List ℕ) → List (String Global) → Option (List ℕ)
 unknown_among known [] = None
 unknown_among known (key ∷ others) = if is_known known (string_bytes key) then unknown_among known others else Some (string_bytes key)
 
-pub unknown_in-view : (known : List Setting) (es : List Entry) → unknown_in known (members_view es) ≡ unknown_among known (keys_of es)
+pub unknown_in-view : (known : List (List ℕ)) (es : List Entry) → unknown_in known (members_view es) ≡ unknown_among known (keys_of es)
 unknown_in-view known [] = refl
 unknown_in-view known (e ∷ es) = ap (λ o. if is_known known (string_bytes e.0) then o else Some (string_bytes e.0)) (unknown_in-view known es)

@@ -4,16 +4,16 @@ use Rattle.toml.specs.{Data.Members, Data.as_table, View.view, View.items_view, 
 use Rattle.std.proofs.Common.{Some}
 use Rattle.toml.proofs.Views.{items_view-drop}
 use Rattle.ntp_packet.specs.FirstCase.{◌>>=◌}
-use Rattle.labntpd_files.specs.declared.fault.ConfigurationFault.{ConfigurationFault}
+use Rattle.labntpd_files.specs.Settings.{Fault}
 use Rattle.labntpd_files.specs.{declared.wanted.WantedCustomer.WantedCustomer, Wanted.customer_in, Wanted.customers_from}
 
 -- the customers that are left, behind those that were read
-abbrev pub behind : List WantedCustomer → Result (List WantedCustomer) ConfigurationFault → Result (List WantedCustomer) ConfigurationFault
+abbrev pub behind : List WantedCustomer → Result (List WantedCustomer) Fault → Result (List WantedCustomer) Fault
 behind done (Ok rest) = Ok (done ++ rest)
 behind done (Err why) = Err why
 
 -- one more customer was read
-moved : (done : List WantedCustomer) (c : WantedCustomer) (left : Result (List WantedCustomer) ConfigurationFault)
+moved : (done : List WantedCustomer) (c : WantedCustomer) (left : Result (List WantedCustomer) Fault)
     → behind done (left >>= (λ rest. Ok (c ∷ rest))) ≡ behind (done ++ c ∷ []) left
 moved done c (Ok rest) = ap Ok (sym (append_assoc done (c ∷ []) rest))
 moved done c (Err why) = refl

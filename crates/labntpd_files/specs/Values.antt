@@ -1,5 +1,5 @@
 -- What the values of a configuration file and of a wanted customer say.
-use Rattle.std.specs.Prelude.{ℕ, Bool, false, pos, ◌^◌, ◌*◌, ◌==◌, ◌&&◌, not, nat_le, nat_lt, if◌then◌else◌, List, length, codes, Option, Some, None}
+use Rattle.std.specs.Prelude.{ℕ, Bool, false, pos, ◌≤◌, ◌*◌, ◌==◌, ◌&&◌, not, nat_le, nat_lt, if◌then◌else◌, List, length, codes, Option, Some, None}
 use Rattle.std.specs.List.{before_first, after_first, list_any}
 use Rattle.std.specs.{Char.is_control, Option.option_map, Option.option_map_or, Int.w64, Str.bytes_eq, Str.chars}
 use Rattle.std.specs.declared.num.NonZeroU16.{NonZeroU16}
@@ -8,7 +8,8 @@ use Rattle.std.specs.Float.{Float, binary64, float_round, float_to_unsigned}
 use Rattle.toml.specs.Data.{Data, integer, float, as_str}
 use Rattle.ntp_admin.specs.Words.{◌>>=◌, address_in, number_in, key_in, non_zero}
 use Rattle.ntp_mac.specs.{Key.SymmetricKey, declared.key.Algorithm.Algorithm}
-use Rattle.labntpd_files.specs.{declared.setting.Span.Span, declared.configuration.Endpoint.Endpoint}
+use Rattle.labntpd_files.specs.{declared.setting.Kind.Kind, declared.configuration.Endpoint.Endpoint}
+use Rattle.labntpd_files.specs.declared.setting.Kind.TheVariants as k
 use Rattle.labntpd_files.specs.declared.configuration.Listen.{Listen}
 use Rattle.labntpd_files.specs.declared.configuration.Listen.TheVariants.{Bound, Inherited}
 
@@ -63,28 +64,16 @@ units_of units other = None
 abbrev pub seconds_of : ℕ → ℕ → ℕ → Data → Option ℕ
 seconds_of units least most value = units_of units value >>= in_range least most
 
--- the size of a buffer, in octets
-abbrev pub buffer_of : Data → Option ℕ
-buffer_of = whole_of 65536 1073741823
+-- the count at a key of a kind: octets, or units of time
+abbrev pub count_of : Kind → Data → Option ℕ
+count_of k.Octets = whole_of 65536 1073741823
+count_of (k.Seconds units least most) = seconds_of units least most
+count_of other = λ value. None
 
--- a span of seconds: how many units a second has, and in these what holds without the key, the least and the most
-abbrev pub span : ℕ → ℕ → ℕ → ℕ → Span
-span units default least most = record { 0 = units; 1 = default; 2 = least; 3 = most }
-
-abbrev pub wait_span : Span
-wait_span = span (10 ^ 9) (250 * 10 ^ 6) (150 * 10 ^ 6) (60 * 10 ^ 9)
-
-abbrev pub validity_span : Span
-validity_span = span (10 ^ 9) (16 * 10 ^ 9) (10 * 10 ^ 9) (3600 * 10 ^ 9)
-
-abbrev pub distance_span : Span
-distance_span = span (2 ^ 16) (2 ^ 16) 1 (16 * 2 ^ 16)
-
-abbrev pub age_span : Span
-age_span = span 1 1000000 1 1000000
-
-abbrev pub step_span : Span
-step_span = span (10 ^ 9) (500 * 10 ^ 6) 1 (3600 * 10 ^ 9)
+abbrev pub IsWithin : Kind → ℕ → Type 0
+IsWithin k.Octets count = (65536 ≤ count) × (count ≤ 1073741823)
+IsWithin (k.Seconds units least most) count = (least ≤ count) × (count ≤ most)
+IsWithin other count = Unit {0}
 
 -- a key for an algorithm
 abbrev pub key_for : Algorithm → List ℕ → Option SymmetricKey
@@ -94,6 +83,7 @@ key_for algorithm word = option_map (λ octets. record { algorithm = algorithm; 
 abbrev pub is_name : List ℕ → Bool
 is_name text = nat_lt 0 (length text) && nat_le (length text) 200 && not (list_any is_control (chars text))
 
--- the name of a customer
-abbrev pub name_in : List ℕ → Option (List ℕ)
-name_in text = if is_name text then Some text else None
+-- the text at a key of a kind: a customer's name, or a path
+abbrev pub text_of : Kind → List ℕ → Option (List ℕ)
+text_of k.Name text = if is_name text then Some text else None
+text_of other text = path_in text

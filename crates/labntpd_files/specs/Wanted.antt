@@ -1,5 +1,5 @@
 -- The file of wanted customers.
-use Rattle.std.specs.Prelude.{ℕ, nat_eq, List, [], ◌∷◌, ◌++◌, map, Option, Some, None, Result, Ok}
+use Rattle.std.specs.Prelude.{ℕ, nat_eq, List, [], ◌∷◌, ◌++◌, map, codes, Option, Some, None, Result, Ok}
 use Rattle.std.specs.{List.IsDistinct, List.filter_map, Int.w32, Int.from_be_bytes, Int.NonZero.non_zero_u16_get}
 use Rattle.std.specs.Result.{result_ok}
 use Rattle.std.specs.Option.{ok_or, option_map, option_map_or}
@@ -7,48 +7,46 @@ use Rattle.toml.specs.Data.{Items, no_items, item, Members, as_array, as_table}
 use Rattle.ntp_packet.specs.FirstCase.{◌>>=◌}
 use Rattle.ntp_admin.specs.Words.{address_in, algorithm_in}
 use Rattle.labntpd_files.specs.{declared.wanted.WantedCustomer.WantedCustomer, declared.wanted.WantedKey.WantedKey}
-use Rattle.labntpd_files.specs.declared.fault.ConfigurationFault.{ConfigurationFault}
-use Rattle.labntpd_files.specs.declared.fault.ConfigurationFault.TheVariants as fault
-use Rattle.labntpd_files.specs.declared.setting.Setting.TheVariants as s
-use Rattle.labntpd_files.specs.Settings.{required, optional, with_default}
-use Rattle.labntpd_files.specs.Values.{text_as, number_of, key_for, name_in}
+use Rattle.labntpd_files.specs.declared.setting.Kind.TheVariants as k
+use Rattle.labntpd_files.specs.Settings.{Fault, wanted, required, optional, word, or_default}
+use Rattle.labntpd_files.specs.Values.{text_as, text_of, number_of, key_for}
 
 -- a key with its number
-abbrev pub key_in : Members → Result WantedKey ConfigurationFault
+abbrev pub key_in : Members → Result WantedKey Fault
 key_in table = do
-  number ← required s.Number number_of table
-  algorithm ← required s.Algorithm (text_as algorithm_in) table
-  key ← required s.Key (text_as (key_for algorithm)) table
+  number ← required (codes "number", k.Number) number_of table
+  algorithm ← word (codes "algorithm", k.Algorithm) algorithm_in table
+  key ← word (codes "key", k.Key) (key_for algorithm) table
   Ok (record { number = number; key = key })
 
 -- the newer key, where there is one
-abbrev pub newer_in : Members → Result (Option WantedKey) ConfigurationFault
+abbrev pub newer_in : Members → Result (Option WantedKey) Fault
 newer_in table = do
-  newer ← optional s.Newer as_table table
+  newer ← optional (codes "newer", k.OptionalTable) as_table table
   option_map_or (λ second. key_in second >>= (λ key. Ok (Some key))) newer (Ok None)
 
 -- a customer; none where something is wrong
-abbrev pub customer_in : Members → Result WantedCustomer ConfigurationFault
+abbrev pub customer_in : Members → Result WantedCustomer Fault
 customer_in table = do
-  address ← required s.Address (text_as address_in) table
+  address ← word (codes "address", k.Address) address_in table
   older ← key_in table
   newer ← newer_in table
-  budget ← required s.Budget number_of table
-  name ← optional s.Name (text_as name_in) table
+  budget ← required (codes "budget", k.Number) number_of table
+  name ← optional (codes "name", k.Name) (text_as (text_of k.Name)) table
   Ok (record { address = address; older = older; newer = newer; budget = budget; name = name })
 
 -- customers in file order
-abbrev pub customers_from : Items → Result (List WantedCustomer) ConfigurationFault
+abbrev pub customers_from : Items → Result (List WantedCustomer) Fault
 customers_from no_items = Ok []
 customers_from (item value others) = do
-  table ← ok_or (as_table value) (fault.Wanted s.Customer)
+  table ← ok_or (as_table value) (wanted (codes "customer", k.Customers))
   first ← customer_in table
   rest ← customers_from others
   Ok (first ∷ rest)
 
 -- the customers of a document
-abbrev pub customers_in : Members → Result (List WantedCustomer) ConfigurationFault
-customers_in document = with_default no_items s.Customer as_array document >>= customers_from
+abbrev pub customers_in : Members → Result (List WantedCustomer) Fault
+customers_in document = or_default no_items (optional (codes "customer", k.Customers) as_array document) >>= customers_from
 
 -- the customers of a text, if it is a document and nothing is wrong with them
 abbrev pub wanted_in : Option Members → Option (List WantedCustomer)

@@ -4,15 +4,6 @@ ghost use Rattle.labntpd_files.specs.CommandWords.{faulty_place};
 
 use ntp_service::{LineFault, Refusal};
 
-/// A word of a line, and where it stands.
-#[derive(Clone, Copy)]
-pub struct PlacedWord<'a> {
-    /// The column of its first octet, counted from 1.
-    pub column: u64,
-    /// The word, up to the next space or the end of the line.
-    pub word: &'a str,
-}
-
 /// At which word, counted from 0, a line with this first word has a fault, unless the number of words is the fault, or want of memory.
 pub fn faulty_place(first: &str, fault: LineFault) -> Option<u64>
     ensures { result ≡ faulty_place first.now fault }
@@ -29,12 +20,12 @@ pub fn faulty_place(first: &str, fault: LineFault) -> Option<u64>
     }
 }
 
-/// The word at `place` of a line, counted from 0. One space stands between two words.
-pub fn word_at(line: &str, place: u64) -> Option<PlacedWord<'_>> {
+/// The word at `place` of a line, counted from 0, behind the column of its first octet, counted from 1. One space stands between two words.
+pub fn word_at(line: &str, place: u64) -> Option<(u64, &str)> {
     let mut column = 1_u64;
     for (index, word) in line.split(' ').enumerate() {
         if index as u64 == place {
-            return Some(PlacedWord { column, word });
+            return Some((column, word));
         }
         column = column.saturating_add(word.len() as u64).saturating_add(1);
     }

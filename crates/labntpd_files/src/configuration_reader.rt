@@ -1,35 +1,38 @@
 //! The text of a configuration file to what it says, and what is wrong at a key.
 ghost use Rattle.std.specs.Prelude.{◌≡◌, ◌⊎◌, Some, None, Err, option_map, IfOk, IfErr, OnOk};
 ghost use Rattle.toml.specs.{View.table_view, Parse.parse_document};
-ghost use Rattle.labntpd_files.specs.Settings.{clock_in, daemon_in, settings_in, path_at, unknown_key, wrong_at, HasDaemonRanges, HasClockRanges, HasRanges, IsReadAs, Reads};
+ghost use Rattle.labntpd_files.specs.Settings.{clock_in, daemon_in, files_in, settings_in, unknown_key, said_by, HasDaemonRanges, HasClockRanges, HasRanges, IsReadAs, Reads};
 
 use crate::fault::Reading;
 use crate::found::{Found, add_faults, add_no_toml, key_lines, place_at};
-use crate::setting::{
-    Kind, LONGEST_WAIT, MOST_ROOT_DISTANCE, MOST_STEP, TOP_KEYS, VALID_FOR, clock_keys, is_fixed,
-    unknown_in, value_at,
-};
+use crate::setting::*;
 use crate::values::{
-    address_at, algorithm_at, boolean_at, buffer_at, customers_at, key_at, listen_at, name_at,
-    number_at, optional_address, optional_path, path_text, reference_age_at, reference_at,
-    seconds_at, source_at, table_at,
+    boolean_at, count_at, count_or, endpoint_in, listen_in, number_at, optional_address,
+    optional_text, path_text, table_at, word_at,
 };
-use crate::{Clock, ClockDaemon, Configuration, ConfigurationFault, Setting, Text};
+use crate::{Clock, ClockDaemon, Configuration, ConfigurationFault, Text};
+use ntp_admin::words;
 use std::alloc::{AllocError, Global};
 use toml::Table;
 
-/// The socket's receive buffer where none is given, in octets.
-const RECEIVE_BUFFER: u32 = 524_288;
-
-/// Its send buffer where none is given, in octets.
-const SEND_BUFFER: u32 = 1_048_576;
+// The files that a configuration names.
+#[derive(Drop)]
+struct Files {
+    commands: Text,
+    answers: Option<Text>,
+    statistics: Option<Text>,
+    customers: Option<Text>,
+}
 
 /// What the text of a configuration file says (TOML 1.1), or its first fault.
 pub fn read_configuration(alloc: Global, text: &str) -> Result<Configuration, ConfigurationFault>
     ensures read { (result ≡ Err ConfigurationFault.NoMemory) ⊎ IsReadAs (parse_document text.now) result }
     ensures ranges { IfOk result HasRanges }
 {
-    let document = document(alloc, text)?;
+    let document = toml::table_from_str(alloc, text).map_err(|error| match error.span() {
+        None => ConfigurationFault::NoMemory,
+        Some(span) => ConfigurationFault::Toml(place_at(text, span.start).0),
+    })?;
     refuse_unknown_keys(alloc, &document)?;
     configuration_in(alloc, &document)
 }
@@ -42,9 +45,9 @@ pub fn configuration_faults(alloc: Global, text: &str) -> Result<Vec<Found>, All
         Ok(document) => {
             let lines = key_lines(alloc, text, "")?;
             add_faults(&mut found, "", Some(&lines), None, &document, &TOP_KEYS)?;
-            if let Ok(clock) = table_at(&document, Setting::Clock) {
-                let line = lines.get(Setting::Clock.key()).copied();
-                let lines = key_lines(alloc, text, Setting::Clock.key())?;
+            if let Ok(clock) = table_at(&document, CLOCK) {
+                let line = lines.get(CLOCK.0).copied();
+                let lines = key_lines(alloc, text, CLOCK.0)?;
                 let keys = clock_keys(clock);
                 add_faults(&mut found, "clock.", Some(&lines), line, clock, keys)?;
             }
@@ -54,26 +57,15 @@ pub fn configuration_faults(alloc: Global, text: &str) -> Result<Vec<Found>, All
     Ok(found)
 }
 
-// The document that a text is.
-fn document(alloc: Global, text: &str) -> Reading<Table>
-    ensures only { IfOk result (λ table. parse_document text.now ≡ Some (table_view table)) }
-    ensures fault { IfErr result (λ fault. (fault ≡ ConfigurationFault.NoMemory) ⊎ IsReadAs (parse_document text.now) (Err fault)) }
-{
-    toml::table_from_str(alloc, text).map_err(|error| match error.span() {
-        None => ConfigurationFault::NoMemory,
-        Some(span) => ConfigurationFault::Toml(place_at(text, span.start).0),
-    })
-}
-
 // Refuses keys that are none, of the top level and then of the clock's table.
 fn refuse_unknown_keys(alloc: Global, document: &Table) -> Reading<()>
     ensures known { OnOk result (unknown_key (table_view document.now) ≡ None) }
-    ensures fault { IfErr result (λ fault. (fault ≡ ConfigurationFault.NoMemory) ⊎ (unknown_key (table_view document.now) ≡ Some fault)) }
+    ensures fault { IfErr result (λ fault. (fault ≡ ConfigurationFault.NoMemory) ⊎ (unknown_key (table_view document.now) ≡ Some (said_by fault))) }
 {
     if let Some(key) = unknown_in(&TOP_KEYS, document) {
         return Err(ConfigurationFault::Unknown(Text::of(alloc, key)?));
     }
-    let Ok(clock) = table_at(document, Setting::Clock) else {
+    let Ok(clock) = table_at(document, CLOCK) else {
         return Ok(());
     };
     match unknown_in(clock_keys(clock), clock) {
@@ -87,28 +79,58 @@ fn configuration_in(alloc: Global, document: &Table) -> Reading<Configuration>
     ensures settings { Reads (settings_in (table_view document.now)) result }
     ensures ranges { IfOk result HasRanges }
 {
+    let [
+        listen,
+        served_as,
+        _,
+        _,
+        _,
+        _,
+        receive_buffer,
+        send_buffer,
+        longest_wait,
+        spin,
+        _,
+    ] = TOP_KEYS;
+    let listen = word_at(document, listen, listen_in)?;
+    let served_as = optional_address(document, served_as)?;
+    let files = files_in(alloc, document)?;
     Ok(Configuration {
-        listen: listen_at(document)?,
-        served_as: optional_address(document, Setting::ServedAs)?,
-        commands: Text::of(alloc, path_text(document, Setting::Commands)?)?,
-        answers: Text::of_some(alloc, optional_path(document, Setting::Answers)?)?,
-        statistics: Text::of_some(alloc, optional_path(document, Setting::Statistics)?)?,
-        customers: Text::of_some(alloc, optional_path(document, Setting::Customers)?)?,
-        receive_buffer: buffer_at(document, Setting::ReceiveBuffer, RECEIVE_BUFFER)?,
-        send_buffer: buffer_at(document, Setting::SendBuffer, SEND_BUFFER)?,
-        longest_wait: seconds_at(document, Setting::LongestWait, &LONGEST_WAIT)?,
-        spin: boolean_at(document, Setting::Spin)?,
-        clock: clock_in(alloc, table_at(document, Setting::Clock)?)?,
+        listen,
+        served_as,
+        commands: files.commands,
+        answers: files.answers,
+        statistics: files.statistics,
+        customers: files.customers,
+        receive_buffer: count_or(document, receive_buffer, 524_288)? as u32,
+        send_buffer: count_or(document, send_buffer, 1_048_576)? as u32,
+        longest_wait: count_or(document, longest_wait, SECOND / 4)?,
+        spin: boolean_at(document, spin)?,
+        clock: clock_in(alloc, document)?,
     })
 }
 
-// What the clock's table says.
-fn clock_in(alloc: Global, clock: &Table) -> Reading<Clock>
-    ensures clock { Reads (clock_in (table_view clock.now)) result }
+// The files that a document names.
+fn files_in(alloc: Global, document: &Table) -> Reading<Files>
+    ensures { Reads (files_in (table_view document.now)) result }
+{
+    let [_, _, commands, answers, statistics, customers, ..] = TOP_KEYS;
+    Ok(Files {
+        commands: Text::of(alloc, path_text(document, commands)?)?,
+        answers: Text::of_some(alloc, optional_text(document, answers)?)?,
+        statistics: Text::of_some(alloc, optional_text(document, statistics)?)?,
+        customers: Text::of_some(alloc, optional_text(document, customers)?)?,
+    })
+}
+
+// What the clock's table in a document says.
+fn clock_in(alloc: Global, document: &Table) -> Reading<Clock>
+    ensures clock { Reads (clock_in (table_view document.now)) result }
     ensures ranges { IfOk result HasClockRanges }
 {
+    let clock = table_at(document, CLOCK)?;
     if is_fixed(clock) {
-        Ok(Clock::Fixed(reference_at(clock)?))
+        Ok(Clock::Fixed(word_at(clock, REFERENCE, words::reference)?))
     } else {
         Ok(Clock::Followed(daemon_in(alloc, clock)?))
     }
@@ -119,48 +141,24 @@ fn daemon_in(alloc: Global, clock: &Table) -> Reading<ClockDaemon>
     ensures daemon { Reads (daemon_in (table_view clock.now)) result }
     ensures ranges { IfOk result HasDaemonRanges }
 {
-    use Setting::*;
+    let [
+        source,
+        number,
+        algorithm,
+        key_file,
+        valid_for,
+        distance,
+        age,
+        step,
+    ] = DAEMON_KEYS;
     Ok(ClockDaemon {
-        source: source_at(clock)?,
-        number: number_at(clock, Number)?,
-        algorithm: algorithm_at(clock)?,
-        key_file: Text::of(alloc, path_text(clock, KeyFile)?)?,
-        valid_for: seconds_at(clock, ValidFor, &VALID_FOR)?,
-        most_root_distance: seconds_at(clock, MostRootDistance, &MOST_ROOT_DISTANCE)? as u32,
-        most_reference_age: reference_age_at(clock)?,
-        most_step: seconds_at(clock, MostStep, &MOST_STEP)?,
+        source: word_at(clock, source, endpoint_in)?,
+        number: number_at(clock, number)?,
+        algorithm: word_at(clock, algorithm, words::algorithm)?,
+        key_file: Text::of(alloc, path_text(clock, key_file)?)?,
+        valid_for: count_or(clock, valid_for, 16 * SECOND)?,
+        most_root_distance: count_or(clock, distance, 65_536)? as u32,
+        most_reference_age: count_at(clock, age)?,
+        most_step: count_or(clock, step, SECOND / 2)?,
     })
-}
-
-/// The path at a setting, where one stands there.
-pub fn path_at(table: &Table, setting: Setting) -> Option<&str>
-    ensures { option_map (λ path. path.now) result ≡ path_at setting (table_view table.now) }
-{
-    path_text(table, setting).ok()
-}
-
-/// What is wrong at a key, whatever is wrong at others. Every algorithm takes the same keys.
-pub(crate) fn wrong_at(table: &Table, setting: Setting) -> Option<ConfigurationFault>
-    ensures { result ≡ wrong_at setting (table_view table.now) }
-{
-    match setting.kind() {
-        Kind::Listen => listen_at(table).err(),
-        Kind::Source if is_fixed(table) => None,
-        Kind::Source => source_at(table).err(),
-        Kind::Path => path_text(table, setting).err(),
-        Kind::OptionalPath => optional_path(table, setting).err(),
-        Kind::Octets => buffer_at(table, setting, RECEIVE_BUFFER).err(),
-        Kind::Seconds(span) => seconds_at(table, setting, &span).err(),
-        Kind::Boolean => boolean_at(table, setting).err(),
-        Kind::Reference => reference_at(table).err(),
-        Kind::Number => number_at(table, setting).err(),
-        Kind::Algorithm => algorithm_at(table).err(),
-        Kind::Address => address_at(table, setting).err(),
-        Kind::OptionalAddress => optional_address(table, setting).err(),
-        Kind::Key => key_at(table, ntp_mac::Algorithm::Sha1).err(),
-        Kind::Name => name_at(table).err(),
-        Kind::OptionalTable if value_at(table, setting).is_none() => None,
-        Kind::Table | Kind::OptionalTable => table_at(table, setting).err(),
-        Kind::Customers => customers_at(table).err(),
-    }
 }

@@ -1,6 +1,7 @@
 //! What is wrong with a configuration file, and at a key of a table.
 
 use crate::command_line::VERSION;
+use crate::setting::{TOP_KEYS, is_known};
 use crate::{Setting, Text};
 use ConfigurationFault::*;
 use ntp_admin::Escaped;
@@ -12,7 +13,7 @@ const NO_REGISTER: &str =
     "customers stand in the commands file alone: `examples/from_register` puts those of a register there, or \
     `labntpctl apply FILE` if it is empty";
 
-/// The first fault of a configuration file: its text, a key that is none, or a setting, in the order of `Setting`; or want of memory.
+/// The first fault of a configuration file: its text, a key that is none, or a setting, in the order of its table; or want of memory.
 #[derive(Drop)]
 pub enum ConfigurationFault {
     /// The text is no TOML document, which shows in this line, counted from 1.
@@ -48,7 +49,7 @@ impl fmt::Display for ConfigurationFault {
     fn fmt<W: fmt::Write>(&self, f: &mut fmt::Formatter<W>) -> fmt::Result {
         let prefix = match self {
             UnknownOfClock(_) => "clock.",
-            Missing(setting) | Wanted(setting) if setting.is_of_clock() => "clock.",
+            Missing(setting) | Wanted(setting) if !is_known(&TOP_KEYS, setting.0) => "clock.",
             _ => "",
         };
         write!(f, "{}", Behind(prefix, self))
@@ -74,11 +75,10 @@ impl<'a> fmt::Display for Behind<'a> {
                     "{prefix}{key}: there is no such key in version {VERSION}"
                 )
             }
-            Missing(setting) => {
-                let (key, kind) = (setting.key(), setting.kind());
+            Missing(Setting(key, kind)) => {
                 write!(f, "{prefix}{key}: this key is missing: {kind}")
             }
-            Wanted(setting) => write!(f, "{prefix}{}: {}", setting.key(), setting.kind()),
+            Wanted(Setting(key, kind)) => write!(f, "{prefix}{key}: {kind}"),
             NoMemory => f.write_str("memory ran out"),
         }
     }

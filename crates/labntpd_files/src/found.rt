@@ -1,9 +1,9 @@
 //! What is found in a file, and in which lines. Keys and tables are looked for where lines begin, so these are lines for messages alone.
 
-use crate::configuration_reader::wrong_at;
 use crate::fault::Behind;
 use crate::setting::{is_known, value_at};
 use crate::shown::ShownValue;
+use crate::values::wrong_at;
 use crate::{ConfigurationFault, Setting, Text};
 use std::alloc::{AllocError, Global};
 use std::collections::BTreeMap;
@@ -56,8 +56,8 @@ pub(crate) fn add_faults(
     let line_of = |key: &str| lines.and_then(|lines| lines.get(key).copied()).or(line);
     for setting in keys {
         if let Some(fault) = wrong_at(table, *setting) {
-            let (line, fault) = (line_of(setting.key()), Behind(prefix, &fault));
-            match value_at(table, *setting) {
+            let (line, fault) = (line_of(setting.0), Behind(prefix, &fault));
+            match value_at(table, setting.0) {
                 None => add(found, line, fault)?,
                 Some(value) => {
                     let shown = ShownValue(*setting, value);

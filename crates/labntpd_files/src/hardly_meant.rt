@@ -51,13 +51,10 @@ pub fn address_warning(address: Address) -> Option<HardlyMeant>
 pub fn key_warning(key: &Key) -> Option<HardlyMeant>
     ensures { result ≡ key_warning key.now }
 {
-    let count = key.octet_count();
-    if count < FEW_OCTETS {
-        Some(ShortKey(count))
-    } else if key.algorithm() == Algorithm::Md5 {
-        Some(Md5)
-    } else {
-        None
+    match (key.octet_count(), key.algorithm()) {
+        (count, _) if count < FEW_OCTETS => Some(ShortKey(count)),
+        (_, Algorithm::Md5) => Some(Md5),
+        (_, Algorithm::Sha1) => None,
     }
 }
 
@@ -65,12 +62,10 @@ pub fn key_warning(key: &Key) -> Option<HardlyMeant>
 pub fn budget_warning(budget: u16) -> Option<HardlyMeant>
     ensures { result ≡ budget_warning budget }
 {
-    if budget <= 1 {
-        Some(SmallBudget)
-    } else if budget > DOOR_BUDGET {
-        Some(LargeBudget(budget))
-    } else {
-        None
+    match budget {
+        0 | 1 => Some(SmallBudget),
+        _ if budget > DOOR_BUDGET => Some(LargeBudget(budget)),
+        _ => None,
     }
 }
 

@@ -1,81 +1,19 @@
-//! The keys of a configuration file and of a file of customers: their names, and what is wanted there.
+//! The keys of a configuration file and of a file of customers, and what is wanted at each.
 ghost use Rattle.std.specs.Prelude.{◌≡◌, option_map};
 ghost use Rattle.toml.specs.{Data.get_member, View.view, View.table_view};
-ghost use Rattle.labntpd_files.specs.Keys.{setting_key, kind, is_fixed, clock_keys, is_known, unknown_in, IsFitting};
+ghost use Rattle.labntpd_files.specs.Keys.{names, is_fixed, clock_keys, is_known, unknown_in};
 
-use Setting::*;
+use Kind::Seconds;
 use std::fmt;
 use std::num::nearest_u64_to_f64;
 use toml::{Table, Value};
 
-/// A key: of a configuration file up to `Clock`, of its table `[clock]` up to `MostStep`, then of a file of customers and of a customer.
-#[derive(Clone, Copy, PartialEq, Eq)]
-pub enum Setting {
-    Listen,
-    ServedAs,
-    Commands,
-    Answers,
-    Statistics,
-    Customers,
-    ReceiveBuffer,
-    SendBuffer,
-    LongestWait,
-    Spin,
-    Clock,
-    Source,
-    Reference,
-    Number,
-    Algorithm,
-    KeyFile,
-    ValidFor,
-    MostRootDistance,
-    MostReferenceAge,
-    MostStep,
-    Customer,
-    Address,
-    Key,
-    Budget,
-    Name,
-    Newer,
-}
+/// A key of a table, and what is wanted there.
+#[derive(Clone, Copy)]
+pub struct Setting(pub(crate) &'static str, pub(crate) Kind);
 
-/// The keys of the top level of a configuration file, in the order in which they are looked at.
-pub(crate) const TOP_KEYS: [Setting; 11] = [
-    Listen,
-    ServedAs,
-    Commands,
-    Answers,
-    Statistics,
-    Customers,
-    ReceiveBuffer,
-    SendBuffer,
-    LongestWait,
-    Spin,
-    Clock,
-];
-
-/// The keys of a clock whose source is fixed, and of one that a daemon keeps.
-const FIXED: [Setting; 2] = [Source, Reference];
-
-const DAEMON: [Setting; 8] = [
-    Source,
-    Number,
-    Algorithm,
-    KeyFile,
-    ValidFor,
-    MostRootDistance,
-    MostReferenceAge,
-    MostStep,
-];
-
-/// The keys of a customer, and of its newer key.
-pub(crate) const CUSTOMER_KEYS: [Setting; 7] = [
-    Address, Number, Algorithm, Key, Budget, Name, Newer,
-];
-
-pub(crate) const NEWER_KEYS: [Setting; 3] = [Number, Algorithm, Key];
-
-/// What is wanted at a key. What is optional may be left out, and what has a default.
+/// What is wanted at a key. What is optional may be left out, and so may octets, seconds, a boolean, a name and customers. Seconds have how
+/// many units there are in one, and the least and the most of these units.
 #[derive(Clone, Copy)]
 pub(crate) enum Kind {
     Listen,
@@ -83,7 +21,7 @@ pub(crate) enum Kind {
     Path,
     OptionalPath,
     Octets,
-    Seconds(Span),
+    Seconds(u32, u64, u64),
     Boolean,
     Reference,
     Number,
@@ -97,94 +35,77 @@ pub(crate) enum Kind {
     Customers,
 }
 
-/// A range of seconds: how many units a second has, and in these units what holds without the key, the least and the most.
-#[derive(Clone, Copy)]
-pub(crate) struct Span(pub u32, pub u64, pub u64, pub u64);
-
 /// How many nanoseconds a second has.
-const NANOSECONDS: u32 = 1_000_000_000;
+const NANOS: u32 = 1_000_000_000;
 
-const SECOND: u64 = 1_000_000_000;
-
-/// How many units of the short format a second has (RFC 5905, 6).
-const SHORT_UNITS: u32 = 65_536;
-
-/// How long a datagram may have waited.
-pub(crate) const LONGEST_WAIT: Span = Span(NANOSECONDS, SECOND / 4, 150_000_000, 60 * SECOND);
+pub(crate) const SECOND: u64 = 1_000_000_000;
 
 /// The least time for which an answer of the clock's daemon is believed: eight seconds without a question behind a RATE (RFC 5905, 7.4), the
 /// second before it, and one for the answer.
 const LEAST_VALIDITY: u64 = 10 * SECOND;
 
-/// For how long an answer of the clock's daemon is believed.
-pub(crate) const VALID_FOR: Span = Span(NANOSECONDS, 16 * SECOND, LEAST_VALIDITY, 3_600 * SECOND);
+/// How many units of the short format a second has (RFC 5905, 6).
+const SHORT_UNITS: u32 = 65_536;
 
-/// The root distance up to which it is believed.
-pub(crate) const MOST_ROOT_DISTANCE: Span = Span(SHORT_UNITS, 65_536, 1, 1_048_576);
+pub(crate) const CLOCK: Setting = Setting("clock", Kind::Table);
 
-/// The age of its reference time up to which it is believed.
-pub(crate) const MOST_REFERENCE_AGE: Span = Span(1, 1_000_000, 1, 1_000_000);
+pub(crate) const SOURCE: Setting = Setting("source", Kind::Source);
 
-/// How far the host's clock may have been set since its answer.
-pub(crate) const MOST_STEP: Span = Span(NANOSECONDS, SECOND / 2, 1, 3_600 * SECOND);
+pub(crate) const REFERENCE: Setting = Setting("reference", Kind::Reference);
 
-impl Setting {
-    /// The name of the key, and what is wanted there.
-    fn row(self) -> (&'static str, Kind)
-        ensures name { result.0.now ≡ setting_key self }
-        ensures wanted { result.1 ≡ kind self }
-        ensures fits { IsFitting result.1 }
-    {
-        match self {
-            Listen => ("listen", Kind::Listen),
-            ServedAs => ("served_as", Kind::OptionalAddress),
-            Commands => ("commands", Kind::Path),
-            Answers => ("answers", Kind::OptionalPath),
-            Statistics => ("statistics", Kind::OptionalPath),
-            Customers => ("customers", Kind::OptionalPath),
-            ReceiveBuffer => ("receive_buffer", Kind::Octets),
-            SendBuffer => ("send_buffer", Kind::Octets),
-            LongestWait => ("longest_wait", Kind::Seconds(LONGEST_WAIT)),
-            Spin => ("spin", Kind::Boolean),
-            Clock => ("clock", Kind::Table),
-            Source => ("source", Kind::Source),
-            Reference => ("reference", Kind::Reference),
-            Number => ("number", Kind::Number),
-            Algorithm => ("algorithm", Kind::Algorithm),
-            KeyFile => ("key_file", Kind::Path),
-            ValidFor => ("valid_for", Kind::Seconds(VALID_FOR)),
-            MostRootDistance => ("most_root_distance", Kind::Seconds(MOST_ROOT_DISTANCE)),
-            MostReferenceAge => ("most_reference_age", Kind::Seconds(MOST_REFERENCE_AGE)),
-            MostStep => ("most_step", Kind::Seconds(MOST_STEP)),
-            Customer => ("customer", Kind::Customers),
-            Address => ("address", Kind::Address),
-            Key => ("key", Kind::Key),
-            Budget => ("budget", Kind::Number),
-            Name => ("name", Kind::Name),
-            Newer => ("newer", Kind::OptionalTable),
-        }
-    }
+pub(crate) const NUMBER: Setting = Setting("number", Kind::Number);
 
-    /// The name of the key, as it stands in its table.
-    pub(crate) fn key(self) -> &'static str
-        ensures { result.now ≡ setting_key self }
-    {
-        self.row().0
-    }
+pub(crate) const ALGORITHM: Setting = Setting("algorithm", Kind::Algorithm);
 
-    /// What is wanted there.
-    pub(crate) fn kind(self) -> Kind
-        ensures wanted { result ≡ kind self }
-        ensures fits { IsFitting result }
-    {
-        self.row().1
-    }
+pub(crate) const CUSTOMER: Setting = Setting("customer", Kind::Customers);
 
-    /// Whether it is a key of the table `[clock]`, in a configuration file.
-    pub(crate) fn is_of_clock(self) -> bool {
-        self as u8 >= Source as u8
-    }
-}
+pub(crate) const ADDRESS: Setting = Setting("address", Kind::Address);
+
+pub(crate) const KEY: Setting = Setting("key", Kind::Key);
+
+pub(crate) const NEWER: Setting = Setting("newer", Kind::OptionalTable);
+
+/// The keys of the top level of a configuration file, in the order in which they are looked at.
+pub(crate) const TOP_KEYS: [Setting; 11] = [
+    Setting("listen", Kind::Listen),
+    Setting("served_as", Kind::OptionalAddress),
+    Setting("commands", Kind::Path),
+    Setting("answers", Kind::OptionalPath),
+    Setting("statistics", Kind::OptionalPath),
+    Setting("customers", Kind::OptionalPath),
+    Setting("receive_buffer", Kind::Octets),
+    Setting("send_buffer", Kind::Octets),
+    Setting("longest_wait", Seconds(NANOS, 150_000_000, 60 * SECOND)),
+    Setting("spin", Kind::Boolean),
+    CLOCK,
+];
+
+/// The keys of a clock whose source is fixed, and of one that a daemon keeps.
+const FIXED: [Setting; 2] = [SOURCE, REFERENCE];
+
+pub(crate) const DAEMON_KEYS: [Setting; 8] = [
+    SOURCE,
+    NUMBER,
+    ALGORITHM,
+    Setting("key_file", Kind::Path),
+    Setting("valid_for", Seconds(NANOS, LEAST_VALIDITY, 3_600 * SECOND)),
+    Setting("most_root_distance", Seconds(SHORT_UNITS, 1, 1_048_576)),
+    Setting("most_reference_age", Seconds(1, 1, 1_000_000)),
+    Setting("most_step", Seconds(NANOS, 1, 3_600 * SECOND)),
+];
+
+/// The keys of a customer, and of its newer key.
+pub(crate) const CUSTOMER_KEYS: [Setting; 7] = [
+    ADDRESS,
+    NUMBER,
+    ALGORITHM,
+    KEY,
+    Setting("budget", Kind::Number),
+    Setting("name", Kind::Name),
+    NEWER,
+];
+
+pub(crate) const NEWER_KEYS: [Setting; 3] = [NUMBER, ALGORITHM, KEY];
 
 /// What is wanted, in words.
 impl fmt::Display for Kind {
@@ -196,7 +117,16 @@ impl fmt::Display for Kind {
                 "an IPv4 address with a port, as \"127.0.0.1:123\", or \"fixed\" is wanted",
             Kind::Path | Kind::OptionalPath => "the path of a file is wanted",
             Kind::Octets => "a whole number of octets from 65536 to 1073741823 is wanted",
-            Kind::Seconds(span) => return write_span(f, span),
+            Kind::Seconds(units, least, most) => {
+                let [low, high] = [least, most].map(|count| nearest_u64_to_f64(*count)
+                    / f64::from(*units));
+                return match least {
+                    1 if *units > 1 => {
+                        write!(f, "a number of seconds above 0 and up to {high} is wanted")
+                    }
+                    _ => write!(f, "a number of seconds from {low} to {high} is wanted"),
+                };
+            }
             Kind::Boolean => "true or false is wanted",
             Kind::Reference => "the 46 hexadecimal digits of a reference state are wanted",
             Kind::Number => "a whole number from 1 to 65535 is wanted",
@@ -211,50 +141,49 @@ impl fmt::Display for Kind {
     }
 }
 
-// Writes which numbers of seconds are wanted.
-fn write_span<W: fmt::Write>(f: &mut fmt::Formatter<W>, span: &Span) -> fmt::Result {
-    let Span(units, _, least, most) = *span;
-    let [low, high] = [least, most].map(|count| nearest_u64_to_f64(count) / f64::from(units));
-    match least {
-        1 if units > 1 => write!(f, "a number of seconds above 0 and up to {high} is wanted"),
-        _ => write!(f, "a number of seconds from {low} to {high} is wanted"),
-    }
-}
-
 /// The keys of the table of a clock, by its source.
 pub(crate) fn clock_keys(clock: &Table) -> &'static [Setting]
-    ensures { result.now ≡ clock_keys (table_view clock.now) }
+    ensures { names result.now ≡ clock_keys (table_view clock.now) }
 {
-    if is_fixed(clock) { &FIXED } else { &DAEMON }
+    if is_fixed(clock) {
+        &FIXED
+    } else {
+        &DAEMON_KEYS
+    }
 }
 
 /// Whether the source of a clock is fixed.
 pub fn is_fixed(clock: &Table) -> bool
     ensures { result ≡ is_fixed (table_view clock.now) }
 {
-    match value_at(clock, Source) {
+    match value_at(clock, SOURCE.0) {
         None => false,
         Some(source) => matches!(source.as_str(), Some("fixed")),
     }
 }
 
-/// The value of a setting.
-pub fn value_at(table: &Table, setting: Setting) -> Option<&Value>
-    ensures { option_map (λ value. view value.now) result ≡ get_member (setting_key setting) (table_view table.now) }
+/// The value at a key.
+pub(crate) fn value_at<'a>(table: &'a Table, key: &str) -> Option<&'a Value>
+    ensures { option_map (λ value. view value.now) result ≡ get_member key.now (table_view table.now) }
 {
-    table.get(setting.key())
+    table.get(key)
 }
 
-/// Whether a key is that of one of the known settings.
+/// Whether a key is one of the known ones.
 pub(crate) fn is_known(known: &[Setting], key: &str) -> bool
-    ensures { result ≡ is_known known.now key.now }
+    ensures { result ≡ is_known (names known.now) key.now }
 {
-    known.iter().any(|setting| key == setting.key())
+    for setting in known {
+        if key == setting.0 {
+            return true;
+        }
+    }
+    false
 }
 
 /// The first key of a table, in the order of their octets, that is none of these.
 pub(crate) fn unknown_in<'a>(known: &[Setting], table: &'a Table) -> Option<&'a str>
-    ensures { option_map (λ key. key.now) result ≡ unknown_in known.now (table_view table.now) }
+    ensures { option_map (λ key. key.now) result ≡ unknown_in (names known.now) (table_view table.now) }
 {
     for key in table.keys() {
         if !is_known(known, key.as_str()) {

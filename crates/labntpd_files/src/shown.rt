@@ -3,7 +3,8 @@ ghost use Rattle.std.specs.Prelude.{◌≡◌};
 ghost use Rattle.std.specs.{List.list_all, Char.is_ascii_digit};
 ghost use Rattle.labntpd_files.specs.Shown.{digit_count, dot_count, is_plain};
 
-use crate::{Setting, key_wrong};
+use crate::key_wrong;
+use crate::setting::{Kind, Setting};
 use std::fmt;
 use toml::Value;
 
@@ -18,12 +19,7 @@ const FEWEST_DIGITS: usize = 6;
 
 /// A word, shown only where it cannot be a key.
 #[derive(Clone, Copy)]
-pub struct ShownWord<'a>(&'a str);
-
-/// Shows a word.
-pub fn shown_word(word: &str) -> ShownWord<'_> {
-    ShownWord(word)
-}
+pub struct ShownWord<'a>(pub &'a str);
 
 impl<'a> fmt::Display for ShownWord<'a> {
     fn fmt<W: fmt::Write>(&self, f: &mut fmt::Formatter<W>) -> fmt::Result {
@@ -45,7 +41,7 @@ impl<'a> fmt::Display for ShownValue<'a> {
         let ShownValue(setting, value) = *self;
         match value {
             Value::String(text) => match key_wrong(text.as_str()) {
-                Some(wrong) if setting == Setting::Key => write!(f, "{wrong}"),
+                Some(wrong) if matches!(setting.1, Kind::Key) => write!(f, "{wrong}"),
                 _ => write!(f, "{}", ShownWord(text.as_str())),
             },
             Value::Integer(whole) if *whole > -100_000 && *whole < 100_000 => {

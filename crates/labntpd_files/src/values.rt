@@ -1,21 +1,20 @@
 //! What stands at a key of a table: a value that is wanted there, or a fault.
-ghost use Rattle.std.specs.Prelude.{◌≡◌, ◌≤◌, ◌<◌, ◌^◌, false, None, Ok, Err, option_map, IfOk, IfSome, MatchResult};
-ghost use Rattle.std.specs.{Char.is_control, List.list_any, Option.ok_or, Option.option_map_or, Str.chars};
+ghost use Rattle.std.specs.Prelude.{◌≡◌, ◌≤◌, false, option_map, IfOk, IfSome};
+ghost use Rattle.std.specs.{Char.is_control, List.list_any, Option.ok_or, Str.chars, Bool.then_some};
+ghost use Rattle.std.specs.Fn.{FnOnceReturnsAt};
 ghost use Rattle.toml.specs.Data.{no_items, get_member, as_bool, as_str, as_table, as_array};
 ghost use Rattle.toml.specs.View.{view, table_view, items_view};
-ghost use Rattle.ntp_admin.specs.Words.{address_in, algorithm_in, reference_in};
-ghost use Rattle.labntpd_files.specs.Keys.{setting_key};
-ghost use Rattle.labntpd_files.specs.declared.fault.ConfigurationFault.TheVariants.{Missing, Wanted};
-ghost use Rattle.labntpd_files.specs.Settings.{required, with_default, optional, IsSaid};
-ghost use Rattle.labntpd_files.specs.Values.{endpoint_in, listen_in, path_in, text_as, key_for, is_name, name_in, whole_of, number_of, units_of, seconds_of};
+ghost use Rattle.ntp_admin.specs.Words.{address_in};
+ghost use Rattle.labntpd_files.specs.Keys.{row};
+ghost use Rattle.labntpd_files.specs.Settings.{required, optional, or_default, count_in, path_at, wrong_at, said_by, missing, IsSaid, IsRead};
+ghost use Rattle.labntpd_files.specs.Values.{endpoint_in, listen_in, path_in, text_as, text_of, is_name, whole_of, number_of, units_of, seconds_of, count_of, IsWithin};
 
 use crate::ConfigurationFault::{Missing, Wanted};
 use crate::fault::Reading;
-use crate::setting::{MOST_REFERENCE_AGE, Span, value_at};
-use crate::{Endpoint, Listen, Setting};
+use crate::setting::{Kind, is_fixed, value_at};
+use crate::{ConfigurationFault, Endpoint, Listen, Setting};
 use ntp_admin::words;
-use ntp_mac::{Algorithm, Key};
-use ntp_reply::Reference;
+use ntp_mac::Algorithm;
 use ntp_service::Address;
 use std::num::{self, NonZero};
 use toml::{Table, Value};
@@ -23,78 +22,45 @@ use toml::{Table, Value};
 /// How many octets the name of a customer has at most.
 const MOST_NAME_OCTETS: usize = 200;
 
-/// The least that a buffer may be, in octets.
-const LEAST_BUFFER: u32 = 65_536;
+/// The sizes that a buffer may have, in octets. The kernel doubles what it is asked for, and counts in 31 bits.
+const BUFFERS: [u32; 2] = [65_536, 1_073_741_823];
 
-/// The most that a buffer may be, in octets: the kernel doubles what it is asked for, and counts in 31 bits.
-const MOST_BUFFER: u32 = 1_073_741_823;
-
-// The value of a setting that has to stand there.
+// The value of a key that has to stand there.
 fn required(table: &Table, setting: Setting) -> Reading<&Value>
-    ensures { IsSaid (λ value. view value.now) (ok_or (get_member (setting_key setting) (table_view table.now)) (Missing setting)) result }
+    ensures { IsSaid (λ value. view value.now) (ok_or (get_member setting.0.now (table_view table.now)) (missing (row setting))) result }
 {
-    value_at(table, setting).ok_or(Missing(setting))
+    value_at(table, setting.0).ok_or(Missing(setting))
 }
 
-// What was read of a value that may be missing.
-fn if_any<T>(setting: Setting, read: Option<Option<T>>) -> Reading<Option<T>>
-    ensures { result ≡ option_map_or (λ one. ok_or (option_map Some one) (Wanted setting)) read (Ok None) }
-{
-    match read {
-        None => Ok(None),
-        Some(None) => Err(Wanted(setting)),
-        Some(one) => Ok(one),
-    }
-}
-
-// A text.
+// A text that has to stand there.
 fn text_at(table: &Table, setting: Setting) -> Reading<&str>
-    ensures { IsSaid (λ text. text.now) (required setting as_str (table_view table.now)) result }
+    ensures { IsSaid (λ text. text.now) (required (row setting) as_str (table_view table.now)) result }
 {
     required(table, setting)?.as_str().ok_or(Wanted(setting))
 }
 
-/// A table.
+/// What `read` reads of a text that has to stand there.
+pub(crate) fn word_at<T, F: FnOnce(&str) -> Option<T>>(
+    table: &Table,
+    setting: Setting,
+    read: F,
+) -> Reading<T>
+    requires { F.IsAlwaysCallable read }
+    ensures { IsRead (FnOnceReturnsAt F.FnOnce read) (row setting) (required (row setting) as_str (table_view table.now)) result }
+{
+    read(text_at(table, setting)?).ok_or(Wanted(setting))
+}
+
+/// A table that has to stand there.
 pub(crate) fn table_at(table: &Table, setting: Setting) -> Reading<&Table>
-    ensures { IsSaid (λ inner. table_view inner.now) (required setting as_table (table_view table.now)) result }
+    ensures { IsSaid (λ inner. table_view inner.now) (required (row setting) as_table (table_view table.now)) result }
 {
     required(table, setting)?.as_table().ok_or(Wanted(setting))
 }
 
-/// Where datagrams are received: `inherited`, or an address with a port.
-pub(crate) fn listen_at(table: &Table) -> Reading<Listen>
-    ensures { result ≡ required Setting.Listen (text_as listen_in) (table_view table.now) }
-{
-    match text_at(table, Setting::Listen)? {
-        "inherited" => Ok(Listen::Inherited),
-        text => {
-            let endpoint = endpoint_in(text).ok_or(Wanted(Setting::Listen))?;
-            Ok(Listen::Bound(endpoint))
-        }
-    }
-}
-
-/// Where the clock's daemon answers: an address with a port.
-pub(crate) fn source_at(clock: &Table) -> Reading<Endpoint>
-    ensures { result ≡ required Setting.Source (text_as endpoint_in) (table_view clock.now) }
-{
-    endpoint_in(text_at(clock, Setting::Source)?).ok_or(Wanted(Setting::Source))
-}
-
-// The address with a port that a text writes.
-fn endpoint_in(text: &str) -> Option<Endpoint>
-    ensures { result ≡ endpoint_in text.now }
-{
-    let (address, port) = text.split_once(':')?;
-    Some(Endpoint {
-        address: words::address(address)?,
-        port: words::number(port)?,
-    })
-}
-
-/// The path of a file: a text that is not empty.
+/// The path of a file, which is not empty and has to stand there.
 pub(crate) fn path_text(table: &Table, setting: Setting) -> Reading<&str>
-    ensures { IsSaid (λ path. path.now) (required setting (text_as path_in) (table_view table.now)) result }
+    ensures { IsSaid (λ path. path.now) (required (row setting) (text_as path_in) (table_view table.now)) result }
 {
     match required(table, setting)?.as_str() {
         Some(path) if !path.is_empty() => Ok(path),
@@ -102,131 +68,151 @@ pub(crate) fn path_text(table: &Table, setting: Setting) -> Reading<&str>
     }
 }
 
-/// The path of a file that may be left out.
-pub(crate) fn optional_path(table: &Table, setting: Setting) -> Reading<Option<&str>>
-    ensures { IsSaid (λ path. option_map (λ text. text.now) path) (optional setting (text_as path_in) (table_view table.now)) result }
+/// The path at a key, where one stands there.
+pub fn path_at<'a>(table: &'a Table, key: &str) -> Option<&'a str>
+    ensures { option_map (λ path. path.now) result ≡ path_at key.now (table_view table.now) }
 {
-    match value_at(table, setting) {
+    match value_at(table, key)?.as_str() {
+        Some(path) if !path.is_empty() => Some(path),
+        _ => None,
+    }
+}
+
+/// A customer's name, or else the path of a file, that may be left out.
+pub(crate) fn optional_text(table: &Table, setting: Setting) -> Reading<Option<&str>>
+    ensures { IsSaid (λ found. option_map (λ text. text.now) found) (optional (row setting) (text_as (text_of setting.1)) (table_view table.now)) result }
+{
+    match value_at(table, setting.0) {
         None => Ok(None),
         Some(value) => match value.as_str() {
-            Some(path) if !path.is_empty() => Ok(Some(path)),
+            Some(text) if is_text_of(setting.1, text) => Ok(Some(text)),
             _ => Err(Wanted(setting)),
         },
     }
 }
 
-/// The size of a buffer of the socket.
-pub(crate) fn buffer_at(table: &Table, setting: Setting, default: u32) -> Reading<u32>
-    requires { (65536 ≤ default) × (default ≤ 1073741823) }
-    ensures range { IfOk result (λ octets. (65536 ≤ octets) × (octets ≤ 1073741823)) }
-    ensures value { result ≡ with_default default setting (whole_of 65536 1073741823) (table_view table.now) }
+// Whether a text is a customer's name, or else a path.
+fn is_text_of(kind: Kind, text: &str) -> bool
+    ensures { then_some result text.now ≡ text_of kind text.now }
 {
-    match value_at(table, setting) {
-        None => Ok(default),
-        Some(value) => whole_of(value, LEAST_BUFFER, MOST_BUFFER).ok_or(Wanted(setting)),
+    match kind {
+        Kind::Name => is_name(text),
+        _ => !text.is_empty(),
     }
-}
-
-/// A number of seconds, in the units of its span.
-pub(crate) fn seconds_at(table: &Table, setting: Setting, span: &Span) -> Reading<u64>
-    requires { (span.now.2 ≤ span.now.1) × (span.now.1 ≤ span.now.3) }
-    ensures range { IfOk result (λ count. (span.now.2 ≤ count) × (count ≤ span.now.3)) }
-    ensures value { result ≡ with_default span.now.1 setting (seconds_of span.now.0 span.now.2 span.now.3) (table_view table.now) }
-{
-    match value_at(table, setting) {
-        None => Ok(span.1),
-        Some(value) => seconds_of(value, span).ok_or(Wanted(setting)),
-    }
-}
-
-/// Up to which age of its reference time the clock's daemon is believed, in seconds: a limit that may be left out.
-pub(crate) fn reference_age_at(clock: &Table) -> Reading<Option<u64>>
-    ensures range { IfOk result (λ age. IfSome age (λ seconds. (1 ≤ seconds) × (seconds ≤ 1000000))) }
-    ensures value { result ≡ optional Setting.MostReferenceAge (seconds_of 1 1 1000000) (table_view clock.now) }
-{
-    let age = value_at(clock, Setting::MostReferenceAge);
-    if_any(
-        Setting::MostReferenceAge,
-        age.map(|age| seconds_of(age, &MOST_REFERENCE_AGE)),
-    )
-}
-
-/// A key number or a budget, from 1 to 65,535.
-pub(crate) fn number_at(table: &Table, setting: Setting) -> Reading<NonZero<u16>>
-    ensures { result ≡ required setting number_of (table_view table.now) }
-{
-    number_of(required(table, setting)?).ok_or(Wanted(setting))
-}
-
-/// A digest algorithm: `md5` or `sha1`.
-pub(crate) fn algorithm_at(table: &Table) -> Reading<Algorithm>
-    ensures { result ≡ required Setting.Algorithm (text_as algorithm_in) (table_view table.now) }
-{
-    words::algorithm(text_at(table, Setting::Algorithm)?).ok_or(Wanted(Setting::Algorithm))
-}
-
-/// A reference state: 46 hexadecimal digits.
-pub(crate) fn reference_at(clock: &Table) -> Reading<Reference>
-    ensures { result ≡ required Setting.Reference (text_as reference_in) (table_view clock.now) }
-{
-    words::reference(text_at(clock, Setting::Reference)?).ok_or(Wanted(Setting::Reference))
-}
-
-/// An address: four numbers with dots between them.
-pub(crate) fn address_at(table: &Table, setting: Setting) -> Reading<Address>
-    ensures { result ≡ required setting (text_as address_in) (table_view table.now) }
-{
-    address_of(required(table, setting)?).ok_or(Wanted(setting))
 }
 
 /// An address that may be left out.
 pub(crate) fn optional_address(table: &Table, setting: Setting) -> Reading<Option<Address>>
-    ensures { result ≡ optional setting (text_as address_in) (table_view table.now) }
+    ensures { IsSaid (λ found. found) (optional (row setting) (text_as address_in) (table_view table.now)) result }
 {
-    if_any(setting, value_at(table, setting).map(address_of))
+    match value_at(table, setting.0) {
+        None => Ok(None),
+        Some(value) => match address_of(value) {
+            None => Err(Wanted(setting)),
+            address => Ok(address),
+        },
+    }
 }
 
 /// A boolean: false where none stands there.
 pub(crate) fn boolean_at(table: &Table, setting: Setting) -> Reading<bool>
-    ensures { result ≡ with_default false setting as_bool (table_view table.now) }
+    ensures { IsSaid (λ said. said) (or_default false (optional (row setting) as_bool (table_view table.now))) result }
 {
-    match value_at(table, setting) {
+    match value_at(table, setting.0) {
         None => Ok(false),
         Some(value) => value.as_bool().ok_or(Wanted(setting)),
     }
 }
 
-/// A key for an algorithm: 2 to 64 hexadecimal digits, an even number.
-pub(crate) fn key_at(table: &Table, algorithm: Algorithm) -> Reading<Key>
-    ensures { result ≡ required Setting.Key (text_as (key_for algorithm)) (table_view table.now) }
+/// A count of octets, or of units of time, that may be left out.
+pub(crate) fn count_at(table: &Table, setting: Setting) -> Reading<Option<u64>>
+    ensures value { IsSaid (λ found. found) (count_in (row setting) (table_view table.now)) result }
+    ensures range { IfOk result (λ found. IfSome found (IsWithin setting.1)) }
 {
-    words::key(algorithm, text_at(table, Setting::Key)?).ok_or(Wanted(Setting::Key))
-}
-
-/// The name of a customer, which may be left out.
-pub(crate) fn name_at(customer: &Table) -> Reading<Option<&str>>
-    ensures { IsSaid (λ name. option_map (λ text. text.now) name) (optional Setting.Name (text_as name_in) (table_view customer.now)) result }
-{
-    match value_at(customer, Setting::Name) {
+    match value_at(table, setting.0) {
         None => Ok(None),
-        Some(value) => match value.as_str() {
-            Some(name) if is_name(name) => Ok(Some(name)),
-            _ => Err(Wanted(Setting::Name)),
+        Some(value) => match count_of(value, setting.1) {
+            None => Err(Wanted(setting)),
+            count => Ok(count),
         },
     }
+}
+
+/// A count, or what holds where none stands there.
+pub(crate) fn count_or(table: &Table, setting: Setting, default: u64) -> Reading<u64>
+    requires { IsWithin setting.1 default }
+    ensures value { IsSaid (λ count. count) (or_default default (count_in (row setting) (table_view table.now))) result }
+    ensures range { IfOk result (IsWithin setting.1) }
+{
+    match count_at(table, setting)? {
+        None => Ok(default),
+        Some(count) => Ok(count),
+    }
+}
+
+/// A key number or a budget, from 1 to 65,535.
+pub(crate) fn number_at(table: &Table, setting: Setting) -> Reading<NonZero<u16>>
+    ensures { IsSaid (λ number. number) (required (row setting) number_of (table_view table.now)) result }
+{
+    number_of(required(table, setting)?).ok_or(Wanted(setting))
 }
 
 /// The customers of a document, as they stand there.
-pub(crate) fn customers_at(document: &Table) -> Reading<&[Value]>
-    ensures { IsSaid (λ values. items_view values.now) (with_default no_items Setting.Customer as_array (table_view document.now)) result }
+pub(crate) fn customers_at(document: &Table, setting: Setting) -> Reading<&[Value]>
+    ensures { IsSaid (λ values. items_view values.now) (or_default no_items (optional (row setting) as_array (table_view document.now))) result }
 {
-    match value_at(document, Setting::Customer) {
+    match value_at(document, setting.0) {
         None => Ok(&[]),
         Some(value) => match value.as_array() {
-            None => Err(Wanted(Setting::Customer)),
+            None => Err(Wanted(setting)),
             Some(values) => Ok(values.as_slice()),
         },
     }
+}
+
+/// What is wrong at a key, whatever is wrong at others. Every algorithm takes the same keys.
+pub(crate) fn wrong_at(table: &Table, setting: Setting) -> Option<ConfigurationFault>
+    ensures { option_map said_by result ≡ wrong_at (row setting) (table_view table.now) }
+{
+    match setting.1 {
+        Kind::Listen => word_at(table, setting, listen_in).err(),
+        Kind::Source if is_fixed(table) => None,
+        Kind::Source => word_at(table, setting, endpoint_in).err(),
+        Kind::Path => path_text(table, setting).err(),
+        Kind::OptionalPath | Kind::Name => optional_text(table, setting).err(),
+        Kind::Octets | Kind::Seconds(..) => count_at(table, setting).err(),
+        Kind::Boolean => boolean_at(table, setting).err(),
+        Kind::Reference => word_at(table, setting, words::reference).err(),
+        Kind::Number => number_at(table, setting).err(),
+        Kind::Algorithm => word_at(table, setting, words::algorithm).err(),
+        Kind::Address => word_at(table, setting, words::address).err(),
+        Kind::OptionalAddress => optional_address(table, setting).err(),
+        Kind::Key => word_at(table, setting, |word| words::key(Algorithm::Sha1, word)).err(),
+        Kind::OptionalTable if value_at(table, setting.0).is_none() => None,
+        Kind::Table | Kind::OptionalTable => table_at(table, setting).err(),
+        Kind::Customers => customers_at(table, setting).err(),
+    }
+}
+
+/// Where datagrams are received: `inherited`, or an address with a port.
+pub(crate) fn listen_in(text: &str) -> Option<Listen>
+    ensures { result ≡ listen_in text.now }
+{
+    match text {
+        "inherited" => Some(Listen::Inherited),
+        _ => Some(Listen::Bound(endpoint_in(text)?)),
+    }
+}
+
+/// The address with a port that a text writes.
+pub(crate) fn endpoint_in(text: &str) -> Option<Endpoint>
+    ensures { result ≡ endpoint_in text.now }
+{
+    let (address, port) = text.split_once(':')?;
+    Some(Endpoint {
+        address: words::address(address)?,
+        port: words::number(port)?,
+    })
 }
 
 /// Whether a text may be the name of a customer: 1 to 200 octets without control characters.
@@ -250,6 +236,18 @@ fn address_of(value: &Value) -> Option<Address>
     words::address(value.as_str()?)
 }
 
+// The count at a key of a kind.
+fn count_of(value: &Value, kind: Kind) -> Option<u64>
+    ensures value { result ≡ count_of kind (view value.now) }
+    ensures range { IfSome result (IsWithin kind) }
+{
+    match kind {
+        Kind::Octets => Some(u64::from(whole_of(value, BUFFERS[0], BUFFERS[1])?)),
+        Kind::Seconds(units, least, most) => seconds_of(value, units, least, most),
+        _ => None,
+    }
+}
+
 // A whole number from `least` to `most`.
 fn whole_of(value: &Value, least: u32, most: u32) -> Option<u32>
     ensures value { result ≡ whole_of least most (view value.now) }
@@ -270,19 +268,18 @@ fn number_of(value: &Value) -> Option<NonZero<u16>>
     NonZero::<u16>::new(whole as u16)
 }
 
-// A number of seconds in a span, in its units.
-fn seconds_of(value: &Value, span: &Span) -> Option<u64>
-    ensures value { result ≡ seconds_of span.now.0 span.now.2 span.now.3 (view value.now) }
-    ensures range { IfSome result (λ count. (span.now.2 ≤ count) × (count ≤ span.now.3)) }
+// The units of a number of seconds, from `least` to `most`.
+fn seconds_of(value: &Value, units: u32, least: u64, most: u64) -> Option<u64>
+    ensures value { result ≡ seconds_of units least most (view value.now) }
+    ensures range { IfSome result (λ count. (least ≤ count) × (count ≤ most)) }
 {
-    let Span(units, _, least, most) = *span;
     let count = units_of(value, units)?;
     let count = u64::try_from(count).ok()?;
     (least <= count && count <= most).then_some(count)
 }
 
 // The units of a number of seconds. A float is rounded; one that is no number, or is below 0, gives 0, and one above 2^64 - 1 gives that:
-// neither is in a span.
+// neither is in a range.
 fn units_of(value: &Value, units: u32) -> Option<u128>
     ensures { result ≡ units_of units (view value.now) }
 {

@@ -2,18 +2,20 @@
 ghost use Rattle.std.specs.Prelude.{◌≡◌, Some, Ok, nat_eq, IfOk, IsTrue};
 ghost use Rattle.std.specs.List.{IsDistinct};
 ghost use Rattle.toml.specs.{Parse.parse_document, View.table_view};
-ghost use Rattle.labntpd_files.specs.Settings.{Reads};
+ghost use Rattle.labntpd_files.specs.Settings.{IsSaid, Reads};
 ghost use Rattle.labntpd_files.specs.Wanted.{key_in, newer_in, customer_in, customers_in, key_numbers, wanted_in, AreDistinct};
 
 use crate::fault::Reading;
 use crate::found::{Found, add, add_faults, add_no_toml, key_lines};
-use crate::setting::{CUSTOMER_KEYS, NEWER_KEYS, value_at};
-use crate::values::{address_at, algorithm_at, customers_at, key_at, name_at, number_at, table_at};
-use crate::{ConfigurationFault, Setting, Text, address_warning, budget_warning, key_warning};
+use crate::setting::*;
+use crate::values::{customers_at, number_at, optional_text, table_at, word_at};
+use crate::{ConfigurationFault, Text, address_warning, budget_warning, key_warning};
+use ntp_admin::words;
 use ntp_mac::Key;
 use ntp_service::Address;
 use std::alloc::{AllocError, Global};
 use std::collections::BTreeSet;
+use std::net::Ipv4Addr;
 use std::num::NonZero;
 use toml::Table;
 
@@ -96,9 +98,9 @@ pub fn read_wanted(alloc: Global, text: &str) -> Result<Wanted, WantedFault>
         }
     };
     let customers = customers_in(alloc, &document);
-    let _ = document.remove(Setting::Reference.key());
+    let _ = document.remove(REFERENCE.0);
     let (keys, lines) = (key_lines(alloc, text, "")?, customer_lines(alloc, text)?);
-    let top_keys = &[Setting::Customer];
+    let top_keys = &[CUSTOMER];
     add_faults(&mut found, "", Some(&keys), None, &document, top_keys)?;
     add_customers(&mut found, &document, &lines)?;
     found.sort_by_key(|found| found.line)?;
@@ -118,13 +120,9 @@ pub fn read_wanted(alloc: Global, text: &str) -> Result<Wanted, WantedFault>
 
 // The lines, counted from 1, that begin with the header of a customer.
 fn customer_lines(alloc: Global, text: &str) -> Result<Vec<u64>, AllocError> {
-    let mut lines = Vec::new(alloc);
-    for (place, line) in text.lines().enumerate() {
-        if line.trim_start().starts_with("[[customer]]") {
-            lines.push(place as u64 + 1)?;
-        }
-    }
-    Ok(lines)
+    let numbered = (1_u64..).zip(text.lines());
+    let headers = numbered.filter(|(_, line)| line.trim_start().starts_with("[[customer]]"));
+    headers.map(|(number, _)| number).collect(alloc)
 }
 
 // Adds what is wrong with the customers of a document, which begin in these lines.
@@ -136,18 +134,18 @@ fn add_customers(
     let alloc = *found.allocator();
     let mut addresses = BTreeSet::new(alloc);
     let mut numbers = BTreeSet::new(alloc);
-    let customers = customers_at(document).unwrap_or(&[]);
+    let customers = customers_at(document, CUSTOMER).unwrap_or(&[]);
     for (index, customer) in customers.iter().enumerate() {
         let line = lines.get(index).copied();
-        let Some(table) = customer.as_table() else {
-            let who = who_at(alloc, index, None)?;
+        let table = customer.as_table();
+        let address = table.and_then(|table| word_at(table, ADDRESS, words::address).ok());
+        let who = who_at(alloc, index, address)?;
+        let Some(table) = table else {
             add(found, line, format_args!("{who}a table is wanted"))?;
             continue;
         };
-        let address = address_at(table, Setting::Address).ok();
-        let who = who_at(alloc, index, address)?;
         add_table(found, &mut numbers, &who, line, table, &CUSTOMER_KEYS)?;
-        if let Ok(newer) = table_at(table, Setting::Newer) {
+        if let Ok(newer) = table_at(table, NEWER) {
             let prefix = format!(in alloc; "{who}newer.")?;
             add_table(found, &mut numbers, &prefix, line, newer, &NEWER_KEYS)?;
         }
@@ -170,7 +168,7 @@ fn add_table(
     keys: &[Setting],
 ) -> Result<(), AllocError> {
     add_faults(found, prefix, None, line, table, keys)?;
-    match number_at(table, Setting::Number) {
+    match number_at(table, NUMBER) {
         Ok(number) if !numbers.insert(number.get())? => {
             add(found, line, format_args!("{prefix}number: {TWICE}"))
         }
@@ -182,10 +180,7 @@ fn add_table(
 fn who_at(alloc: Global, index: usize, address: Option<Address>) -> Result<String, AllocError> {
     match address {
         None => format!(in alloc; "customer {}: ", index.saturating_add(1)),
-        Some(address) => {
-            let Address([a, b, c, d]) = address;
-            format!(in alloc; "customer {a}.{b}.{c}.{d}: ")
-        }
+        Some(address) => format!(in alloc; "customer {}: ", Ipv4Addr::from(address.0)),
     }
 }
 
@@ -217,10 +212,10 @@ fn customers_in(alloc: Global, document: &Table) -> Reading<Vec<WantedCustomer>>
     ensures only { IfOk result (λ customers. customers_in (table_view document.now) ≡ Ok customers.items) }
 {
     let mut customers = Vec::new(alloc);
-    for value in customers_at(document)? {
+    for value in customers_at(document, CUSTOMER)? {
         let table = value
             .as_table()
-            .ok_or(ConfigurationFault::Wanted(Setting::Customer))?;
+            .ok_or(ConfigurationFault::Wanted(CUSTOMER))?;
         let customer = customer_in(alloc, table)?;
         customers.push(customer).map_err(AllocError::from)?;
     }
@@ -231,31 +226,33 @@ fn customers_in(alloc: Global, document: &Table) -> Reading<Vec<WantedCustomer>>
 fn customer_in(alloc: Global, table: &Table) -> Reading<WantedCustomer>
     ensures { Reads (customer_in (table_view table.now)) result }
 {
+    let [address, _, _, _, budget, name, _] = CUSTOMER_KEYS;
     Ok(WantedCustomer {
-        address: address_at(table, Setting::Address)?,
+        address: word_at(table, address, words::address)?,
         older: key_in(table)?,
         newer: newer_in(table)?,
-        budget: number_at(table, Setting::Budget)?,
-        name: Text::of_some(alloc, name_at(table)?)?,
+        budget: number_at(table, budget)?,
+        name: Text::of_some(alloc, optional_text(table, name)?)?,
     })
 }
 
 // The key that a table tells of.
 fn key_in(table: &Table) -> Reading<WantedKey>
-    ensures { result ≡ key_in (table_view table.now) }
+    ensures { IsSaid (λ key. key) (key_in (table_view table.now)) result }
 {
-    let number = number_at(table, Setting::Number)?;
-    let key = key_at(table, algorithm_at(table)?)?;
+    let number = number_at(table, NUMBER)?;
+    let algorithm = word_at(table, ALGORITHM, words::algorithm)?;
+    let key = word_at(table, KEY, |word| words::key(algorithm, word))?;
     Ok(WantedKey { number, key })
 }
 
 // The newer key, where there is one.
 fn newer_in(table: &Table) -> Reading<Option<WantedKey>>
-    ensures { result ≡ newer_in (table_view table.now) }
+    ensures { IsSaid (λ newer. newer) (newer_in (table_view table.now)) result }
 {
-    match value_at(table, Setting::Newer) {
+    match value_at(table, NEWER.0) {
         None => Ok(None),
-        Some(_) => Ok(Some(key_in(table_at(table, Setting::Newer)?)?)),
+        Some(_) => Ok(Some(key_in(table_at(table, NEWER)?)?)),
     }
 }
 

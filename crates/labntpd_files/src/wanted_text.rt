@@ -2,8 +2,8 @@
 
 use crate::{WantedCustomer, WantedKey};
 use ntp_mac::Algorithm;
-use ntp_service::Address;
 use std::io::{self, Write};
+use std::net::Ipv4Addr;
 
 /// Whether keys are written, which are secrets.
 #[derive(Clone, Copy, Debug, PartialEq, Eq)]
@@ -18,7 +18,6 @@ pub fn write_wanted<W: Write>(
     customer: &WantedCustomer,
     keys: KeyLines,
 ) -> io::Result<()> {
-    let Address([a, b, c, d]) = customer.address;
     writeln!(out, "[[customer]]")?;
     if let Some(name) = &customer.name {
         write!(out, "name = \"")?;
@@ -30,7 +29,8 @@ pub fn write_wanted<W: Write>(
         }
         writeln!(out, "\"")?;
     }
-    writeln!(out, "address = \"{a}.{b}.{c}.{d}\"")?;
+    let address = Ipv4Addr::from(customer.address.0);
+    writeln!(out, "address = \"{address}\"")?;
     write_key(out, &customer.older, keys, "\n")?;
     writeln!(out, "\nbudget = {}", customer.budget)?;
     if let Some(newer) = &customer.newer {

@@ -2,4 +2,4 @@ use Rattle.toml.proofs.Views.{table_get}
 use Rattle.labntpd_files.proofs.setting.value_at.Goals as goal
 
 pub returns : goal.returns
-returns c = rw (← c.key.ensures) (table_get c.get.result c.key.result.now c.args.table.now.entries c.get.ensures.value)
+returns c = table_get c.get.result c.args.key.now c.args.table.now.entries c.get.ensures.value

@@ -2,7 +2,7 @@
 
 use clap::builder::ValueParser;
 use clap::error::ErrorKind;
-use clap::{Arg, ArgAction, ArgMatches, Command, Error};
+use clap::{Arg, ArgAction, ArgMatches, Command, Error, arg};
 use ntp_query::{Limits, host_in};
 use std::alloc::{AllocError, Global};
 use std::net::Ipv4Addr;
@@ -72,7 +72,9 @@ pub fn parse<'a>(alloc: Global, words: &'a [String]) -> Result<Asked<'a>, Error>
 
 // What the matches ask for; else what is wrong with them.
 fn asked_in<'a>(matches: &ArgMatches<'a>) -> Result<Asked<'a>, &'static str> {
-    let server_word = matches.get_str("server").ok_or("HOST[:PORT] is missing")?;
+    let server_word = matches
+        .get_str("HOST[:PORT]")
+        .ok_or("HOST[:PORT] is missing")?;
     let (host, port) = host_in(server_word).ok_or(
         "HOST[:PORT]: an IPv4 address or a name, with a port or without, is wanted",
     )?;
@@ -134,15 +136,9 @@ fn nanos_at(matches: &ArgMatches<'_>, name: &str, least: u64, most: u64) -> Opti
     let Some(seconds) = matches.get_one::<f64>(name) else {
         return Some(None);
     };
-    if !(seconds >= 0.0) {
-        return None;
-    }
     let nanos = num::saturating_f64_to_u64((seconds * SECOND_NANOS).round());
-    if least <= nanos && nanos <= most {
-        Some(Some(nanos))
-    } else {
-        None
-    }
+    let is_within = seconds >= 0.0 && least <= nanos && nanos <= most;
+    if is_within { Some(Some(nanos)) } else { None }
 }
 
 // The command line, with its help.
@@ -175,11 +171,9 @@ fn command<'a>(alloc: Global) -> Result<Command<'a>, AllocError> {
         let arg = arg.action(ArgAction::Set).value_parser(parser);
         command = command.arg(arg.help(help))?;
     }
-    let json = Arg::new(alloc, "json").long("json");
-    let json = json.action(ArgAction::SetTrue);
-    let server = Arg::new(alloc, "server").value_name("HOST[:PORT]");
-    let server = server.required(true).action(ArgAction::Set);
     command
-        .arg(json.help("Prints an object of JSON for each query"))?
-        .arg(server.help("Its IPv4 address or name; port 123 where none is given"))
+        .arg(arg!(in alloc; --json "Prints an object of JSON for each query"))?
+        .arg(
+            arg!(in alloc; <"HOST[:PORT]"> "Its IPv4 address or name; port 123 where none is given"),
+        )
 }

@@ -4,78 +4,54 @@ use ntp_admin::Escaped;
 use std::fmt::Display;
 use std::io::{self, ErrorKind};
 
-/// The words were refused.
-const USAGE_REFUSED: u8 = 2;
-
 /// The key file or the socket gave nothing to ask with; of a check, whatever hindered it (Monitoring Plugins).
 const NOT_ASKED: u8 = 3;
 
 /// Memory ran out.
 const MEMORY_OUT: u8 = 4;
 
-/// Tells what hinders a query: a person in a line on standard error, and monitoring, where a check is asked for, in one on standard
-/// output. A failed write is passed over.
+/// Says what hinders a query, in one line: to a person on standard error, and to monitoring, where a check is asked for, on
+/// standard output. If that write fails, nothing comes of it.
 #[derive(Clone, Copy)]
-pub struct Faults {
-    is_check: bool,
+pub struct Faults<'a> {
+    /// Where it is printed.
+    pub rt: &'a HostRuntime,
+    /// Whether a check is asked for.
+    pub is_check: bool,
 }
 
-impl Faults {
-    /// Tells monitoring or a person.
-    pub fn new(is_check: bool) -> Faults {
-        Faults { is_check }
+impl<'a> Faults<'a> {
+    /// Speaks to monitoring or to a person.
+    pub fn new(rt: &'a HostRuntime, is_check: bool) -> Faults<'a> {
+        Faults { rt, is_check }
     }
 
-    /// Tells of the key file, the socket or standard output, and gives the exit status.
-    pub fn told<D: Display + Drop>(self, rt: &HostRuntime, fault: D) -> u8 {
-        self.tell(rt, fault);
-        NOT_ASKED
-    }
-
-    /// Tells of an error of the system's at something, and gives the exit status.
-    pub fn of_system(self, rt: &HostRuntime, what: &str, error: &io::Error) -> u8 {
-        if error.kind() == ErrorKind::OutOfMemory {
-            return self.memory(rt);
-        }
-        self.told(rt, format_args!("{}: {error}", Escaped(what)))
-    }
-
-    /// Tells of want of memory, and gives the exit status.
-    pub fn memory(self, rt: &HostRuntime) -> u8 {
-        self.tell(rt, "memory");
-        if self.is_check { NOT_ASKED } else { MEMORY_OUT }
-    }
-
-    /// Tells monitoring that the words were refused, which a person was told, and gives the exit status.
-    pub fn usage(self, rt: &HostRuntime) -> u8 {
-        if !self.is_check {
-            return USAGE_REFUSED;
-        }
-        self.tell(rt, "usage");
-        NOT_ASKED
-    }
-
-    /// Tells why the command line could not be read, and gives the exit status: that of a check too, since nobody knows whether one is
-    /// asked for. A word that is no text is `usage`.
-    pub fn unread(self, rt: &HostRuntime, error: &io::Error) -> u8 {
-        let what = match error.kind() {
-            ErrorKind::OutOfMemory => "memory",
-            _ => "usage",
-        };
-        self.told(rt, what)
-    }
-
-    // Tells of it.
-    fn tell<D: Display + Drop>(self, rt: &HostRuntime, fault: D) {
+    /// Says what is wrong with the key file, the socket or standard output, and gives the exit status.
+    pub fn report<D: Display + Drop>(self, fault: D) -> u8 {
         let _ = if self.is_check {
-            println!(rt; "NTP UNKNOWN: {fault}")
+            println!(self.rt; "NTP UNKNOWN: {fault}")
         } else {
-            eprintln!(rt; "{fault}")
+            eprintln!(self.rt; "{fault}")
         };
+        NOT_ASKED
     }
-}
 
-/// Whether the words ask for a check: one of them begins as the limits do.
-pub fn is_check_asked(words: &[String]) -> bool {
-    words.iter().any(|word| word.starts_with("--max-") || word.starts_with("--warn-"))
+    /// Says which error the system had at something, and gives the exit status.
+    pub fn of_system(self, what: &str, error: &io::Error) -> u8 {
+        if error.kind() == ErrorKind::OutOfMemory {
+            return self.memory();
+        }
+        self.report(format_args!("{}: {error}", Escaped(what)))
+    }
+
+    /// Says that memory ran out, and gives the exit status.
+    pub fn memory(self) -> u8 {
+        let status = self.report("memory");
+        if self.is_check { status } else { MEMORY_OUT }
+    }
+
+    /// Prints a line on standard output. If that fails, says so; the error is the exit status.
+    pub fn print<D: Display + Drop>(self, line: D) -> Result<(), u8> {
+        println!(self.rt; "{line}").map_err(|_| self.report("write"))
+    }
 }

@@ -1,10 +1,9 @@
 //! What came of a query, as an object of JSON.
 
 use crate::command_line::Asked;
-use ntp_query::{Identifier, Nanos, Outcome, Reference, outcome_word, reason_word, unreached_word};
+use ntp_query::{Nanos, Outcome};
 use serde::Serialize;
 use std::alloc::{AllocError, Global};
-use std::fmt::Display;
 use std::num::nearest_i64_to_f64;
 
 // What is written of a query, in this order. Times are in seconds.
@@ -23,59 +22,28 @@ struct OutcomeLine<'a> {
     number: Option<u16>,
 }
 
-/// The line of what came of a query, with its line feed: an object of JSON (RFC 8259). It has no key. The memory for it is taken from
-/// `alloc`.
-///
-/// # Errors
-///
-/// Memory ran out.
+/// What came of a query, as an object of JSON in a line without its end (RFC 8259). It has no key. Its memory is from `alloc`.
 pub fn outcome_line(
     alloc: Global,
     asked: &Asked<'_>,
     outcome: &Outcome,
-) -> Result<Vec<u8>, AllocError> {
-    let answer = outcome.answer();
-    let reference = match outcome {
-        Outcome::Answered(answer) => Some(Reference {
-            stratum: answer.clock.stratum,
-            identifier: answer.clock.reference_id,
-        }),
-        Outcome::Kiss(code) => Some(Reference {
-            stratum: 0,
-            identifier: *code,
-        }),
-        _ => None,
-    };
+) -> Result<String, AllocError> {
+    let (answer, reference) = (outcome.answer(), outcome.reference());
+    let digits = reference.map(|it| format!(in alloc; "{:08x}", u32::from_be_bytes(it.identifier)));
     let line = OutcomeLine {
-        result: outcome_word(outcome),
-        reason: match outcome {
-            Outcome::Refused(why) => Some(reason_word(*why)),
-            Outcome::Unreachable(why) => Some(unreached_word(*why)),
-            _ => None,
-        },
+        result: outcome.word(),
+        reason: outcome.reason(),
         offset: answer.map(|it| seconds(it.offset())),
         delay: answer.map(|it| seconds(it.delay())),
         stratum: answer.map(|it| it.clock.stratum),
         leap: answer.map(|it| it.clock.leap),
-        reference_id: text(alloc, reference.map(|it| Identifier(it.identifier)))?,
-        reference: text(alloc, reference)?,
+        reference_id: digits.transpose()?,
+        reference: reference.map(|it| it.to_string(alloc)).transpose()?,
         root_distance: answer.map(|it| seconds(it.root_distance())),
         server: asked.server_word,
         number: asked.key.map(|(_, number)| number.get()),
     };
-    let Ok(mut octets) = serde_json::to_vec(alloc, &line) else {
-        return Err(AllocError);
-    };
-    octets.push(b'\n')?;
-    Ok(octets)
-}
-
-// What a value prints, if there is one.
-fn text<D: Display + Drop>(alloc: Global, value: Option<D>) -> Result<Option<String>, AllocError> {
-    match value {
-        Some(value) => Ok(Some(format!(in alloc; "{value}")?)),
-        None => Ok(None),
-    }
+    serde_json::to_string(alloc, &line).map_err(|_| AllocError)
 }
 
 // A time in seconds. Up to 2^23 seconds the float prints with the very decimals that the time has.

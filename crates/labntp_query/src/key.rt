@@ -10,37 +10,26 @@ use std::num::NonZero;
 /// How many octets a key file has at most.
 const MOST_OCTETS: u32 = 65_536;
 
-/// The key with a number in the file at a path. A fault is told in one line, and gives the exit status.
-pub fn read_key(
-    rt: &HostRuntime,
-    path: &str,
-    number: NonZero<u16>,
-    faults: Faults,
-) -> Result<Key, u8> {
+/// The key with a number in the file at a path. The error is the exit status of a fault, which was printed.
+pub fn read_key(path: &str, number: NonZero<u16>, faults: Faults<'_>) -> Result<Key, u8> {
+    let rt = faults.rt;
     let octets = read_regular_file(rt, rt.alloc(), path, MOST_OCTETS).map_err(
-        |error| faults.of_system(rt, path, &error),
+        |error| faults.of_system(path, &error),
     )?;
     let path = Escaped(path);
     if octets.len() > MOST_OCTETS as usize {
-        return Err(faults.told(
-            rt,
-            format_args!("{path}: at most {MOST_OCTETS} octets are wanted"),
-        ));
+        return Err(faults.report(format_args!("{path}: at most {MOST_OCTETS} octets are wanted")));
     }
-    let octets = spaced(rt.alloc(), &octets).map_err(|_| faults.memory(rt))?;
+    let octets = spaced(rt.alloc(), &octets).map_err(|_| faults.memory())?;
     let Ok(text) = str::from_utf8(&octets) else {
-        return Err(faults.told(rt, format_args!("{path}: this is no UTF-8")));
+        return Err(faults.report(format_args!("{path}: this is no UTF-8")));
     };
-    match key_in_text(text, number.get()) {
-        Ok(key) => Ok(key),
-        Err(KeyFileFault::Missing) => {
-            Err(faults.told(rt, format_args!("{path}: there is no key {number}")))
+    key_in_text(text, number.get()).map_err(|fault| match fault {
+        KeyFileFault::Missing => faults.report(format_args!("{path}: there is no key {number}")),
+        KeyFileFault::Line { line, fault } => {
+            faults.report(format_args!("{path}: line {line}: {}", wanted(fault)))
         }
-        Err(KeyFileFault::Line { line, fault }) => {
-            let wanted = wanted(fault);
-            Err(faults.told(rt, format_args!("{path}: line {line}: {wanted}")))
-        }
-    }
+    })
 }
 
 // What is wanted in place of a line's fault.

@@ -1,4 +1,4 @@
-//! The client for people: `labntp-query` asks a server, and tells what came of it.
+//! The client for people: `labntp-query` asks a server, and prints what came of it.
 #![tactic(auto)]
 
 mod command_line;
@@ -11,11 +11,14 @@ mod udp_link;
 use clap::Error;
 use clap::error::ErrorKind;
 use command_line::parse;
-use faults::{Faults, is_check_asked};
+use faults::Faults;
 use ntp_host::has_standard_streams;
 use querying::query_status;
 use std::process::ExitCode;
 use std::{env, io};
+
+/// The words were refused.
+const USAGE_REFUSED: u8 = 2;
 
 fn main(rt: HostRuntime) -> ExitCode {
     ExitCode::from(status(&rt))
@@ -23,36 +26,43 @@ fn main(rt: HostRuntime) -> ExitCode {
 
 // Does what the command line asks for, and gives the exit status.
 fn status(rt: &HostRuntime) -> u8 {
-    // Where one is closed, the socket takes its place, and would send the server what is told.
+    let person = Faults::new(rt, false);
+    // Where one is closed, the socket takes its place, and would send the server what is printed.
     if !has_standard_streams() {
-        return Faults::new(false).told(rt, "write");
+        return person.report("write");
     }
     let words = match words(rt) {
         Ok(words) => words,
-        Err(error) => return Faults::new(false).unread(rt, &error),
+        // Nobody knows whether a check is asked for, so this has the status of one too.
+        Err(error) if error.kind() == io::ErrorKind::OutOfMemory => return person.report("memory"),
+        // A word is no text.
+        Err(_) => return person.report("usage"),
     };
     match parse(rt.alloc(), &words) {
-        Ok(asked) => query_status(rt, &asked),
-        Err(error) => refused_status(rt, &error, Faults::new(is_check_asked(&words))),
+        Ok(asked) => query_status(rt, &asked).unwrap_or_else(|status| status),
+        Err(error) => refused_status(rt, &error, Faults::new(rt, is_check_asked(&words))),
     }
 }
 
-// Tells why the words ask for no query, and gives the exit status. The help and the version go to standard output.
-fn refused_status(rt: &HostRuntime, error: &Error, faults: Faults) -> u8 {
+// Says why the words ask for no query, and gives the exit status. The help and the version go to standard output.
+fn refused_status(rt: &HostRuntime, error: &Error, faults: Faults<'_>) -> u8 {
     if error.kind() == ErrorKind::OutOfMemory {
-        return faults.memory(rt);
+        return faults.memory();
     }
-    let printed = error.print(rt);
-    if error.use_stderr() {
-        return faults.usage(rt);
-    }
-    match printed {
+    match error.print(rt) {
+        _ if error.use_stderr() && faults.is_check => faults.report("usage"),
+        _ if error.use_stderr() => USAGE_REFUSED,
         Ok(()) => 0,
-        Err(_) => faults.told(rt, "write"),
+        Err(_) => faults.report("write"),
     }
 }
 
 // The words of the command line; the first is the program's name.
 fn words(rt: &HostRuntime) -> io::Result<Vec<String>> {
     Ok(env::args(rt)?.collect(rt.alloc())?)
+}
+
+// Whether the words ask for a check: one of them begins as the limits do.
+fn is_check_asked(words: &[String]) -> bool {
+    words.iter().any(|word| word.starts_with("--max-") || word.starts_with("--warn-"))
 }

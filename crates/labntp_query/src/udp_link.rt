@@ -3,10 +3,10 @@ ghost use Rattle.std.specs.Prelude.{◌≤◌, IfOk, IfSome};
 
 use ntp_host::moment_now;
 use ntp_packet::Moment;
-use ntp_query::{Link, Received, Room, Unreached, empty_room};
+use ntp_query::{Asker, Link, Outcome, Received, Room, Unreached, ask, empty_room};
 use std::io::{self, ErrorKind};
-use std::net::{Net, SocketAddr, ToSocketAddrs, UdpSocket};
-use std::time::{Clock, Duration, Instant};
+use std::net::{SocketAddr, ToSocketAddrs, UdpSocket};
+use std::time::{Duration, Instant};
 
 /// The error that Linux makes of ICMP's message that nobody listens at a port (icmp(7)).
 const ECONNREFUSED: i32 = 111;
@@ -16,9 +16,9 @@ const OTHER_ICMP_ERRORS: [i32; 7] = [101, 113, 112, 64, 92, 90, 71];
 
 /// A socket that is joined to a server, so that the system passes on what comes from its address and port alone.
 #[derive(Drop)]
-pub struct UdpLink<'a, R: Clock> {
+pub struct UdpLink<'a> {
     socket: UdpSocket,
-    clock: &'a R,
+    rt: &'a HostRuntime,
     timeout: Duration,
     // Until when it receives.
     end: Option<Instant>,
@@ -30,12 +30,12 @@ pub struct UdpLink<'a, R: Clock> {
     said: Option<Unreached>,
 }
 
-impl<'a, R: Net + Clock> UdpLink<'a, R> {
+impl<'a> UdpLink<'a> {
     /// A link from an IPv4 address of this host, `0.0.0.0` for any, with a time limit in nanoseconds for each request.
-    pub fn bind(rt: &'a R, source: &str, timeout: u64) -> io::Result<UdpLink<'a, R>> {
+    pub fn bind(rt: &'a HostRuntime, source: &str, timeout: u64) -> io::Result<UdpLink<'a>> {
         Ok(UdpLink {
             socket: UdpSocket::bind(rt, (source, 0))?,
-            clock: rt,
+            rt,
             timeout: Duration::from_nanos(timeout),
             end: None,
             left: 0,
@@ -46,7 +46,7 @@ impl<'a, R: Net + Clock> UdpLink<'a, R> {
 
     /// Joins it to the first IPv4 address of a host, at a UDP port. The system looks names up.
     pub fn connect(&self, host: &str, port: u16) -> io::Result<()> {
-        let mut addresses = (host, port).to_socket_addrs(self.clock)?;
+        let mut addresses = (host, port).to_socket_addrs(self.rt)?;
         match addresses.find(SocketAddr::is_ipv4) {
             Some(address) => self.socket.connect(address),
             None => Err(io::Error::new(
@@ -55,14 +55,8 @@ impl<'a, R: Net + Clock> UdpLink<'a, R> {
             )),
         }
     }
-}
 
-impl<'a, R: Clock> UdpLink<'a, R> {
-    /// Waits for a time, in nanoseconds. What comes meanwhile is dropped.
-    ///
-    /// # Errors
-    ///
-    /// A receive failed.
+    /// Waits for a time, in nanoseconds. What comes meanwhile is dropped. It fails if a receive fails.
     pub fn pause(&mut self, nanos: u64) -> io::Result<()> {
         self.begin(Duration::from_nanos(nanos));
         let mut room = empty_room();
@@ -74,31 +68,29 @@ impl<'a, R: Clock> UdpLink<'a, R> {
         Ok(())
     }
 
-    /// Takes why the last receive failed, if it did, which ended the query.
-    pub fn take_fault(&mut self) -> Option<io::Error> {
-        self.fault.take()
-    }
-
-    /// What the network said last of the present request, if it did.
-    pub fn said(&self) -> Option<Unreached> {
-        self.said
+    /// Sends one request, and waits for what comes of it: in the place of silence, what the network said. It fails if the
+    /// request could not be sent, or a receive failed.
+    pub fn query(&mut self, asker: &mut Asker) -> io::Result<Outcome> {
+        let outcome = ask(asker, self)?;
+        match self.fault.take() {
+            Some(error) => Err(error),
+            None => Ok(outcome.or_unreachable(self.said)),
+        }
     }
 
     // Receives for `time` from now on.
     fn begin(&mut self, time: Duration) {
         self.left = u64::MAX;
-        self.end = match Instant::now(self.clock) {
-            Ok(now) => now.checked_add(time),
-            Err(_) => None,
-        };
+        self.end = Instant::now(self.rt)
+            .ok()
+            .and_then(|now| now.checked_add(time));
     }
 
     // How long it still receives; nothing where that is over.
     fn time_left(&self) -> Option<Duration> {
-        let now = Instant::now(self.clock).ok()?;
-        self.end?
-            .checked_duration_since(now)
-            .filter(|left| !left.is_zero())
+        let now = Instant::now(self.rt).ok()?;
+        let left = self.end?.checked_duration_since(now)?;
+        if left.is_zero() { None } else { Some(left) }
     }
 
     // Receives for `left` at most.
@@ -109,7 +101,8 @@ impl<'a, R: Clock> UdpLink<'a, R> {
         self.socket.recv(room)
     }
 
-    // The next datagram; nothing where none came in time. What the network says of the server is not authentic, and ends no wait.
+    // The next datagram; nothing where none came in time. What the network says of the server is not authentic, and ends no wait;
+    // nor does a signal.
     fn received(&mut self, room: &mut Room) -> io::Result<Option<Received>>
         ensures { IfOk result (λ received. IfSome received (λ it. it.length ≤ 1025)) }
     {
@@ -119,12 +112,16 @@ impl<'a, R: Clock> UdpLink<'a, R> {
             };
             match self.receive_within(room, left) {
                 Ok(length) => {
-                    let at = moment_now(&self.clock);
+                    let at = moment_now(&self.rt);
                     return Ok(Some(Received { length, at }));
                 }
                 Err(error) => match said_in(&error) {
                     Some(said) => self.said = Some(said),
-                    None if is_passed_over(&error) => {}
+                    None
+                        if matches!(
+                            error.kind(),
+                            ErrorKind::WouldBlock | ErrorKind::TimedOut | ErrorKind::Interrupted
+                        ) => {}
                     None => return Err(error),
                 },
             }
@@ -133,14 +130,14 @@ impl<'a, R: Clock> UdpLink<'a, R> {
     }
 }
 
-impl<'a, R: Clock> Link for UdpLink<'a, R> {
+impl<'a> Link for UdpLink<'a> {
     ghost most = { λ link. link.left };
 
     fn now(&mut self) -> Moment {
-        moment_now(&self.clock)
+        moment_now(&self.rt)
     }
 
-    /// Sends it. What the network said of an earlier one, as that nobody listens, is told of this one and no fault of it.
+    /// Sends it. An error that the network made of an earlier one, as that nobody listens, is no fault of this one.
     fn send(&mut self, request: &[u8]) -> io::Result<()> {
         let sent = match self.socket.send(request) {
             Err(error) if said_in(&error).is_some() => self.socket.send(request),
@@ -148,30 +145,18 @@ impl<'a, R: Clock> Link for UdpLink<'a, R> {
         };
         self.said = None;
         self.begin(self.timeout);
-        sent?;
-        Ok(())
+        sent.map(|_| ())
     }
 
     fn receive(&mut self, room: &mut Room) -> Option<Received> {
         let left = self.left.checked_sub(1)?;
         let received = self.received(room);
         self.left = left;
-        match received {
-            Ok(received) => received,
-            Err(error) => {
-                self.fault = Some(error);
-                None
-            }
-        }
+        received.unwrap_or_else(|error| {
+            self.fault = Some(error);
+            None
+        })
     }
-}
-
-// Whether a receive may be tried again: nothing came, or a signal did.
-fn is_passed_over(error: &io::Error) -> bool {
-    matches!(
-        error.kind(),
-        ErrorKind::WouldBlock | ErrorKind::TimedOut | ErrorKind::Interrupted
-    )
 }
 
 // What the network says of an earlier datagram, which anybody can forge, where an error is that (icmp(7)).

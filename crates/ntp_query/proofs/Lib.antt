@@ -3,4 +3,3 @@ mod KeyForms
 mod KeyLines
 mod Leasts
 mod Rounding
-mod Texts

@@ -1,15 +1,13 @@
 -- Whether a server is well, by limits.
-use Rattle.std.specs.Prelude.{ℕ, Bool, false, ◌==◌, nat_lt, if◌then◌else◌, unsigned_abs, Option, Some, None, ok_or, Result, Ok, Err, List, ◌++◌, codes, []}
-use Rattle.std.specs.{Option.option_map_or, Fmt.decimal}
+use Rattle.std.specs.Prelude.{ℕ, Bool, false, ◌==◌, nat_lt, if◌then◌else◌, unsigned_abs, Option, Some, None, ok_or, Result, Ok, Err}
+use Rattle.std.specs.Option.{option_map_or}
 use Rattle.ntp_packet.specs.FirstCase.{◌>>=◌, ◌>>◌, provided, decided}
-use Rattle.ntp_query.specs.{declared.answer.Answer.Answer, declared.outcome.Outcome.Outcome, declared.check.Limits.Limits}
-use Rattle.ntp_query.specs.{declared.check.Measure.Measure, declared.check.Cause.Cause, declared.check.Verdict.Verdict}
-use Rattle.ntp_query.specs.Nanos.{seconds_text}
+use Rattle.ntp_query.specs.{declared.answer.Answer.Answer, declared.check.Limits.Limits}
+use Rattle.ntp_query.specs.{declared.check.Measure.Measure, declared.check.Verdict.Verdict}
 use Rattle.ntp_query.specs.declared.check.Measure.TheVariants.{Offset, Stratum, RootDistance}
 use Rattle.ntp_query.specs.declared.check.Cause.TheVariants.{NoSample, Above, Missing}
 use Rattle.ntp_query.specs.declared.check.Verdict.TheVariants.{Well, Warning, Critical}
-use Rattle.ntp_query.specs.Answer.{offset_of, delay_of, root_distance_of}
-use Rattle.ntp_query.specs.Text.{trust_text, figures, query_outcome_text}
+use Rattle.ntp_query.specs.Answer.{offset_of, root_distance_of}
 
 -- whether a value is above its limit, if it has one
 abbrev pub is_above : Option ℕ → ℕ → Bool
@@ -42,37 +40,3 @@ abbrev pub check_status : Verdict → ℕ
 check_status Well = 0
 check_status (Warning cause) = 1
 check_status (Critical cause) = 2
-
--- the word for a verdict (Monitoring Plugins)
-abbrev pub verdict_word : Verdict → List ℕ
-verdict_word Well = codes "OK"
-verdict_word (Warning cause) = codes "WARNING"
-verdict_word (Critical cause) = codes "CRITICAL"
-
--- what is wrong
-abbrev pub cause_text : Cause → List ℕ
-cause_text NoSample = codes "no sample, "
-cause_text (Above Offset) = codes "offset above its limit, "
-cause_text (Above Stratum) = codes "stratum above its limit, "
-cause_text (Above RootDistance) = codes "root distance above its limit, "
-cause_text Missing = codes "not every query gave a sample, "
-
-abbrev pub why_text : Verdict → List ℕ
-why_text Well = []
-why_text (Warning cause) = cause_text cause
-why_text (Critical cause) = cause_text cause
-
--- the figures of an answer as performance data (Monitoring Plugins)
-abbrev pub performance : Answer → List ℕ
-performance a =
-    codes "offset=" ++ seconds_text (offset_of a) ++ codes "s delay=" ++ seconds_text (delay_of a) ++ codes "s stratum=" ++ decimal a.clock.stratum
-    ++ codes " root_distance=" ++ seconds_text (root_distance_of a) ++ codes "s"
-
--- what there is to tell: of the sample of least delay, or else of the last query
-abbrev pub details : Option Answer → Outcome → List ℕ
-details (Some a) latest = trust_text a ++ figures a ++ codes " | " ++ performance a
-details None latest = query_outcome_text latest
-
--- the line of a check (Monitoring Plugins)
-unfoldable pub check_text : Verdict → Option Answer → Outcome → List ℕ
-check_text verdict least latest = codes "NTP " ++ verdict_word verdict ++ codes ": " ++ why_text verdict ++ details least latest

@@ -6,6 +6,4 @@ pub mod Asker
 pub mod Exchange
 pub mod KeyFile
 pub mod Server
-pub mod Reasons
-pub mod Text
 pub mod Check

@@ -68,14 +68,12 @@ pub fn verdict_of(most: &Limits, warn: &Limits, least: Option<Answer>, without: 
 fn passed_by(limits: &Limits, answer: &Answer) -> Option<Measure>
     ensures { result ≡ passed_by limits.now answer.now }
 {
+    let root_distance = answer.root_distance().0.unsigned_abs();
     if is_above(limits.offset, answer.offset().0.unsigned_abs()) {
         Some(Measure::Offset)
     } else if is_above(limits.stratum, u64::from(answer.clock.stratum)) {
         Some(Measure::Stratum)
-    } else if is_above(
-        limits.root_distance,
-        answer.root_distance().0.unsigned_abs(),
-    ) {
+    } else if is_above(limits.root_distance, root_distance) {
         Some(Measure::RootDistance)
     } else {
         None

@@ -33,18 +33,13 @@ pub enum KeyLineFault {
 pub fn spaced(alloc: Global, octets: &[u8]) -> Result<Vec<u8>, AllocError>
     ensures { IfOk result (λ made. made.items ≡ map space_for octets.now) }
 {
-    octets.iter().map(|octet| space_for(*octet)).collect(alloc)
-}
-
-// An octet, or a space in the place of a blank.
-fn space_for(octet: u8) -> u8
-    ensures { result ≡ space_for octet }
-{
-    if octet == b'\t' || octet == b'\r' {
-        b' '
-    } else {
-        octet
-    }
+    octets
+        .iter()
+        .map(|octet| match octet {
+            b'\t' | b'\r' => b' ',
+            octet => *octet,
+        })
+        .collect(alloc)
 }
 
 /// The key with a number, 1 to 65,535, in a text of lines `NUMBER [MD5|SHA1] [ASCII:|HEX:]KEY`, with spaces between the words. With no
@@ -72,20 +67,15 @@ pub fn key_in_text(text: &str, number: u16) -> Result<Key, KeyFileFault>
 fn is_key_line(line: &str, number: u16) -> bool
     ensures { result ≡ is_key_line number line.now }
 {
-    match KeyWords::new(line).next() {
-        Some(word) => words::number(word).is_some_and(|found| found.get() == number),
-        None => false,
-    }
+    let first = KeyWords::new(line).next().and_then(words::number);
+    first.is_some_and(|found| found.get() == number)
 }
 
 // The key of the line with this place.
 fn key_in_line(line: u64, text: &str) -> Result<Key, KeyFileFault>
     ensures { result ≡ key_in_line line text.now }
 {
-    match key_in_words(text) {
-        Ok(key) => Ok(key),
-        Err(fault) => Err(KeyFileFault::Line { line, fault }),
-    }
+    key_in_words(text).map_err(|fault| KeyFileFault::Line { line, fault })
 }
 
 // The key of the words of a line.

@@ -1,146 +1,113 @@
 //! What came of a query, in words.
-ghost use Rattle.std.specs.Prelude.{◌≡◌};
-ghost use Rattle.ntp_query.specs.Text.{outcome_word, trust_text, era_text};
 
-use crate::reasons::unreached_text;
-use crate::{Answer, Nanos, Outcome, Reason, Reference};
+use crate::reasons::Reason;
+use crate::{Answer, Outcome, Reference, Unreached};
 use std::fmt;
 
 /// The greatest offset that prints without a word on eras: 2^30 seconds, in nanoseconds.
 const MOST_CERTAIN: u64 = 1_000_000_000 << 30;
 
-/// A word for what came of a query: `basic` and `interleaved` for a signed sample, `unauthenticated` for another one.
-pub fn outcome_word(outcome: &Outcome) -> &'static str
-    ensures { result.now ≡ outcome_word outcome.now }
-{
-    match outcome {
-        Outcome::Answered(answer) if !answer.signed => "unauthenticated",
-        Outcome::Answered(answer) if answer.sample.interleaved => "interleaved",
-        Outcome::Answered(_) => "basic",
-        Outcome::Rate => "rate",
-        Outcome::Deny => "deny",
-        Outcome::Nak => "nak",
-        Outcome::Kiss(_) => "kiss",
-        Outcome::Refused(_) => "refused",
-        Outcome::Silence => "silence",
-        Outcome::Unreachable(_) => "unreachable",
+impl Outcome {
+    /// A word for it: `basic` and `interleaved` for a signed sample, `unauthenticated` for another one.
+    pub fn word(&self) -> &'static str {
+        self.row().0
     }
-}
 
-/// What it tells of the server's clock.
-impl fmt::Display for Answer {
-    ghost use Rattle.std.specs.Prelude.{Some};
-    ghost use Rattle.ntp_query.specs.Text.{answer_text};
+    // Its word, and what stands behind it, or in front of what this outcome has besides.
+    fn row(&self) -> (&'static str, &'static str) {
+        match self {
+            Outcome::Answered(answer) if !answer.signed => ("unauthenticated", ""),
+            Outcome::Answered(answer) if answer.sample.interleaved => ("interleaved", ""),
+            Outcome::Answered(_) => ("basic", ""),
+            Outcome::Rate => ("rate", "the server is asked too often"),
+            Outcome::Deny => (
+                "deny",
+                "the server does not serve this address, if this is from it",
+            ),
+            Outcome::Nak => ("nak", "the server has no such key, if this is from it"),
+            Outcome::Kiss(_) => ("kiss", ""),
+            Outcome::Refused(_) => ("refused", ""),
+            Outcome::Silence => ("silence", "nothing came"),
+            Outcome::Unreachable(Unreached::Port) => (
+                "unreachable",
+                "the network says that nobody listens there (connection refused)",
+            ),
+            Outcome::Unreachable(Unreached::Network) => (
+                "unreachable",
+                "the network says that the server is not reached",
+            ),
+        }
+    }
 
-    ghost output = { λ answer. Some (answer_text answer) };
+    /// A word for why octets were not taken for a reply, or why the server is not reached.
+    pub fn reason(&self) -> Option<&'static str> {
+        match self {
+            Outcome::Refused(why) => Some(Reason(*why).word()),
+            Outcome::Unreachable(Unreached::Port) => Some("port"),
+            Outcome::Unreachable(Unreached::Network) => Some("network"),
+            _ => None,
+        }
+    }
 
-    #[tactic(auto, unfolding(crate::specs::Text::answer_text))]
-    fn fmt<W: fmt::Write>(&self, f: &mut fmt::Formatter<W>) -> fmt::Result {
-        let figures = Figures(*self);
-        let reference = Reference {
-            stratum: self.clock.stratum,
-            identifier: self.clock.reference_id,
+    /// The reference of a sample's clock, or the code of a kiss, as a reference of stratum 0.
+    pub fn reference(&self) -> Option<Reference> {
+        let (stratum, identifier) = match self {
+            Outcome::Answered(answer) => (answer.clock.stratum, answer.clock.reference_id),
+            Outcome::Kiss(code) => (0, *code),
+            _ => return None,
         };
-        let leap = self.clock.leap;
-        write!(f, "{figures}, reference {reference}, leap {leap}")
-    }
-}
-
-// What stands in front of an answer that nobody signed.
-pub(crate) fn trust_text(answer: &Answer) -> &'static str
-    ensures { result.now ≡ trust_text answer.now }
-{
-    if answer.signed {
-        ""
-    } else {
-        "unauthenticated, "
-    }
-}
-
-// What stands behind an offset that may be another one by an era (RFC 5905, 6).
-fn era_text(offset: Nanos) -> &'static str
-    ensures { result.now ≡ era_text offset.0 }
-{
-    if offset.0.unsigned_abs() > MOST_CERTAIN {
-        " (or one that differs by 136 years)"
-    } else {
-        ""
-    }
-}
-
-// The offset and the delay of an answer.
-#[derive(Clone, Copy)]
-struct Times(Answer);
-
-impl fmt::Display for Times {
-    ghost use Rattle.std.specs.Prelude.{Some};
-    ghost use Rattle.ntp_query.specs.Text.{times_text};
-
-    ghost output = { λ it. Some (times_text it.0) };
-
-    fn fmt<W: fmt::Write>(&self, f: &mut fmt::Formatter<W>) -> fmt::Result {
-        let (offset, delay) = (self.0.offset(), self.0.delay());
-        let era = era_text(offset);
-        write!(f, "offset {offset} s{era}, delay {delay} s")
-    }
-}
-
-// The figures of an answer.
-#[derive(Clone, Copy)]
-pub(crate) struct Figures(pub(crate) Answer);
-
-impl fmt::Display for Figures {
-    ghost use Rattle.std.specs.Prelude.{Some};
-    ghost use Rattle.ntp_query.specs.Text.{figures};
-
-    ghost output = { λ it. Some (figures it.0) };
-
-    fn fmt<W: fmt::Write>(&self, f: &mut fmt::Formatter<W>) -> fmt::Result {
-        let Figures(answer) = self;
-        let times = Times(*answer);
-        let (stratum, root_distance) = (answer.clock.stratum, answer.root_distance());
-        write!(
-            f,
-            "{times}, stratum {stratum}, root distance {root_distance} s"
-        )
+        Some(Reference {
+            stratum,
+            identifier,
+        })
     }
 }
 
 /// A word, and what it means.
 impl fmt::Display for Outcome {
-    ghost use Rattle.std.specs.Prelude.{Some};
-    ghost use Rattle.ntp_query.specs.Text.{query_outcome_text};
-
-    ghost output = { λ outcome. Some (query_outcome_text outcome) };
-
-    #[tactic(auto, unfolding(crate::specs::Text::query_outcome_text))]
     fn fmt<W: fmt::Write>(&self, f: &mut fmt::Formatter<W>) -> fmt::Result {
-        let word = outcome_word(self);
-        match self {
-            Outcome::Answered(answer) => write!(f, "{word}: {answer}"),
-            Outcome::Rate => write!(f, "{word}: the server is asked too often"),
-            Outcome::Deny => write!(
-                f,
-                "{word}: the server does not serve this address, if this is from it"
-            ),
-            Outcome::Nak => write!(f, "{word}: the server has no such key, if this is from it"),
-            Outcome::Kiss(code) => {
-                let reference = Reference {
-                    stratum: 0,
-                    identifier: *code,
-                };
-                write!(f, "{word}: {reference}, if this is from the server")
+        let (word, meaning) = self.row();
+        write!(f, "{word}: {meaning}")?;
+        match (self, self.reference()) {
+            (Outcome::Answered(answer), Some(reference)) => {
+                write_figures(f, answer)?;
+                write!(f, ", reference {reference}, leap {}", answer.clock.leap)
             }
-            Outcome::Refused(why) => {
-                let reason = Reason(*why);
-                write!(f, "{word}: {reason}")
-            }
-            Outcome::Silence => write!(f, "{word}: nothing came"),
-            Outcome::Unreachable(why) => {
-                let said = unreached_text(*why);
-                write!(f, "{word}: {said}")
-            }
+            (Outcome::Kiss(_), Some(code)) => write!(f, "{code}, if this is from the server"),
+            (Outcome::Refused(why), _) => write!(f, "{}", Reason(*why)),
+            _ => Ok(()),
         }
+    }
+}
+
+// Writes the offset and the delay of an answer. An offset may be another one by an era, where it is so great (RFC 5905, 6).
+fn write_times<W: fmt::Write>(f: &mut fmt::Formatter<W>, answer: &Answer) -> fmt::Result {
+    let (offset, delay) = (answer.offset(), answer.delay());
+    let is_certain = offset.0.unsigned_abs() <= MOST_CERTAIN;
+    let era = if is_certain {
+        ""
+    } else {
+        " (or one that differs by 136 years)"
+    };
+    write!(f, "offset {offset} s{era}, delay {delay} s")
+}
+
+// Writes the figures of an answer.
+pub(crate) fn write_figures<W: fmt::Write>(
+    f: &mut fmt::Formatter<W>,
+    answer: &Answer,
+) -> fmt::Result {
+    write_times(f, answer)?;
+    let (stratum, root_distance) = (answer.clock.stratum, answer.root_distance());
+    write!(f, ", stratum {stratum}, root distance {root_distance} s")
+}
+
+// What stands in front of an answer that nobody signed.
+pub(crate) fn trust_text(answer: &Answer) -> &'static str {
+    if answer.signed {
+        ""
+    } else {
+        "unauthenticated, "
     }
 }
 
@@ -156,19 +123,13 @@ pub struct Least {
 }
 
 impl fmt::Display for Least {
-    ghost use Rattle.std.specs.Prelude.{Some};
-    ghost use Rattle.ntp_query.specs.Text.{least_text};
-
-    ghost output = { λ least. Some (least_text least) };
-
-    #[tactic(auto, unfolding(crate::specs::Text::least_text))]
     fn fmt<W: fmt::Write>(&self, f: &mut fmt::Formatter<W>) -> fmt::Result {
         let (samples, queries) = (self.samples, self.queries);
         let trust = trust_text(&self.answer);
-        let times = Times(self.answer);
         write!(
             f,
-            "least delay of {samples} samples in {queries} queries: {trust}{times}"
-        )
+            "least delay of {samples} samples in {queries} queries: {trust}"
+        )?;
+        write_times(f, &self.answer)
     }
 }

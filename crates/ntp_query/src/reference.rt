@@ -6,25 +6,8 @@ ghost use Rattle.ntp_query.specs.Reference.{is_zero, text_length, code_of};
 use std::net::Ipv4Addr;
 use std::{fmt, str};
 
-/// A reference identifier. It prints in eight hexadecimal digits.
-#[derive(Clone, Copy)]
-pub struct Identifier(pub [u8; 4]);
-
-impl fmt::Display for Identifier {
-    ghost use Rattle.std.specs.Prelude.{Some};
-    ghost use Rattle.hex.specs.Hex.{encode_lower};
-
-    ghost output = { λ identifier. Some (encode_lower identifier.0) };
-
-    fn fmt<W: fmt::Write>(&self, f: &mut fmt::Formatter<W>) -> fmt::Result {
-        let mut digits = [0; 8];
-        hex::encode_to_slice(self.0, &mut digits).unwrap();
-        f.write_str(str::from_utf8(&digits).map_err(|_| fmt::Error)?)
-    }
-}
-
-/// The reference of a clock of a stratum. It prints as text up to stratum 1, as `GPS`, or in hexadecimal digits where it is no text;
-/// and as an address above stratum 1 (RFC 5905, 7.3).
+/// The reference of a clock of a stratum. It prints as text up to stratum 1, as `GPS`, or in eight hexadecimal digits where it
+/// is no text; and as an address above stratum 1 (RFC 5905, 7.3).
 #[derive(Clone, Copy)]
 pub struct Reference {
     /// The stratum.
@@ -34,22 +17,14 @@ pub struct Reference {
 }
 
 impl fmt::Display for Reference {
-    ghost use Rattle.std.specs.Prelude.{Some};
-    ghost use Rattle.ntp_query.specs.Reference.{reference_text};
-
-    ghost output = { λ it. Some (reference_text it.stratum it.identifier) };
-
     fn fmt<W: fmt::Write>(&self, f: &mut fmt::Formatter<W>) -> fmt::Result {
         if self.stratum > 1 {
-            let address = Ipv4Addr::from(self.identifier);
-            return write!(f, "{address}");
+            return write!(f, "{}", Ipv4Addr::from(self.identifier));
         }
-        let code = code_of(&self.identifier);
-        if code.is_empty() {
-            let identifier = Identifier(self.identifier);
-            return write!(f, "{identifier}");
+        match code_of(&self.identifier) {
+            [] => write!(f, "{:08x}", u32::from_be_bytes(self.identifier)),
+            code => f.write_str(str::from_utf8(code).map_err(|_| fmt::Error)?),
         }
-        f.write_str(str::from_utf8(code).map_err(|_| fmt::Error)?)
     }
 }
 

@@ -1,9 +1,0 @@
-use Rattle.std.proofs.Common.{subst}
-use Rattle.std.specs.Fmt.{HasWritten}
-use Rattle.ntp_query.proofs.Texts.{performance-written}
-use Rattle.ntp_query.proofs.check_text.PerformanceDisplay.fmt.Goals as goal
-
-pub returns-clause-writes : goal.returns-clause-writes
-returns-clause-writes g c = λ plain ok.
-    subst (λ text. HasWritten g.W.Write.write_str_gives c.args.f.now text c.write.new.self)
-    (performance-written c.args.self.now.0 _ _ _ c.offset-offset.ensures c.delay-delay.ensures c.root_distance-root_distance.ensures) (c.write.ensures.writes plain ok)

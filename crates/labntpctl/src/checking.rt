@@ -4,10 +4,9 @@ use crate::commands_file::{HeardLine, Loaded, complete_lines};
 use crate::desk::{Desk, Stop};
 use crate::shown::FoundAt;
 use labntpd_files::{
-    ConfigurationFault, Setting, WantedFault, address_warning, budget_warning,
+    ConfigurationFault, ShownWord, WantedFault, address_warning, budget_warning,
     configuration_faults, fault_meaning, faulty_place, is_fixed, key_in_file, key_warning,
-    key_wrong, path_at, read_configuration, read_wanted, refusal_meaning, shown_word, value_at,
-    word_at,
+    key_wrong, path_at, read_configuration, read_wanted, refusal_meaning, word_at,
 };
 use labntpd_start::{
     KEY_LINE_WANTED, NamedFiles, SeveralAddresses, readers_of, small_text, tell_places,
@@ -226,17 +225,17 @@ impl<'a> Report<'a> {
 
 // Returns the files that a document names.
 fn named_files<'a>(path: &'a str, document: &'a Table) -> NamedFiles<'a> {
-    let clock = value_at(document, Setting::Clock).and_then(|clock| clock.as_table());
+    let clock = document.get("clock").and_then(|clock| clock.as_table());
     NamedFiles {
         configuration: path,
-        commands: path_at(document, Setting::Commands),
+        commands: path_at(document, "commands"),
         key_file: match clock {
-            Some(clock) if !is_fixed(clock) => path_at(clock, Setting::KeyFile),
+            Some(clock) if !is_fixed(clock) => path_at(clock, "key_file"),
             _ => None,
         },
-        answers: path_at(document, Setting::Answers),
-        statistics: path_at(document, Setting::Statistics),
-        customers: path_at(document, Setting::Customers),
+        answers: path_at(document, "answers"),
+        statistics: path_at(document, "statistics"),
+        customers: path_at(document, "customers"),
     }
 }
 
@@ -301,15 +300,14 @@ impl<'a, 'b, 'p> LineChecker<'a, 'b, 'p> {
         let (word, meaning) = (fault.word(), fault_meaning(fault));
         let first = line.split_once(' ').map_or(line, |(first, _)| first);
         let placed = faulty_place(first, fault).and_then(|place| word_at(line, place));
-        if let Some(placed) = placed {
-            let (column, there) = (placed.column, placed.word);
+        if let Some((column, there)) = placed {
             match key_wrong(there) {
                 Some(wrong) if fault == LineFault::KeyText => self.fault(format_args!(
                     "column {column}: faulty {word}: {meaning}; {wrong}"
                 )),
                 _ => self.fault(format_args!(
                     "column {column}: faulty {word}: {meaning}; {}",
-                    shown_word(there)
+                    ShownWord(there)
                 )),
             }
         } else if matches!(fault, LineFault::LineLong | LineFault::NotUtf8) {

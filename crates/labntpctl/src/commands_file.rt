@@ -56,7 +56,6 @@ impl Loaded {
         let mut heard = Heard {
             counts: CustomerCounts::new(alloc),
             lines: Vec::new(alloc),
-            command: None,
             has_missed: false,
         };
         let lines = apply_lines(&mut service, whole, 0, &mut heard);
@@ -154,22 +153,15 @@ pub struct Heard {
     /// The numbers of customers' keys, and the lines that enrolled them.
     pub counts: CustomerCounts,
     pub lines: Vec<HeardLine>,
-    // The command of the next line.
-    command: Option<Command>,
     has_missed: bool,
 }
 
 impl Observer for Heard {
-    fn command(&mut self, command: &Command) {
-        self.counts.command(command);
-        self.command = Some(*command);
-    }
-
-    fn line(&mut self, number: u64, outcome: LineOutcome) {
-        self.counts.line(number, outcome);
+    fn line(&mut self, number: u64, command: Option<&Command>, outcome: LineOutcome) {
+        self.counts.line(number, command, outcome);
         let line = HeardLine {
             number,
-            command: self.command.take(),
+            command: command.copied(),
             outcome,
         };
         if outcome == LineOutcome::Refused(Refusal::NoMemory) || self.lines.push(line).is_err() {

@@ -1,7 +1,7 @@
 -- Packets have one reading.
 use Rattle.std.proofs.Common.{◌≡◌, ℕ, ◌+◌, ◌<◌, List, ◌++◌, length, take, drop, ap, sym, ◌∙◌, arith}
 use Rattle.std.proofs.{lemmas.Grind.common_steps, Math.Seq.take-append_seam, Math.Seq.drop-append_seam, lemmas.List.length-append}
-use Rattle.ntp_clerk.specs.Datagram.{IsIpHead, IsUdpHead, IsDatagram}
+use Rattle.ntp_clerk.specs.Capture.{IsIpHead, IsUdpHead, IsDatagram}
 
 -- ---- lists that are taken apart at one place
 

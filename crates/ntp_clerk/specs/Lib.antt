@@ -4,10 +4,7 @@ pub mod Grants
 pub mod Leading
 pub mod Steps
 pub mod Names
-pub mod Wide
 pub mod Capture
-pub mod Link
-pub mod Datagram
 pub mod Seen
 pub mod Confirming
 pub mod Moving

@@ -1,10 +1,8 @@
-//! A capture file in pcap form: its header, and its records in order.
-ghost use Rattle.std.specs.Prelude.{◌≡◌, ◌↔◌, ◌≤◌, ◌<◌, ◌+◌, List, ℕ, length, Some, None, Err, IfOk, IfErr, IfSome, IfNone};
-ghost use Rattle.ntp_clerk.specs.{Wide.four_octets, Link.link_of};
-ghost use Rattle.ntp_clerk.specs.Capture.{order_of, number_at, HasHead, IsRecord};
+//! A capture file in pcap form: its header, its records in order, the IPv4 packet of a frame, and the UDP datagram of a packet.
+ghost use Rattle.std.specs.Prelude.{◌≡◌, ◌↔◌, ◌≤◌, ◌<◌, ◌+◌, ◌++◌, List, ℕ, length, Some, None, Err, IfOk, IfErr, IfSome, IfNone};
+ghost use Rattle.std.specs.List.{slice_range};
+ghost use Rattle.ntp_clerk.specs.Capture.{two_octets, order_of, number_at, link_of, HasHead, IsRecord, IsPacketOf, IsIpHead, IsUdpHead, IsDatagram};
 
-use crate::link::{Link, link_of};
-use crate::wide::{four_octets, four_turned, split};
 use std::fmt;
 
 /// The first four octets of a file in the form pcapng, which is another one.
@@ -15,6 +13,15 @@ const HEAD_OCTETS: usize = 24;
 
 /// How many octets the header of a record has.
 const RECORD_HEAD_OCTETS: usize = 16;
+
+/// The type of protocol of IPv4 (RFC 894).
+const IPV4: u64 = 0x0800;
+
+/// The protocol UDP (RFC 768).
+const UDP: u8 = 17;
+
+/// How many octets the header of UDP has.
+const UDP_HEAD_OCTETS: usize = 8;
 
 /// The order of the octets in a file's numbers.
 #[derive(Clone, Copy, Debug, PartialEq, Eq)]
@@ -73,13 +80,13 @@ impl fmt::Display for CaptureFault {
 pub fn capture_in(octets: &[u8]) -> Result<Capture<'_>, CaptureFault>
     ensures whole { IfOk result (λ capture. HasHead octets.now capture.order capture.link capture.records.now) }
     ensures none { IfErr result (λ fault. (order : Order) (link : Link) (records : List ℕ) → HasHead octets.now order link records → ⊥) }
-    ensures next_generation { (result ≡ Err CaptureFault.NextGeneration) ↔ ((24 ≤ length octets.now) × (four_octets octets.now 0 ≡ 168627466)) }
-    ensures link { (number : ℕ) → (result ≡ Err (CaptureFault.Link number)) ↔ ((order : Order) × (24 ≤ length octets.now) × (order_of (four_octets octets.now 0) ≡ Some order) × (number_at order octets.now 20 ≡ number) × (link_of number ≡ None)) }
+    ensures next_generation { (result ≡ Err CaptureFault.NextGeneration) ↔ ((24 ≤ length octets.now) × (number_at Order.BigEndian octets.now 0 ≡ 168627466)) }
+    ensures link { (number : ℕ) → (result ≡ Err (CaptureFault.Link number)) ↔ ((order : Order) × (24 ≤ length octets.now) × (order_of (number_at Order.BigEndian octets.now 0) ≡ Some order) × (number_at order octets.now 20 ≡ number) × (link_of number ≡ None)) }
 {
     if octets.len() < HEAD_OCTETS {
         return Err(CaptureFault::Head);
     }
-    let magic = four_octets(octets, 0);
+    let magic = number_at(Order::BigEndian, octets, 0);
     if magic == NEXT_GENERATION {
         return Err(CaptureFault::NextGeneration);
     }
@@ -111,8 +118,13 @@ fn number_at(order: Order, octets: &[u8], at: usize) -> u64
     ensures small { result < 4294967296 }
 {
     match order {
-        Order::BigEndian => four_octets(octets, at),
-        Order::LittleEndian => four_turned(octets, at),
+        Order::BigEndian => two_octets(octets, at) * 65_536 + two_octets(octets, at + 2),
+        Order::LittleEndian => {
+            u64::from(octets[at])
+                + u64::from(octets[at + 1]) * 256
+                + u64::from(octets[at + 2]) * 65_536
+                + u64::from(octets[at + 3]) * 16_777_216
+        }
     }
 }
 
@@ -125,4 +137,124 @@ pub fn next_record(order: Order, octets: &[u8]) -> Option<Record<'_>>
     let captured = number_at(order, octets, 8);
     let (frame, behind) = split(rest, captured as usize)?;
     Some(Record { frame, behind })
+}
+
+/// What the frames of a capture file begin with (pcap-linktype(7)).
+#[derive(Clone, Copy, Debug, PartialEq, Eq)]
+pub enum Link {
+    /// A header of Ethernet.
+    Ethernet,
+    /// A header that Linux makes where each host has another link, in its first form.
+    Cooked,
+    /// The same in its second form.
+    CookedSecond,
+    /// The IP packet itself.
+    Packet,
+}
+
+// The type of link with a number, whose lower 16 bits count.
+fn link_of(number: u64) -> Option<Link>
+    ensures { result ≡ link_of number }
+{
+    match number % 65_536 {
+        1 => Some(Link::Ethernet),
+        113 => Some(Link::Cooked),
+        276 => Some(Link::CookedSecond),
+        12 | 101 | 228 => Some(Link::Packet),
+        _ => None,
+    }
+}
+
+/// The IPv4 packet of a frame, if it has one.
+pub fn packet_in(link: Link, frame: &[u8]) -> Option<&[u8]>
+    ensures whole { IfSome result (λ packet. IsPacketOf link frame.now packet.now) }
+    ensures none { IfNone result ((packet : List ℕ) → IsPacketOf link frame.now packet → ⊥) }
+{
+    match link {
+        Link::Ethernet => behind_head(frame, 14, 12),
+        Link::Cooked => behind_head(frame, 16, 14),
+        Link::CookedSecond => behind_head(frame, 20, 0),
+        Link::Packet => Some(frame),
+    }
+}
+
+// What stands behind a header of `octets` octets that has the type of protocol at `at`, where that is IPv4.
+fn behind_head(frame: &[u8], octets: usize, at: usize) -> Option<&[u8]>
+    requires { at + 2 ≤ octets }
+    ensures whole { IfSome result (λ packet. (head : List ℕ) × (frame.now ≡ head ++ packet.now) × (length head ≡ octets) × (two_octets head at ≡ 2048)) }
+    ensures none { IfNone result ((head : List ℕ) (packet : List ℕ) → frame.now ≡ head ++ packet → length head ≡ octets → two_octets head at ≡ 2048 → ⊥) }
+{
+    let (head, packet) = frame.split_at_checked(octets)?;
+    (two_octets(head, at) == IPV4).then_some(packet)
+}
+
+/// A UDP datagram.
+#[derive(Clone, Copy)]
+pub struct Datagram<'a> {
+    /// The address from which it came.
+    pub source: [u8; 4],
+    pub payload: &'a [u8],
+}
+
+/// The UDP datagram to a port that an IPv4 packet is, if it is one as a whole, and no fragment.
+pub fn datagram_in(packet: &[u8], port: u16) -> Option<Datagram<'_>>
+    ensures whole { IfSome result (λ datagram. IsDatagram packet.now datagram.source port datagram.payload.now) }
+    ensures none { IfNone result ((source : List ℕ) (payload : List ℕ) → IsDatagram packet.now source port payload → ⊥) }
+{
+    let (ip, behind) = ip_head(packet)?;
+    let (udp, behind) = split(behind, UDP_HEAD_OCTETS)?;
+    let octets = payload_octets(udp, port)?;
+    let (payload, _padding) = split(behind, octets)?;
+    Some(Datagram {
+        source: source_in(ip),
+        payload,
+    })
+}
+
+// The header of an IPv4 packet that is a whole UDP datagram, and what stands behind it.
+fn ip_head(packet: &[u8]) -> Option<(&[u8], &[u8])>
+    ensures whole { IfSome result (λ split. (packet.now ≡ split.0.now ++ split.1.now) × IsIpHead split.0.now) }
+    ensures none { IfNone result ((ip : List ℕ) (behind : List ℕ) → packet.now ≡ ip ++ behind → IsIpHead ip → ⊥) }
+{
+    let first = *packet.first()?;
+    if first < 69 || first > 79 {
+        return None;
+    }
+    let (ip, behind) = split(packet, usize::from(first - 64) * 4)?;
+    (ip[9] == UDP && ip[6] % 64 == 0 && ip[7] == 0).then_some((ip, behind))
+}
+
+// How many octets a payload has, by the header of UDP before it, if that names the port.
+fn payload_octets(udp: &[u8], port: u16) -> Option<usize>
+    requires { length udp.now ≡ 8 }
+    ensures whole { IfSome result (λ octets. IsUdpHead udp.now port octets) }
+    ensures none { IfNone result ((octets : ℕ) → IsUdpHead udp.now port octets → ⊥) }
+{
+    let octets = (two_octets(udp, 4) as usize).checked_sub(UDP_HEAD_OCTETS)?;
+    (two_octets(udp, 2) == u64::from(port)).then_some(octets)
+}
+
+// The source of a header of IPv4.
+fn source_in(ip: &[u8]) -> [u8; 4]
+    requires { 20 ≤ length ip.now }
+    ensures { result ≡ slice_range ip.now 12 16 }
+{
+    [ip[12], ip[13], ip[14], ip[15]]
+}
+
+// The number of two octets from a place on, the most significant first.
+fn two_octets(octets: &[u8], at: usize) -> u64
+    requires { at + 2 ≤ length octets.now }
+    ensures number { result ≡ two_octets octets.now at }
+    ensures small { result < 65536 }
+{
+    u64::from(octets[at]) * 256 + u64::from(octets[at + 1])
+}
+
+// The first `count` octets, and what stands behind them; nothing where there are fewer.
+fn split(octets: &[u8], count: usize) -> Option<(&[u8], &[u8])>
+    ensures parts { IfSome result (λ split. (octets.now ≡ split.0.now ++ split.1.now) × (length split.0.now ≡ count)) }
+    ensures fewer { IfNone result (length octets.now < count) }
+{
+    octets.split_at_checked(count)
 }

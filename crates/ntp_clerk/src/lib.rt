@@ -4,27 +4,25 @@
 mod capture;
 mod command_text;
 mod confirming;
-mod datagram;
 mod folding;
 mod grant;
 mod leading;
-mod link;
 mod moving;
 mod names;
 mod numbers;
 mod seen;
 mod shown;
 mod wanted;
-mod wide;
 
-pub use capture::{Capture, CaptureFault, Order, Record, capture_in, next_record};
+pub use capture::{
+    Capture, CaptureFault, Datagram, Link, Order, Record, capture_in, datagram_in, next_record,
+    packet_in,
+};
 pub use command_text::{algorithm_word, budget_named, command_line, command_shown, key_named};
 pub use confirming::{ends_many, is_settled, may_be_renewed, may_retire, number_to_retire};
-pub use datagram::{Datagram, datagram_in};
 pub use folding::fold;
 pub use grant::{Grant, customer_text, is_read_two_ways};
 pub use leading::{LeadFault, commands_to, rollover};
-pub use link::{Link, packet_in};
 pub use moving::commands_to_move;
 pub use names::{name_in, name_line, record_line};
 pub use numbers::number_for_a_key;

@@ -1,6 +1,6 @@
 use Rattle.std.proofs.Common.{length}
 use Rattle.ntp_clerk.proofs.Frames.{read-on, long-enough}
-use Rattle.ntp_clerk.proofs.datagram.datagram_in.Goals as goal
+use Rattle.ntp_clerk.proofs.capture.datagram_in.Goals as goal
 
 pub returns-in_err-octets-clause-none : goal.returns-in_err-octets-clause-none
 returns-in_err-octets-clause-none c = rw c.from_residual-in_err-octets.ensures (λ source payload d. c.in_err-octets.ensures.none (length payload)

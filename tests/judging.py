@@ -2,9 +2,11 @@
 which Python's own unittest makes.
 """
 import contextlib
+import fcntl
 import os
 import pwd
 import re
+import resource
 import shutil
 import signal
 import subprocess
@@ -14,13 +16,58 @@ import time
 import unittest
 
 TOP = os.path.dirname(os.path.dirname(os.path.realpath(__file__)))
+# What the environment has where programs were compiled without proof, by tests/run. Their checks make them slow.
+UNPROVED = "UNPROVED_PROGRAMS"
 # How long a step that must come is waited for, in seconds.
-WAIT = 10
+WAIT = 60 if UNPROVED in os.environ else 10
 SECOND = 1_000_000_000
 # A clock that is synchronised.
 REFERENCE = "0001ec00000000000000104e495354ec00000000000000"
 # A customer whom commands enrol.
 FIVE = "127.0.0.5/5/md5/6b6579"
+
+# Which tests and cases are passed over then, and why.
+SLOW, LARGE = "unproved, with checks, the program is too slow", "unproved, with checks, the programs are too large"
+PROVED_ALONE = {
+    "tests/package": LARGE,
+    "a flood of forged queries": SLOW,
+    "the largest budget": SLOW,
+    "changed octets alter nothing": SLOW,
+    "serve: faults of the register file": SLOW,
+    "commands file missing, unfinished, written anew, not UTF-8, too long": SLOW,
+    "start: the commands file that was opened is in force": SLOW,
+    "commands: the file is nearly full": SLOW,
+    "commands: more octets than are read": SLOW,
+    "commands: lines of any octets, and of any length": SLOW,
+    "commands: a thousand lines at once": SLOW,
+    "late: stopped for five seconds under load": SLOW,
+    "late: a short stop loses nothing": SLOW,
+    "late: a queue that is too old is swept out": SLOW,
+    "burst: ten thousand queries": SLOW,
+    "burst: many other sockets hold up nobody": SLOW,
+    "burst: replies that nobody takes hold up no other": SLOW,
+    "log: standard error takes nothing": SLOW,
+    "socket: a call that fails is not tried again": SLOW,
+    "customers: as many as there may be": SLOW,
+    "memory: constant over half a million queries": SLOW,
+    "many: customers stay over millions of turns": SLOW,
+    "many: each answer is the model's": SLOW,
+    "many: commands files at random": SLOW,
+    "customers: what differs": SLOW,
+    "check: every fault, with its line": SLOW,
+    "check: what is hardly meant": SLOW,
+    "check: large files": SLOW,
+    "apply: a file of many": SLOW,
+    "changes: commands files to which nothing is appended": SLOW,
+    "many: clerks at once": SLOW,
+    "fold: long files": SLOW,
+    "no door: what forgers take from customers": SLOW,
+    "no door: not clearly fewer answers than labntp serve": SLOW,
+    "cores: one is killed: its customers alone are silent": SLOW,
+    "machines: one is killed: its customers alone are silent": SLOW,
+    "ended by a restart: soon there again": SLOW,
+    "TESTING and PERFORMANCE: the version, and a run of each row": SLOW,
+}
 
 # The program that is judged, the folder of a case's files, and what was started and has not been ended yet.
 PROGRAM, ROOM, started = "", "", []
@@ -77,6 +124,24 @@ def run(words, given=b"", before=(), **how):
     except subprocess.TimeoutExpired:
         raise Odd(f"{' '.join(words)} had not ended after {WAIT} seconds")
     return ran.returncode, *((it or b"").decode(errors="backslashreplace") for it in (ran.stdout, ran.stderr))
+
+
+def limited_to(octets):
+    """In a process that begins: no file gets more octets. A write past the limit fails, and does not end the program."""
+    signal.signal(signal.SIGXFSZ, signal.SIG_IGN)
+    resource.setrlimit(resource.RLIMIT_FSIZE, (octets, octets))
+
+
+def filled(pipe):
+    """Fills a pipe, of which this is the writing end, until it takes nothing more. How many octets it has."""
+    fcntl.fcntl(pipe, fcntl.F_SETPIPE_SZ, 4096)
+    os.set_blocking(pipe, False)
+    octets = 0
+    with contextlib.suppress(BlockingIOError):
+        while True:
+            octets += os.write(pipe, b".")
+    os.set_blocking(pipe, True)
+    return octets
 
 
 def outputs_that_take_nothing(words, given=b""):
@@ -177,6 +242,8 @@ def judge(cases, tries=1):
     passed, failed, again = 0, 0, []
     for name, case in cases.items():
         try:
+            if UNPROVED in os.environ and name in PROVED_ALONE:
+                raise PassedOver(PROVED_ALONE[name])
             faults = runs_of(name, case, tries)
         except PassedOver as why:
             print(f"passed over {name}: {why}", flush=True)

@@ -6,7 +6,13 @@ import judging
 import probe
 from judging import WAIT, Odd, end, file_of, register_of, same, start, until
 
-CUSTOMERS = [("127.0.0.1", 1, "md5", "6b6579", 65535), ("127.0.0.2", 2, "sha1", "6f74686572", 65535), ("127.0.0.3", 3, "md5", "6b6579", 2)]
+CUSTOMERS = [
+    ("127.0.0.1", 1, "md5", "6b6579", 65535),
+    ("127.0.0.2", 2, "sha1", "6f74686572", 65535),
+    ("127.0.0.3", 3, "md5", "6b6579", 2),
+    ("127.0.0.4", 4, "sha1", "6b6579", 10),
+]
+ONE, TWO, *_ = ("/".join(map(str, it[:4])) for it in CUSTOMERS)
 
 
 def serving(port, turns=1):
@@ -14,10 +20,12 @@ def serving(port, turns=1):
 
 
 class Server:
-    """The serving program, from its first line on."""
+    """The serving program, from its first line on. Its commands file has these lines; where they are None, there is no such file."""
 
     def __init__(self, turns=1000, commands="", register=None, port=None):
-        self.commands = file_of("commands", commands)
+        self.commands = file_of("commands", commands or "")
+        if commands is None:
+            os.remove(self.commands)
         file_of("register.toml", register or register_of(CUSTOMERS))
         self.port = port or probe.free_port()
         with open(f"{judging.ROOM}/out", "wb") as out, open(f"{judging.ROOM}/err", "wb") as err:
@@ -40,7 +48,9 @@ class Server:
             return it.read()
 
     def ask(self, wanted, customer, form="plain"):
-        same(f"{form} query of {customer}", wanted, probe.ask(self.port, form, customer))
+        """What comes is as wanted. Silence lasts until another customer, who asks next, has an answer."""
+        came = probe.silence(self.port, ONE, form, customer) if wanted == "silence" else probe.ask(self.port, form, customer)
+        same(f"{form} query of {customer}", wanted, came)
 
     def append(self, *lines):
         with open(self.commands, "a") as it:

@@ -6,9 +6,7 @@ import json
 import os
 import platform
 import re
-import resource
 import shutil
-import signal
 import struct
 import subprocess
 
@@ -125,12 +123,6 @@ def without(name):
             raise OSError(ctypes.get_errno(), "prctl")
 
     return begin
-
-
-def limited_to(octets):
-    """In a process that begins: no file gets more octets."""
-    signal.signal(signal.SIGXFSZ, signal.SIG_IGN)
-    resource.setrlimit(resource.RLIMIT_FSIZE, (octets, octets))
 
 
 def traced():

@@ -3,6 +3,7 @@ import collections
 import contextlib
 import json
 import os
+import pathlib
 import pwd
 import re
 import select
@@ -143,8 +144,7 @@ def tells_no_key(texts):
 
 def scheduled(process):
     """For how many seconds a process has had a processor, and for how many it was ready to go on and had none."""
-    with open(f"/proc/{process.pid}/schedstat") as it:
-        had, waited, _ = it.read().split()
+    had, waited, _ = pathlib.Path(f"/proc/{process.pid}/schedstat").read_text().split()
     return int(had) / SECOND, int(waited) / SECOND
 
 
@@ -172,8 +172,7 @@ class Daemon:
         self.spins = keys.get("spin", False)
         self.words = configured(text.replace("PORT", str(self.port)) or configuration(clock, **keys))
         for name in ("statistics", "answers", "customers"):
-            with contextlib.suppress(FileNotFoundError):
-                os.remove(room(name))
+            pathlib.Path(room(name)).unlink(missing_ok=True)
         self.start()
 
     def start(self):
@@ -257,10 +256,11 @@ class Daemon:
                 raise Odd(f"it takes {taken:.1%} of a processor while nobody asks")
 
     def again(self):
-        """It is killed, and started anew with the same files."""
+        """It is killed, and started anew with the same files, up to its first line."""
         end(self.process)
         tells_no_key(told_octets())
         self.start()
+        self.serves()
 
     def ask(self, wanted, customer, form="plain"):
         same(f"{form} query of {customer}", wanted, probe.ask(self.port, form, customer))
@@ -571,19 +571,18 @@ def synchronised(host=None, **keys):
         yield clock, daemon
 
 
-def chronyd():
-    """Where a copy of the program is: Debian's AppArmor profile has the one in /usr/sbin read no file of the case."""
+def chronyd(*words):
+    """The words that start a copy of the program as this user: Debian's AppArmor profile has the one in /usr/sbin read no file of the case."""
     found, _ = peers.tool("chrony", "chronyd")
     copy = room("chronyd")
-    return copy if os.path.exists(copy) else shutil.copy(found, copy)
+    return [copy if os.path.exists(copy) else shutil.copy(found, copy), "-U", "-u", pwd.getpwuid(os.geteuid()).pw_name, *words]
 
 
 def chronyd_at(port, name, *lines, keys=f"1 SHA1 HEX:{CLOCK_KEY}\n"):
     """The words that start chronyd, which sets no clock and serves this host at this port under these keys."""
     lines = [*lines, f"port {port}", "bindaddress 127.0.0.1", "allow 127.0.0.0/8", "cmdport 0", "bindcmdaddress /"]
     lines += [f"keyfile {file_of('chrony.keys', keys)}", f"pidfile {room(name)}.pid"]
-    user = pwd.getpwuid(os.geteuid()).pw_name
-    return [chronyd(), "-d", "-x", "-U", "-u", user, "-f", file_of(f"{name}.conf", "\n".join(lines))]
+    return chronyd("-d", "-x", "-f", file_of(f"{name}.conf", "\n".join(lines)))
 
 
 # A program that may not set the clock, whatever its user may.

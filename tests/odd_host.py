@@ -1,8 +1,7 @@
-"""A host that does what a test tells it to: clocks that are set, or cannot be read, a send that takes long, a `poll` that fails.
+"""Hosts that do what a test tells them to: clocks that are set, or cannot be read, a send that takes long, a disk that breaks.
 
-The program is started with a C library in front of the C library's own, made with gcc or clang when it is first wanted, whose
-`clock_gettime`, `poll`, `recvfrom` and `sendto` do as a few numbers in a file say, which both have in memory. They are the host's
-calls else. No socket gets the kernel's stamps.
+The program is started with a library in front of the C library, made with gcc or clang when it is first wanted, whose functions are those of
+a text in C; all else is the host's.
 """
 import mmap
 import os
@@ -10,19 +9,128 @@ import shutil
 import struct
 import subprocess
 
-LIBRARY = r"""
+import judging
+from judging import SECOND, PassedOver
+
+# Stands at the head of each text. `opened` is the C library's `open`, with a mode where there need be none.
+HEAD = r"""
 #define _GNU_SOURCE
 #include <errno.h>
 #include <fcntl.h>
 #include <poll.h>
 #include <stdint.h>
+#include <stdio.h>
 #include <stdlib.h>
+#include <string.h>
 #include <sys/mman.h>
 #include <sys/socket.h>
 #include <sys/syscall.h>
+#include <sys/un.h>
 #include <time.h>
 #include <unistd.h>
 
+int opened(const char *path, int flags, mode_t mode) __asm__("open");
+"""
+
+# A host that reads no file behind its first 100,000 octets.
+BREAKS = r"""
+ssize_t read(int file, void *octets, size_t count) {
+    if (lseek(file, 0, SEEK_CUR) >= 100000)
+        return errno = EIO, -1;
+    return syscall(SYS_read, file, octets, count);
+}
+"""
+
+# One that takes 20 milliseconds for each page of its list of sockets.
+LONG_LIST = r"""
+static int list = -1;
+
+int opened(const char *path, int flags, mode_t mode) {
+    int file = syscall(SYS_openat, AT_FDCWD, path, flags, mode);
+    list = strcmp(path, "/proc/net/udp") == 0 ? file : file == list ? -1 : list;
+    return file;
+}
+
+ssize_t read(int file, void *octets, size_t count) {
+    struct timespec span = {0, 20000000};
+    if (file == list)
+        nanosleep(&span, 0);
+    return syscall(SYS_read, file, octets, count);
+}
+"""
+
+# One whose list of UDP sockets is another file.
+OTHER_LIST = r"""
+int opened(const char *path, int flags, mode_t mode) {
+    return syscall(SYS_openat, AT_FDCWD, strcmp(path, "/proc/net/udp") ? path : "%s", flags, mode);
+}
+"""
+
+# One that does not set, or does not tell, a buffer of a socket.
+NO_BUFFERS = r"""
+int %s(int s, int level, int name, %s) {
+    if (level == SOL_SOCKET && name == %s)
+        return errno = ENOBUFS, -1;
+    return syscall(SYS_%s, s, level, name, value, length);
+}
+"""
+
+# One whose network is down behind the first so many receives.
+DOWN = r"""
+static int left = %d;
+
+ssize_t recvfrom(int s, void *octets, size_t length, int flags, struct sockaddr *from, socklen_t *size) {
+    if (left-- > 0)
+        return syscall(SYS_recvfrom, s, octets, length, flags, from, size);
+    return errno = ENETDOWN, -1;
+}
+
+ssize_t recv(int s, void *octets, size_t length, int flags) { return recvfrom(s, octets, length, flags, 0, 0); }
+"""
+
+# One that renames, and tells that it did not.
+RENAMES = r"""
+int rename(const char *from, const char *to) {
+    syscall(SYS_renameat, AT_FDCWD, from, AT_FDCWD, to);
+    return errno = EIO, -1;
+}
+"""
+
+# One that notes in the file OPENS which files a program opens, renames and deletes, and to which sockets it sends.
+OPENS = r"""
+static void note(const char *how, const char *path) {
+    char line[4200];
+    int length = snprintf(line, sizeof line, "%s %s\n", how, path);
+    int file = syscall(SYS_openat, AT_FDCWD, getenv("OPENS"), O_WRONLY | O_APPEND | O_CREAT | O_CLOEXEC, 0644);
+    if (file < 0 || write(file, line, length) != length)
+        abort();
+    close(file);
+}
+
+int opened(const char *path, int flags, mode_t mode) {
+    note((flags & O_ACCMODE) == O_RDONLY ? "r" : (flags & O_ACCMODE) == O_WRONLY ? "w" : "rw", path);
+    return syscall(SYS_openat, AT_FDCWD, path, flags, mode);
+}
+
+int rename(const char *from, const char *to) {
+    note("rw", from), note("w", to);
+    return syscall(SYS_renameat, AT_FDCWD, from, AT_FDCWD, to);
+}
+
+int unlink(const char *path) {
+    note("w", path);
+    return syscall(SYS_unlinkat, AT_FDCWD, path, 0);
+}
+
+ssize_t sendto(int s, const void *octets, size_t length, int flags, const struct sockaddr *to, socklen_t size) {
+    if (to->sa_family == AF_UNIX)
+        note("w", ((const struct sockaddr_un *)to)->sun_path);
+    return syscall(SYS_sendto, s, octets, length, flags, to, size);
+}
+"""
+
+# One whose clocks, waits and sends do as a few numbers in the file ODD_HOST say, which both have in memory. No socket gets the kernel's stamps.
+TOLD = r"""
 // In the order of the names in Python: what is told, and behind it how many readings of the clocks there were.
 enum { WALL, MONOTONIC, SHOWN, SEND, POLLS, HOLD, READINGS, UNREAD, NUMBERS };
 
@@ -56,10 +164,8 @@ int clock_gettime(clockid_t clock, struct timespec *time) {
     if (clock == CLOCK_MONOTONIC && reached == STAMPED)
         wait(told[HOLD]);
     reached = clock == CLOCK_REALTIME && reached == RECEIVED ? STAMPED : NOTHING;
-    if (clock == CLOCK_REALTIME && told[UNREAD]) {
-        errno = EINVAL;
-        return -1;
-    }
+    if (clock == CLOCK_REALTIME && told[UNREAD])
+        return errno = EINVAL, -1;
     int status = syscall(SYS_clock_gettime, clock, time);
     int64_t readings = told[READINGS]++, nanos = time->tv_sec * 1000000000ll + time->tv_nsec;
     if (clock == CLOCK_MONOTONIC)
@@ -73,10 +179,8 @@ int clock_gettime(clockid_t clock, struct timespec *time) {
 
 int poll(struct pollfd *waits, nfds_t count, int timeout) {
     struct timespec limit = {timeout / 1000, timeout % 1000 * 1000000};
-    if (told[POLLS] && count == 1 && waits->events == POLLIN && timeout == 0) {
-        errno = EINTR;
-        return -1;
-    }
+    if (told[POLLS] && count == 1 && waits->events == POLLIN && timeout == 0)
+        return errno = EINTR, -1;
     return syscall(SYS_ppoll, waits, count, timeout < 0 ? 0 : &limit, 0, 8);
 }
 
@@ -91,16 +195,27 @@ ssize_t sendto(int s, const void *octets, size_t length, int flags, const struct
 
 // The kernel's stamps of datagrams would show its clock as it is.
 int setsockopt(int s, int level, int name, const void *value, socklen_t size) {
-    if (level == SOL_SOCKET && (name == SO_TIMESTAMP || name == SO_TIMESTAMPNS || name == SO_TIMESTAMPING)) {
-        errno = ENOPROTOOPT;
-        return -1;
-    }
+    if (level == SOL_SOCKET && (name == SO_TIMESTAMP || name == SO_TIMESTAMPNS || name == SO_TIMESTAMPING))
+        return errno = ENOPROTOOPT, -1;
     return syscall(SYS_setsockopt, s, level, name, value, size);
 }
 """
-
-SECOND = 1_000_000_000
 NUMBERS = 8
+
+
+def made(library, text):
+    """Makes a library of the functions of this text."""
+    compiler = shutil.which("gcc") or shutil.which("clang")
+    if not compiler:
+        raise PassedOver("there is no gcc")
+    words = [compiler, "-shared", "-fPIC", "-O1", "-x", "c", "-o", library, "-"]
+    subprocess.run(words, input=f"{HEAD}{text}".encode(), check=True, capture_output=True, timeout=60)
+    return library
+
+
+def in_front(text):
+    """The words of the environment of a program that calls the functions of this text in place of the C library's."""
+    return {"LD_PRELOAD": made(f"{judging.ROOM}/in_front.so", text)}
 
 
 def number(place):
@@ -133,38 +248,18 @@ class OddHost:
     # Where not 0, the host's clock cannot be read.
     unread = number(7)
 
-    def __init__(self, folder):
-        """Its files stand in this folder. Where there is no compiler, it is a FileNotFoundError."""
-        self.library, self.file = f"{folder}/odd_host.so", f"{folder}/odd_host"
-        if not os.path.exists(self.library):
-            make(folder, self.library)
-        with open(self.file, "w+b") as it:
+    def __init__(self):
+        library, file = f"{judging.ROOM}/odd_host.so", f"{judging.ROOM}/odd_host"
+        self.words = {"LD_PRELOAD": library if os.path.exists(library) else made(library, TOLD), "ODD_HOST": file}
+        with open(file, "w+b") as it:
             it.write(bytes(8 * NUMBERS))
             it.flush()
             self.memory = mmap.mmap(it.fileno(), 8 * NUMBERS)
 
     def environment(self):
-        return {**os.environ, "LD_PRELOAD": self.library, "ODD_HOST": self.file}
+        return os.environ | self.words
 
     def pass_seconds(self, seconds):
         """So much time passes at once, by both clocks."""
         self.wall += round(seconds * SECOND)
         self.monotonic += round(seconds * SECOND)
-
-
-def in_front(folder, text):
-    """The environment of a program that calls the functions of this text in C in place of the C library's. Where there is no compiler, it is a
-    FileNotFoundError."""
-    library = f"{folder}/in_front.so"
-    make(folder, library, text)
-    return {**os.environ, "LD_PRELOAD": library}
-
-
-def make(folder, library, text=LIBRARY):
-    compiler = shutil.which("gcc") or shutil.which("clang")
-    if not compiler:
-        raise FileNotFoundError("there is no gcc")
-    source = library.replace(".so", ".c")
-    with open(source, "w") as it:
-        it.write(text)
-    subprocess.run([compiler, "-shared", "-fPIC", "-O1", "-o", library, source], check=True, capture_output=True, timeout=60)

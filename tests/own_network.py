@@ -84,23 +84,26 @@ def load_door(labntpctl, *words):
 
 # ---- Floods
 
-# `flood SOURCE TARGET PORT RATE HEX` sends one datagram at this rate until it is ended; `spin` keeps a processor busy.
-FLOOD = r"""
+# Stands at the head of each program in C.
+HEAD = r"""
 #define _GNU_SOURCE
 #include <arpa/inet.h>
 #include <stdio.h>
 #include <stdlib.h>
 #include <string.h>
+#include <sys/epoll.h>
 #include <sys/socket.h>
 #include <time.h>
-
-#define BATCH 32
 
 static double now(void) {
   struct timespec t;
   clock_gettime(CLOCK_MONOTONIC, &t);
   return t.tv_sec + t.tv_nsec * 1e-9;
 }
+"""
+# `flood SOURCE TARGET PORT RATE HEX` sends one datagram at this rate until it is ended; `spin` keeps a processor busy.
+FLOOD = r"""
+#define BATCH 32
 
 int main(int count, char **words) {
   if (count < 6)
@@ -140,7 +143,7 @@ int main(int count, char **words) {
 
 def compiled(source, name):
     """Makes a program of this name of a source in C."""
-    subprocess.run(["gcc", "-O2", "-x", "c", "-o", f"{judging.ROOM}/{name}", "-"], input=source.encode(), check=True)
+    subprocess.run(["gcc", "-O2", "-x", "c", "-o", f"{judging.ROOM}/{name}", "-"], input=f"{HEAD}{source}".encode(), check=True)
 
 
 @contextlib.contextmanager

@@ -6,6 +6,7 @@ removed with it. So the host's files, network, processes and settings are left a
 """
 import contextlib
 import os
+import pathlib
 import re
 import select
 import shutil
@@ -95,8 +96,7 @@ def enter(words, copies, seconds):
     own, (read_end, write_end) = group(), os.pipe()
 
     def join():
-        with open(f"{own}/cgroup.procs", "w") as it:
-            it.write(str(os.getpid()))
+        pathlib.Path(f"{own}/cgroup.procs").write_text(str(os.getpid()))
 
     # It heeds SIGKILL alone: it gets that however this process ends, and with it ends all that was started there.
     command = ["setpriv", "--pdeathsig", "KILL", *NAMESPACES, sys.executable, os.path.realpath(sys.argv[0]), INSIDE]
@@ -178,8 +178,7 @@ def process(unit):
 
 def status(unit):
     """What the kernel tells of it."""
-    with open(f"/proc/{process(unit)}/status") as it:
-        return dict(re.findall(r"^(\w+):[ \t]*(.*?)[ \t]*$", it.read(), re.M))
+    return dict(re.findall(r"^(\w+):[ \t]*(.*?)[ \t]*$", pathlib.Path(f"/proc/{process(unit)}/status").read_text(), re.M))
 
 
 # ---- What is changed there
@@ -192,25 +191,21 @@ def blocks_of(text, heading):
 
 def commands_of(page, heading):
     """The same of a page that was handed over."""
-    with open(f"{GIVEN}/{page}") as it:
-        return blocks_of(it.read(), heading)
+    return blocks_of(pathlib.Path(f"{GIVEN}/{page}").read_text(), heading)
 
 
 def begin_chrony():
     """What of Debian's chrony is there, where a script shares a key with it: its folders, its keys, and a unit that does nothing."""
     run("mkdir -p /etc/chrony/conf.d; rm -f /etc/chrony/conf.d/labntp.conf; echo '# of chrony' >/etc/chrony/chrony.keys")
-    with open("/units/chrony.service", "w") as it:
-        it.write("[Service]\nType=oneshot\nRemainAfterExit=yes\nExecStart=/bin/true\n")
+    pathlib.Path("/units/chrony.service").write_text("[Service]\nType=oneshot\nRemainAfterExit=yes\nExecStart=/bin/true\n")
     run("systemctl daemon-reload")
 
 
 def edit(path, *changes):
     """Writes a file with what stands in the place of each pattern, which has to be there once."""
-    with open(path) as it:
-        text = it.read()
+    text = pathlib.Path(path).read_text()
     for pattern, new in changes:
         text, count = re.subn(pattern, new, text, flags=re.M)
         if count != 1:
             raise Failed(f"{pattern!r} stands {count} times in {path}")
-    with open(path, "w") as it:
-        it.write(text)
+    pathlib.Path(path).write_text(text)

@@ -40,7 +40,7 @@ def apt_get(folder, seconds, *words):
 
 
 def fetch(folder, packages):
-    """Unpacks Debian's packages there, each in its folder, as tests/clients says."""
+    """Unpacks Debian's packages there, each in its folder, the library of ntpdig beside its modules."""
     end = time.monotonic() + FETCH_LIMIT
     for part in ("lists/partial", "cache/archives/partial"):
         os.makedirs(f"{folder}/{part}")
@@ -83,7 +83,7 @@ def tool(folder, name, mark=""):
     """A program of a package, and what it says to `--version`: from its folder below $PEERS, else from the path. Two servers have one name, so
     what it says has to have a mark."""
     peers = os.environ.get("PEERS")
-    below = [f"{peers}/{folder}/usr/sbin/{name}"] if peers else []
+    below = [f"{peers}/{folder}/usr/{it}/{name}" for it in ("sbin", "bin")] if peers else []
     how = {"stdin": subprocess.DEVNULL, "stdout": subprocess.PIPE, "stderr": subprocess.STDOUT, "text": True, "errors": "replace"}
     for it in filter(None, [*below, shutil.which(name, path=f"{os.environ.get('PATH', '')}:/usr/sbin:/usr/local/sbin")]):
         with contextlib.suppress(OSError, subprocess.TimeoutExpired):
@@ -91,6 +91,16 @@ def tool(folder, name, mark=""):
             if mark in said:
                 return it, said
     raise PassedOver(f"there is no {name} of {folder}")
+
+
+def ntpdig(port, *words):
+    """The words that have ntpdig ask at a port, by tests/probe.py, since it knows none but 123; and the environment that it wants."""
+    found, _ = tool("ntpsec", "ntpdig")
+    below = f"{os.environ.get('PEERS')}/ntpsec/usr"
+    library = {"PYTHONPATH": f"{below}/lib/python3/dist-packages"} if found.startswith(f"{below}/") else {}
+    with open(found) as it:
+        python = it.readline().removeprefix("#!").split()
+    return [*python, f"{os.path.dirname(os.path.realpath(__file__))}/probe.py", "dig", str(port), found, *words], {**os.environ, **library}
 
 
 def version(server):

@@ -1,27 +1,12 @@
-"""What tests/clients and tests/program ask and hear: queries of its own, a relay that notes what passes, ntpdig at any port.
+"""What tests ask and hear: queries of their own, a relay that notes what passes, ntpdig at any port.
 
 A customer is written ADDRESS/NUMBER/ALGORITHM/KEY, the key in hexadecimal; an address alone has no key.
 
     probe.py port                             a free UDP port of 127.0.0.1
-    probe.py ask PORT FORM CUSTOMER           sends one query and prints what came: time, rate, deny, nak,
-                                              nothing (in 5 seconds), or what was wrong with it
-    probe.py silence PORT MARKER FORM CUSTOMER
-                                              the same, where no answer is to come: then asks as the customer
-                                              MARKER, and prints `silence` once that one alone has its answer
-    probe.py interleave PORT CUSTOMER         four queries; prints `interleaved`, or what was wrong
-    probe.py queries PORT COUNT FORM CUSTOMER
-                                              so many queries, each once the one before was answered; FORM is `basic`,
-                                              or `interleaved`: each asks about the reply before. Prints what came
-    probe.py roll PORT COMMANDS ADDRESS NUMBER
-                                              a hundred new keys, each by two lines in one write, and a query
-                                              with each; prints `time 100`, or at which query it ended
-    probe.py flood PORT COUNT CUSTOMER        sends so many datagrams in the customer's name that are no signed queries, and
-                                              asks after each 63 of them; prints what came, or what was wrong
+    probe.py queries PORT COUNT FORM CUSTOMER asks so often, and prints what came
     probe.py relay PORT LOG                   prints its own port, passes datagrams on and notes them in LOG
-    probe.py wire LOG CUSTOMER                prints what the relay saw: `asked 4 time 2 interleaved 2`
     probe.py dig PORT NTPDIG WORDS..          runs the program ntpdig, which knows no port but 123
 """
-
 import hashlib
 import random
 import re
@@ -158,6 +143,7 @@ def answer(s, wait=WAIT):
 
 
 def ask(port, form, text):
+    """Sends one query. Gives what came: time, rate, deny, nak, nothing in WAIT seconds, or what was wrong with it."""
     customer = Customer(text)
     with customer.socket(port) as s:
         before, packet = now(), query(customer, form)
@@ -167,6 +153,7 @@ def ask(port, form, text):
 
 
 def silence(port, marker, form, text):
+    """Sends a query to which no answer is to come, and then one as another customer. Gives `silence` once that one alone has its answer."""
     customer, marker = Customer(text), Customer(marker)
     with customer.socket(port) as s, marker.socket(port) as m:
         packet = query(customer, form)
@@ -211,6 +198,7 @@ def interleave(port, text):
 
 
 def queries(port, count, form, text):
+    """Sends so many queries, each once the one before was answered; where the form is `interleaved`, each asks about the reply before."""
     customer, found, received, arrival = Customer(text), {}, 0, 0
     with customer.socket(port) as s:
         for _ in range(int(count)):
@@ -225,7 +213,8 @@ def queries(port, count, form, text):
 
 
 def roll(port, commands, address, number):
-    """Enrols with a budget of one, so each enrolment has to begin with nothing counted."""
+    """A hundred new keys, each by two lines in one write, and a query with each. They are enrolled with a budget of one, so that each enrolment
+    has to begin with nothing counted. Gives `time 100`, or at which query it ended."""
     seen = {}
     for i in range(100):
         key = f"{i:040x}"
@@ -253,8 +242,9 @@ def forgeries(customer):
 
 
 def flood(port, count, text):
-    """Each signed query asks about the reply before, so each reply but the first is to be interleaved, as it is without a
-    flood; the refusals of the forgeries go to a port of their own."""
+    """Sends so many datagrams in the customer's name that are no signed queries, and asks after each 63 of them. Each signed query asks about
+    the reply before, so each reply but the first is to be interleaved, as it is without a flood; the refusals of the forgeries go to a port
+    of their own."""
     customer, refused, asked, count = Customer(text), {}, 0, int(count)
     some = forgeries(customer)
     ready = [next(some) for _ in range(5000)]
@@ -310,7 +300,8 @@ def relay(port, log):
 
 
 def wire(log, text):
-    """A reply belongs to the newest request that it fits: on a busy host the client asks again before it has come."""
+    """What a relay saw, as `asked 4 time 2 interleaved 2`. A reply belongs to the newest request that it fits: on a busy host the client asks
+    again before it has come."""
     customer, requests, seen = Customer(text), [], {"asked": 0}
     with open(log) as notes:
         for line in notes:
@@ -340,8 +331,7 @@ def free_port():
 
 def main(word, *words):
     numbered = [int(w) if i == 0 and w.isdecimal() else w for i, w in enumerate(words)]
-    calls = {"port": free_port, "ask": ask, "silence": silence, "interleave": interleave,
-             "queries": queries, "roll": roll, "flood": flood, "relay": relay, "wire": wire, "dig": dig}
+    calls = {"port": free_port, "queries": queries, "relay": relay, "dig": dig}
     found = calls[word](*numbered)
     if found is not None:
         print(found)

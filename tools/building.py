@@ -3,6 +3,8 @@
 `rt run` alone would prove one crate after another. Here each crate is a run of `rt lib` in a room of its own (tools/rooms.py), which
 begins once those below it are proved, first the one with the longest chain above it. What was proved before an interrupt stays proved.
 """
+import contextlib
+import fcntl
 import os
 import shutil
 import subprocess
@@ -61,6 +63,18 @@ class Progress(Ticker):
             self.failed += not well
 
 
+@contextlib.contextmanager
+def alone(what, top):
+    """Waits until no other build works in this tree, since what is kept of a crate lies elsewhere while it is proved."""
+    with open(f"{top}/crates.txt", encoding="utf-8") as it:
+        try:
+            fcntl.flock(it, fcntl.LOCK_EX | fcntl.LOCK_NB)
+        except BlockingIOError:
+            print(f"{what}: waiting for another build in this tree", file=sys.stderr, flush=True)
+            fcntl.flock(it, fcntl.LOCK_EX)
+        yield
+
+
 def run(words, folder, name, progress, said):
     """Runs the toolchain there and returns whether all went well; what it printed is added to `said` where it did not."""
     progress.begins(name)
@@ -84,7 +98,7 @@ def build(what, names, program=None, top=TOP):
         with room(name, crates, top) as root:
             return run(["rt", "lib", "--jobs", str(jobs)], f"{root}/crates/{name}", name, progress, said)
 
-    with Progress(what, len(wanted) + bool(program)) as progress:
+    with alone(what, top), Progress(what, len(wanted) + bool(program)) as progress:
         tasks = {name: crates[name] for name in crates if name in wanted}
         well = len(in_lanes(tasks, {name: 1 + lines_of(name, top) for name in tasks}, prove, LANES)) == len(tasks)
         if well and program:

@@ -1,5 +1,6 @@
 """What tests share that police or flood a network: namespaces of networks that a test has for itself, nftables in them, and floods."""
 import contextlib
+import ctypes
 import glob
 import os
 import re
@@ -13,34 +14,65 @@ import judging
 from judging import Odd, PassedOver
 from processes import give_way
 
-# The word with which a test starts itself once more, in namespaces of its own.
-INSIDE = "--inside"
-
 # The processors that it may use.
 ALLOWED = sorted(os.sched_getaffinity(0))
 
 
 # ---- Start
 
-def enter(words, cases, namespaces, *programs):
-    """Starts this test once more, with the same words, in namespaces of its own; or says why it cannot, and gives its status."""
-    missing = [it for it in ("unshare", *programs) if not shutil.which(it)]
-    why = "it needs root" if os.geteuid() else f"there is no program {missing[0]}" if missing else ""
-    if not why and len(ALLOWED) < 2:
-        why = "it needs two processors"
-    if not why and subprocess.run(["unshare", *namespaces, "true"], capture_output=True).returncode:
-        why = "no namespaces can be made"
-    if why:
-        for name in cases:
-            print(f"passed over {name}: {why}")
-        print(f"0 passed, 0 failed, {len(cases)} skipped")
-        return 0
-    os.execvp("unshare", ["unshare", *namespaces, sys.executable, os.path.realpath(sys.argv[0]), INSIDE, *words])
+# What unshare(2) takes.
+NEW = {"mnt": 0x00020000, "net": 0x40000000}
+
+
+def needs(*programs):
+    """Passes over what cannot be made here."""
+    missing = [it for it in programs if not shutil.which(it)]
+    if os.geteuid() or missing:
+        raise PassedOver("it needs root" if os.geteuid() else f"there is no program {missing[0]}")
+
+
+@contextlib.contextmanager
+def apart(*kinds):
+    """What is begun and made meanwhile is in namespaces of its own of these kinds, where the loopback interface is up: this thread, and what it
+    starts."""
+    libc, cwd = ctypes.CDLL(None, use_errno=True), os.getcwd()
+    before = [os.open(f"/proc/thread-self/ns/{it}", os.O_RDONLY) for it in kinds]
+    try:
+        if libc.unshare(sum(NEW[it] for it in kinds)):
+            raise PassedOver(f"no namespaces can be made: {os.strerror(ctypes.get_errno())}")
+        try:
+            subprocess.run(["ip", "link", "set", "lo", "up"], check=True)
+            if "mnt" in kinds:
+                subprocess.run(["mount", "--make-rprivate", "/"], check=True)
+            yield
+        finally:
+            for it in before:
+                if libc.setns(it, 0):
+                    raise OSError(ctypes.get_errno(), "setns")
+            os.chdir(cwd)
+    finally:
+        for it in before:
+            os.close(it)
 
 
 def take_precedence():
     """Has what else runs on this host take little of the processors that a test shares with it."""
     give_way(0, -10)
+
+
+@contextlib.contextmanager
+def preferred(processors=ALLOWED):
+    """The same meanwhile, at these processors."""
+    if len(ALLOWED) < 2:
+        raise PassedOver("it needs two processors")
+    niceness = os.getpriority(os.PRIO_PROCESS, 0)
+    os.sched_setaffinity(0, processors)
+    take_precedence()
+    try:
+        yield
+    finally:
+        give_way(0, niceness)
+        os.sched_setaffinity(0, ALLOWED)
 
 
 # ---- nftables

@@ -5,10 +5,12 @@ of the host's, kept in memory. Of the host's units it starts those of the journa
 removed with it. So the host's files, network, processes and settings are left alone, and nothing stays.
 """
 import contextlib
+import functools
+import importlib
+import json
 import os
 import pathlib
 import re
-import select
 import shutil
 import subprocess
 import sys
@@ -16,14 +18,14 @@ import tempfile
 import textwrap
 import time
 
+import judging
+from judging import Odd, PassedOver
+
 SYSTEMD = "/usr/lib/systemd/systemd"
 PROGRAMS = (SYSTEMD, "systemctl", "journalctl", "mount", "unshare", "nsenter", "setpriv", "pivot_root", "ip", "ss")
 PATH = "/usr/local/sbin:/usr/local/bin:/usr/sbin:/usr/bin:/sbin:/bin"
 
 NAMESPACES = ("unshare", "--fork", "--pid", "--kill-child=KILL", "--mount", "--propagation", "private", "--net", "--uts", "--ipc", "--cgroup")
-
-# The word with which a test starts itself once more, there.
-INSIDE = "--inside"
 
 # Where the unit files are that are installed, and the folder that is handed to it.
 UNITS, GIVEN = "/etc/systemd/system", "/given"
@@ -90,58 +92,83 @@ def remove(folder):
         time.sleep(0.01)
 
 
-def enter(words, copies, seconds):
-    """Starts this program once more, with these words, where systemd is about to begin, and gives its status; says so where it took longer than
-    so many seconds. `copies` has files and folders to be handed over, by their new names."""
-    own, (read_end, write_end) = group(), os.pipe()
+@contextlib.contextmanager
+def entered(module, copies):
+    """While systemd runs: what makes a function of this file of tests there, by its name. `copies` has files and folders to be handed over, by
+    their new names."""
+    own = group()
 
     def join():
         pathlib.Path(f"{own}/cgroup.procs").write_text(str(os.getpid()))
 
     # It heeds SIGKILL alone: it gets that however this process ends, and with it ends all that was started there.
-    command = ["setpriv", "--pdeathsig", "KILL", *NAMESPACES, sys.executable, os.path.realpath(sys.argv[0]), INSIDE]
+    command = ["setpriv", "--pdeathsig", "KILL", *NAMESPACES, sys.executable, os.path.realpath(__file__), module]
+    how = {"stdin": subprocess.PIPE, "stdout": subprocess.PIPE, "text": True, "preexec_fn": join, "start_new_session": True}
     with tempfile.TemporaryDirectory(prefix="own-systemd-") as room:
         for name, path in copies.items():
             os.makedirs(os.path.dirname(f"{room}/given/{name}"), exist_ok=True)
             (shutil.copytree if os.path.isdir(path) else shutil.copy)(path, f"{room}/given/{name}")
         try:
             os.mkdir(own)
-            how = {"stdin": subprocess.DEVNULL, "pass_fds": [write_end], "preexec_fn": join, "start_new_session": True}
-            process = subprocess.Popen([*command, room, str(write_end), *words], **how)
-            try:
-                os.close(write_end)
-                told = os.read(read_end, 1) if select.select([read_end], [], [], seconds)[0] else b""
-            finally:
-                process.kill()
-                process.wait()
+            with subprocess.Popen([*command, room], **how) as process:
+                try:
+                    yield functools.partial(make, process)
+                finally:
+                    process.kill()
         finally:
             remove(own)
-    if not told:
-        print(f"{os.path.basename(sys.argv[0])}: it ended, or {seconds} seconds had passed, before all was judged")
-    return told[0] if told else 1
 
 
-def begin(room, pipe, judge):
-    """The first process becomes systemd. A child of it judges, and is told why, where systemd has not started; what it gives is the status."""
-    pipe = int(pipe)
-    os.set_inheritable(pipe, False)
+def make(process, name):
+    """Has a function called there, and gives or raises what came of it."""
+    __tracebackhide__ = True
+    try:
+        process.stdin.write(f"{name}\n")
+        process.stdin.flush()
+        what, why = json.loads(process.stdout.readline() or '["failed", "it ended before all was judged"]')
+    except BaseException:
+        # What it would tell later is of no other call.
+        process.kill()
+        raise
+    if what != "passed":
+        raise PassedOver(why) if what == "passed over" else Odd(why)
+
+
+def came_of(call, why):
+    """What comes of a call, which is not made where there is a reason."""
+    try:
+        if why:
+            raise PassedOver(why)
+        call(*[None] * call.__code__.co_argcount)
+        return "passed", ""
+    except PassedOver as seen:
+        return "passed over", f"{seen}"
+    except Exception as seen:
+        return "failed", f"{seen}" if isinstance(seen, Odd) else f"{type(seen).__name__} {seen}"
+    finally:
+        judging.end_all()
+
+
+def begin(module, room):
+    """The first process becomes systemd. A child of it calls what it is told to; where systemd has not started all is passed over."""
+    tests = importlib.import_module(module)
     os.umask(0o022)
     # The caller's folder for what is temporary is outside of the root that is made here.
     os.environ |= {"PATH": PATH, "LC_ALL": "C.UTF-8", "TMPDIR": "/tmp"}
-    ran = subprocess.run(["sh", "-ec", ROOT, "sh", room], capture_output=True, text=True)
+    tempfile.tempdir = None
+    ran = subprocess.run(["sh", "-ec", ROOT, "sh", room], capture_output=True, text=True, stdin=subprocess.DEVNULL)
     os.chdir("/")
     if not ran.returncode and os.fork():
         for it in range(3):
             os.dup2(os.open(os.devnull, os.O_RDWR), it)
         environment = {"PATH": PATH, "container": "own", "SYSTEMD_UNIT_PATH": f"{UNITS}:/units", "SYSTEMD_GENERATOR_PATH": "/units/none"}
         os.execve(SYSTEMD, [SYSTEMD, "--unit=multi-user.target", "--log-target=journal", "--show-status=0"], environment)
-    status = 1
-    try:
-        status = judge(f"no root can be made: {ran.stderr.strip()[-200:]}" if ran.returncode else has_not_started(30))
-    finally:
-        sys.stdout.flush()
-        os.write(pipe, bytes([status]))
-    return status
+    why = f"no root can be made: {ran.stderr.strip()[-200:]}" if ran.returncode else has_not_started(30)
+    with os.fdopen(os.dup(1), "w") as told:
+        # What is printed there is no answer.
+        os.dup2(2, 1)
+        for line in sys.stdin:
+            print(json.dumps(came_of(getattr(tests, line.strip()), why)), file=told, flush=True)
 
 
 def has_not_started(seconds):
@@ -209,3 +236,7 @@ def edit(path, *changes):
         if count != 1:
             raise Failed(f"{pattern!r} stands {count} times in {path}")
     pathlib.Path(path).write_text(text)
+
+
+if __name__ == "__main__":
+    begin(*sys.argv[1:])

@@ -5,6 +5,7 @@ import os
 import re
 import shutil
 import subprocess
+import sys
 import tempfile
 import time
 
@@ -15,6 +16,9 @@ PACKAGES = {"chrony": "chrony", "prometheus": "prometheus", "ntpsec-ntpdig": "nt
 PACKAGES |= {"ntpsec": "ntpsec", "openntpd": "openntpd", "apparmor": "apparmor"}
 PACKAGES |= {it: "nftables" for it in ("nftables", "libnftables1", "libnftnl11", "libmnl0", "libjansson4", "libxtables12", "libedit2", "libbsd0", "libmd0", "libgmp10")}
 FETCH_LIMIT = 120
+# What runs the tests, for a Python that has no pytest with these plugins.
+PYTEST = [f"python3-{it}" for it in "pytest pytest-xdist pytest-timeout pluggy iniconfig packaging execnet apipkg attr".split()]
+IMPORTS_PYTEST = [sys.executable, "-c", "import pytest, pytest_timeout, xdist"]
 
 
 def answers(words, environment):
@@ -39,16 +43,49 @@ def apt_get(folder, seconds, *words):
         return f"not within {FETCH_LIMIT} seconds"
 
 
+def cache():
+    """The folder of this project in the user's cache."""
+    return f"{os.environ.get('XDG_CACHE_HOME') or os.path.expanduser('~/.cache')}/labntp"
+
+
+def pytest_path():
+    """What is to stand in front of Python's path for pytest with its plugins; nothing where it cannot be had."""
+    kept = f"{cache()}/pytest"
+    modules = f"{kept}/usr/lib/python3/dist-packages"
+    environment = {**os.environ, "PYTHONPATH": modules, "PYTHONDONTWRITEBYTECODE": "1"}
+    if answers(IMPORTS_PYTEST, os.environ):
+        return [""]
+    if not os.path.exists(kept):
+        os.makedirs(cache(), exist_ok=True)
+        print("fetching Debian's packages of pytest", flush=True)
+        with tempfile.TemporaryDirectory(prefix="fetched-", dir=cache()) as folder:
+            if why := lists(folder) or apt_get(folder, FETCH_LIMIT, "download", *PYTEST):
+                print(f"they were not fetched: {why}", flush=True)
+            for file in glob.glob(f"{glob.escape(folder)}/*.deb") if not why else ():
+                subprocess.run(["dpkg", "-x", file, f"{folder}/unpacked"], stdin=subprocess.DEVNULL, timeout=60, check=True)
+            # Another may have put it there meanwhile.
+            with contextlib.suppress(OSError):
+                os.rename(f"{folder}/unpacked", kept)
+    return [modules] if answers(IMPORTS_PYTEST, environment) else []
+
+
+def lists(folder):
+    """Has apt-get's lists in a folder, and tells why that failed, if it did."""
+    for part in ("lists/partial", "cache/archives/partial"):
+        os.makedirs(f"{folder}/{part}")
+    return apt_get(folder, FETCH_LIMIT, "update")
+
+
 def fetch(folder, packages):
     """Unpacks Debian's packages there, each in its folder, the library of ntpdig beside its modules."""
     end = time.monotonic() + FETCH_LIMIT
-    for part in ("lists/partial", "cache/archives/partial"):
-        os.makedirs(f"{folder}/{part}")
-    why = apt_get(folder, FETCH_LIMIT, "update")
+    why = lists(folder)
+    # All at once, or else one by one, up to one that is not there.
+    if why or apt_get(folder, end - time.monotonic(), "download", *packages):
+        for package in packages:
+            if why := why or apt_get(folder, end - time.monotonic(), "download", package):
+                print(f"{package} was not fetched: {why}", flush=True)
     for package in packages:
-        why = why or apt_get(folder, end - time.monotonic(), "download", package)
-        if why:
-            print(f"{package} was not fetched: {why}", flush=True)
         for file in glob.glob(f"{glob.escape(folder)}/{package}_*.deb"):
             subprocess.run(["dpkg", "-x", file, f"{folder}/{PACKAGES[package]}"], stdin=subprocess.DEVNULL, timeout=60)
     for file in glob.glob(f"{glob.escape(folder)}/ntpsec/usr/lib/*-linux-gnu/ntp/libntpc.so*"):

@@ -1,7 +1,4 @@
-#!/usr/bin/env python3
 """Judges the units of examples/ under a systemd of its own, installed by packaging/by_hand and the commands of docs/OPERATIONS.md.
-
-    tests/units [--tries N] [LABNTPD [LABNTPCTL]] [NAME..]
 
 - The script installs it, with the files of examples/ as they are, but for `listen`, and the page's commands start it before the host has
   the address.
@@ -10,8 +7,7 @@
 - The page's other ways: at another address, and without the socket unit.
 - The units that load the door's rules as customers change.
 
-Its words, and what it prints, are as with tests/daemon. It needs root, systemd, useradd, openssl, and what tests/own_systemd.py lists; else
-all cases are passed over. That says too what is left alone.
+It needs root, systemd, useradd, openssl, and what tests/own_systemd.py lists; else all cases are passed over. That says too what is left alone.
 """
 import contextlib
 import errno
@@ -22,24 +18,25 @@ import signal
 import socket
 import statistics
 import subprocess
-import sys
 import tempfile
 import time
 import types
 
-sys.dont_write_bytecode = True
-TOP = os.path.dirname(os.path.dirname(os.path.realpath(__file__)))
-sys.path.insert(0, f"{TOP}/tests")
+import pytest
+
 import judging
 import labntpd_server
 import own_network
 import own_systemd
 import probe
-from judging import SECOND, Odd, PassedOver, same, until
+from judging import SECOND, SLOW, TOP, Odd, PassedOver, same, until
 from own_systemd import UNITS, commands_of, edit, run as sh
 from probe import nanos
 
-# The files that the page names, by the names that tests/daemon has for them.
+# The modes of files.
+MASK = 0o022
+
+# The files that the page names, by the names that tests/test_daemon.py has for them.
 FILES = {"clock.key": "/etc/labntp/clock.key", "commands": "/var/lib/labntp/commands"}
 FILES |= {"answers": "/run/labntp/answers", "statistics": "/run/labntp/labntpd.prom", "customers": "/run/labntp/customers"}
 CONFIGURATION, SERVICE, SOCKET = "/etc/labntp/labntpd.toml", "labntpd.service", "labntpd.socket"
@@ -72,9 +69,27 @@ RESTARTS, SILENCE, AS_IDLE = 9, 0.2, 3
 
 # ---- What is installed
 
-def install(stack):
+@pytest.fixture(scope="module", autouse=True)
+def systemd(room):
+    """A systemd under which it is installed."""
+    if why := own_systemd.missing("useradd", "userdel", "openssl"):
+        raise PassedOver(why)
+    labntpd, labntpctl = judging.built("labntpd", "labntpctl")
+    copies = {it: f"{TOP}/{it}" for it in ("examples", "docs", "packaging/by_hand")} | {"crates/labntpd/out/labntpd": labntpd, LABNTPCTL: labntpctl}
+    if os.path.isdir(peers := f"{os.environ.get('PEERS', '')}/nftables"):
+        copies["nftables"] = peers
+    with own_systemd.entered(__name__, copies) as make:
+        make("install")
+        yield make
+        make("end")
+
+
+def install():
     """Carries out the script and the page's commands. The host has the address only later."""
     global CLOCK, TOLD
+    judging.ROOM = tempfile.mkdtemp()
+    for name, place in FILES.items():
+        os.symlink(place, labntpd_server.room(name))
     _, start, *_ = commands_of("docs/OPERATIONS.md", "Install")
     # Where the host has the user and the folder already; and what chrony brings.
     sh("userdel labntp || true; rm -rf /etc/labntp")
@@ -82,7 +97,7 @@ def install(stack):
     sh("packaging/by_hand\nexamples/share_clock\nexamples/share_clock")
     same("what the script says again", "packaging/by_hand: /etc/labntp is there already", sh("packaging/by_hand", 1))
     same("chronyd's keys, and the clock's", f"1 SHA1 HEX:{labntpd_server.read('clock.key')}", sh("grep '^1 ' /etc/chrony/chrony.keys") + "\n")
-    CLOCK = stack.enter_context(labntpd_server.FakeClock(key=labntpd_server.read("clock.key").strip(), port=CLOCK_PORT))
+    CLOCK = labntpd_server.FakeClock(key=labntpd_server.read("clock.key").strip(), port=CLOCK_PORT).__enter__()
     # Each start of the daemon begins with a question.
     CLOCK.hurried = SECOND
     TOLD = sh(start)
@@ -90,10 +105,13 @@ def install(stack):
     probe.HOST = SERVER
 
 
+def end():
+    """The daemon asked its clock as it should."""
+    CLOCK.__exit__(None)
+
+
 def well():
     """What each case begins with: all as it was installed, started anew, and with the time for a customer."""
-    if WHY or FAULT:
-        raise PassedOver(WHY) if WHY else Odd(f"at the installation: {FAULT}")
     CLOCK.is_silent = False
     judging.file_of("commands", ENROLMENT)
     sh(f"cp -p /tmp/kept/labntpd.s* {UNITS}; cp -p /tmp/kept/labntpd.toml {CONFIGURATION}")
@@ -116,7 +134,7 @@ def serves(host=SERVER):
     probe.HOST = SERVER
 
 
-def shared_key():
+def test_install_leaves_chronyds_other_keys():
     """share_clock changes no other key of chronyd, and says what bars it."""
     well()
     keys, own, key = "/etc/chrony/chrony.keys", FILES["clock.key"], labntpd_server.read("clock.key").strip()
@@ -202,7 +220,12 @@ def idle_restarts():
         sh(f"systemctl stop idle; rm {UNITS}/idle.service; systemctl daemon-reload")
 
 
-def restarted():
+def test_ended_by_a_kill_it_is_soon_there_again():
+    anew(lambda: os.kill(pid(), signal.SIGKILL), NRestarts="1")
+
+
+@pytest.mark.proved_alone(SLOW)
+def test_ended_by_a_restart_it_is_soon_there_again():
     """And for how long nobody is answered meanwhile, which is told."""
     anew(lambda: sh(f"systemctl restart --no-block {SERVICE}"), Result="success", NRestarts="0")
     found, idle = sorted(silences()), statistics.median(idle_restarts())
@@ -227,14 +250,14 @@ def asked_in_vain(count):
 
 # ---- Cases
 
-def installed():
+def test_install_by_the_pages_commands_before_the_host_has_the_address():
     """`--check` says `ok` and nothing else; both units are enabled, and start before the host has the address."""
     well()
     same("what the page's commands print first", ["ok", "Created"], TOLD.split()[:2])
     same("enabled", "enabled\nenabled", sh(f"systemctl is-enabled {SOCKET} {SERVICE}"))
 
 
-def answers():
+def test_answers_come_over_a_socket_that_systemd_has_with_its_buffers():
     """Over the socket that systemd has, with the buffers that its unit gives it."""
     well()
     for form, customer, wanted in (("plain", TEN, "time"), ("wrong", TEN, "nak"), ("plain", ASKER, "time")):
@@ -244,7 +267,7 @@ def answers():
     same("buffers", ["rb1048576", "tb2097152"], re.findall(r"[rt]b\d+", sh(f"ss -lunmH 'sport = :{PORT}'")))
 
 
-def process():
+def test_process_has_its_user_no_capability_and_is_first_at_a_processor():
     """A user of its own, no capability, first at a processor, and no file with its memory."""
     well()
     user, group = sh("id -u labntp; id -g labntp").split()
@@ -255,7 +278,7 @@ def process():
     same("limits of a core file", ["0", "0"], sh(f"grep '^Max core file size' /proc/{pid()}/limits").split()[4:6])
 
 
-def scheduling():
+def test_process_has_policy_and_processors_by_the_files_for_exact_stamps():
     """Of the ordinary policy at any processor; by the page's files under a real-time policy, and at one processor. It changes neither itself."""
     every = os.sched_getaffinity(0)
     for name, policy, processors in (None, os.SCHED_OTHER, every), ("realtime", os.SCHED_FIFO, every), ("spin", os.SCHED_OTHER, {1}):
@@ -272,7 +295,7 @@ def scheduling():
     sh("systemctl daemon-reload")
 
 
-def weight():
+def test_process_has_its_weight_in_the_kernel():
     well()
     shown(CPUWeight="1000")
     path = f"/sys/fs/cgroup{sh(f'grep ^0:: /proc/{pid()}/cgroup')[3:]}/cpu.weight"
@@ -281,7 +304,7 @@ def weight():
     same("the weight", "1000", sh(f"cat {path}"))
 
 
-def last():
+def test_process_is_the_last_to_be_ended_for_want_of_memory():
     well()
     shown(OOMScoreAdjust="-500")
     if not int(sh("grep ^CapEff /proc/1/status").split()[1], 16) >> 24 & 1:
@@ -289,7 +312,7 @@ def last():
     same("what is added", "-500", sh(f"cat /proc/{pid()}/oom_score_adj"))
 
 
-def places():
+def test_process_writes_and_sees_few_places():
     """It writes into /run/labntp, and where nobody looks. It sees neither files nor processes of others."""
     well()
     folders = "/etc/labntp /var/lib/labntp /usr/local/sbin /srv /run /tmp /var/tmp /dev /root /home"
@@ -309,7 +332,7 @@ def writable(process):
     return sh(f"{there} sh -c 'for it in {mounted}; do test ! -d $it -o ! -w $it || echo $it; done'")
 
 
-def files():
+def test_files_are_readable_for_few():
     """Others may read the answers, the statistics and the customers, and no file with a key."""
     well()
     until("all are there", lambda: all(map(os.path.exists, FILES.values())))
@@ -319,7 +342,7 @@ def files():
         sh(f"setpriv --reuid nobody --regid nogroup --clear-groups cat {place}", 0 if is_told else 1)
 
 
-def commands():
+def test_commands_are_carried_out_and_answered():
     """What the page has appended is carried out and answered."""
     well()
     sh(f"cat examples/commands >>{FILES['commands']}")
@@ -327,7 +350,7 @@ def commands():
     same("a query of the new customer", "time", probe.ask(PORT, "plain", HERE))
 
 
-def faulty():
+def test_ended_by_a_start_that_fails_it_is_soon_there_once_it_does_not():
     """A start that fails is tried again every two seconds, more often than systemd tries others, until the file is put right."""
     tried = []
 
@@ -343,7 +366,7 @@ def faulty():
         raise Odd(f"in thirteen seconds it was tried again {tried[0]} times")
 
 
-def started():
+def test_start_has_ended_once_it_serves():
     """A start has ended once all lines of the commands file are carried out, and a customer has an answer at once."""
     well()
     count = 5_000
@@ -354,7 +377,7 @@ def started():
     shown(ActiveState="active", Type="notify", WatchdogUSec="30s")
 
 
-def still():
+def test_ended_as_it_stands_still_it_is_soon_there_again():
     """It is ended and started anew by itself where it stands still for longer than its unit allows, here 12 seconds."""
     well()
     edit(f"{UNITS}/{SERVICE}", ("^WatchdogSec=.*", "WatchdogSec=12"))
@@ -369,7 +392,7 @@ def still():
     shown(NRestarts="1")
 
 
-def stopped():
+def test_ended_by_a_stop_with_the_socket_and_without():
     """SIGTERM ends it at once. A datagram at the socket, which stays, starts it again, and has no answer; without the socket it does not."""
     well()
     ended = {"ActiveState": "inactive", "Result": "success", "ExecMainCode": "2", "ExecMainStatus": f"{signal.SIGTERM}"}
@@ -387,7 +410,7 @@ def stopped():
     serves()
 
 
-def journal():
+def test_journal_has_warnings_and_no_key():
     """Its warnings are apart from its information. No key stands there, nor in what it has written."""
     well()
     if sh("systemctl is-active systemd-journald.service", None) != "active":
@@ -405,7 +428,7 @@ def journal():
     labntpd_server.tells_no_key({**labntpd_server.told_octets(), "the journal": sh("journalctl -o cat").encode()})
 
 
-def door():
+def test_door_has_its_rules_loaded_as_customers_change():
     """The units load the door's rules, and a customer is let in as soon as it is enrolled, however many others are meanwhile."""
     well()
     if not os.path.exists(f"{own_systemd.GIVEN}/{LABNTPCTL}"):
@@ -438,7 +461,7 @@ def door():
         sh(f"systemctl disable --now {DOOR}.path; nft delete table {table}", None)
 
 
-def asked():
+def test_page_has_units_journal_and_commands_file_asked():
     """What the page has asked of the units, of the journal and of the commands file, and of the journal again where a start fails."""
     well()
     if sh("systemctl is-active systemd-journald.service", None) != "active":
@@ -453,7 +476,7 @@ def asked():
     until("why it does not start", lambda: "/var/lib/labntp/none: No such file or directory" in sh(ASKED_WHY), SOON)
 
 
-def moved():
+def test_page_leads_to_another_address():
     """At the address that is written into the socket's unit, once that is started anew."""
     well()
     edit(f"{UNITS}/{SOCKET}", (f"^ListenDatagram={SERVER}:", f"ListenDatagram={OTHER}:"))
@@ -462,7 +485,7 @@ def moved():
     same("refused where it was", 1, asked_in_vain(1))
 
 
-def alone():
+def test_page_leads_to_a_service_without_the_sockets_unit():
     """Without the socket's unit it binds the port itself, by the one capability to it."""
     well()
     edit(CONFIGURATION, ("^listen = .*", f'listen = "{SERVER}:{PORT}"'))
@@ -483,7 +506,7 @@ def settings(path):
     return {it for it in sh(f"cat {path}").splitlines() if it and it[0] != "#"}
 
 
-def several():
+def test_page_leads_to_several_processes_by_the_template():
     """By the template two serve at ports of their own, by the same configuration and commands; each writes files of its own."""
     well()
     names, ports = [f"labntpd@{it}" for it in (12301, 12302)], (12301, 12302)
@@ -511,63 +534,3 @@ def several():
         same("whether the other one goes on", (True, True), (own_systemd.process(names[0]) == first, own_systemd.process(names[1]) != second))
     finally:
         sh(f"systemctl disable --now {' '.join(f'{it}.socket {it}.service' for it in names)}; systemctl enable {SOCKET} {SERVICE}")
-
-
-CASES = {
-    "install: by the page's commands, before the host has the address": installed,
-    "install: chronyd's other keys stay": shared_key,
-    "answers: over a socket that systemd has, with its buffers": answers,
-    "process: its user, no capability, first at a processor": process,
-    "process: its policy and its processors, by the files for exact stamps": scheduling,
-    "process: its weight is the kernel's": weight,
-    "process: the last to be ended for want of memory": last,
-    "process: where it writes, and what it sees": places,
-    "files: who may read them": files,
-    "commands: carried out and answered": commands,
-    "ended by a kill: soon there again": lambda: anew(lambda: os.kill(pid(), signal.SIGKILL), NRestarts="1"),
-    "ended by a start that fails: soon there once it does not": faulty,
-    "ended by a restart: soon there again": restarted,
-    "start: it has ended once it serves": started,
-    "ended as it stands still: soon there again": still,
-    "ended by a stop: with the socket and without": stopped,
-    "journal: warnings, and no key": journal,
-    "door: its rules are loaded as customers change": door,
-    "page: what it asks of units, journal and commands file": asked,
-    "page: at another address": moved,
-    "page: without the socket's unit": alone,
-    "page: several processes, by the template": several,
-}
-
-
-# ---- Start
-
-def judge(why, cases, tries):
-    global WHY, FAULT
-    WHY = why
-    with contextlib.ExitStack() as stack:
-        if not why:
-            judging.ROOM = tempfile.mkdtemp()
-            for name, place in FILES.items():
-                os.symlink(place, labntpd_server.room(name))
-            FAULT = judging.fault_of(lambda: install(stack))
-        return judging.judge(cases, tries)
-
-
-def main(*words):
-    if words[:1] == (own_systemd.INSIDE,):
-        tries, names = judging.tries_in(words[3:])
-        return own_systemd.begin(*words[1:3], lambda why: judge(why, judging.chosen(CASES, names), tries))
-    tries, (labntpd, labntpctl), cases = judging.asked("units", words, [*judging.built("labntpd"), f"{TOP}/{LABNTPCTL}"], CASES)
-    if why := own_systemd.missing("useradd", "userdel", "openssl"):
-        return judge(why, cases, tries)
-    copies = {it: f"{TOP}/{it}" for it in ("examples", "docs", "packaging/by_hand")} | {"crates/labntpd/out/labntpd": labntpd}
-    if os.access(labntpctl, os.X_OK):
-        copies[LABNTPCTL] = labntpctl
-    if os.path.isdir(peers := f"{os.environ.get('PEERS', '')}/nftables"):
-        copies["nftables"] = peers
-    with judging.ended_by_signals():
-        return own_systemd.enter(["--tries", str(tries), *cases], copies, 280)
-
-
-if __name__ == "__main__":
-    sys.exit(main(*sys.argv[1:]))

@@ -1,7 +1,4 @@
-#!/usr/bin/env python3
 """Judges the replays of the built program by worked examples: scripts, each with the answers that were worked for it.
-
-    tests/scripts [--tries N] [PROGRAM] [NAME..]      PROGRAM is crates/labntp/out/labntp where none is named, or ./labntp where that is not built
 
 - Each NAME.script of examples/ and of crates/test_programs/data/: `labntp replay` writes NAME.answers, and nothing else.
 - Each line of tests/faulty_lines, behind an enrolment: the enrolment is answered, and the fault of the line is told.
@@ -12,22 +9,16 @@
 The answers were written out from docs/FORMATS.md, and from nothing that the program answered; their digests are those of Python's
 `hashlib` over a key and the octets before the key number. To add a script, write both files into crates/test_programs/data, begin
 the script with a comment that says what it shows, and give the folder above its name in `args` and its line in `stdout`.
-
-Prints `ok NAME`, `FAILED NAME: what was seen` or `passed over NAME: why`, and at the end `N passed, M failed`. Status 1 where one
-failed.
 """
-import functools
 import glob
 import itertools
 import os
 import subprocess
-import sys
 
-sys.dont_write_bytecode = True
-TOP = os.path.dirname(os.path.dirname(os.path.realpath(__file__)))
-sys.path.insert(0, f"{TOP}/tests")
+import pytest
+
 import judging
-from judging import PassedOver, same
+from judging import SLOW, TOP, PassedOver, same
 
 EXAMPLES, CRATE = f"{TOP}/examples", f"{TOP}/crates/test_programs"
 # How long a run takes at most, in seconds.
@@ -80,22 +71,23 @@ def example(name, folder=f"{CRATE}/data"):
     return list(zip(events, answers))
 
 
-def is_replayed(folder, name):
-    status, written, faults = replay(text_of(f"{folder}/{name}.script"))
+@pytest.mark.parametrize("script", [f"{os.path.relpath(it, TOP)}/{name}" for it in (EXAMPLES, f"{CRATE}/data") for name in names(it)])
+def test_script_is_replayed(script):
+    status, written, faults = replay(text_of(f"{TOP}/{script}.script"))
     same("status and standard error", (0, ""), (status, faults))
-    both = itertools.zip_longest(text_of(f"{folder}/{name}.answers").splitlines(True), written.splitlines(True))
+    both = itertools.zip_longest(text_of(f"{TOP}/{script}.answers").splitlines(True), written.splitlines(True))
     for number, lines in enumerate(both, 1):
         same(f"answer {number}", *lines)
 
 
-def each_alone():
+def test_datagrams_get_the_same_answers_each_alone():
     """Those datagrams that save nothing are answered the same where each comes first."""
     (enrolment, done), *others = example("datagrams")
     for line, answer in others:
         are_told([enrolment, line], [done, answer])
 
 
-def faulty_lines():
+def test_faulty_lines_are_told():
     """No line behind the faulty one is answered; and whether a line feed ends it is the same."""
     for line in text_of(f"{TOP}/tests/faulty_lines").splitlines():
         if line[0] != "#":
@@ -111,7 +103,7 @@ def held(name):
     return f"{name}: run right, without memory right\n"
 
 
-def each_is_given():
+def test_each_script_is_given_to_test_programs():
     """It is given each script of its folder behind the word `all`, and its answers are there. It writes other lines too."""
     given = names(f"{CRATE}/data")
     same("args", ["all", *given], text_of(f"{CRATE}/args").splitlines())
@@ -119,7 +111,7 @@ def each_is_given():
     same("data", sorted(f"{name}.{kind}" for name in given for kind in ("answers", "script")), sorted(os.listdir(f"{CRATE}/data")))
 
 
-def examples_in_one_process():
+def test_examples_hold_in_one_process():
     program = f"{CRATE}/out/test_programs"
     if not os.access(program, os.X_OK):
         raise PassedOver("it is not built")
@@ -134,7 +126,8 @@ def kind(answer):
     return answer if answer.startswith("silent ") else answer.split()[0]
 
 
-def forged_queries():
+@pytest.mark.proved_alone(SLOW)
+def test_flood_of_forged_queries_changes_nothing_for_others():
     """70,000 forged queries are four crypto-NAKs and silence. The neighbour, in the midst of them, and the customer behind them are told
     what each would be alone."""
     lines = example("forged")
@@ -144,7 +137,8 @@ def forged_queries():
     are_told(*zip(*flood))
 
 
-def largest_budget():
+@pytest.mark.proved_alone(SLOW)
+def test_largest_budget_does_not_wrap():
     """The count does not wrap: past the largest budget one RATE is told, and then nothing."""
     _, (query, _) = example("time", EXAMPLES)
     told = map(kind, answers(["enrol 192.0.2.10 7 md5 6b6579 65535", *[query] * 70_000]))
@@ -182,13 +176,14 @@ def kind_of_front(length):
     return known.get(length, "silent rest 64" if length > 72 else "silent rest 48")
 
 
-def each_front():
+def test_each_front_of_a_query_has_its_answer():
     _, (query, _) = example("field")
     told = answers([ENROLMENT, *fronts(), query])
     same("what is told", ["done", *map(kind_of_front, range(84)), "time"], [kind(it) for it in told])
 
 
-def alter_nothing(handed_in):
+@pytest.mark.parametrize("handed_in", [fronts, pytest.param(changed, marks=pytest.mark.proved_alone(SLOW))], ids=["fronts", "changed octets"])
+def test_part_of_a_query_alters_nothing(handed_in):
     """Lines that are handed in behind each event of an exchange change none of its answers, and are never told the time."""
     exchange, others = example("interleaved", EXAMPLES), handed_in()
     told = answers([line for event, _ in exchange for line in (event, *others)])
@@ -196,33 +191,3 @@ def alter_nothing(handed_in):
     same("the answers of the exchange", [answer for _, answer in exchange], told[::among])
     del told[::among]
     same("what the others are told", set(), {kind(it) for it in told} & {"time", "rate"})
-
-
-def cases():
-    found = {}
-    for folder in (EXAMPLES, f"{CRATE}/data"):
-        for name in names(folder):
-            found[f"{os.path.relpath(folder, TOP)}/{name}"] = functools.partial(is_replayed, folder, name)
-    return {
-        **found,
-        "datagrams, each alone": each_alone,
-        "faulty lines": faulty_lines,
-        "each script is given to crates/test_programs": each_is_given,
-        "those of examples/ hold in one process": examples_in_one_process,
-        "a flood of forged queries": forged_queries,
-        "the largest budget": largest_budget,
-        "each front of a query": each_front,
-        "fronts of a query alter nothing": functools.partial(alter_nothing, fronts),
-        "changed octets alter nothing": functools.partial(alter_nothing, changed),
-    }
-
-
-def main(*words):
-    (usual,) = judging.built("labntp")
-    tries, (judging.PROGRAM,), chosen = judging.asked("scripts", words, [usual if os.access(usual, os.X_OK) else f"{TOP}/labntp"], cases())
-    with judging.ended_by_signals():
-        return judging.judge(chosen, tries)
-
-
-if __name__ == "__main__":
-    sys.exit(main(*sys.argv[1:]))

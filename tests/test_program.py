@@ -1,10 +1,4 @@
-#!/usr/bin/env python3
 """Judges the built program from outside, by datagrams, files, pipes and its exit status: what no contract and no test of a crate sees.
-
-    tests/program [--tries N] [PROGRAM] [NAME..]
-
-PROGRAM is crates/labntp/out/labntp where none is named, or ./labntp where that is not built; a word with a slash is one. A NAME is a part of
-the names of cases. A case that fails is made N times in all: it is to pass in more than half of them.
 
 - The stamps of replies against this host's clock: receipts, transmit stamps, departures; and the other octets of replies.
 - What each job prints and ends with, well or with each kind of fault, as packaging/man/labntp.1 says.
@@ -14,10 +8,8 @@ the names of cases. A case that fails is made N times in all: it is to pass in m
 - What `loopback` says where sockets are refused, and where somebody forges a reply.
 - What chronyd and ntpdig make of replies, where they are on the path or below $PEERS, as tests/peers.py unpacks Debian's packages.
 
-$FLOOD is how many datagrams are forged, 50,000 where it is not set. Prints `ok NAME`, `FAILED NAME: what was seen` or `passed over NAME: why`,
-and at the end which cases were made again and `N passed, M failed`. Status 1 where one failed. It needs Python 3 on Linux; as root it makes
-one case more. It takes free ports of 127.0.0.1, the addresses 127.0.0.1 to 127.0.0.9, and a directory of its own. No wait is without a limit,
-and nothing stays running.
+$FLOOD is how many datagrams are forged, 50,000 where it is not set. It needs Python 3 on Linux; as root it makes one case more. It takes free
+ports of 127.0.0.1, the addresses 127.0.0.1 to 127.0.0.9, and a directory of its own. No wait is without a limit.
 """
 import contextlib
 import fcntl
@@ -35,14 +27,13 @@ import sys
 import threading
 import time
 
-sys.dont_write_bytecode = True
-TOP = os.path.dirname(os.path.dirname(os.path.realpath(__file__)))
-sys.path.insert(0, f"{TOP}/tests")
+import pytest
+
 import judging
 import labntpd_server
 import peers
 import probe
-from judging import FIVE, REFERENCE, SECOND, WAIT, Odd, PassedOver
+from judging import FIVE, REFERENCE, SECOND, SLOW, TOP, WAIT, Odd, PassedOver
 from judging import bound_by_modes, end, file_of, outputs_that_take_nothing, register_of, run, same, start, until
 from labntp_server import CUSTOMERS, ONE, TWO, Server, serving
 from labntpd_server import halted, read, room, window
@@ -69,7 +60,7 @@ def in_order(what, *moments):
             raise Odd(f"{what}: {earlier / SECOND:.6f} stands before {later / SECOND:.6f}")
 
 
-def stamps_of_the_clock():
+def test_stamps_are_the_hosts_clock_to_a_microsecond():
     rng = random.Random(5)
     with Server() as server:
         for text in (ONE, TWO):
@@ -85,7 +76,7 @@ def stamps_of_the_clock():
                 raise Odd(f"at most {max(between)} nanoseconds from the receipt to the transmit stamp")
 
 
-def departures():
+def test_interleaved_replies_tell_when_the_earlier_one_left():
     """A query that asks about the reply before it is told when that one left: after it was made, and soon."""
     with Server() as server:
         for text in (ONE, TWO):
@@ -106,7 +97,7 @@ def departures():
                     made = receive
 
 
-def other_octets():
+def test_other_octets_of_a_reply_are_right():
     """All but the three stamps, from the reference state and the query."""
     reference = bytes.fromhex(REFERENCE)
     with Server() as server:
@@ -129,50 +120,62 @@ def other_octets():
 # ---- Answers
 
 def in_steps(text):
-    """A case: each line has the answer that is due, a customer, and the forms of its queries, where they are not one plain query; or behind `+`
+    """Each line has the answer that is due, a customer, and the forms of its queries, where they are not one plain query; or behind `+`
     the new lines of the commands file."""
-    def case():
-        window(5)
-        with Server() as server:
-            for wanted, words in (line.split(maxsplit=1) for line in text.strip().splitlines()):
-                if wanted == "+":
-                    server.append(*words.split("; "))
-                    continue
-                customer, *forms = words.split()
-                for form in forms or ["plain"]:
-                    server.ask(wanted, customer, form)
-            same("standard error", "", server.err())
-
-    return case
+    window(5)
+    with Server() as server:
+        for wanted, words in (line.split(maxsplit=1) for line in text.strip().splitlines()):
+            if wanted == "+":
+                server.append(*words.split("; "))
+                continue
+            customer, *forms = words.split()
+            for form in forms or ["plain"]:
+                server.ask(wanted, customer, form)
+        same("standard error", "", server.err())
 
 
-STEPS_CASES = {
-    "signed queries get the time": in_steps("""
+def test_signed_queries_get_the_time():
+    in_steps("""
         time 127.0.0.1/1/md5/6b6579 plain version-3 field-88 field-1024
-        time 127.0.0.2/2/sha1/6f74686572 plain version-3 field-88 field-1024"""),
-    "wrong keys get four crypto-NAKs, then silence": in_steps("""
+        time 127.0.0.2/2/sha1/6f74686572 plain version-3 field-88 field-1024""")
+
+
+def test_wrong_keys_get_four_crypto_naks_then_silence():
+    in_steps("""
         nak 127.0.0.1/1/md5/6b6579 wrong
         nak 127.0.0.1/2/md5/6b6579
         nak 127.0.0.1/1/md5/6b6578
         nak 127.0.0.1/1/sha1/6b6579
         silence 127.0.0.1/1/md5/6b6579 wrong
-        time 127.0.0.1/1/md5/6b6579"""),
-    "unsigned queries get four DENYs, then silence": in_steps("""
+        time 127.0.0.1/1/md5/6b6579""")
+
+
+def test_unsigned_queries_get_four_denys_then_silence():
+    in_steps("""
         deny 127.0.0.3 plain plain plain plain
         silence 127.0.0.3 plain field-88
-        time 127.0.0.3/3/md5/6b6579"""),
-    "past the budget: RATE once, then silence": in_steps("""
+        time 127.0.0.3/3/md5/6b6579""")
+
+
+def test_past_the_budget_rate_comes_once_then_silence():
+    in_steps("""
         time 127.0.0.3/3/md5/6b6579
         nak 127.0.0.3/3/md5/6b6579 wrong
         time 127.0.0.3/3/md5/6b6579
         rate 127.0.0.3/3/md5/6b6579
         silence 127.0.0.3/3/md5/6b6579 plain plain
-        time 127.0.0.4/4/sha1/6b6579"""),
-    "silence for strangers and for what is no request": in_steps("""
+        time 127.0.0.4/4/sha1/6b6579""")
+
+
+def test_strangers_and_what_is_no_request_get_silence():
+    in_steps("""
         silence 127.0.0.9
         silence 127.0.0.9/1/md5/6b6579
-        silence 127.0.0.1/1/md5/6b6579 empty short rest bare mode-4 version-2 field-1028 field-9000 field-60000"""),
-    "commands between queries, each in force for the next": in_steps("""
+        silence 127.0.0.1/1/md5/6b6579 empty short rest bare mode-4 version-2 field-1028 field-9000 field-60000""")
+
+
+def test_commands_between_queries_are_in_force_for_the_next():
+    in_steps("""
         silence 127.0.0.5/5/md5/6b6579
         + enrol 127.0.0.5 5 md5 6b6579 10
         time 127.0.0.5/5/md5/6b6579
@@ -185,8 +188,11 @@ STEPS_CASES = {
         deny 127.0.0.5/5/md5/6b6579
         + enrol 127.0.0.5 5 sha1 6e6577 10
         nak 127.0.0.5/5/md5/6b6579
-        time 127.0.0.5/5/sha1/6e6577"""),
-    "refusals stay counted at a revocation, and an enrolment begins anew": in_steps("""
+        time 127.0.0.5/5/sha1/6e6577""")
+
+
+def test_refusals_stay_counted_at_a_revocation_and_an_enrolment_begins_anew():
+    in_steps("""
         deny 127.0.0.4 plain plain
         + revoke 127.0.0.4
         deny 127.0.0.4/4/sha1/6b6579
@@ -194,9 +200,12 @@ STEPS_CASES = {
         silence 127.0.0.4/4/sha1/6b6579
         + enrol 127.0.0.4 4 sha1 6b6579 10
         deny 127.0.0.4
-        time 127.0.0.4/4/sha1/6b6579"""),
-    # A second key beside the first, one budget for both, and the first retired.
-    "a key is rolled over, and the older one retired": in_steps("""
+        time 127.0.0.4/4/sha1/6b6579""")
+
+
+def test_key_is_rolled_over_and_the_older_one_retired():
+    """A second key beside the first, one budget for both, and the first retired."""
+    in_steps("""
         + enrol 127.0.0.5 5 md5 6b6579 3
         time 127.0.0.5/5/md5/6b6579
         nak 127.0.0.5/6/sha1/6e6577
@@ -210,17 +219,16 @@ STEPS_CASES = {
         + enrol 127.0.0.6 5 md5 6b6579 10
         time 127.0.0.6/5/md5/6b6579
         + revoke 127.0.0.5; rollover 127.0.0.6 6 md5 6b6578
-        time 127.0.0.6/6/md5/6b6578"""),
-}
+        time 127.0.0.6/6/md5/6b6578""")
 
 
-def interleaved_once():
+def test_exchange_is_told_of_once_and_the_next_one_then():
     with Server() as server:
         for customer in (ONE, TWO):
             same(customer, "interleaved", probe.interleave(server.port, customer))
 
 
-def flood():
+def test_flood_of_forgeries_changes_no_answer_to_signed_queries():
     """Forgeries in a customer's name: how many of them are refused depends on how long they take."""
     forged = int(os.environ.get("FLOOD", 50_000))
     asked = -(-forged // 63)
@@ -268,7 +276,7 @@ FAULTY_LINES = [
 ]
 
 
-def replay_of_a_script():
+def test_replay_of_a_script_is_as_worked():
     same("a script", (0, ANSWERS, ""), run(["replay"], GOOD.encode()))
     same("with a last line feed", (0, ANSWERS, ""), run(["replay"], GOOD.encode() + b"\n"))
     same("no octet", (0, "", ""), run(["replay"]))
@@ -276,7 +284,7 @@ def replay_of_a_script():
     same("the longest line", (0, "done\n", ""), run(["replay"], b"#" * 4096 + b"\nenrol 192.0.2.10 7 md5 6b6579 10\n"))
 
 
-def replay_faults():
+def test_replay_tells_faulty_lines():
     above = "# one\nenrol 192.0.2.1 1 md5 00 1\n\n"
     for line, word in FAULTY_LINES:
         wanted = 1, "done\n", f"line 4: {word}\n"
@@ -288,7 +296,7 @@ def replay_faults():
     same("a carriage return alone", (1, "done\n", "line 4: word\n"), run(["replay"], f"{above}\r\n".encode()))
 
 
-def replay_reads():
+def test_replay_tells_reads_that_fail():
     folder = os.open(judging.ROOM, os.O_RDONLY)
     try:
         same("from a folder", (3, "", "read\n"), run(["replay"], stdin=folder))
@@ -319,7 +327,7 @@ def waiting(s):
     return struct.unpack("i", found)[0]
 
 
-def replay_answers_each_line():
+def test_replay_answers_before_the_next_line():
     """The answer to a line is there before the next line is."""
     process = start(["replay"], stdin=subprocess.PIPE, stdout=subprocess.PIPE, stderr=subprocess.PIPE)
     # It cannot hang here: a timer ends it.
@@ -349,20 +357,20 @@ def limited(process):
         signal.signal(signal.SIGALRM, before)
 
 
-def replay_writes():
+def test_replay_tells_writes_that_fail():
     outputs_that_take_nothing(["replay"], GOOD.encode())
 
 
 # ---- serve
 
-def first_and_last_line():
+def test_serve_prints_two_lines():
     with Server(1) as server:
         server.ask("time", ONE)
         server.ends(0, "arrivals 1 sent 1\n")
         same("standard error", "", server.err())
 
 
-def counts():
+def test_serve_counts_in_its_last_line():
     """Datagrams that get an answer, and others that get none: the two sums differ."""
     with Server(11) as server:
         one = probe.Customer(ONE)
@@ -384,7 +392,7 @@ def counts():
         same("standard error", "", server.err())
 
 
-def register_that_is_no_file():
+def test_serve_takes_no_register_that_is_no_regular_file():
     """Nothing waits for who writes a pipe."""
     words, path = serving(probe.free_port()), f"{judging.ROOM}/register.toml"
     file_of("commands", "")
@@ -395,7 +403,8 @@ def register_that_is_no_file():
         os.remove(path)
 
 
-def register_faults():
+@pytest.mark.proved_alone(SLOW)
+def test_serve_tells_faults_of_the_register_file():
     words = serving(probe.free_port())
     file_of("commands", "")
     path = f"{judging.ROOM}/register.toml"
@@ -434,7 +443,7 @@ def register_faults():
         server.ends(0, "arrivals 1 sent 1\n")
 
 
-def port_in_use():
+def test_serve_tells_a_port_that_is_in_use():
     """The second server ends, and the first goes on."""
     with Server(3) as server:
         server.ask("time", ONE)
@@ -446,7 +455,7 @@ def port_in_use():
         same("standard error", "", server.err())
 
 
-def serve_writes():
+def test_serve_tells_writes_that_fail():
     file_of("register.toml", register_of(CUSTOMERS))
     outputs_that_take_nothing(serving(probe.free_port()))
     # The first line is read, and the last is not.
@@ -459,7 +468,7 @@ def serve_writes():
         same("the last line into a closed pipe", (3, b"write\n"), (process.wait(WAIT), process.stderr.read()))
 
 
-def signals():
+def test_serve_is_ended_by_signals():
     for number in (signal.SIGINT, signal.SIGTERM, signal.SIGHUP, signal.SIGUSR1, signal.SIGUSR2, signal.SIGALRM):
         with Server() as server:
             server.ask("time", ONE)
@@ -472,7 +481,7 @@ def signals():
         server.ends(0, "arrivals 1 sent 1\n")
 
 
-def stopped_and_continued():
+def test_stopped_and_continued_it_answers():
     with Server(2) as server:
         for _ in range(5):
             with halted(server):
@@ -489,7 +498,7 @@ def stopped_and_continued():
         server.ends(0, "arrivals 2 sent 2\n")
 
 
-def examples():
+def test_examples_are_served():
     register, *commands = (pathlib.Path(f"{TOP}/examples/{it}").read_text() for it in ("register.toml", "commands", "rollover.commands"))
     commands = "".join(commands)
     customer = "/".join(re.search(r"(?m)^enrol (127\.0\.0\.1) (\S+) (\S+) (\S+) ", commands).groups())
@@ -501,7 +510,7 @@ def examples():
         same("standard error", "", server.err())
 
 
-def idle_turns():
+def test_serve_counts_neither_a_wait_nor_a_stop_as_a_turn():
     """The time limit of a wait passes, and a process that was stopped goes on: neither is a turn."""
     with Server(2) as server:
         server.ask("time", ONE)
@@ -516,14 +525,14 @@ def idle_turns():
 
 # ---- The commands file
 
-def keys_replaced():
+def test_hundred_keys_take_the_place_of_one_another():
     with Server() as server:
         server.append("enrol 127.0.0.5 5 md5 6b6579 10")
         same("keys", "time 100", probe.roll(server.port, server.commands, "127.0.0.5", 5))
         same("standard error", "", server.err())
 
 
-def commands_while_it_waits():
+def test_commands_are_heard_while_it_waits():
     window(10)
     with Server(3) as server:
         taken = labntpd_server.share_of_a_processor(server.process, 3)
@@ -541,7 +550,8 @@ def commands_while_it_waits():
         server.ends(0, "arrivals 3 sent 3\n")
 
 
-def commands_file_forms():
+@pytest.mark.proved_alone(SLOW)
+def test_commands_file_missing_unfinished_written_anew_not_utf_8_too_long():
     """Each text is written into the file or, as a new one, over it; and then an answer is due."""
     enrol, revoke = "enrol 127.0.0.5 5 md5 6b6579 65535", "revoke 127.0.0.5\n"
     longest = "#\n" * 4 + revoke + "#" + " " * 1048550
@@ -570,7 +580,7 @@ def commands_file_forms():
         same("standard error", "", server.err())
 
 
-def each_command_once():
+def test_commands_are_carried_out_once():
     """A line that is carried out twice would be told: the customer is no longer, or already, what the line makes it."""
     with Server() as server:
         server.ask("time", TWO)
@@ -591,7 +601,7 @@ def each_command_once():
         same("standard error", "", server.err())
 
 
-def commands_for_what_waits():
+def test_commands_are_in_force_for_the_query_that_waits():
     """What is written while a query waits is in force for it, and leaves what is kept of the customer; the first command was appended, the
     second stands in a file that took the place of the first, and the third has its line feed at last."""
     def asks(wanted, write, received=0):
@@ -613,7 +623,7 @@ def commands_for_what_waits():
         same("standard error", "commands: line 3: not-enrolled\n", server.err())
 
 
-def commands_at_the_start():
+def test_commands_that_stand_there_at_the_start_are_carried_out():
     with Server(commands="# one\nenrol 127.0.0.5 5 md5 6b6579 65535\nrevoke 127.0.0.2\n") as server:
         server.ask("time", FIVE)
         server.ask("deny", TWO)
@@ -622,7 +632,7 @@ def commands_at_the_start():
         same("standard error", "", server.err())
 
 
-def faults_told_once():
+def test_commands_have_each_fault_told_once():
     lines = [
         ("# a comment", ""),
         ("enroll 127.0.0.5 5 md5 6b6579 10", "word"),
@@ -667,7 +677,7 @@ def faults_told_once():
         same("later", "".join(told), server.err())
 
 
-def heard_while_nobody_asks():
+def test_commands_are_heard_while_nobody_asks():
     with Server() as server:
         server.append("revoke 127.0.0.300")
         until("the fault of the first line is told", lambda: server.err() == "commands: line 1: address\n", 1)
@@ -675,7 +685,7 @@ def heard_while_nobody_asks():
         until("that of the second", lambda: server.err() == "commands: line 1: address\ncommands: line 2: address\n", 1)
 
 
-def heard_within_a_thousandth():
+def test_commands_file_renamed_over_the_old_one_is_heard_within_a_thousandth():
     """A new file is renamed over the old one, which may keep another name, just after a query; the next one comes five thousandths of a
     second later."""
     def takes_its_place():
@@ -700,7 +710,7 @@ def heard_within_a_thousandth():
         same("standard error", "", server.err())
 
 
-def heard_at_once():
+def test_commands_appended_are_heard_at_once():
     """Lines are appended between two queries. In some pairs these come within a thousandth of a second, so that of the file no more is
     looked at than what stands at its end."""
     first, times = probe.Customer(ONE), []
@@ -724,7 +734,7 @@ def heard_at_once():
         same("standard error", "", server.err())
 
 
-def written_anew():
+def test_commands_file_written_anew_is_heard():
     """In place: to the same length, and then to fewer octets. Each ends a line that had no line feed."""
     with Server(commands="revoke 127.0.0.2 ") as server:
         server.ask("time", TWO)
@@ -744,7 +754,7 @@ def written_anew():
         same("standard error", "", server.err())
 
 
-def another_file():
+def test_commands_file_that_is_another_is_heard_within_a_tenth():
     """What stands at the path is asked for each tenth of a second, also while queries come: a link is set anew, and a file is made where
     there was none."""
     def asks_on(seconds):
@@ -764,7 +774,7 @@ def another_file():
         server.ask("deny", FIVE)
 
 
-def no_regular_file():
+def test_commands_file_has_to_be_a_regular_file():
     """A folder, a device, a pipe, nothing: it serves on, and hears the file that takes its place."""
     places = [("a folder", os.mkdir, os.rmdir), ("a device", lambda path: os.symlink("/dev/zero", path), os.remove)]
     places += [("a pipe", os.mkfifo, os.remove), ("nothing", lambda path: None, lambda path: None)]
@@ -787,17 +797,17 @@ def no_regular_file():
 
 # ---- loopback, and words
 
-def loopback_words():
+def test_loopback_takes_its_words():
     same("one turn", (0, "basic\n", ""), run(["loopback", "--turns", "1"]))
     same("four turns", (0, "basic\n" + "interleaved\n" * 3, ""), run(["loopback", "--turns", "4"]))
     same("the most turns", (0, "basic\n" + "interleaved\n" * 999, ""), run(["loopback", "--turns", "1000"]))
 
 
-def loopback_writes():
+def test_loopback_tells_writes_that_fail():
     outputs_that_take_nothing(["loopback", "--turns", "2"])
 
 
-def no_socket_is_made():
+def test_loopback_tells_that_no_socket_can_be_made():
     """So few files may be open that the program starts, and its second socket is refused."""
     def limit(number):
         return lambda: resource.setrlimit(resource.RLIMIT_NOFILE, (number, number))
@@ -808,7 +818,7 @@ def no_socket_is_made():
     same("loopback", (3, "", "socket\n"), run(["loopback", "--turns", "2"], preexec_fn=limit(few)))
 
 
-def no_address_is_reached():
+def test_loopback_tells_that_no_address_can_be_reached():
     """A network of its own, with no interface up."""
     apart = next((it for it in (["unshare", "-rn"], ["unshare", "-n"]) if shutil.which("unshare") and not subprocess.run(
         [*it, "true"], stdin=subprocess.DEVNULL, stdout=subprocess.DEVNULL, stderr=subprocess.DEVNULL, timeout=WAIT).returncode), None)
@@ -829,7 +839,7 @@ def sockets_of(process):
     return [(port(it[1]), port(it[2]), port(it[4])) for it in rows if f"socket:[{it[9]}]" in inodes]
 
 
-def forged_reply():
+def test_loopback_refuses_a_forged_reply():
     """Standard output is a full pipe, so the program stands still behind its first turn. Then a datagram comes to its client from its
     server's address and port, and the pipe is emptied: what the second turn takes is the forged one."""
     try:
@@ -887,19 +897,25 @@ def client(words, environment=None):
     return ran.returncode, ran.stdout
 
 
-def asked_by_chronyd(key, options, wanted, text, wire):
-    """A case: a run of chronyd ends with this status, this is in its words or its log, and so many datagrams passed."""
-    def case():
-        window(5)
-        pathlib.Path(room("measurements.log")).unlink(missing_ok=True)
-        with Server() as server, relay(server.port) as port:
-            words = chronyd_of("chrony", port, f"1 MD5 HEX:{key}", f"iburst {options}", f"logdir {judging.ROOM}", "log measurements")
-            status, said = client([*words, "-Q", "-t", "3"])
-        same("status of chronyd", wanted, status)
-        has("chronyd", text, said + read("measurements.log"))
-        has("the wire", wire, probe.wire(room("wire"), ONE))
-
-    return case
+@pytest.mark.parametrize(
+    "key, options, wanted, text, wire",
+    [
+        ("6b6579", "", 0, "System clock wrong by", r"^asked \d+ time \d+$"),
+        ("6b6579", "xleave", 0, "4I K K$", r"^asked \d+ time \d+ interleaved \d+$"),
+        ("6b6578", "", 1, "No suitable source", r"^asked \d+ nak 4$"),
+    ],
+    ids=["time", "interleaved time", "nothing with a wrong key"],
+)
+def test_chronyd_gets(key, options, wanted, text, wire):
+    """A run of chronyd ends with this status, this is in its words or its log, and so many datagrams passed."""
+    window(5)
+    pathlib.Path(room("measurements.log")).unlink(missing_ok=True)
+    with Server() as server, relay(server.port) as port:
+        words = chronyd_of("chrony", port, f"1 MD5 HEX:{key}", f"iburst {options}", f"logdir {judging.ROOM}", "log measurements")
+        status, said = client([*words, "-Q", "-t", "3"])
+    same("status of chronyd", wanted, status)
+    has("chronyd", text, said + read("measurements.log"))
+    has("the wire", wire, probe.wire(room("wire"), ONE))
 
 
 @contextlib.contextmanager
@@ -919,7 +935,7 @@ def asks_on(name, port, customer):
     has(f"the wire of {name}", r"^asked \d+ time \d+ interleaved \d+$", probe.wire(room(name), customer))
 
 
-def chronyd_rolled_over():
+def test_chronyd_goes_on_through_a_rollover_with_the_old_key_and_the_new():
     """One goes on with the old key through the whole roll, another with the new one."""
     with Server(100_000) as server, contextlib.ExitStack() as until_retired:
         older_goes_on = until_retired.enter_context(asks_on("older", server.port, ONE))
@@ -941,7 +957,7 @@ def dig(port, keys):
     return client(*peers.ntpdig(port, "-t", "2", "-a", keys.split()[0], "-k", file_of("ntp.keys", f"{keys}\n"), "127.0.0.1"))
 
 
-def ntpdig_time():
+def test_ntpdig_gets_the_time():
     key = "6c61626e74702d6578616d706c652d6b65792d39"
     with Server() as server, relay(server.port) as port:
         for keys in ("1 md5 key", f"1 sha1 {key}"):
@@ -951,7 +967,7 @@ def ntpdig_time():
             server.append("revoke 127.0.0.1", f"enrol 127.0.0.1 1 sha1 {key} 10")
 
 
-def ntpdig_wrong_key():
+def test_ntpdig_takes_nothing_with_a_wrong_key():
     window(5)
     with Server() as server, relay(server.port) as port:
         status, said = dig(port, "1 md5 kex")
@@ -960,7 +976,7 @@ def ntpdig_wrong_key():
     same("on the wire", "asked 1 nak 1", probe.wire(room("wire"), ONE))
 
 
-def other_words():
+def test_other_words_are_refused():
     files = ["--register", f"{judging.ROOM}/register.toml", "--commands", f"{judging.ROOM}/commands"]
     file_of("register.toml", register_of(CUSTOMERS))
     port = str(probe.free_port())
@@ -972,64 +988,3 @@ def other_words():
     wrong += [["loopback", "--turns", it] for it in ("0", "1001", "+1", "01", "")]
     for words in wrong:
         same(" ".join(words), (2, "", "usage\n"), run(words, GOOD.encode()))
-
-
-CASES = {
-    **STEPS_CASES,
-    "stamps are the host's clock, to a microsecond": stamps_of_the_clock,
-    "interleaved replies tell when the earlier one left": departures,
-    "the other octets of a reply": other_octets,
-    "replay of a script": replay_of_a_script,
-    "replay: faulty lines": replay_faults,
-    "replay: reads that fail": replay_reads,
-    "replay: an answer before the next line": replay_answers_each_line,
-    "replay: writes that fail": replay_writes,
-    "serve: its two lines": first_and_last_line,
-    "serve: the counts of its last line": counts,
-    "serve: faults of the register file": register_faults,
-    "serve: no regular file for a register": register_that_is_no_file,
-    "serve: the port is in use": port_in_use,
-    "serve: writes that fail": serve_writes,
-    "serve: signals": signals,
-    "serve: neither a wait nor a stop is a turn": idle_turns,
-    "commands: each is carried out once": each_command_once,
-    "commands: in force for the query that waits": commands_for_what_waits,
-    "commands: those that stand there at the start": commands_at_the_start,
-    "commands: each fault is told once": faults_told_once,
-    "commands: heard while nobody asks": heard_while_nobody_asks,
-    "commands: a file renamed over the old one is heard within a thousandth of a second": heard_within_a_thousandth,
-    "commands: appended lines are heard at once": heard_at_once,
-    "commands: a file written anew": written_anew,
-    "commands: another file is heard within a tenth of a second": another_file,
-    "commands: no regular file": no_regular_file,
-    "loopback: its words": loopback_words,
-    "loopback: writes that fail": loopback_writes,
-    "loopback: no socket can be made": no_socket_is_made,
-    "loopback: no address can be reached": no_address_is_reached,
-    "loopback: a forged reply is refused": forged_reply,
-    "other words": other_words,
-    "an exchange is told of once, and the next one then": interleaved_once,
-    "a flood of forgeries changes no answer to signed queries": flood,
-    "a hundred keys, one in place of the other": keys_replaced,
-    "commands while it waits": commands_while_it_waits,
-    "commands file missing, unfinished, written anew, not UTF-8, too long": commands_file_forms,
-    "stopped and continued": stopped_and_continued,
-    "the examples": examples,
-    "chronyd gets the time": asked_by_chronyd("6b6579", "", 0, "System clock wrong by", r"^asked \d+ time \d+$"),
-    "chronyd gets interleaved time": asked_by_chronyd("6b6579", "xleave", 0, "4I K K$", r"^asked \d+ time \d+ interleaved \d+$"),
-    "chronyd takes nothing with a wrong key": asked_by_chronyd("6b6578", "", 1, "No suitable source", r"^asked \d+ nak 4$"),
-    "chronyd goes on through a rollover, with the old key and the new": chronyd_rolled_over,
-    "ntpdig gets the time": ntpdig_time,
-    "ntpdig takes nothing with a wrong key": ntpdig_wrong_key,
-}
-
-
-def main(*words):
-    (usual,) = judging.built("labntp")
-    tries, (judging.PROGRAM,), cases = judging.asked("program", words, [usual if os.access(usual, os.X_OK) else f"{TOP}/labntp"], CASES)
-    with judging.own_room("program"):
-        return judging.judge(cases, tries)
-
-
-if __name__ == "__main__":
-    sys.exit(main(*sys.argv[1:]))

@@ -1,13 +1,8 @@
-#!/usr/bin/env python3
 """Judges what floods and forgers leave to customers, before and behind the rules of `labntpctl door`.
 
-    tests/door [--tries N] [LABNTPD [LABNTP [LABNTPCTL]]] [NAME..]
-    tests/door --table [LABNTPD [LABNTP]] [NAME..]
-
-Without words that have a `/`, the programs are crates/NAME/out/NAME of labntpd, labntp and labntpctl; a NAME chooses the cases in whose
-names it stands. The two are measured in turns, since rates of different minutes are not to be compared. `--table` judges nothing: it
-measures labntpd, `labntp serve` and chronyd (where it is there), for three kinds of floods (or those in whose names a NAME stands), at three
-rates and three shares of a processor, and prints a table; it takes ten minutes.
+The two are measured in turns, since rates of different minutes are not to be compared. `--table` judges nothing: it measures labntpd,
+`labntp serve` and chronyd (where it is there), for three kinds of floods, at three rates and three shares of a processor, and prints a table;
+it takes ten minutes.
 
 - Whoever sends up to a hundred datagrams a second in a customer's name, without its key, takes no answer from it: wrong MACs spend its refusals
   alone, and copies of a query spend its budget, which has room. It is the same behind the rules; there a thousand a second take answers.
@@ -18,11 +13,9 @@ rates and three shares of a processor, and prints a table; it takes ten minutes.
   a busy host gives the flood or the server less than half of what is wanted, or one of the two servers clearly less than the other, are not
   judged.
 
-It needs root, the programs `unshare`, `ip`, `taskset` and `gcc`, and two processors, and behind the rules `nft` (on the path, or below
+It needs root, the programs `ip`, `taskset` and `gcc`, and two processors, and behind the rules `nft` (on the path, or below
 $PEERS as tests/run fetches it); else cases are passed over. Everything is done over the loopback interface of a network namespace of
 its own, which ends with it, and on the processors that it may use: the server on the last one, which it shares with busy loops.
-
-Prints as tests/daemon does. Status 1 where a case failed.
 """
 import collections
 import contextlib
@@ -30,20 +23,18 @@ import os
 import select
 import socket
 import statistics
-import subprocess
 import sys
 import time
 
-sys.dont_write_bytecode = True
-TOP = os.path.dirname(os.path.dirname(os.path.realpath(__file__)))
-sys.path.insert(0, f"{TOP}/tests")
+import pytest
+
 import judging
 import labntp_server
 import labntpd_server
 import own_network
 import probe
-from judging import Odd, PassedOver
-from own_network import ALLOWED, INSIDE, busy, nft
+from judging import SLOW, Odd, PassedOver
+from own_network import ALLOWED, busy, nft
 
 # How many turns `labntp serve` makes at most.
 TURNS = 1_000_000
@@ -81,6 +72,20 @@ LEAST, EVEN, ROUNDS, MOST_ROUNDS = 0.5, 0.8, 3, 8
 # The processors: that of the server, that of a flood, and those of the customer.
 HERE = ALLOWED[-1]
 FLOODED_FROM, ASKED_FROM = ALLOWED[0], {*ALLOWED[1:-1]} or {ALLOWED[0]}
+
+
+# The modes of files, and the programs.
+MASK = 0o022
+LABNTPD, LABNTP, LABNTPCTL = judging.built("labntpd", "labntp", "labntpctl")
+
+
+@pytest.fixture(scope="module", autouse=True)
+def namespaces(room):
+    """A network apart, the processors of the customer, and what floods."""
+    own_network.needs("ip", "taskset", "gcc")
+    with own_network.apart("net"), own_network.preferred(ASKED_FROM):
+        own_network.compiled(own_network.FLOOD, "flood")
+        yield
 
 
 # ---- Servers
@@ -219,7 +224,7 @@ def measure(server, kind, rate, share, guard=no_door):
 
 # ---- Cases
 
-def behind_the_door():
+def test_door_stops_one_source_before_the_queue():
     """A source sends far more than it may: it is stopped before the queue, and another customer has its answers in time."""
     with labntpd() as (_, port), door():
         judging.same("a query", "time", probe.ask(port, "plain", text_of(ASKER)))
@@ -266,7 +271,8 @@ def judged_rounds(rate, share):
     raise PassedOver(f"the host is too busy for {rate} a second and 1/{share} of a processor: it gave {had}")
 
 
-def without_a_door():
+@pytest.mark.proved_alone(SLOW)
+def test_without_a_door_answers_are_not_clearly_fewer_than_of_labntp_serve():
     """Not clearly fewer answers than `labntp serve` gives, in the middle one of three rounds, on a small share of a processor and on a very
     small one: few are answered there, so one round alone may be far off."""
     for rate, share in ((120_000, 7), (400_000, 20)):
@@ -324,7 +330,8 @@ def forge(port):
     return own, forgers
 
 
-def forged(guard):
+@pytest.mark.parametrize("guard", [door, pytest.param(no_door, marks=pytest.mark.proved_alone(SLOW))], ids=["door", "no door"])
+def test_forgers_take_from_customers(guard):
     """Forgers take answers from a customer by copies alone that its budget has no room for, and behind the rules by more than they let pass."""
     judging.PROGRAM = LABNTPD
     with labntpd_server.Daemon(enrolled=FORGED) as server, guard():
@@ -370,7 +377,7 @@ def is_cut(port, source, rate):
         raise Odd(f"{came} of {FLOOD} datagrams of {source} came in {took} seconds, where the rate is {rate}")
 
 
-def rates_pass():
+def test_door_lets_each_customers_rate_pass_and_no_stranger():
     """A customer's flood is cut to its rate, which the words say, and that of who was revoked, who gets DENY; of a stranger nothing comes, until
     it is enrolled and the rules are loaded again. Others are answered."""
     judging.PROGRAM = LABNTPD
@@ -385,22 +392,16 @@ def rates_pass():
         judging.same("a customer", "time", probe.ask(server.port, "plain", text_of(LATER)))
 
 
-CASES = {
-    "door: one source is stopped before the queue": behind_the_door,
-    "door: each customer's rate passes, and no stranger": rates_pass,
-    "door: what forgers take from customers": lambda: forged(door),
-    "no door: what forgers take from customers": lambda: forged(no_door),
-    "no door: not clearly fewer answers than labntp serve": without_a_door,
-}
+# ---- Measured
 
-
-def table(kinds):
-    """Measures all under floods of these kinds, and prints a table."""
-    print("| Server | Flood | Datagrams a second | Share of a processor | Answered of 100 | Late, median and most (ms) | Kernel's drops a second |")
+@pytest.mark.table
+def test_table():
+    """Measures all under floods of each kind, and prints a table."""
+    print("\n| Server | Flood | Datagrams a second | Share of a processor | Answered of 100 | Late, median and most (ms) | Kernel's drops a second |")
     print("|---|---|---:|---|---:|---:|---:|", flush=True)
     rows = [(name, kind, rate, share, no_door) for kind in KINDS for rate in RATES for share in SHARES for name in SERVERS]
     rows += [("labntpd", KINDS[0], rate, share, door) for rate in RATES for share in SHARES]
-    for name, kind, rate, share, guard in (row for row in rows if row[1] in kinds):
+    for name, kind, rate, share, guard in rows:
         try:
             seen = measure(SERVERS[name], kind, rate, share, guard)
         except PassedOver as why:
@@ -410,28 +411,3 @@ def table(kinds):
         late = f"{seen.median:.1f}, {seen.most:.1f}" if seen.answered else ""
         answered = 100 * seen.answered / seen.asked
         print(f"| {shown} | {kind} | {rate:,} | 1/{share} | {answered:.1f} | {late} | {seen.drops // ASKING:,} |", flush=True)
-    return 0
-
-
-# ---- Start
-
-def main(*words):
-    global LABNTPD, LABNTP, LABNTPCTL
-    if INSIDE not in words:
-        return own_network.enter(words, CASES, ["--net"], "ip", "taskset", "gcc")
-    # A socket that is handed down is descriptor 3 there, so nothing else is to be it here.
-    if (taken := os.open(os.devnull, os.O_RDONLY)) != 3:
-        os.dup2(taken, 3, inheritable=False)
-    is_table, words = "--table" in words, [it for it in words if it not in (INSIDE, "--table")]
-    usual = judging.built("labntpd", "labntp", "labntpctl")
-    tries, (LABNTPD, LABNTP, LABNTPCTL), cases = judging.asked("door", words, usual, dict.fromkeys(KINDS) if is_table else CASES)
-    subprocess.run(["ip", "link", "set", "lo", "up"], check=True)
-    os.sched_setaffinity(0, ASKED_FROM)
-    own_network.take_precedence()
-    with judging.own_room("door", 0o022):
-        own_network.compiled(own_network.FLOOD, "flood")
-        return table(cases) if is_table else judging.judge(cases, tries)
-
-
-if __name__ == "__main__":
-    sys.exit(main(*sys.argv[1:]))

@@ -1,8 +1,4 @@
-#!/usr/bin/env python3
 """Judges scale/cores and scale/machines: customers that are split by source address over several processes of labntpd.
-
-    tests/scale [--tries N] [LABNTPD [LABNTPCTL]] [NAME..]
-    tests/scale --table [LABNTPD]
 
 256 customers ask, four processes of one host or four hosts answer, and a router stands between where there are hosts. The commands are those of
 docs/SCALING.md.
@@ -14,9 +10,8 @@ docs/SCALING.md.
 `--table` judges nothing: it measures queries a second through one, two and three processes and through chronyd, ten times in turns, and prints
 a table.
 
-Its words, and what it prints, are as with tests/door. It needs root, gcc, the programs `unshare`, `mount`, `ip` and `sysctl`, two processors,
-and `nft` (on the path, or below $PEERS as tests/run fetches it); else cases are passed over. Everything is done in namespaces of its own, of
-networks, processes and mounts, which end with it.
+It needs root, gcc, the programs `mount`, `ip` and `sysctl`, two processors, and `nft` (on the path, or below $PEERS as tests/run fetches it);
+else cases are passed over. Everything is done in namespaces of its own, of networks and mounts, which end with it.
 """
 import collections
 import contextlib
@@ -29,25 +24,23 @@ import select
 import socket
 import statistics
 import subprocess
-import sys
 import time
 
-sys.dont_write_bytecode = True
-TOP = os.path.dirname(os.path.dirname(os.path.realpath(__file__)))
-sys.path.insert(0, f"{TOP}/tests")
+import pytest
+
 import judging
 import labntpd_server
 import own_network
 import own_systemd
 import probe
-from judging import Odd, PassedOver, same, until
-from own_network import ALLOWED, INSIDE, nft
+from judging import SLOW, TOP, Odd, same, until
+from own_network import ALLOWED, nft
 
 PAGE = "docs/SCALING.md"
 
-# Namespaces of networks are named below /run, so that is its own too.
-NAMESPACES = ["--fork", "--pid", "--kill-child=KILL", "--mount-proc", "--mount", "--propagation", "private", "--net"]
-PROGRAMS = ("mount", "ip", "sysctl", "gcc")
+# The modes of files, and the program beside labntpd.
+MASK = 0o022
+(LABNTPCTL,) = judging.built("labntpctl")
 
 # The address that is split, as the page has it, and the processes and the hosts.
 SERVICE, PORT = "192.0.2.1", 123
@@ -70,6 +63,19 @@ SETTLE = 0.1
 
 
 # ---- Places
+
+@pytest.fixture(scope="module", autouse=True)
+def namespaces(room):
+    """Namespaces of its own, and what floods. Those of networks are named below /run, so that is its own too."""
+    own_network.needs("mount", "ip", "sysctl", "gcc")
+    with own_network.apart("mnt", "net"), own_network.preferred():
+        sh("mount -t tmpfs tmpfs /run && mkdir /run/netns")
+        Space.entered.append(os.open("/proc/thread-self/ns/net", os.O_RDONLY))
+        own_network.find_nft()
+        own_network.compiled(own_network.FLOOD, "flood")
+        yield
+        os.close(Space.entered.pop())
+
 
 class Space:
     """A namespace of networks. `with space:` what is begun and made is there."""
@@ -259,6 +265,19 @@ def machines(budget=AMPLE):
         yield Site("machines", customers, router, HOSTS, budget, {it: (host, f"{SERVICE}:{PORT}") for it, host in zip(HOSTS, hosts)})
 
 
+@pytest.fixture
+def site(request):
+    """A host or hosts with such a budget for each customer."""
+    kind, budget = request.param
+    with kind(budget) as it:
+        yield it
+
+
+def at_both(budget=AMPLE):
+    """Has a case made over each kind of site."""
+    return pytest.mark.parametrize("site", [(cores, budget), (machines, budget)], ids=["cores", "machines"], indirect=True)
+
+
 def commands(heading):
     """The commands of a section of the page."""
     with open(f"{TOP}/{PAGE}") as it:
@@ -276,7 +295,8 @@ def tally(told):
     return dict(collections.Counter(" ".join(it) for it in told.values()))
 
 
-def held(site):
+@at_both(BUDGET)
+def test_each_customer_has_its_budget_from_whatever_port(site):
     """Each customer is answered as by one server."""
     labntpd_server.window(8)
     site.up()
@@ -290,7 +310,7 @@ def is_torn(site):
     same("whether one has more than its budget", True, most > BUDGET)
 
 
-def cores_control():
+def test_cores_split_by_port_give_one_more():
     """The same rules, but by address and source port."""
     with cores(BUDGET) as site:
         rules = site.run(f"--dry-run up {SERVICE} {' '.join(PORTS)}").replace("jhash ip saddr mod", "jhash ip saddr . udp sport mod")
@@ -299,14 +319,16 @@ def cores_control():
         is_torn(site)
 
 
-def machines_control():
+def test_machines_split_by_port_give_one_more():
     """A router that splits by ports too, as many do."""
     with machines(BUDGET) as site:
         site.at.sh(f"sysctl -qw net.ipv4.fib_multipath_hash_policy=1; ip route add {SERVICE}/32 {' '.join(f'nexthop via {it}' for it in HOSTS)}")
         is_torn(site)
 
 
-def killed(site):
+@pytest.mark.proved_alone(SLOW)
+@at_both()
+def test_customers_of_one_that_is_killed_alone_are_silent(site):
     """While all are loaded, one ends. Its customers alone are silent, and have answers once it is there again."""
     site.up()
     where, gone = site.where(ADDRESSES + FURTHER), site.owners[1]
@@ -326,9 +348,10 @@ def killed(site):
         site.all_have_time()
 
 
-def by_the_page(site, heading):
+@at_both()
+def test_commands_of_the_page_split(site):
     """The page's commands, one after another; a customer has the time behind each."""
-    for command in commands(heading):
+    for command in commands({"cores": "Several processes on one host", "machines": "Several hosts"}[site.split]):
         if command.startswith(f"scale/{site.split} "):
             told = site.at.sh(command)
             same(f"whether {command} tells something", " up " not in command, bool(told))
@@ -353,7 +376,8 @@ def exchange(site, address, received=0):
     return probe.kind(customer, packet, reply), probe.stamps(reply)[1]
 
 
-def drained(site):
+@at_both(4)
+def test_nobody_is_refused_for_one_that_is_drained(site):
     """One is drained, and comes back. Nobody is refused for that. Who moves begins anew, and finds its counts when it comes back."""
     labntpd_server.window(12)
     site.up()
@@ -377,7 +401,8 @@ def drained(site):
     same("back again", lists("time time rate", "silence silence silence"), by(site.rounds(3)))
 
 
-def in_flight(site):
+@at_both()
+def test_customers_are_answered_while_one_is_drained_and_added(site):
     """Customers ask again and again while one is drained and added: each query has its answer."""
     site.up()
     for job in ("drain", "add"):
@@ -389,7 +414,7 @@ def in_flight(site):
         site.all_have_time()
 
 
-def added():
+def test_cores_that_are_added_get_who_moves():
     """A fifth process takes its share, and nobody moves but to it."""
     with cores() as site:
         site.up()
@@ -402,7 +427,7 @@ def added():
         site.all_have_time()
 
 
-def past_the_split():
+def test_cores_get_nothing_past_the_split():
     """Nothing comes to a process but by the split. A filter behind it sees the ports of processes, and no connection that is tracked."""
     with cores() as site:
         site.up()
@@ -424,7 +449,8 @@ def past_the_split():
         same("connections", "0", site.at.sh("cat /proc/sys/net/netfilter/nf_conntrack_count"))
 
 
-def fragments(site):
+@at_both()
+def test_fragments_come_to_one(site):
     """A query of 1,024 octets comes in two parts, and both come to one."""
     site.up()
     sh("ip -n customers link set eth mtu 600")
@@ -434,7 +460,8 @@ def fragments(site):
     same("fragments", 2 * COUNT, int(counted["FragCreates"]))
 
 
-def flooded(site):
+@at_both()
+def test_flood_behind_the_door_takes_hardly_an_answer(site):
     """One customer sends as much as it can. Behind the door the others have 999 answers in 1,000."""
     site.up()
     with site.at:
@@ -453,7 +480,7 @@ def flooded(site):
     same("whether 999 in 1,000 have the time", True, told["time"] >= 0.999 * sum(told.values()))
 
 
-def equal_cost():
+def test_machines_split_by_equal_cost_routes_of_a_router():
     """The page's commands for a router that has no rules of ours: each customer comes to one host, from whatever port."""
     with machines(BUDGET) as site:
         for it in commands("Several hosts"):
@@ -469,7 +496,7 @@ def equal_cost():
         same("whether others move too", True, any(before[it] not in (HOSTS[1], after[it]) for it in before))
 
 
-def link_down():
+def test_machines_whose_link_goes_down_and_comes_back():
     """The customers of a host whose link goes down come to others by the main table; nobody else moves. It comes back by `add`."""
     with machines(BUDGET) as site:
         labntpd_server.window(12)
@@ -490,7 +517,7 @@ def link_down():
         same("lookups that are left", set(), site.lookups())
 
 
-def both():
+def test_machines_split_again():
     """Behind the router a host splits again: its customers come to all of its processes, and by the router's seed they would come to one."""
     with machines() as site:
         site.up()
@@ -501,7 +528,8 @@ def both():
             same(f"processes that they come to {seed}", wanted, {*re.findall(r"process (\d+)", host.sh(f"scale/cores show {' '.join(its)}"))})
 
 
-def taken_away(site):
+@at_both()
+def test_nothing_stays(site):
     """`--dry-run` prints what `up` loads, and a second `up` changes nothing; `down` leaves nothing; other words have nothing done."""
     look = lambda: site.at.sh("nft list ruleset; ip -4 rule; ip -4 route show table all")
     before, words = look(), f"up {SERVICE} {' '.join(site.owners)}"
@@ -526,7 +554,7 @@ def taken_away(site):
     same("what else stays", before, look())
 
 
-def labelled():
+def test_cores_have_statistics_each_with_its_process():
     """node_exporter is handed what each process has written, with a label, and as old as that."""
     with cores() as site:
         folder = f"{judging.ROOM}/textfiles"
@@ -620,7 +648,8 @@ def measured(site, processes, lines, seconds):
     return told / seconds, (used() - before) / told * 1e6
 
 
-def table(runs=10, seconds=3):
+@pytest.mark.table
+def test_table(runs=10, seconds=3):
     """Measures in turns queries a second through one, two and three processes, each on a processor of its own, and through chronyd; the one who
     asks has the last processor. Prints the machine's load beside each run, and then the medians."""
     own_network.compiled(ASKS, "asks")
@@ -645,73 +674,8 @@ def table(runs=10, seconds=3):
                 print(f"run {run + 1}, load {os.getloadavg()[0]:.1f}: {', '.join(f'{it} {rows[-1][0]:,.0f}' for it, rows in found.items())}", flush=True)
         for it in [*judging.started]:
             judging.end(it)
-    print("| Processes | Queries a second: median | least | most | Processor time of a query, µs |")
+    print("\n| Processes | Queries a second: median | least | most | Processor time of a query, µs |")
     print("|---|---:|---:|---:|---:|")
     for name, rows in found.items():
         rates, costs = zip(*rows)
         print(f"| {name} | {statistics.median(rates):,.0f} | {min(rates):,.0f} | {max(rates):,.0f} | {statistics.median(costs):.1f} |")
-    return 0
-
-
-# ---- Which
-
-def at(site, case, *words, **how):
-    """The case over such a site."""
-    def made():
-        with site(*words) as it:
-            case(it, **how)
-    return made
-
-
-CASES = {
-    "cores: each customer has its budget, from whatever port": at(cores, held, BUDGET),
-    "cores: control: split by port, one has more": cores_control,
-    "cores: by the page's commands": at(cores, by_the_page, heading="Several processes on one host"),
-    "cores: one is killed: its customers alone are silent": at(cores, killed),
-    "cores: one is drained: nobody is refused who was not": at(cores, drained, 4),
-    "cores: drained and added while customers ask": at(cores, in_flight),
-    "cores: a fifth is added: who moves comes to it": added,
-    "cores: nothing comes past the split": past_the_split,
-    "cores: fragments": at(cores, fragments),
-    "cores: a flood, behind the door": at(cores, flooded),
-    "cores: nothing stays": at(cores, taken_away),
-    "cores: statistics, each with its process": labelled,
-    "machines: each customer has its budget, from whatever port": at(machines, held, BUDGET),
-    "machines: control: split by port, one has more": machines_control,
-    "machines: by equal-cost routes of a router, and a seed": equal_cost,
-    "machines: by the page's commands": at(machines, by_the_page, heading="Several hosts"),
-    "machines: one is killed: its customers alone are silent": at(machines, killed),
-    "machines: one is drained: nobody is refused who was not": at(machines, drained, 4),
-    "machines: drained and added while customers ask": at(machines, in_flight),
-    "machines: a link goes down, and comes back": link_down,
-    "machines: fragments": at(machines, fragments),
-    "machines: a flood, behind the door": at(machines, flooded),
-    "machines: a host splits again": both,
-    "machines: nothing stays": at(machines, taken_away),
-}
-
-
-# ---- Start
-
-def main(*words):
-    global LABNTPCTL
-    if INSIDE not in words:
-        return own_network.enter(words, CASES, NAMESPACES, *PROGRAMS)
-    is_table, words = "--table" in words, [it for it in words if it not in (INSIDE, "--table")]
-    tries, (judging.PROGRAM, LABNTPCTL), cases = judging.asked("scale", words, judging.built("labntpd", "labntpctl"), CASES)
-    sh("mount -t tmpfs tmpfs /run && mkdir /run/netns && ip link set lo up")
-    Space.entered.append(os.open("/proc/self/ns/net", os.O_RDONLY))
-    own_network.take_precedence()
-    with judging.own_room("scale", 0o022):
-        try:
-            own_network.find_nft()
-        except PassedOver as why:
-            for name in cases:
-                print(f"passed over {name}: {why}")
-            return 0
-        own_network.compiled(own_network.FLOOD, "flood")
-        return table() if is_table else judging.judge(cases, tries)
-
-
-if __name__ == "__main__":
-    sys.exit(main(*sys.argv[1:]))

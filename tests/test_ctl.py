@@ -1,11 +1,4 @@
-#!/usr/bin/env python3
 """Judges the built program labntpctl from outside: what it writes into files, what it prints, and its exit status.
-
-    tests/ctl [--tries N] [--long] [LABNTPCTL [LABNTPD [LABNTP-QUERY]]] [NAME..]
-
-Without words that have a `/`, the programs are crates/NAME/out/NAME of labntpctl, labntpd and labntp_query; a NAME chooses the cases in
-whose names it stands. A case that fails is made again, as tests/program does. `--long` draws a thousand sequences of changes, and ten
-thousand histories for files of customers.
 
 - Lists: by the commands file alone, by the daemon's customers file, as a table and as objects of JSON; names; what differs.
 - Every fault of files in which some eighty are planted in known lines; each word of a fault; warnings; files as large as may be.
@@ -18,11 +11,11 @@ thousand histories for files of customers.
   histories at random; what bars a change.
 - Kills at each call of the system, and clerks at once: each line is whole, and each answer is that of its line.
 - What a customer gets is read by labntp-query and chronyd, where they are there.
-- Rules for the door: whom they let in, where they apply; that nft takes them, where it is there. tests/door judges what they let pass.
+- Rules for the door: whom they let in, where they apply; that nft takes them, where it is there. tests/test_door.py judges what they let pass.
 - That no key is shown, in any run: it stands in the commands file and in the customer's file alone.
 
-Prints as tests/program does. It needs Python 3 on Linux. It takes free ports of 127.0.0.1, and a directory of its own. No wait is without a
-limit, and nothing stays running.
+`--long` draws a thousand sequences of changes, and ten thousand histories for files of customers. It needs Python 3 on Linux. It takes free
+ports of 127.0.0.1, and a directory of its own. No wait is without a limit.
 """
 import calendar
 import concurrent.futures
@@ -40,14 +33,12 @@ import signal
 import socket
 import struct
 import subprocess
-import sys
 import threading
 import time
 import tomllib
 
-sys.dont_write_bytecode = True
-TOP = os.path.dirname(os.path.dirname(os.path.realpath(__file__)))
-sys.path.insert(0, f"{TOP}/tests")
+import pytest
+
 import judging
 import labntpctl_runs
 import labntpd_server
@@ -55,22 +46,23 @@ import model
 import own_network
 import peers
 import probe
-from judging import Odd, PassedOver, enrolments, file_of, limited_to, outputs_that_take_nothing, register_of, same, until
+from judging import SLOW, TOP, Odd, PassedOver, enrolments, file_of, limited_to, outputs_that_take_nothing, register_of, same, until
 from labntpctl_runs import CLERK, CUSTOMERS, ENROL, FILE_LIMIT, KEY, RECORD, all_done, append_text, appended, as_told, begun, configured, customers_by, customers_now, enrolled, fresh, history_drawn, killed_at
 from labntpctl_runs import lines_in, names_by, next_line, patient, read, room, run, served, serving, shows_no_key, told, wanted_text, without
 
 # How many changes of a long sequence are drawn, how many short sequences and histories, how many with --long, and from which seed.
 CHANGES, SEQUENCES, HISTORIES, LONG_SEQUENCES, LONG_HISTORIES, SEED = 200, 20, 30, 1_000, 10_000, 20261126
+# What reads a customer's key.
+(QUERY,) = judging.built("labntp_query")
 # Two customers more, and the line of the command that is appended first behind those of the customers and its record.
 FIVE, SIX = ("192.0.2.5", 5, "sha1", f"{KEY[5:]}{KEY[:5]}", 10), ("192.0.2.6", 6, "md5", f"{KEY[6:]}{KEY[:6]}", 12)
 FIRST = len(CUSTOMERS) + 2
-IS_LONG = False
 MEMBERS = ["address", "state", "keys", "budget", "line", "answers"]
 
 
 # ---- Words
 
-def help_and_version():
+def test_words_for_help_and_version():
     status, out, err = run(["--help"])
     same("help", (0, ""), (status, err))
     for word in ("customers", "door", "check", "explain", "apply", "export", "fold", "enrol", "revoke", "budget", "rollover", "retire", "move", "Examples:", "Exit status:"):
@@ -85,7 +77,7 @@ def help_and_version():
     same("version", (0, f"labntpctl {version}\n", ""), run(["--version"]))
 
 
-def other_words():
+def test_words_that_are_others_are_refused():
     config = configured()
     file, before = room("commands"), read("commands")
     wrong = [[], ["nothing"], ["help"], ["recover", *config], ["enrol", *config], ["enrol"], ["customers", *config, file], ["customers", file, "a"], ["customers", "--compare", file], ["customers", "--compare", "--json", *config]]
@@ -106,7 +98,7 @@ def other_words():
     same("nothing was written", before, read("commands"))
 
 
-def writes_that_fail():
+def test_words_and_writes_that_fail():
     config = configured()
     # No file takes the place of a stream that is closed.
     for descriptor in (1, 2):
@@ -123,7 +115,7 @@ def writes_that_fail():
 
 # ---- Lists
 
-def by_files():
+def test_customers_by_the_files_alone():
     """Who is enrolled, with no daemon: by the configuration, and by the file itself."""
     lines = ["# a comment", "", f"enrol 192.0.2.3 2 sha1 {KEY} 7", "revoke 192.0.2.1", f"rollover 192.0.2.2 9 sha1 {KEY}", "budget 192.0.2.2 11", "nonsense", "retire 127.0.0.1 4",
              "# name 192.0.2.3 A", '# name 192.0.2.3 PTB, "77"', "# name 192.0.2.2 B", "# name 192.0.2.2 ", "# name 192.0.2.99 nobody"]
@@ -144,7 +136,7 @@ def by_files():
     same("names", ("NAME", ["0", "PTB,", '"77"'], ["0", "B"], ["0", "0"]), (table[0][-1], table[5][-3:], table[2][-2:], table[4][-2:]))
 
 
-def by_faulty_files():
+def test_customers_by_files_with_a_fault():
     config = configured()
     same("no configuration", (3, "", f"{room('x')}: No such file or directory (os error 2)\n"), run(["customers", "--config", room("x")]))
     file_of("old.toml", f'register = "x"\n{read("labntpd.toml")}')
@@ -171,7 +163,7 @@ def by_faulty_files():
     same("neither", [(3, "", told)] * 2, [run(["customers", *words]) for words in (config, [room("commands")])])
 
 
-def one_customer():
+def test_customers_one_alone():
     """One address alone, by the commands file or the daemon's file; where it was never a customer, a line and the status say so."""
     config = configured(commands=f"rollover 192.0.2.2 9 sha1 {KEY}\nenrol 192.0.2.20 5 md5 00 1\nrevoke 192.0.2.20\n# name 192.0.2.2 B\n")
     for differs in ("", "192.0.2.1: labntpd has key 7 (sha1, 20 octets), the commands file key 1 (sha1, 20 octets)\n"):
@@ -191,7 +183,7 @@ def one_customer():
         same("one that labntpd has not reported yet", (0, True, ""), (lambda it: (it[0], "192.0.2.30" in it[1], it[2]))(run(["customers", "192.0.2.30", *words, *config])))
 
 
-def by_the_daemon():
+def test_customers_by_the_daemons_file():
     """Its customers file, with a query that was signed."""
     with serving() as (port, config):
         until("it writes of its customers", lambda: os.path.exists(room("customers")))
@@ -203,7 +195,7 @@ def by_the_daemon():
         same("its row", True, bool(re.fullmatch(r"127\.0\.0\.1 +enrolled +100 +3 +4 +sha1 20 +\w{3}, \d\d \w{3} \d{4} \d\d:\d\d:\d\d GMT +1 +0 +0 +0 +0", row)))
 
 
-def long_values():
+def test_customers_by_the_daemons_file_with_long_values():
     """Columns never touch, and a second key stands below the first one."""
     config = configured(commands=f"rollover 192.0.2.1 65535 sha1 {KEY}\n")
     text = re.sub(r'"line":\d+', '"line":1048576', run(["customers", "--json", *config], 0)[1])
@@ -243,7 +235,8 @@ def reporting(commands):
         daemon.join()
 
 
-def compared():
+@pytest.mark.proved_alone(SLOW)
+def test_customers_that_differ():
     """`customers` tells in which the daemon's customers and the file differ; `--compare` tells that alone."""
     there = [f"enrol 192.0.2.9 2 sha1 {KEY} 7", f"rollover 192.0.2.2 9 sha1 {KEY[::-1]}", "enrol 192.0.2.10 5 md5 11 5", "enrol 192.0.2.11 6 md5 22 5", "enrol 192.0.2.12 7 sha1 33 5", "enrol 192.0.2.15 16 sha1 66 5", "revoke 192.0.2.15"]
     more = ["budget 192.0.2.9 12", "retire 192.0.2.2 3", "revoke 192.0.2.10", f"rollover 192.0.2.11 20 sha1 {KEY}", "revoke 192.0.2.12", "enrol 192.0.2.12 22 sha1 99 44", "enrol 192.0.2.15 25 md5 cc 66", "enrol 192.0.2.16 23 md5 aa 55",
@@ -290,7 +283,7 @@ def compared():
 
 # ---- Changes
 
-def each_change():
+def test_changes_each_with_its_answer():
     with serving() as (port, config):
         before = read("commands")
         status, out, err = run(["enrol", "192.0.2.9", "--budget", "17", *config])
@@ -322,7 +315,7 @@ def each_change():
         same("the daemon's answers", all_done(), lines_in("answers"))
 
 
-def records():
+def test_changes_tell_when_and_by_whom():
     """In front of the lines of an order stands once when it was given, and by whom: by the name of the one who became root, else the user's name
     or number."""
     config = configured()
@@ -356,7 +349,7 @@ def answering(*answers, file="answers", before=lambda: None):
         daemon.join()
 
 
-def answers_of_several():
+def test_changes_beside_several_processes():
     """With several processes the answers of all are waited for, and a bad one is told."""
     with serving() as (_, config):
         words = ["--answers", f"{room('answers')},{room('other')}", *config]
@@ -387,7 +380,7 @@ DATE = r"\w\w\w, \d\d \w\w\w \d{4} \d\d:\d\d:\d\d GMT"
 NOT_KNOWN = "that the key that stays is in use is not known: --yes is wanted\n"
 
 
-def retire_asks():
+def test_changes_are_asked_about_before_a_key_goes():
     """Before a key is retired, the last uses of both are told, and the clerk is asked; where the one that stays may be in no use, only the word
     for it retires the other."""
     config = configured(commands=f"rollover 192.0.2.1 5 sha1 {KEY}\n# name 192.0.2.1 A\n", statistics="statistics")
@@ -426,7 +419,7 @@ def beside_labntpd():
         same("the file that asks", False, os.path.exists(room("customers.wanted")))
 
 
-def answers_of_a_clerk():
+def test_changes_heed_what_a_clerk_answers():
     """The answer is one line, however it comes, and nothing behind it; a long line is no yes."""
     lines = f"rollover 192.0.2.1 2 sha1 {KEY}\n"
     for parts, wanted in (((b"ye", b"s\n"), True), ((b"y\nn\n",), True), ((b" Yes \n" + b"#" * 99,), True), ((b"y",), True), ((b"n", b"y\n"), False), ((b"y" + b" " * 40 + b"\n",), False), ((b"\n", b"y\n"), False)):
@@ -444,7 +437,7 @@ def answers_of_a_clerk():
         same(f"an answer of {parts}", (3, ["retire 192.0.2.1 1"]) if wanted else (1, []), (process.returncode, appended(before)))
 
 
-def answers_that_are_not_read():
+def test_changes_where_answers_and_last_uses_are_not_read():
     """Answers files, and one of customers, that cannot be read, or are no text: that is told, and nothing is appended."""
     config, path = configured(), room("answers")
     words = ["enrol", "192.0.2.9", "--output", room("x"), "--wait", "0.1", *config]
@@ -468,7 +461,7 @@ def answers_that_are_not_read():
     same("uses of a key", (1, "", "customers: line 2: an object of a customer is wanted\n"), run(["retire", "127.0.0.1", *config], given=b"y\n"))
 
 
-def refusals():
+def test_changes_that_the_daemon_would_refuse():
     """What the daemon would refuse is not written."""
     with serving() as (_, config):
         run(["rollover", "192.0.2.1", *config], 0)
@@ -484,7 +477,7 @@ def refusals():
         same("one file of a customer", ["192.0.2.1-2.keys"], [it for it in os.listdir(judging.ROOM) if it.endswith(".keys")])
 
 
-def only_shown():
+def test_changes_are_none_with_dry_run():
     config = configured(commands="# a comment\n")
     there = {it: os.stat(room(it)).st_mtime_ns for it in os.listdir(judging.ROOM)}
     for words, line in ((["enrol", "192.0.2.9"], "enrol 192.0.2.9 2 sha1 KEY 10"), (["rollover", "192.0.2.1", "--algorithm", "md5"], "rollover 192.0.2.1 2 md5 KEY"), (["revoke", "192.0.2.1"], "revoke 192.0.2.1")):
@@ -492,7 +485,7 @@ def only_shown():
     same("nothing was written", there, {it: os.stat(room(it)).st_mtime_ns for it in os.listdir(judging.ROOM)})
 
 
-def at_the_next_start():
+def test_changes_with_no_daemon():
     """With no daemon nobody answers; the line is carried out later."""
     config = configured(probe.free_port())
     same("enrol", (3, f"line {FIRST}: enrol 192.0.2.9 2 sha1 KEY 10\nfor the customer: 192.0.2.9-2.keys\n",
@@ -510,7 +503,7 @@ def at_the_next_start():
     same("without an answers file", 3, run(["revoke", "192.0.2.2", "--wait", "0.1", *configured(answers=None)])[0])
 
 
-def files_that_are_there():
+def test_changes_where_the_customers_file_is_there():
     """No file of a customer is written over, and nothing is appended then."""
     config = configured()
     for words, path in ((["--output", room("mine")], "mine"), ([], "192.0.2.9-2.keys")):
@@ -522,7 +515,8 @@ def files_that_are_there():
     same("nothing was appended", FIRST - 1, next_line())
 
 
-def commands_files():
+@pytest.mark.proved_alone(SLOW)
+def test_changes_append_nothing_to_such_commands_files():
     """Those to which nothing is appended."""
     config, path, head = configured(commands="# one\n# two"), room("commands"), enrolments(CUSTOMERS)
     words, line = ["revoke", "192.0.2.1", "--wait", "0"], f"# 2026-11-29T05:00:00Z {CLERK}\nrevoke 192.0.2.1\n"
@@ -546,7 +540,7 @@ def commands_files():
     same("no regular file", (3, "", f"{path}: a regular file is wanted\n"), run([*words, *config]))
 
 
-def half_written():
+def test_changes_with_a_customers_file_half_written():
     """A customer's file, or a file of customers, that cannot be written as a whole or stored: none is left, and the next try is good."""
     config = configured()
     for words, status in ((["enrol", "192.0.2.9", "--wait", "0", "--output", room("new.keys")], 3), (["export", room("new.toml")], 0)):
@@ -558,7 +552,7 @@ def half_written():
         same("the next try", True, os.path.getsize(path) > 50)
 
 
-def without_leave():
+def test_changes_without_leave():
     """A clerk who may not write the commands file, or whose file stands in a directory that cannot be stored, since it cannot be opened."""
     config = configured()
     os.mkdir(room("given"))
@@ -573,7 +567,7 @@ def without_leave():
     same("nothing is left", (False, FIRST - 1), (os.path.exists(room("given/x")), next_line()))
 
 
-def writes_cut_short():
+def test_changes_with_lines_cut_short_or_not_stored():
     """A disk that takes the first octets of what is appended: only whole comments stay, which labntpd may have read. One that stores nothing: the answer
     is told, and the fault."""
     config = configured(commands="#" * 9989 + "\n")
@@ -612,7 +606,7 @@ def writes_cut_short():
     same("the line", ["budget 192.0.2.1 7"], appended(before))
 
 
-def keys_that_stay():
+def test_changes_with_a_customers_file_that_stays():
     """A customer's file that cannot be removed where the daemon refuses the line: that is told."""
     config = configured()
     os.mkdir(room("given"))
@@ -643,7 +637,7 @@ def beside(words, meanwhile, **how):
     return process.returncode, out, err
 
 
-def another_appends():
+def test_changes_while_another_appends_without_the_lock():
     """Another appends without the lock: which line it is is not known, and nothing of the other's goes, nor what the customer gets."""
     other, config = "revoke 192.0.2.1\n", configured(commands="#" * 9989 + "\n")
     before, size = read("commands"), os.path.getsize(room("commands"))
@@ -661,7 +655,7 @@ def another_appends():
     same("nothing is for the customer", False, os.path.exists(room("192.0.2.10-2.keys")))
 
 
-def another_takes_its_place():
+def test_changes_while_another_file_takes_its_place():
     """Another file is put in place once the change has read the commands file: that is told, and that file stays as it is."""
     config, before, wanted = configured(), read("commands"), file_of("wanted.toml", register_of([*CUSTOMERS, FIVE, SIX]))
     for words, lines, told in ((["budget", "192.0.2.1", "7"], 1, "budget 192.0.2.1 7"), (["apply", wanted, "--yes"], 2, "2 commands")):
@@ -674,7 +668,7 @@ def another_takes_its_place():
         os.remove(room("old"))
 
 
-def a_lock_is_waited_for():
+def test_changes_wait_for_a_lock():
     config = configured()
     with open(room("commands"), "a") as it:
         fcntl.flock(it, fcntl.LOCK_EX)
@@ -693,7 +687,7 @@ def a_lock_is_waited_for():
     same("another appends meanwhile", (f"line {FIRST + 5}: budget 192.0.2.2 8\n", None), (run(["budget", "192.0.2.2", "8", "--wait", "0", *config])[1], process.poll()))
 
 
-def a_lock_that_stays():
+def test_changes_under_a_lock_that_stays():
     """Who holds the file is told after ten seconds."""
     config = configured()
     with open(room("commands"), "a") as it, open("/proc/self/comm") as program, patient():
@@ -773,7 +767,8 @@ def apply(config, file, is_answered=False):
     return new
 
 
-def a_file_of_many():
+@pytest.mark.proved_alone(SLOW)
+def test_apply_takes_a_file_of_many():
     """Two hundred customers; again; two are changed and one removed; numbers and keys go round; who keeps a key keeps saved exchanges."""
     with serving() as (port, config):
         draw = random.Random(SEED)
@@ -821,7 +816,7 @@ def a_file_of_many():
             same("one that asks about it", "interleaved", ask(*exchange)[0])
 
 
-def an_ending_of_many():
+def test_apply_where_more_than_a_quarter_ends():
     """More than a quarter of the enrolments that end want a word more; nothing is appended without."""
     config = configured(customers=many_customers(range(5, 13)))
     before, there = read("commands"), customers_now()
@@ -835,7 +830,7 @@ def an_ending_of_many():
         same("those may end", (3, 8 - count), (run(["apply", left(count), "--yes", *words, "--wait", "0", *config])[0], len(enrolled(customers_now()))))
 
 
-def a_file_that_is_asked_about():
+def test_apply_asks_a_clerk():
     """What is asked, and what is done where the answer is no yes."""
     for file, question in ((register_of([*CUSTOMERS, FIVE, SIX]), "apply 2 commands and 0 names? [y/N] "), (register_of(CUSTOMERS) + 'name = "A"\n', "apply 0 commands and 1 names? [y/N] "), (register_of([*CUSTOMERS, FIVE, SIX]) + 'name = "A"\n', "apply 2 commands and 1 names? [y/N] ")):
         config = configured()
@@ -848,7 +843,7 @@ def a_file_that_is_asked_about():
         same("a yes", (0 if " 0 commands" in question else 3, True, True), (status, out.startswith(f"{shown}{question}"), bool(appended(before))))
 
 
-def answers_to_a_file():
+def test_apply_tells_what_labntpd_refuses():
     """Lines of a file that labntpd refuses are told with their commands, and no key."""
     config = configured()
     path = file_of("wanted.toml", register_of([*CUSTOMERS[1:], ("192.0.2.1", 1, "sha1", KEY, 5), FIVE, SIX]))
@@ -859,13 +854,13 @@ def answers_to_a_file():
     same("what is told", (1, [f"lines {FIRST} to {FIRST + 2}: 3 commands", *refused], ""), (status, out.splitlines()[3:], err))
 
 
-def a_register():
+def test_apply_takes_a_register():
     """An old register file is applied as it is, with the reference state in it."""
     apply(configured(customers=[]), register_of(CUSTOMERS))
     same("its lines", enrolments(CUSTOMERS).splitlines(), appended(""))
 
 
-def exported_files():
+def test_export_writes_what_is_wanted():
     """A new file, which its owner alone may read whatever the mask is; without keys it shows none."""
     config = configured(commands=f"# name 192.0.2.2 Ä\nrollover 192.0.2.2 9 sha1 {KEY}\nrevoke 127.0.0.1\n# name 127.0.0.1 B\n")
     before, files = read("commands"), {*os.listdir(judging.ROOM)}
@@ -886,10 +881,10 @@ def exported_files():
     same("nothing else was written", (before, files | {"new.toml", "bare.toml"}), (read("commands"), {*os.listdir(judging.ROOM)}))
 
 
-def histories():
+def test_export_of_histories_at_random_is_had_back():
     """What is exported of a history, and applied to no customers, or to those of another history, gives the same customers and names."""
     draw, kinds = random.Random(SEED + 2), {"nobody": 0, "two keys": 0, "names": 0, "kept": 0}
-    for turn in range(LONG_HISTORIES if IS_LONG else HISTORIES):
+    for turn in range(LONG_HISTORIES if judging.IS_LONG else HISTORIES):
         config, text = configured(answers=None), history_drawn(draw, draw.choice((0, 5, 20, 60, 200)))
         file_of("commands", text)
         customers, names = customers_now(), names_by(text)
@@ -910,7 +905,7 @@ def histories():
         raise Odd(f"few kinds of histories: {kinds}")
 
 
-def keys_that_are_made():
+def test_changes_make_keys_that_few_may_read():
     """No two keys are alike, each of their octets takes many values, and nobody else may read a customer's file, whatever the umask is."""
     config = configured()
     for number in range(40):
@@ -923,7 +918,7 @@ def keys_that_are_made():
     same("files and their modes", (40, {0o600}), (len(files), {os.stat(room(it)).st_mode & 0o7777 for it in files}))
 
 
-def keys_of_text():
+def test_changes_make_keys_of_characters():
     """Keys of 20 characters: each of 64 occurs, the customer's file has them as they stand, and the commands file their octets."""
     config, drawn = configured(), ""
     for number in range(60):
@@ -941,7 +936,7 @@ def keys_of_text():
     same("how many characters occur", 64, len({*drawn}))
 
 
-def keys_that_are_there():
+def test_changes_take_keys_of_a_key_file():
     """A key of a key file of chrony: each form, and which line; it keeps its number, if nobody else has that. Its customer gets the file of a new one."""
     config, path = configured(), room("chrony.keys")
     octets = bytes(range(200, 220)).hex()
@@ -977,7 +972,7 @@ def keys_that_are_there():
     same("nothing was written", ([], False), (appended(before), os.path.exists(room("it"))))
 
 
-def where_customers_ask():
+def test_changes_tell_where_the_customer_asks():
     """What the customer's file says: as the words have it, else as `served_as`, else as `listen` where that is one address."""
     for number, (listen, served, words, wanted) in enumerate((("0.0.0.0:123", "", [], "SERVER"), ("0.0.0.0:123", "198.51.100.7", [], "198.51.100.7"), ("192.0.2.200:321", "198.51.100.7", [], "198.51.100.7 port 321"), ("192.0.2.200:321", "", [], "192.0.2.200 port 321"),
                                                               ("0.0.0.0:123", "198.51.100.7", ["--server", "198.51.100.8"], "198.51.100.8"), ("inherited", "198.51.100.7", [], "198.51.100.7"))):
@@ -988,7 +983,7 @@ def where_customers_ask():
         same(f"{number}: {listen} and {served}", True, f"#   server {wanted} key 2 iburst xleave\n" in read("192.0.2.9-2.keys"))
 
 
-def several_addresses():
+def test_changes_at_0_0_0_0_on_a_host_with_several_addresses():
     """Where no address says where customers ask, and the host has several, a new customer's file and `check` come with a warning."""
     if os.geteuid() or not all(map(shutil.which, ("ip", "unshare"))):
         raise PassedOver("it needs root, ip and unshare")
@@ -1005,7 +1000,7 @@ def several_addresses():
             same(f"{words} at {listen} and {addresses}", (3, [warning] if wanted else []), (lambda it: (it[0], told(it[2])))(run([*words, "--wait", "0", *config], before=host)))
 
 
-def moves():
+def test_changes_to_another_address():
     """A customer gets another address with all that is his, in one write; the old one is revoked, and its counts end."""
     with serving() as (port, config):
         run(["rollover", "127.0.0.1", *config], 0)
@@ -1036,7 +1031,7 @@ def moves():
         same("its lines", ["revoke 192.0.2.2", "enrol 127.0.0.1 3 md5 6b6579 9"], appended(before))
 
 
-def names_of_customers():
+def test_names_are_given_in_each_way():
     """The last name of an address counts: given when it is enrolled, in a comment, or in a file of customers."""
     with serving() as (_, config):
         name = '\'PTB\', "Uhr 2" \\ ü'
@@ -1076,7 +1071,7 @@ def each_barred(config, what, *told):
     same(f"{what}: nothing to change", (0, "nothing to change\n", ""), run(["apply", file_of("same.toml", wanted_text(there)), *config]))
 
 
-def barred_by_labntpd():
+def test_changes_are_barred_by_a_labntpd_that_reads_no_more():
     """A labntpd that reads the file no more, or has customers that never were in it, bars each change; a restart frees them."""
     with serving(statistics="statistics") as (_, config):
         until("it reports", lambda: os.path.exists(room("customers")))
@@ -1091,7 +1086,7 @@ def barred_by_labntpd():
         run(["budget", "192.0.2.1", "13", *config], 0)
 
 
-def barred_by_customers():
+def test_changes_are_barred_by_customers_that_differ():
     """Customers of labntpd that differ bar each change, but where it may not have read all lines yet."""
     config = configured(commands="budget 192.0.2.1 5\nbudget 192.0.2.1 6\nrevoke 192.0.2.2\nenrol 192.0.2.7 7 md5 aa 1\n", statistics="statistics")
     file_of("statistics", "labntp_commands_changed 0\nlabntp_commands_changed_ 1\n")
@@ -1178,17 +1173,17 @@ def sequence(draw, changes, done):
         same("the daemon refused nothing", {"done"}, {it.split(" ", 1)[1] for it in lines_in("answers")} or {"done"})
 
 
-def at_random():
+def test_many_at_random_are_the_models():
     """A long sequence, and many short ones."""
     draw, done = random.Random(SEED), {}
     sequence(draw, CHANGES, done)
-    for _ in range(LONG_SEQUENCES if IS_LONG else SEQUENCES):
+    for _ in range(LONG_SEQUENCES if judging.IS_LONG else SEQUENCES):
         sequence(draw, draw.randrange(1, 12), done)
     if len(done) < 6:
         raise Odd(f"few kinds of answers: {done}")
 
 
-def kills():
+def test_many_kills_at_each_call():
     """An enrolment is killed at each of its calls of the system: each line is whole, answered, and has its customer's file."""
     with serving() as (_, config):
         for turn in range(1, 100_000):
@@ -1206,7 +1201,8 @@ def kills():
             same("what the customer gets", f"{number} {algorithm.upper()} HEX:{key}", read(f"{address}.keys").splitlines()[0])
 
 
-def clerks_at_once():
+@pytest.mark.proved_alone(SLOW)
+def test_many_clerks_at_once():
     """Six clerks enrol at once: no line and no number is lost."""
     with serving() as (_, config), concurrent.futures.ThreadPoolExecutor(6) as clerks:
         addresses = [f"10.1.{which}.{turn}" for turn in range(12) for which in range(6)]
@@ -1231,7 +1227,7 @@ def new_keys(config):
         yield algorithm, read(f"{algorithm}.keys").split()[:3]
 
 
-def good_at_labntpd():
+def test_given_key_is_good_at_labntpd_and_labntp_query_reads_it():
     """The key of the first line is the customer's; labntp-query reads it."""
     with serving(customers=[]) as (port, config):
         for algorithm, (number, word, key) in new_keys(config):
@@ -1250,7 +1246,7 @@ def asked_of(words, seconds=30, **how):
     return ran.returncode, ran.stdout, ran.stderr
 
 
-def read_by_chronyd():
+def test_given_key_is_read_by_chronyd():
     """The file is chronyd's key file as it stands, and the line of a server is in it."""
     with serving(customers=[]) as (_, config):
         for algorithm, _ in new_keys(config):
@@ -1260,7 +1256,7 @@ def read_by_chronyd():
             same("it takes each line", False, "Could not" in out + err)
 
 
-def read_by_ntpdig():
+def test_given_key_is_read_by_ntpdig():
     """The line for NTPsec's key file, out of its comment, is ntpdig's key file."""
     with serving(customers=[]) as (port, config):
         for algorithm, (number, *_) in new_keys(config):
@@ -1290,7 +1286,7 @@ def many_customers(budgets):
     return [(f"192.0.2.{number}", number, "sha1", f"{number:040x}", budget) for number, budget in enumerate(budgets, 1)]
 
 
-def rules_of_customers():
+def test_door_lets_customers_in():
     """Whoever is enrolled is let in, and whoever was revoked; each up to one rate, and twice as many at once."""
     lines = [f"enrol 192.0.2.3 2 sha1 {KEY} 7", "revoke 192.0.2.1", "nonsense", "revoke 192.0.2.99"]
     config = configured(commands="".join(f"{it}\n" for it in lines) + "revoke 192.0.2.2")
@@ -1303,7 +1299,7 @@ def rules_of_customers():
     same("another rate", [("65535", "131070")], LIMIT.findall(run(["door", "--rate", "65535", *config], 0)[1]))
 
 
-def taken_by_nft():
+def test_door_has_rules_that_nft_takes():
     """Rules are taken, with no customer, a few and many, and once more when they are loaded."""
     many = [(f"10.{number >> 8}.{number & 255}.7", number, "md5", f"{number:04x}", number) for number in range(1, 8001)]
     printed = [run(["door", *configured(customers=customers)], 0)[1] for customers in ([], CUSTOMERS, many)]
@@ -1313,7 +1309,7 @@ def taken_by_nft():
         own_network.nft("-c", "-f", "-", given=out + out)
 
 
-def places():
+def test_door_has_rules_that_apply_where_it_serves():
     """Where the rules apply: where the words say it, else where the daemon listens, or else as what it is served."""
     config = configured()
     for listen, word, wanted in (("127.0.0.1:20123", "192.0.2.7", ("192.0.2.7", "20123")), ("0.0.0.0:20123", "192.0.2.7", ("192.0.2.7", "20123")),
@@ -1473,7 +1469,8 @@ def planted_configuration():
     return file
 
 
-def every_fault():
+@pytest.mark.proved_alone(SLOW)
+def test_check_tells_every_fault_with_its_line():
     """Each fault that was planted is told with its line, and no other, in files of 5,000 lines; no key is shown."""
     fresh()
     files = [planted_configuration(), planted_commands(5_000), planted_wanted(5_000)]
@@ -1496,7 +1493,7 @@ def every_fault():
     same("applied", (1, "", faults_told(out)[-told[2] :], before), (status, alone, faults_told(err), read("commands")))
 
 
-def each_word():
+def test_check_explains_each_word():
     """Each word of a fault that the documents have is told, and explained."""
     fresh()
     listed = re.search(r"append them corrected\.\n\n(.*?)\n\n", pathlib.Path(f"{TOP}/docs/OPERATIONS.md").read_text(), re.S)[1]
@@ -1519,7 +1516,7 @@ def checked(*words):
     return status, "".join(it for it in out.splitlines(True) if not it.startswith("warning: "))
 
 
-def other_files():
+def test_check_of_other_files():
     """Files that cannot be read, or are no text, no TOML, too large; one named twice; the clock's key."""
     config, commands, conf, wanted = configured(), room("commands"), room("labntpd.toml"), file_of("wanted.toml", register_of([*CUSTOMERS, FIVE]))
     same("nothing is wrong", (0, "ok: 3 customers\n"), checked(*config))
@@ -1554,7 +1551,8 @@ def other_files():
         same(f"a key of {len(key)} octets", (int(bool(told)), True), (status, (told or "ok: 3 customers") in out))
 
 
-def hardly_meant():
+@pytest.mark.proved_alone(SLOW)
+def test_check_tells_what_is_hardly_meant():
     """What is warned of, which changes no status."""
     multicast, md5 = "no host sends from a multicast address", "the key is for MD5, the weaker algorithm"
     small, large = "budget 1: of a client that asks each 64 seconds two queries may fall into one window", "budget 12801: the rules of `labntpctl door` let 12800 queries pass in 64 seconds"
@@ -1577,7 +1575,8 @@ def hardly_meant():
     same("a file that others may read", True, f"warning: {room('commands')}: it has keys, and others than its owner and group may use it (mode 644)" in out)
 
 
-def large_files():
+@pytest.mark.proved_alone(SLOW)
+def test_check_of_large_files():
     """Large files, of which each line has a fault, take seconds."""
     fresh()
     file_of("commands", "x\n" * 500_000)
@@ -1631,7 +1630,7 @@ def told_of(datagram, wanted, line):
         raise Odd(f"{datagram.hex()}: {wanted!r} is not told in {line!r}")
 
 
-def each_outcome():
+def test_explain_tells_each_outcome_and_why():
     """Each outcome of a datagram, which is the first of its window, and why."""
     config, before = explained_files()
     for octets, source, wanted in datagrams():
@@ -1667,7 +1666,7 @@ def packet_of(octets, source, port=20123, protocol=17, fragment=0, words=5):
 HEADS = {1: bytes(12) + b"\x08\x00", 113: bytes(14) + b"\x08\x00", 276: b"\x08\x00" + bytes(18), 101: b"", 12: b"", 228: b""}
 
 
-def captures():
+def test_explain_reads_capture_files():
     """Capture files of each form: the datagrams to the port, in their order."""
     config, _ = explained_files()
     wanted = [it[2] for it in datagrams()]
@@ -1701,7 +1700,7 @@ def captures():
     same("a budget of one", 3, run(["explain", "--pcap", room("it.pcap"), *config], 0)[1].count(": time: a signed query, the time for the first 1 of a window"))
 
 
-def explanations_not_written():
+def test_explain_tells_writes_that_fail():
     """Captures with little and with much to tell, whole and cut short, to a device that is full."""
     config, _ = explained_files()
     for frames in (1, 100):
@@ -1712,7 +1711,7 @@ def explanations_not_written():
                 same(f"{frames} records, {len(octets)} octets", (3, "write\n"), run(["explain", "--pcap", room("it.pcap"), *config], stdout=full)[::2])
 
 
-def captured_by_tcpdump():
+def test_explain_reads_a_capture_by_tcpdump():
     """A capture that tcpdump makes of datagrams on the loopback."""
     found = shutil.which("tcpdump")
     if not found or os.geteuid():
@@ -1728,82 +1727,3 @@ def captured_by_tcpdump():
             size = os.path.getsize(room("it.pcap"))
     out = run(["explain", "--pcap", room("it.pcap"), *config], 0)[1].splitlines()
     same("the two", [True, True], [": time: a signed query" in out[1], ": deny: it has no MAC" in out[2]])
-
-
-CASES = {
-    "words: help and version": help_and_version,
-    "words: others": other_words,
-    "words: writes that fail": writes_that_fail,
-    "customers: by the files alone": by_files,
-    "customers: files with a fault": by_faulty_files,
-    "customers: one alone": one_customer,
-    "customers: by the daemon's file": by_the_daemon,
-    "customers: by the daemon's file, with long values": long_values,
-    "customers: what differs": compared,
-    "check: every fault, with its line": every_fault,
-    "check: each word is explained": each_word,
-    "check: other files": other_files,
-    "check: what is hardly meant": hardly_meant,
-    "check: large files": large_files,
-    "explain: each outcome, and why": each_outcome,
-    "explain: capture files": captures,
-    "explain: writes that fail": explanations_not_written,
-    "explain: a capture by tcpdump": captured_by_tcpdump,
-    "changes: each, with its answer": each_change,
-    "changes: when, and by whom": records,
-    "changes: a clerk is asked before a key goes": retire_asks,
-    "changes: what a clerk answers": answers_of_a_clerk,
-    "changes: beside several processes": answers_of_several,
-    "changes: answers and last uses that are not read": answers_that_are_not_read,
-    "changes: what the daemon would refuse": refusals,
-    "changes: --dry-run changes nothing": only_shown,
-    "changes: with no daemon": at_the_next_start,
-    "changes: keys that are made, and who may read them": keys_that_are_made,
-    "changes: keys that are made of characters": keys_of_text,
-    "changes: keys of a key file": keys_that_are_there,
-    "changes: where the customer asks": where_customers_ask,
-    "changes: 0.0.0.0 on a host with several addresses": several_addresses,
-    "changes: another address": moves,
-    "changes: a customer's file that is there": files_that_are_there,
-    "changes: commands files to which nothing is appended": commands_files,
-    "changes: without leave": without_leave,
-    "changes: lines that are cut short, or not stored": writes_cut_short,
-    "changes: a customer's file that is half written": half_written,
-    "changes: a customer's file that stays": keys_that_stay,
-    "changes: a lock is waited for": a_lock_is_waited_for,
-    "changes: a lock that stays": a_lock_that_stays,
-    "changes: another appends without the lock": another_appends,
-    "changes: another file takes its place": another_takes_its_place,
-    "changes: barred by a labntpd that reads no more": barred_by_labntpd,
-    "changes: barred by customers that differ": barred_by_customers,
-    "names: each way to give one": names_of_customers,
-    "apply: a file of many": a_file_of_many,
-    "apply: more than a quarter ends": an_ending_of_many,
-    "apply: a clerk is asked": a_file_that_is_asked_about,
-    "apply: what labntpd refuses": answers_to_a_file,
-    "apply: a register": a_register,
-    "export: what is written": exported_files,
-    "export: histories at random, had back": histories,
-    "many: at random, by the model": at_random,
-    "many: kills at each call": kills,
-    "many: clerks at once": clerks_at_once,
-    "given: the key is good at labntpd, and labntp-query reads it": good_at_labntpd,
-    "given: chronyd reads it": read_by_chronyd,
-    "given: ntpdig reads its line": read_by_ntpdig,
-    "door: whom the rules let in": rules_of_customers,
-    "door: nft takes the rules": taken_by_nft,
-    "door: where the rules apply": places,
-}
-
-
-def main(*words):
-    global QUERY, IS_LONG
-    IS_LONG = "--long" in words
-    usual = judging.built("labntpctl", "labntpd", "labntp_query")
-    tries, (judging.PROGRAM, labntpctl_runs.LABNTPD, QUERY), cases = judging.asked("ctl", [it for it in words if it != "--long"], usual, CASES)
-    with judging.own_room("ctl"):
-        return judging.judge(cases, tries)
-
-
-if __name__ == "__main__":
-    sys.exit(main(*sys.argv[1:]))

@@ -1,13 +1,5 @@
-#!/usr/bin/env python3
 """Judges the built daemon from outside, by datagrams, files, pipes, signals and its exit status: what no contract and no test of a
 crate sees.
-
-    tests/daemon [--tries N] [--part K/N] [--long] [PROGRAM] [NAME..]
-
-PROGRAM is crates/labntpd/out/labntpd where no word with a `/` is given; a NAME chooses the cases in whose names it stands, and where
-there is none, all are made. They are about time, and a busy host may hold up a process for longer than they allow: a case that fails
-is made again, and has to pass in more than half of N runs (1 by default). With `--long` a model judges a million queries and ten
-thousand commands files, and else a tenth of these; replies beside a clock that was set are judged for ten seconds.
 
 - Words, statuses, the line of each fault of the configuration file, and the file of examples/.
 - Replies with a fixed clock, and with the state that a clock daemon tells: one of its own that lies as it is told to, and chronyd.
@@ -16,18 +8,15 @@ thousand commands files, and else a tenth of these; replies beside a clock that 
   service manager hears, memory over half a million queries.
 - The statistics and the log against what was sent and seen.
 - The commands file: lines of any octets, other files in its place, as many customers as there may be.
-- Many queries, with commands between and a clock that is set, and commands files at random, against a model (tests/model.py).
+- Many queries, with commands between and a clock that is set, and commands files at random, against a model (tests/model.py). With `--long`
+  these are ten times as many, and replies beside a clock that was set are judged for ten seconds.
 - A host that does otherwise than hosts do (tests/odd_host.py): clocks that step, a `poll` that fails, a send that takes long.
 - After each case: that the daemon told no key, has no more descriptors than it began with, and takes hardly any of a processor.
 
-It tries no want of memory.
-
-Prints `ok NAME`, `FAILED NAME: what was seen` or `passed over NAME: why`, before it `once more NAME: what was seen` for each time that
-the case was made again, and at the end which cases were, and `N passed, M failed`. Status 1 where one failed. It needs Python 3 on
-Linux; with chronyd (on the path, or below $PEERS as tests/peers.py says), with root, with the programs `ip` and `unshare` and with gcc or
-clang it makes more cases. It takes free ports of 127.0.0.1, the addresses 127.0.0.1 to 127.0.0.9, 127.0.1.1 to 127.0.1.32 and 127.2.3.4, a
-directory of its own, and for three cases network namespaces of its own, with the addresses 198.51.100.1, 198.51.100.2, 198.51.100.9 and
-192.0.2.7. No wait is without a limit, and nothing stays running.
+It tries no want of memory. It needs Python 3 on Linux; with chronyd (on the path, or below $PEERS as tests/peers.py says), with root, with the
+programs `ip` and `unshare` and with gcc or clang it makes more cases. It takes free ports of 127.0.0.1, the addresses 127.0.0.1 to 127.0.0.9,
+127.0.1.1 to 127.0.1.32 and 127.2.3.4, a directory of its own, and for three cases network namespaces of its own, with the addresses
+198.51.100.1, 198.51.100.2, 198.51.100.9 and 192.0.2.7. No wait is without a limit.
 """
 import collections
 import contextlib
@@ -47,12 +36,11 @@ import subprocess
 import sys
 import time
 
-sys.dont_write_bytecode = True
-TOP = os.path.dirname(os.path.dirname(os.path.realpath(__file__)))
-sys.path.insert(0, f"{TOP}/tests")
+import pytest
+
 import judging
 import probe
-from judging import FIVE, REFERENCE, SECOND, WAIT, Odd, PassedOver
+from judging import FIVE, REFERENCE, SECOND, SLOW, TOP, WAIT, Odd, PassedOver
 from judging import bound_by_modes, end, enrolments, file_of, limited_to, outputs_that_take_nothing, same, until
 from labntpd_server import ASKS_EACH, CLOCK_KEY, CROWD, CUSTOMERS, FIXED, HELD_UP, LONGEST_WAIT, ONE, SLACK, TAKEN
 from labntpd_server import THREE, TOLD_WITHIN, TWO, UNSYNCHRONISED, WRITES_EACH
@@ -68,12 +56,11 @@ from probe import nanos
 # How many queries are judged by the model, and how many commands files.
 QUERIES, MANY_QUERIES = 100_000, 1_000_000
 RANDOM_FILES, MANY_RANDOM_FILES = 1_000, 10_000
-IS_LONG = False
 
 
 # ---- Words
 
-def words_and_statuses():
+def test_words_have_their_statuses():
     good = configured(configuration())
     file_of("commands", "")
     for words in (["--check", *good], [*good, "--check"], [f"--config={good[1]}", "--check"]):
@@ -93,7 +80,7 @@ def words_and_statuses():
         same(f"{' '.join(words)}: {err!r} has {why!r}", (2, "", True), (status, out, why in err))
 
 
-def words_that_nobody_takes():
+def test_words_help_and_version_to_an_output_that_takes_nothing():
     for word in ("--help", "--version"):
         outputs_that_take_nothing([word])
 
@@ -206,7 +193,7 @@ def configuration_texts():
     yield configuration().ljust(65537, "#"), "at most 65536 octets are wanted"
 
 
-def configuration_faults():
+def test_configuration_has_each_fault_named():
     file_of("clock.key", f"{CLOCK_KEY}\n")
     for text, fault in configuration_texts():
         words = configured(text)
@@ -216,7 +203,7 @@ def configuration_faults():
     same("no file", (3, "", f"{words[1]}: No such file or directory (os error 2)\n"), run(words))
 
 
-def configuration_bounds():
+def test_configuration_has_its_bounds_and_what_may_be_left_out():
     """The least and the most of each number, what may be left out, and another order."""
     file_of("commands", "")
     file_of("clock.key", CLOCK_KEY)
@@ -238,7 +225,7 @@ def configuration_bounds():
         same(text, (0, "ok\n", ""), run(["--check", *configured(text)]))
 
 
-def example_is_served_by():
+def test_configuration_of_the_example_is_served_by():
     """examples/labntpd.toml, with addresses and paths of this case: what its keys say, and what holds where they are left out."""
     text = pathlib.Path(f"{TOP}/examples/labntpd.toml").read_text()
     with FakeClock() as clock:
@@ -263,13 +250,13 @@ def example_is_served_by():
             until("the first statistics", lambda: statistics(), WRITES_EACH + WAIT)
 
 
-def other_addresses():
+def test_configuration_has_the_octets_of_an_address_in_order():
     """The octets of an address stand in their order."""
     with Daemon(host="127.2.3.4"):
         pass
 
 
-def other_faults():
+def test_start_tells_what_is_faulty_missing_or_taken():
     """What the configuration names is faulty, missing or taken. Of files --check says so too."""
     def fails(what, status, word, clock=FIXED, checks=([], ["--check"]), **keys):
         for check in checks:
@@ -321,7 +308,7 @@ MOST_OCTETS, LONGEST_WRITE = 67_108_864, 5
 WRITTEN = ("answers", "statistics", "customers")
 
 
-def commands_that_cannot_be_read():
+def test_start_fails_at_a_commands_file_that_cannot_be_read():
     """A start fails: it would bring back customers that were revoked, and lose those that were enrolled."""
     path, words = room("commands"), configured(configuration(listen=f"127.0.0.1:{probe.free_port()}"))
 
@@ -345,7 +332,8 @@ def commands_that_cannot_be_read():
     fails("a disk that breaks", "Input/output error (os error 5)", env=os.environ | in_front(BREAKS))
 
 
-def what_was_opened_is_in_force():
+@pytest.mark.proved_alone(SLOW)
+def test_start_has_the_commands_file_in_force_that_was_opened():
     """A commands file that is taken away just when it serves was opened before: all its lines are in force for the first query."""
     # More than are read at once.
     daemon = Daemon(commands="budget 127.0.0.2 65535\n" * 5000 + "revoke 127.0.0.1\n")
@@ -368,7 +356,8 @@ def comment_up_to(octets):
     return "#".ljust(octets - len(enrolments(CUSTOMERS)) - 1, ".") + "\n"
 
 
-def commands_nearly_full():
+@pytest.mark.proved_alone(SLOW)
+def test_commands_file_that_is_nearly_full():
     """From 80 in 100 of the most octets on it is told, when that is reached and at --check."""
     many = -(-MOST_OCTETS * 80 // 100)
     with Daemon(commands=comment_up_to(many - 1)) as daemon:
@@ -383,7 +372,8 @@ def commands_nearly_full():
         same("--check", (0, "ok\n", f"{daemon.commands}: {nearly_full(many)}\n"), run(["--check", *daemon.words]))
 
 
-def commands_full():
+@pytest.mark.proved_alone(SLOW)
+def test_commands_file_with_more_octets_than_are_read():
     """At a start with the most octets their last line is carried out, and that it is nearly full is told. None behind them is carried
     out, nor at a start."""
     last, told = "revoke 127.0.0.2\n", of_file("commands", f"has more than {MOST_OCTETS} {NO_FURTHER}")
@@ -400,7 +390,7 @@ def commands_full():
         same("answers", "2 done\n", daemon.answers())
 
 
-def files_that_nobody_reads():
+def test_files_wait_for_nobody_who_reads_them():
     """A pipe that nobody reads, or whose reader stands still, holds nothing up; and what is no regular file is a fault of the start."""
     file_of("commands", "")
     port = probe.free_port()
@@ -436,7 +426,7 @@ def files_that_nobody_reads():
         until("the line has its answer", lambda: daemon.answers() == "5 refused not-enrolled\n", 2)
 
 
-def answers_in_one_piece():
+def test_files_get_an_answer_in_one_write():
     """Each answer is one write: `strace` counts them."""
     if not shutil.which("strace"):
         raise PassedOver("there is no strace")
@@ -458,7 +448,7 @@ def answers_in_one_piece():
             same(f"the write of {answer}", 1, read("trace").count(f'"{answer}\\n"'))
 
 
-def files_in_one_place():
+def test_start_tells_two_files_in_one_place_or_none_to_write_in():
     """Two names for one file, by text, by a link or by a name that is not there yet; a directory that is not there."""
     commands, key = file_of("commands", enrolments(CUSTOMERS)), file_of("clock.key", CLOCK_KEY)
     for name in (*WRITTEN, "statistics.new", "customers.new", "linked"):
@@ -495,7 +485,7 @@ def files_in_one_place():
         fails(f"{name}: {commands}/{name}: Not a directory (os error 20)", **{name: f"{commands}/{name}"})
 
 
-def odd_paths():
+def test_start_tells_a_path_with_any_character_in_one_line():
     """Of a path each character that is no printable ASCII is told as `\\u{..}`, so that a line stays one, at the start and in the log."""
     def fails(status, line, clock=FIXED, **keys):
         words = configured(configuration(clock, **{"listen": f"127.0.0.1:{port}", **keys}))
@@ -527,7 +517,7 @@ def odd_paths():
         until("it is told", lambda: f"\ncommands file {told}: {ANOTHER}\n" in read("err"), 3)
 
 
-def keys_that_others_may_read():
+def test_start_tells_keys_that_others_may_read():
     """It is told, at the start and at --check, and hinders nothing."""
     names = ("commands", "clock.key")
     with FakeClock() as clock, Daemon(following(clock.port)) as daemon:
@@ -544,7 +534,7 @@ def keys_that_others_may_read():
         same("--check", (0, "ok\n", ""), run(["--check", *daemon.words]))
 
 
-def signals():
+def test_signals_end_it():
     """It never ends by itself, and a signal ends it at once; so does one for a file that exceeds a limit."""
     with Daemon() as daemon:
         for number in (signal.SIGTERM, signal.SIGINT, signal.SIGHUP):
@@ -559,7 +549,7 @@ def signals():
 
 # ---- A fixed clock
 
-def fixed_reference():
+def test_fixed_clock_has_replies_tell_the_reference():
     octets = bytes.fromhex(REFERENCE)
     with Daemon() as daemon:
         for customer in (ONE, TWO):
@@ -574,7 +564,7 @@ def fixed_reference():
         same("a stranger", "silence", probe.silence(daemon.port, TWO, "plain", "127.0.0.9"))
 
 
-def commands_while_it_serves():
+def test_commands_are_in_force_while_it_serves_and_answered():
     window(10)
     with Daemon(commands="# one\nenrol 127.0.0.6 6 md5 6b6579 10\n") as daemon:
         daemon.ask("time", "127.0.0.6/6/md5/6b6579")
@@ -608,7 +598,7 @@ def commands_while_it_serves():
         same("answers at the new start", "1 done\n2 refused not-enrolled\n", daemon.answers())
 
 
-def without_answers_statistics_and_customers():
+def test_commands_without_files_of_answers_statistics_and_customers():
     names = ["answers", "statistics", "customers"]
     with Daemon(**{name: None for name in names}) as daemon:
         daemon.append("enrol 127.0.0.5 5 md5 6b6579 65535")
@@ -617,14 +607,14 @@ def without_answers_statistics_and_customers():
         same("files", names, [it for it in names if not os.path.exists(room(it))])
 
 
-def commands_while_nobody_asks():
+def test_commands_are_answered_while_nobody_asks():
     with Daemon() as daemon:
         daemon.append("enrol 127.0.0.5 5 md5 6b6579 65535")
         until("the line has its answer", lambda: daemon.answers() == "1 done\n", 1)
         daemon.ask("time", FIVE)
 
 
-def commands_while_the_clock_is_unread():
+def test_commands_are_in_force_while_the_clock_cannot_be_read():
     """Where the clock cannot be read, as before 1970, lines are carried out too while datagrams come without a pause."""
     host = OddHost()
     with Daemon(on=host) as daemon, socket.socket(socket.AF_INET, socket.SOCK_DGRAM) as s:
@@ -640,7 +630,8 @@ def commands_while_the_clock_is_unread():
         same("answers", "1 done\n", daemon.answers())
 
 
-def lines_of_any_octets():
+@pytest.mark.proved_alone(SLOW)
+def test_commands_of_any_octets_and_any_length_are_read():
     """Each line is answered, or passed over as a comment, whatever octets it has and however many; the next one is carried out.
     While it serves they come in pieces; a start answers them alike."""
     lines = [b"x" * 4097, b"budget 127.0.0.1 1".ljust(4096), b"#" * 100_000, b"# caf\xe9", b"revoke 127.0.0.1 \xff"]
@@ -671,7 +662,7 @@ def append(daemon, octets):
         it.write(octets)
 
 
-def commands_that_are_others():
+def test_commands_of_another_file_or_one_written_anew_are_not_carried_out():
     """Another file in its place, a shorter one, and one that was written anew or touched: it is told, and no line is carried out
     until a restart, which carries out the whole file."""
     path, lines = room("commands"), "budget 127.0.0.2 65535\nrevoke 127.0.0.3\n"
@@ -708,7 +699,7 @@ def commands_that_are_others():
             same("faults", [], told_of("commands file"))
 
 
-def commands_that_go_on():
+def test_commands_go_on_with_the_same_file():
     """With another mode or name, away from its path and back there, and touched up to two seconds before a line comes, as a write on a busy
     disk does, it is the same file."""
     path, away, budget = room("commands"), room("away"), "budget 127.0.0.2 65535"
@@ -742,7 +733,7 @@ def commands_that_go_on():
         same("faults", 2, len(told_of("commands file")))
 
 
-def pipe_for_a_commands_file():
+def test_commands_file_that_becomes_a_pipe():
     """A pipe that nobody writes into takes the place of the commands file: all are answered meanwhile, it is told, and no file
     that comes there is read before a restart."""
     with Daemon() as daemon:
@@ -777,10 +768,11 @@ def random_line(rng):
     return bytes(line)
 
 
-def random_files():
+@pytest.mark.proved_alone(SLOW)
+def test_many_commands_files_at_random_are_the_models():
     """Files at random, which lie there or are appended in pieces, are answered as docs/FORMATS.md says; and what a start leaves of
     each is what its history left."""
-    rng, count = random.Random(23), MANY_RANDOM_FILES if IS_LONG else RANDOM_FILES
+    rng, count = random.Random(23), MANY_RANDOM_FILES if judging.IS_LONG else RANDOM_FILES
     with Daemon(enrolled=[]) as daemon, socket.socket(socket.AF_INET, socket.SOCK_DGRAM) as s:
         s.connect((probe.HOST, daemon.port))
 
@@ -810,7 +802,8 @@ def random_files():
         same("faults", [], told_of("commands file"))
 
 
-def thousand_lines_at_once():
+@pytest.mark.proved_alone(SLOW)
+def test_commands_come_a_thousand_at_once():
     """While a customer asks, they hold up its replies by five thousandths of a second at most: the longest waits beside an idle
     file and beside these, in the middle one of nine rounds."""
     budget, waits = "budget 127.0.0.2 65535", {0: [], 1000: []}
@@ -829,7 +822,7 @@ def thousand_lines_at_once():
 
 # ---- The clock's daemon
 
-def clock_synchronised():
+def test_clock_state_is_told_with_more_dispersion():
     """Unsynchronised before the first answer; then as the clock says, with some dispersion more, for either algorithm."""
     for algorithm, number in (("sha1", 1), ("md5", 65535)):
         clock = FakeClock(algorithm, number)
@@ -842,7 +835,7 @@ def clock_synchronised():
             daemon.tells("the new state", is_grown(clock.state), TOLD_WITHIN)
 
 
-def clock_dispersion_grows():
+def test_clock_dispersion_grows_with_age():
     """By 15 millionths of the time that passes, in units of 2^-16 seconds; each reading is rounded up."""
     with synchronised() as (clock, daemon):
         clock.is_silent = True
@@ -861,7 +854,7 @@ def clock_dispersion_grows():
             raise Odd(f"it grew by {last - first}: wanted {least:.2f} to {most:.2f}")
 
 
-def clock_silent():
+def test_clock_that_is_silent():
     """No authentic answer is younger than `valid_for`; meanwhile nobody has to wait for a reply."""
     with synchronised(valid_for=10) as (clock, daemon):
         took = []
@@ -885,7 +878,7 @@ def clock_silent():
         same("replies that took half a second, but for one", [], sorted(it for it in took if it > 0.5)[:-1])
 
 
-def clock_forged():
+def test_clock_answers_that_are_forged_are_not_believed():
     """Answers under another key change nothing, and keep nothing alive."""
     clock = FakeClock()
     clock.is_forged = True
@@ -905,7 +898,7 @@ def clock_forged():
             raise Odd(f"a forged answer makes it unsynchronised in {took:.2f} seconds")
 
 
-def clock_forged_unsynchronised():
+def test_clock_answer_forged_that_it_is_unsynchronised():
     """Nor does one that says that the clock is unsynchronised."""
     with synchronised() as (clock, daemon):
         old, clock.is_forged = clock.state, True
@@ -916,7 +909,7 @@ def clock_forged_unsynchronised():
             time.sleep(0.02)
 
 
-def clock_leap():
+def test_clock_leap_second_is_told_and_withdrawn():
     """A leap second is told as long as the clock tells it."""
     with synchronised() as (clock, daemon):
         for leap in (1, 0, 2, 0):
@@ -924,7 +917,7 @@ def clock_leap():
             daemon.tells(f"leap {leap}", is_grown(clock.state), TOLD_WITHIN)
 
 
-def clock_unsynchronised():
+def test_clock_that_says_it_is_unsynchronised():
     """The clock says that it is not synchronised: at once, and not only once its last answer is old."""
     with synchronised() as (clock, daemon):
         for keys in ({"leap": 3, "stratum": 0}, {"leap": 3}, {"stratum": 0}, {"stratum": 16}):
@@ -934,7 +927,7 @@ def clock_unsynchronised():
             daemon.tells("the state again", is_grown(clock.state), TOLD_WITHIN)
 
 
-def clock_offset():
+def test_clock_offset_is_dispersion():
     """What the host's clock is off is added to the dispersion."""
     with synchronised() as (clock, daemon):
         for offset in (0.05, -0.05, 0.2):
@@ -945,7 +938,7 @@ def clock_offset():
         daemon.tells("the state again", is_grown(clock.state), TOLD_WITHIN)
 
 
-def clock_exchange_delay():
+def test_clock_exchange_is_delay():
     """What an exchange with the clock takes is added to the delay. So the offset that is measured is off by no more than half of it."""
     with synchronised() as (clock, daemon):
         for lags in ((0.0, 0.1), (0.1, 0.0), (0.05, 0.05)):
@@ -956,7 +949,7 @@ def clock_exchange_delay():
         daemon.tells("the state again", is_grown(clock.state), TOLD_WITHIN)
 
 
-def clock_too_far():
+def test_clock_too_far_or_its_reference_too_old():
     """The root distance, half the delay and the dispersion, is above its limit of half a second, or the reference time is too old
     or ahead."""
     with synchronised(most_root_distance=0.5, most_reference_age=2000) as (clock, daemon):
@@ -969,7 +962,7 @@ def clock_too_far():
             daemon.tells(f"the state at {right}", is_grown(clock.state), TOLD_WITHIN)
 
 
-def clock_of_any_age():
+def test_clock_reference_of_any_age_or_up_to_a_limit():
     """A reference time of any age is believed, and up to a limit where one is set. The statistics have both, whether it is believed or not."""
     seconds = lambda *names: [statistics().get(f"labntp_clock_{it}_seconds") for it in names]
     for keys, wanted, line in (
@@ -986,7 +979,7 @@ def clock_of_any_age():
                 raise Odd(f"a reference time of {age:.3f} seconds ago, and a root distance of {distance:.6f}")
 
 
-def clock_precision():
+def test_clock_precision_and_the_best_one_that_is_told():
     """A precision that is worse than 2^-16 seconds is told, and a better one is not."""
     with synchronised() as (clock, daemon):
         for told, wanted in ((0xE3, 0xF0), (0xF0, 0xF0), (0xF1, 0xF1), (0xFA, 0xFA)):
@@ -995,7 +988,7 @@ def clock_precision():
             same(f"precision at {told}", wanted, daemon.told().precision)
 
 
-def clock_rate():
+def test_clock_that_wants_fewer_questions_gets_fewer():
     """The kiss RATE slows the questions: the next one comes after eight seconds, and meanwhile the last answer is believed. An hour later they
     come each second again."""
     host = OddHost()
@@ -1022,7 +1015,7 @@ def clock_rate():
         until("it is asked four times an hour later", lambda: len(clock.asked) >= before + 4, TOLD_WITHIN)
 
 
-def clock_lines():
+def test_clock_is_logged():
     """What is logged of the clock: nothing before its first answer, then each change once."""
     told = lambda: [it.removeprefix("clock: ") for it in read("err").splitlines() if it.startswith("clock: ")]
     follows = lambda stratum, identifier: f"synchronised, stratum {stratum}, reference {identifier}: believed"
@@ -1052,7 +1045,7 @@ def clock_lines():
             same(f"lines behind {keys}", wanted, told())
 
 
-def clock_lines_silent():
+def test_clock_that_never_answers_is_logged():
     """A clock that never answers is told after two seconds."""
     begun = time.monotonic()
     with Daemon(following(probe.free_port())):
@@ -1131,7 +1124,7 @@ def stepped(manner, shifts):
 
 def spell(seconds):
     """So many seconds in which replies are judged; ten with `--long`."""
-    return 10 if IS_LONG else seconds
+    return 10 if judging.IS_LONG else seconds
 
 
 def notices_nothing(clock, host, judge, shift):
@@ -1170,19 +1163,19 @@ def notices(clock, host, judge, shift):
     same(f"synchronised soon, an update behind a step of {shift} seconds", True, found is not None)
 
 
-def clock_set_unnoticed():
+def test_clock_set_and_its_daemon_notices_nothing():
     stepped(notices_nothing, (0.3, 2, -2, 60, 3600))
 
 
-def clock_set_behind_an_update():
+def test_clock_set_just_behind_an_update_of_its_daemon():
     stepped(updates_just_before, (0.3, -0.3, -2, 3600))
 
 
-def clock_set_and_noticed():
+def test_clock_set_and_its_daemon_notices_it():
     stepped(notices, (0.3, -2, 60, 3600))
 
 
-def clock_set_before_the_start():
+def test_clock_set_before_the_start():
     """Its daemon has not updated its own since. Where that one's reference time lies ahead by now, or longer ago than a limit that is set, it is
     not believed before an update. Nothing shows another step."""
     for shift in (-3600, -103, 4100):
@@ -1200,7 +1193,7 @@ def clock_set_before_the_start():
             same(f"synchronised soon, an update behind a step of {shift} seconds", True, found is not None)
 
 
-def clock_unread():
+def test_clock_that_cannot_be_read():
     """Where the clock cannot be read, replies say that it is not synchronised; also with a fixed clock."""
     host = OddHost()
     with FakeClock() as clock:
@@ -1213,7 +1206,7 @@ def clock_unread():
                 daemon.tells("synchronised again", is_synchronised, after)
 
 
-def clock_statistics():
+def test_clock_in_the_statistics():
     """The statistics tell the clock's state as replies do, how far its daemon is, and why it is not believed where it is not."""
     host, clock = OddHost(), FakeClock()
     clock.is_silent = True
@@ -1278,7 +1271,7 @@ def clock_statistics():
         becomes("set")
 
 
-def clock_chronyd():
+def test_clock_of_chronyd():
     """A real clock daemon: synchronised, killed, and started again."""
     port = probe.free_port()
     words = chronyd_at(port, "chrony", "local stratum 1")
@@ -1295,7 +1288,7 @@ def clock_chronyd():
                 raise Odd(f"unsynchronised {took:.2f} seconds after chronyd was killed")
 
 
-def clock_cut_off():
+def test_clock_of_chronyd_whose_source_is_gone():
     """A real clock daemon whose source is gone: believed up to the age of its reference time, where a limit is set, and else up to its root
     distance, which grows by maxclockerror."""
     upstream, port = probe.free_port(), probe.free_port()
@@ -1316,7 +1309,7 @@ def clock_cut_off():
         ends("far")
 
 
-def clock_set_under_chronyd():
+def test_clock_set_and_chronyd_keeps_it():
     """A real clock daemon on a host whose clock is set, with a source that has the right time."""
     host, right, port = HostClock(), probe.free_port(), probe.free_port()
     source = f"server 127.0.0.1 port {right} minpoll -4 maxpoll -4 iburst"
@@ -1347,7 +1340,8 @@ def stops(daemon, moments, first, last):
     return {first: lambda: sends(signal.SIGSTOP), last: lambda: sends(signal.SIGCONT)}
 
 
-def stopped_under_load():
+@pytest.mark.proved_alone(SLOW)
+def test_late_datagrams_after_a_stop_of_five_seconds_under_load():
     """What can have waited too long is dropped, and all that come once it goes on are answered."""
     rate, pause, moments = 250, 5.0, []
     with Daemon(longest_wait=LONGEST_WAIT, receive_buffer=8388608) as daemon:
@@ -1369,7 +1363,8 @@ def stopped_under_load():
         same("what has no answer, by the statistics", (len(lost), True), (stale + drops, stale > 0))
 
 
-def short_stop():
+@pytest.mark.proved_alone(SLOW)
+def test_late_datagrams_after_a_short_stop_are_not_lost():
     """A stop that is shorter than half of the longest wait loses nothing."""
     moments = []
     with Daemon(longest_wait=4.0) as daemon:
@@ -1393,7 +1388,7 @@ def preferred(daemon):
             os.setpriority(os.PRIO_PROCESS, 0, kept)
 
 
-def stopped_for_a_fifth_of_a_second():
+def test_late_datagrams_after_a_fifth_of_a_second_are_not_lost_by_default():
     """While nobody asks, and under the longest wait that holds where none is given, a stop of 0.2 seconds loses nothing."""
     def held_up():
         """For how many seconds the program had to wait for a processor."""
@@ -1420,7 +1415,8 @@ def stopped_for_a_fifth_of_a_second():
             raise Odd(f"{answered.count(True)} of {len(answered)} queries that were sent at the beginning of a stop were answered")
 
 
-def swept_out():
+@pytest.mark.proved_alone(SLOW)
+def test_late_queue_that_is_too_old_is_swept_out():
     """A queue that is too old is swept out and counted, however long, and what comes behind it is answered."""
     allowed = int(pathlib.Path("/proc/sys/net/core/rmem_max").read_text())
     for buffer, each in ((65536, 60), (4194304, 1500)):
@@ -1445,7 +1441,8 @@ def swept_out():
                 raise Odd(f"{sweeps} sweeps of {3 * 2 * each} late datagrams")
 
 
-def nobody_takes_replies():
+@pytest.mark.proved_alone(SLOW)
+def test_burst_of_replies_that_nobody_takes_holds_up_no_other():
     """A customer on a link whose address nobody answers for: replies to it wait for that in the send buffer, and others do not."""
     silent, rate = "198.51.100.5/5/md5/6b6579", 100
     customers = [*CUSTOMERS, ("198.51.100.5", 5, "md5", "6b6579", 65535)]
@@ -1500,7 +1497,8 @@ def receive_buffer_allowed():
     return 2 * min(int(pathlib.Path("/proc/sys/net/core/rmem_max").read_text()), 8388608)
 
 
-def burst():
+@pytest.mark.proved_alone(SLOW)
+def test_burst_of_ten_thousand_queries_is_answered():
     """Ten thousand queries of the crowd, as fast as can be; then ten thousand more while the program is stopped, so that all of them
     wait at once."""
     each = 10_000 // 25
@@ -1516,7 +1514,7 @@ def burst():
         counted({answers("time", "basic"): 20_000}, TAKEN)
 
 
-def kernel_drops():
+def test_burst_has_the_kernels_drops_counted():
     """More queries than the socket's buffer holds come while the program is stopped: what the kernel dropped is told."""
     with Daemon(enrolled=CROWD, receive_buffer=65536) as daemon, crowd(daemon, 50, CROWD[:20]) as askers:
         with halted(daemon):
@@ -1534,7 +1532,8 @@ def kernel_drops():
         counted({answers("time", "basic"): answered, "labntp_kernel_drops_total": 1000 - answered}, TAKEN)
 
 
-def long_list_of_sockets():
+@pytest.mark.proved_alone(SLOW)
+def test_burst_is_not_held_up_by_many_other_sockets():
     """Behind six hundred other sockets in the kernel's list no query waits for a look at that, and drops are counted all the same."""
     with contextlib.ExitStack() as stack:
         ours = {}
@@ -1572,7 +1571,8 @@ def full_pipe():
         os.close(writing)
 
 
-def full_standard_error():
+@pytest.mark.proved_alone(SLOW)
+def test_log_where_standard_error_takes_nothing():
     """Whatever would be told, no reply is lost and none is late."""
     with full_pipe() as pipe, Daemon(stderr=pipe) as daemon:
         doing = {number: lambda number=number: daemon.append(f"revoke 127.0.0.{300 + number}") for number in range(0, 2000, 50)}
@@ -1584,7 +1584,7 @@ def full_standard_error():
         same("answers", "".join(f"{number} faulty address\n" for number in range(1, 41)), daemon.answers())
 
 
-def dropped_lines():
+def test_log_counts_lines_that_are_dropped():
     """Each line that standard error does not take is counted once: four of a start, and the lines of commands that may be told."""
     with full_pipe() as pipe, Daemon(stderr=pipe) as daemon:
         daemon.append(*(f"revoke 127.0.0.{300 + number}" for number in range(5)))
@@ -1593,7 +1593,7 @@ def dropped_lines():
         until("each is counted", lambda: dropped() == 4 + 5, WRITES_EACH + WAIT)
 
 
-def few_lines_of_a_kind():
+def test_log_has_few_lines_of_a_kind():
     """Forty lines that are done at once, and forty faulty ones behind them: ten of each are told, and all have their answers. In a later minute
     it is told how many were held."""
     host, held = OddHost(), {}
@@ -1617,7 +1617,7 @@ def few_lines_of_a_kind():
         until("how many were held", lambda: not {*wanted} - {*read("err").splitlines()}, SLACK)
 
 
-def held_states():
+def test_log_tells_a_state_that_was_held_in_the_next_minute():
     """After ten lines about the clock in a minute no more are told of, until the next one; then what is so by then. So it is of files; and each
     kind has its own ten, also beside many lines of commands."""
     away, follows = of_file("commands", f"cannot be read: {NO_FILE}"), "clock: synchronised, stratum 3, reference 0a0b0c0d: believed"
@@ -1657,7 +1657,7 @@ def environment(**words):
             del os.environ[name]
 
 
-def priorities_at_the_start():
+def test_log_has_priorities_for_the_journal_at_the_start():
     """So do the fault that ends a start, and a warning before it."""
     words, path = configured(configuration(following(11123), listen=f"127.0.0.1:{probe.free_port()}")), room("commands")
     os.chmod(file_of("clock.key", CLOCK_KEY), 0o644)
@@ -1679,7 +1679,7 @@ def priorities_at_the_start():
         os.remove(room(name))
 
 
-def priorities():
+def test_log_has_priorities_for_the_journal():
     """Where standard error is what the journal reads, each line begins with its priority, and else none does."""
     commands = "enrol 127.0.0.5 5 md5 6b6579 10\nrevoke 127.0.0.9\nx\n"
     wanted = {"labntpd ": 6, "receive buffer": 6, "clock: synchronised": 5, "commands: line 2": 4, "commands: line 3": 4,
@@ -1704,7 +1704,7 @@ def priorities():
 
 # ---- The service manager
 
-def told_to_the_manager():
+def test_manager_hears_that_it_serves_and_that_it_is_alive():
     """That the daemon serves, once it has carried out the lines that stand there; and each ten seconds that it is alive."""
     host, lines = OddHost(), "budget 127.0.0.2 65535\n" * 5_000
     for name in (room("manager"), f"@labntpd-{os.getpid()}"):
@@ -1724,7 +1724,7 @@ def told_to_the_manager():
                     same("then", b"WATCHDOG=1", s.recv(100))
 
 
-def managers_that_hear_nothing():
+def test_manager_that_hears_nothing():
     """A manager whose socket is full, is gone, is a file or has no name that can be holds up nothing."""
     with socket.socket(socket.AF_UNIX, socket.SOCK_DGRAM) as s, socket.socket(socket.AF_UNIX, socket.SOCK_DGRAM) as other:
         s.bind(room("full"))
@@ -1748,14 +1748,14 @@ def handed_down():
         yield s
 
 
-def inherited_socket():
+def test_socket_that_is_handed_down_is_served():
     with handed_down() as s, Daemon(inherited=s) as daemon:
         daemon.ask("time", ONE)
         daemon.ask("nak", ONE, "wrong")
         same("interleaved", "interleaved", probe.interleave(daemon.port, TWO))
 
 
-def waited_before_the_start():
+def test_socket_that_is_handed_down_with_what_waited_in_it():
     """What came at a socket while nobody ran has no answer: it may have waited for longer than it may, as far as a new program knows."""
     customer = probe.Customer(ONE)
     with handed_down() as s, customer.socket(s.getsockname()[1]) as client:
@@ -1779,7 +1779,7 @@ def handing_down(s, **environment):
     return {"close_fds": False, "preexec_fn": prepare}
 
 
-def judged_socket():
+def test_socket_that_is_handed_down_is_judged():
     """One that no datagram can be received from, or that was handed down to nobody here, is a fault in words."""
     file_of("commands", "")
     words, ours = configured(configuration(listen="inherited")), {"LISTEN_PID": "PID", "LISTEN_FDS": "1"}
@@ -1810,7 +1810,7 @@ def judged_socket():
         same("an address, and a socket", (3, "", line), run(words, **handing_down(s, **ours)))
 
 
-def socket_that_does_not_wait():
+def test_socket_that_does_not_wait_is_made_to():
     """It is made to wait: the daemon sleeps while nothing comes, see `Daemon.rests`."""
     with handed_down() as s:
         s.setblocking(False)
@@ -1818,7 +1818,7 @@ def socket_that_does_not_wait():
             daemon.ask("time", ONE)
 
 
-def buffers_that_are_refused():
+def test_socket_with_buffers_that_are_refused():
     """The system's fault is told."""
     file_of("commands", "")
     words = configured(configuration(listen=f"127.0.0.1:{probe.free_port()}"))
@@ -1828,7 +1828,7 @@ def buffers_that_are_refused():
         same(f"{call} {option}", (3, "", f"{key}_buffer: No buffer space available (os error 105)\n"), run(words, env=odd))
 
 
-def receives_that_fail():
+def test_socket_with_receives_that_fail_again_and_again():
     """Somebody has shut the socket down, so that each call fails at once: it pauses, and tells it."""
     with handed_down() as s, Daemon(inherited=s) as daemon:
         daemon.ask("time", ONE)
@@ -1840,7 +1840,7 @@ def receives_that_fail():
         same("how often", 1, read("err").count("receive: "))
 
 
-def killed_under_load():
+def test_socket_is_kept_over_a_kill_under_load():
     """The socket is kept over a kill and a new start. Of what waits in it the new program cannot know since when, so that is dropped,
     and with it at most the one query that the old program had in hand. No port is refused, all that come later are answered, and a
     query that was lost is answered when it is asked again."""
@@ -1868,7 +1868,8 @@ def killed_under_load():
         same(f"stale ones where {len(lost)} are lost and {dropped} dropped", True, len(lost) - dropped - stale() in (0, 1))
 
 
-def failing_calls():
+@pytest.mark.proved_alone(SLOW)
+def test_socket_call_that_fails_is_not_tried_again():
     """A socket that was handed down is joined to a port here. What is sent there while nobody is makes its next call fail, and that one
     alone: a call that was tried again would go through."""
     def fail_next():
@@ -1911,7 +1912,7 @@ def at_port(customer, port, daemon):
 SILENT = "unregistered short long field-short field-unaligned field-past-end rest version mode bare muted over-budget".split()
 
 
-def statistics_names():
+def test_statistics_have_their_names_and_forms():
     """All numbers are there at the start, in the form of Prometheus, each with its help and its type."""
     names = [answers("time", "basic"), answers("time", "interleaved"), *map(answers, ("rate", "deny", "nak"))]
     names += [answers("silent", it) for it in SILENT]
@@ -1959,7 +1960,7 @@ def statistics_names():
         same("files", [], [it for it in os.listdir(judging.ROOM) if "statistics" in it and it != "statistics"])
 
 
-def statistics_of_the_queue():
+def test_statistics_of_how_long_datagrams_wait():
     """The longest that a datagram can have waited of those that were taken in ten seconds, and none where none came."""
     wait = lambda: statistics().get("labntp_queue_wait_seconds", -1)
     with Daemon(longest_wait=5) as daemon, crowd(daemon, 1, CUSTOMERS[:1]) as askers:
@@ -1978,7 +1979,7 @@ def statistics_of_the_queue():
         until("none, while nobody asks", lambda: wait() == 0, WRITES_EACH + WAIT)
 
 
-def statistics_of_files():
+def test_statistics_of_files_that_fail():
     """A file that fails is told once, shown for as long as it does, and counted where it begins to."""
     host, told = OddHost(), lambda: [it for it in read("err").splitlines() if " file " in it]
 
@@ -2020,7 +2021,7 @@ def statistics_of_files():
         same("how many lines tell of files", 7, len(told()))
 
 
-def answers_that_cannot_be_written():
+def test_statistics_of_an_answers_file_that_takes_nothing():
     """It is told and shown, holds nothing up, and what comes later is written where that goes well. Here a file may have so many octets."""
     most = 1 << 20
     ok = lambda: statistics().get('labntp_file_ok{file="answers"}')
@@ -2043,7 +2044,7 @@ def answers_that_cannot_be_written():
         same("what is told", told, told_of("answers file"))
 
 
-def files_that_do_not_fit():
+def test_statistics_and_customers_that_do_not_fit_leave_nothing():
     """Statistics and customers that cannot be written whole leave nothing beside them, and their room to the answers. Here a file may have so many
     octets."""
     with Daemon(enrolled=CROWD, prepare=lambda: limited_to(4096)) as daemon:
@@ -2067,7 +2068,7 @@ def customers():
     return {it["address"]: it for it in lines}
 
 
-def customers_file():
+def test_customers_file_has_what_each_has_and_was_answered():
     """Who is in it after each command; what was counted of each; when each key signed last; and no key."""
     window(10)
     words = ["basic", "interleaved", "rate", "deny", "nak", "short", "long", "field-short", "field-unaligned", "field-past-end", "rest", "version",
@@ -2132,7 +2133,7 @@ def customers_file():
         same("files", [], [it for it in os.listdir(judging.ROOM) if "customers" in it and it != "customers"])
 
 
-def customers_each_minute():
+def test_customers_file_comes_each_minute_and_over_the_budget():
     """Without a command, counts are told within a minute; over its budget a customer's silences are told apart."""
     window(10)
     with Daemon() as daemon:
@@ -2146,7 +2147,7 @@ def customers_each_minute():
         same("the others", (2, 1), (numbers["basic"], numbers["rate"]))
 
 
-def customers_asked_for():
+def test_customers_file_comes_at_once_where_a_tool_asks():
     """It is written within a second where a tool asks by a file beside it, which is removed."""
     with Daemon() as daemon:
         until("the customers", lambda: len(customers()) == len(CUSTOMERS), 3)
@@ -2157,7 +2158,7 @@ def customers_asked_for():
             same("whether a tool asks still", False, os.path.exists(room("customers.wanted")))
 
 
-def customers_file_without_its_name():
+def test_customers_file_that_does_not_get_its_name():
     """A file that was written, but could not take the place of the old one, is tried again ten seconds later."""
     host = OddHost()
     with Daemon(on=host) as daemon:
@@ -2176,7 +2177,8 @@ def customers_file_without_its_name():
         same("the budget", 9, customers()[CUSTOMERS[2][0]]["budget"])
 
 
-def full_of_customers():
+@pytest.mark.proved_alone(SLOW)
+def test_customers_as_many_as_there_may_be():
     """As many as there are numbers of keys, with one key each, and half as many with two: from the start of the program to its
     first answer it takes a second at most, or on a slow host half as long as Python takes to read the file. Pieces come to a whole
     customers file, and no query waits for them."""
@@ -2285,7 +2287,7 @@ class Sender:
         return heard
 
 
-def statistics_sums():
+def test_statistics_are_sums_of_what_was_sent_and_seen():
     """Signed, unsigned, foreign and broken datagrams in bursts, each closed by a signed query whose reply shows that all were taken."""
     rng, seen = random.Random(7), collections.Counter()
     with Daemon(commands="enrol 127.0.0.4 4 md5 6b6579 10\nrevoke 127.0.0.4\n") as daemon, contextlib.ExitStack() as stack:
@@ -2310,7 +2312,7 @@ def statistics_sums():
         same("failures", {name: 0 for name in failures}, failures)
 
 
-def failed_sends():
+def test_statistics_of_failed_sends():
     """A signed query from the source port 0, to which nothing can be sent."""
     customer = probe.Customer(ONE)
     try:
@@ -2326,7 +2328,7 @@ def failed_sends():
         counted({"labntp_send_failures_total": 3}, [f"labntp_{it}_total" for it in ("send_failures", "send_would_wait", "receive_failures")])
 
 
-def recorded_query():
+def test_recorded_query_spends_a_budget_until_its_key_is_retired():
     """Whoever records a query spends its customer's budget, by sending it again; once its key is retired, none of it."""
     key = "5f0c9d7ab3e2418673c1aa09"
     owner, host = probe.Customer(THREE), OddHost()
@@ -2359,7 +2361,8 @@ def memory(process):
         return find("Rss", now), find("VmHWM", most)
 
 
-def constant_memory():
+@pytest.mark.proved_alone(SLOW)
+def test_memory_is_constant_over_half_a_million_queries():
     each, of = 16, CROWD[:16]
     with Daemon(enrolled=CROWD) as daemon, crowd(daemon, each, of) as askers:
         seen = []
@@ -2374,8 +2377,8 @@ def constant_memory():
 
 # ---- The units
 
-def units():
-    """What the units of examples/ give the service. How exposed it is, tests/package judges."""
+def test_units_give_it_what_it_needs():
+    """What the units of examples/ give the service. How exposed it is, tests/test_package.py judges."""
     with open(f"{TOP}/examples/labntpd.service") as service, open(f"{TOP}/examples/labntpd.socket") as listening:
         lines = [*service.read().splitlines(), *listening.read().splitlines()]
     wanted = ["Nice=-15", "CPUWeight=1000", "OOMScoreAdjust=-500", "LimitCORE=0", "RestartSec=2", "Restart=always"]
@@ -2420,7 +2423,7 @@ os.execv(sys.argv[2], sys.argv[2:])
 """
 
 
-def several_addresses():
+def test_start_at_0_0_0_0_on_a_host_with_several_addresses():
     """A socket at 0.0.0.0 is warned of where the host has several addresses beside loopback, with the line to write."""
     if os.geteuid() or not all(map(shutil.which, ("ip", "unshare"))):
         raise PassedOver("it needs root, ip and unshare")
@@ -2450,7 +2453,7 @@ def several_addresses():
     tells("", both, "inherited", ["192.0.2.7"])
 
 
-def chronyd_in_a_namespace():
+def test_namespace_with_chronyd_basic_and_interleaved():
     with namespace() as name, Daemon(enrolled=[("198.51.100.2", 1, "md5", "6b6579", 65535)], host="198.51.100.1") as daemon:
         file_of("chrony.keys", "1 MD5 HEX:6b6579\n")
         for option, mode in (("", "4B"), ("xleave", "4I")):
@@ -2481,7 +2484,7 @@ def pass_seconds(host, seconds):
     time.sleep(0.5)
 
 
-def clock_steps():
+def test_clock_of_the_host_is_set():
     """A host's clock that is set by more than most_step makes it unsynchronised; one that is set by less is told as so much more
     dispersion. How much time has passed since the clock's answer is told by the monotonic clock alone."""
     for most in (0.2, 0.8):
@@ -2506,7 +2509,7 @@ def clock_steps():
                     same(f"most_step {most}: believed {seconds} seconds later", is_believed, is_grown(clock.state)(daemon.told()))
 
 
-def clock_steps_and_a_hold():
+def test_clock_set_and_the_program_held_up():
     """So much more dispersion is told also where the program is held up between the readings of the two clocks for a datagram."""
     host, step = OddHost(), SECOND * 3 // 10
     with FakeClock() as clock, Daemon(following(clock.port), on=host) as daemon:
@@ -2529,7 +2532,7 @@ def clock_steps_and_a_hold():
             daemon.tells("what the clock told", is_grown(clock.state), TOLD_WITHIN)
 
 
-def departure_between():
+def test_departures_are_the_middle_of_the_send():
     """An interleaved reply tells the middle between the readings of the clock before and behind the send, which takes long here."""
     host, customer, spans = OddHost(), probe.Customer(ONE), []
     with Daemon(on=host) as daemon, customer.socket(daemon.port) as s:
@@ -2574,19 +2577,23 @@ def late_in_a_heap(on=None):
         counted({answers("time", "basic"): 1, "labntp_stale_total": HEAP_EACH * len(HEAP) + asked - 1}, TAKEN)
 
 
-def late_and_poll_fails():
+def test_late_datagrams_in_a_heap_are_dropped():
+    late_in_a_heap()
+
+
+def test_late_and_a_poll_that_fails_is_no_empty_queue():
     """Where it cannot be seen whether the queue is empty, it is not taken for empty."""
     late_in_a_heap(OddHost())
 
 
-def late_and_not_in_the_list():
+def test_late_and_a_list_without_the_socket_is_no_empty_queue():
     """Where the kernel's list cannot be read, or lacks the socket, the queue is not taken for empty."""
     for path in ("/proc/net/none", "/proc/net/udplite"):
         with environment(**in_front(OTHER_LIST % path)):
             late_in_a_heap()
 
 
-def commands_are_heard_at_once():
+def test_commands_are_carried_out_at_once_while_queries_come():
     """A line of commands is in force for a query that comes a little more than a thousandth of a second after the one before it, by the
     clocks of the host, which stand still here but for that."""
     host = OddHost()
@@ -2604,7 +2611,7 @@ def commands_are_heard_at_once():
                 it.write("budget 127.0.0.2 65535\n")
 
 
-def first_lines():
+def test_log_has_its_first_lines():
     """The log begins with where it serves, by which configuration, and with the receive buffer; then it tells of the lines that stand in the
     commands file which ones were not done, how many there are, and how many customers they leave."""
     with Daemon(receive_buffer=70_000, commands="# one\nrevoke 127.0.0.3\nrevoke 127.0.0.3\n") as daemon:
@@ -2620,7 +2627,7 @@ def told_of(name):
     return [it for it in read("err").splitlines() if re.match(rf"{re.escape(name)}( /[^:]*)?: ", it)]
 
 
-def clock_and_late_in_the_log():
+def test_log_tells_of_the_clock_and_late_datagrams():
     """The clock is told of at the start and where it changes, and late datagrams once they were dropped."""
     follows = "clock: synchronised, stratum 3, reference 0a0b0c0d: believed"
     wanted = ["clock: not synchronised: no-answer", follows, "clock: not synchronised: unsynchronised", follows]
@@ -2647,7 +2654,7 @@ def clock_and_late_in_the_log():
         until("the fixed clock in the log", lambda: told_of("clock") == ["clock: synchronised, stratum 1, reference 4e495354: fixed"], 1 + 2 * SLACK)
 
 
-def totals():
+def test_log_tells_the_totals_of_an_hour():
     """Each hour tells the numbers of the statistics. Hours pass at once here, and no descriptor stays open."""
     host, budgets = OddHost(), [("127.0.1.1", 1, "md5", "6b6579", 3), ("127.0.1.2", 2, "md5", "6b6579", 1), *CROWD[2:22]]
     with Daemon(enrolled=budgets, longest_wait=LONGEST_WAIT, receive_buffer=65536, on=host) as daemon, crowd(daemon, 50, CROWD[2:22]) as askers:
@@ -2675,7 +2682,7 @@ def totals():
             time.sleep(0.15)
 
 
-def no_key_is_told():
+def test_log_tells_no_key():
     """Keys of lines that are done, refused and faulty, and of the clock: see `tells_no_key`. Nor do replies tell one."""
     texts = [f"{number:02x}" * 3 + "9e3779b97f4a7c15f39cc0605cedc834"[: 26 - number] for number in range(0, 20, 2)]
     first, second, third, *more = texts
@@ -2699,7 +2706,7 @@ def no_key_is_told():
         until("another file", lambda: told_of("commands file"), 3)
 
 
-def at_rest():
+def test_rest_takes_hardly_any_of_a_processor():
     """While nobody asks it takes hardly any of a processor, and it has as many descriptors as before."""
     with FakeClock() as clock, Daemon(following(clock.port)) as daemon:
         daemon.tells("what the clock told", is_grown(clock.state), TOLD_WITHIN)
@@ -2708,7 +2715,7 @@ def at_rest():
             raise Odd(f"it takes {taken:.1%} of a processor")
 
 
-def never_sleeps():
+def test_rest_there_is_none_with_spin_and_all_is_done_in_time():
     """With `spin` it has a processor or is ready for one all the time, and does what is due at the same paces: it hears of the clock's answers and
     of commands, drops what waited for too long, and writes its statistics."""
     with FakeClock() as clock, Daemon(following(clock.port), longest_wait=LONGEST_WAIT, spin=True) as daemon:
@@ -2736,7 +2743,8 @@ def never_sleeps():
 
 # ---- Many queries
 
-def many_strangers():
+@pytest.mark.proved_alone(SLOW)
+def test_many_turns_leave_the_customers():
     """Behind two and a half millions of datagrams the customers, their exchanges and the memory are as before."""
     stranger, customer, count = probe.Customer("127.0.0.9"), probe.Customer(ONE), 2_500_000
 
@@ -2911,10 +2919,11 @@ def enrolled():
     return {it["address"]: (it["line"], it["budget"], [key["number"] for key in it["keys"]]) for it in customers().values()}
 
 
-def judged_by_the_model():
+@pytest.mark.proved_alone(SLOW)
+def test_many_answers_are_each_the_models():
     """So many datagrams, with commands between and a clock that is set, have the answers of the model; the statistics count them
     so, the memory is as before, and a start leaves the customers as they were."""
-    host, count = OddHost(), MANY_QUERIES if IS_LONG else QUERIES
+    host, count = OddHost(), MANY_QUERIES if judging.IS_LONG else QUERIES
     with Daemon(enrolled=[*Judged.CUSTOMERS, CUSTOMERS[0]], on=host) as daemon:
         serves_on(host)
         size = min(1000, int(receive_buffer_allowed() / truesize() / 2))
@@ -2934,130 +2943,3 @@ def judged_by_the_model():
         kinds = [answers("time", "basic"), answers("time", "interleaved"), *map(answers, ("rate", "deny", "nak"))]
         kinds += [answers("silent", it) for it in SILENT]
         same("kinds that were not tried", [], [it for it in kinds if not judged.seen[it]])
-
-
-CASES = {
-    "words and statuses": words_and_statuses,
-    "words: the help and the version to an output that takes nothing": words_that_nobody_takes,
-    "configuration: each fault is named": configuration_faults,
-    "configuration: bounds, and what may be left out": configuration_bounds,
-    "configuration: the example is served by": example_is_served_by,
-    "configuration: the octets of an address": other_addresses,
-    "start: what the configuration names is faulty, missing or taken": other_faults,
-    "start: a commands file that cannot be read": commands_that_cannot_be_read,
-    "start: the commands file that was opened is in force": what_was_opened_is_in_force,
-    "start: two files in one place, or none to write in": files_in_one_place,
-    "start: keys that others may read": keys_that_others_may_read,
-    "start: a path with any character is told in one line": odd_paths,
-    "start: 0.0.0.0 on a host with several addresses": several_addresses,
-    "files: nothing waits for who reads them": files_that_nobody_reads,
-    "files: an answer is one write": answers_in_one_piece,
-    "signals end it": signals,
-    "fixed clock: replies tell the configuration's reference": fixed_reference,
-    "commands: in force while it serves, and answered": commands_while_it_serves,
-    "commands: in force while the clock cannot be read": commands_while_the_clock_is_unread,
-    "commands: no answers file, no statistics file and no customers file": without_answers_statistics_and_customers,
-    "commands: answered while nobody asks": commands_while_nobody_asks,
-    "commands: lines of any octets, and of any length": lines_of_any_octets,
-    "commands: another file, or one that was written anew": commands_that_are_others,
-    "commands: it goes on with the same file": commands_that_go_on,
-    "commands: a pipe in the place of the file": pipe_for_a_commands_file,
-    "commands: the file is nearly full": commands_nearly_full,
-    "commands: more octets than are read": commands_full,
-    "commands: a thousand lines at once": thousand_lines_at_once,
-    "commands: carried out at once while queries come": commands_are_heard_at_once,
-    "clock: its state is told, with more dispersion": clock_synchronised,
-    "clock: dispersion grows with age": clock_dispersion_grows,
-    "clock: silent": clock_silent,
-    "clock: forged answers are not believed": clock_forged,
-    "clock: a forged answer that it is unsynchronised": clock_forged_unsynchronised,
-    "clock: a leap second is told and withdrawn": clock_leap,
-    "clock: it says that it is unsynchronised": clock_unsynchronised,
-    "clock: its offset is dispersion": clock_offset,
-    "clock: the exchange with it is delay": clock_exchange_delay,
-    "clock: too far, or its reference too old": clock_too_far,
-    "clock: its reference of any age, or up to a limit": clock_of_any_age,
-    "clock: its precision, and the best one that is told": clock_precision,
-    "clock: it wants fewer questions": clock_rate,
-    "clock: what is logged of it": clock_lines,
-    "clock: logged where it never answers": clock_lines_silent,
-    "clock: set, and its daemon notices nothing": clock_set_unnoticed,
-    "clock: set just behind an update of its daemon": clock_set_behind_an_update,
-    "clock: set, and its daemon notices it": clock_set_and_noticed,
-    "clock: set before the start": clock_set_before_the_start,
-    "clock: it cannot be read": clock_unread,
-    "clock: in the statistics": clock_statistics,
-    "clock: the host's clock is set": clock_steps,
-    "clock: set, and the program is held up": clock_steps_and_a_hold,
-    "clock: chronyd": clock_chronyd,
-    "clock: chronyd, whose source is gone": clock_cut_off,
-    "clock: set, and chronyd keeps it": clock_set_under_chronyd,
-    "late: stopped for five seconds under load": stopped_under_load,
-    "late: a short stop loses nothing": short_stop,
-    "late: a stop of a fifth of a second loses nothing by default": stopped_for_a_fifth_of_a_second,
-    "late: a heap that waited for too long": late_in_a_heap,
-    "late: a poll that fails is no empty queue": late_and_poll_fails,
-    "late: a list without the socket is no empty queue": late_and_not_in_the_list,
-    "late: a queue that is too old is swept out": swept_out,
-    "burst: ten thousand queries": burst,
-    "burst: the kernel's drops are counted": kernel_drops,
-    "burst: many other sockets hold up nobody": long_list_of_sockets,
-    "burst: replies that nobody takes hold up no other": nobody_takes_replies,
-    "log: standard error takes nothing": full_standard_error,
-    "log: lines that are dropped": dropped_lines,
-    "log: few lines of a kind": few_lines_of_a_kind,
-    "log: a state that was held is told in the next minute": held_states,
-    "log: priorities for the journal": priorities,
-    "log: priorities for the journal at the start": priorities_at_the_start,
-    "log: the first lines": first_lines,
-    "log: the clock and late datagrams": clock_and_late_in_the_log,
-    "log: the totals of an hour": totals,
-    "log: no key": no_key_is_told,
-    "manager: hears that it serves, and that it is alive": told_to_the_manager,
-    "manager: one that hears nothing": managers_that_hear_nothing,
-    "socket: handed down": inherited_socket,
-    "socket: handed down with what waited in it": waited_before_the_start,
-    "socket: one that is handed down is judged": judged_socket,
-    "socket: one that does not wait is made to": socket_that_does_not_wait,
-    "socket: receives that fail again and again": receives_that_fail,
-    "socket: buffers that are refused": buffers_that_are_refused,
-    "socket: kept over a kill under load": killed_under_load,
-    "socket: a call that fails is not tried again": failing_calls,
-    "statistics: names and forms": statistics_names,
-    "statistics: sums of what was sent and seen": statistics_sums,
-    "statistics: failed sends": failed_sends,
-    "statistics: how long datagrams wait": statistics_of_the_queue,
-    "statistics: files that fail": statistics_of_files,
-    "statistics: an answers file that takes nothing": answers_that_cannot_be_written,
-    "statistics: files that do not fit leave nothing": files_that_do_not_fit,
-    "customers: what each has and was answered": customers_file,
-    "customers: each minute, and over the budget": customers_each_minute,
-    "customers: at once where a tool asks": customers_asked_for,
-    "customers: as many as there may be": full_of_customers,
-    "customers: a file that does not get its name": customers_file_without_its_name,
-    "replay: a recorded query spends a budget until its key is retired": recorded_query,
-    "departures: the middle of the send": departure_between,
-    "memory: constant over half a million queries": constant_memory,
-    "rest: hardly any of a processor": at_rest,
-    "rest: with spin none, and all is done in time": never_sleeps,
-    "many: customers stay over millions of turns": many_strangers,
-    "many: each answer is the model's": judged_by_the_model,
-    "many: commands files at random": random_files,
-    "units: what they give": units,
-    "namespace: chronyd, basic and interleaved": chronyd_in_a_namespace,
-}
-
-
-def main(*words):
-    # A socket that is handed down is descriptor 3 there, so nothing else is to be it here.
-    if (taken := os.open(os.devnull, os.O_RDONLY)) != 3:
-        os.dup2(taken, 3, inheritable=False)
-    global IS_LONG
-    IS_LONG = "--long" in words
-    tries, (judging.PROGRAM,), cases = judging.asked("daemon", [it for it in words if it != "--long"], judging.built("labntpd"), CASES)
-    with judging.own_room("daemon"):
-        return judging.judge(cases, tries)
-
-
-if __name__ == "__main__":
-    sys.exit(main(*sys.argv[1:]))

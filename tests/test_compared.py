@@ -1,49 +1,39 @@
-#!/usr/bin/env python3
-"""What labntpd, chrony, NTPsec and OpenNTPD answer to each kind of datagram, side by side.
+"""Judges whether labntpd, chrony, NTPsec and OpenNTPD answer to each kind of datagram as docs/COMPARED.md has it.
 
-    tests/compared                  asks each server and prints the table
-    tests/compared --write          writes it into docs/COMPARED.md; of a server that is not found the page keeps its column
-    tests/compared --check          compares: prints `ok NAME`, `FAILED NAME: what was seen` or `passed over NAME: why`, and at the end
-                                    `N passed, M failed`; status 1 where one failed
-    .. --labntpd PATH               the daemon; where it is not named, crates/labntpd/out/labntpd, which `./labntpd --version` builds
+    tests/run compared --table      asks each server and prints the table
+    tests/run compared --write      writes it into the page; of a server that is not found the page keeps its column
 
-The others are looked for below $NTP_PEERS, or $PEERS, as Debian's packages unpack there (`chrony/usr/sbin/chronyd`,
-`ntpsec/usr/sbin/ntpd`, `openntpd/usr/sbin/ntpd`), and else on the path. Another version than the page names is passed over.
+The others are looked for below $PEERS, as Debian's packages unpack there (`chrony/usr/sbin/chronyd`, `ntpsec/usr/sbin/ntpd`,
+`openntpd/usr/sbin/ntpd`), and else on the path. Another version than the page names is passed over.
 
 All have the same customers, each with an address and a key number of its own. The key of most is MD5's; one has SHA-256 and one AES-CMAC,
 which labntpd lacks, and there holds MD5. Each kind of datagram is asked by a customer of its own, so that no limit of rates counts one
 for another. Behind it another customer asks for the time. Once that one has its answer, all that comes to the first has come: a server
 takes datagrams in their order.
 
-It needs Python 3 on Linux. As root, with `unshare`, `ip` and `setpriv`, all is done in a network and a mount namespace of its own, where
-NTPsec has port 123 and OpenNTPD a user; else these two are passed over. No server may set the clock. It takes some seconds. No wait is
-without a limit, and nothing stays running.
+As root, with `unshare`, `ip` and `setpriv`, all is done in a network of its own, where NTPsec has port 123 and OpenNTPD a user; else these two
+are passed over. No server may set the clock. It takes some seconds.
 """
 import collections
 import contextlib
 import itertools
 import os
 import re
-import shutil
 import struct
-import subprocess
 import sys
-import tempfile
 
-sys.dont_write_bytecode = True
-TOP = os.path.dirname(os.path.dirname(os.path.realpath(__file__)))
-sys.path[:0] = [f"{TOP}/tests", f"{TOP}/tools"]
+import pytest
+
 import judging
 import labntpd_server
+import own_network
 import peers
 import probe
-from judging import Odd, PassedOver, file_of
+from judging import TOP, Odd, PassedOver, file_of
 from texts import lines_of, renewed
 
-# The word with which this program starts itself once more, in namespaces of its own.
-INSIDE = "--inside"
-PAGE, BEGIN, END = "docs/COMPARED.md", "<!-- tests/compared --write writes from here -->", "<!-- to here -->"
-# How often the second customer asks, and how often a column is asked for that is not as it was.
+PAGE, BEGIN, END = "docs/COMPARED.md", "<!-- tests/run compared --write writes from here -->", "<!-- to here -->"
+# How often the second customer asks.
 TRIES = 3
 # How many queries a burst has, and the budget of whom labntpd is to answer fewer.
 BURST, BUDGET = 60, 10
@@ -287,13 +277,27 @@ def word_of(customer, request, reply):
 
 # ---- Servers
 
+@pytest.fixture(scope="module", autouse=True)
+def namespaces(room):
+    """A network apart, where there can be one."""
+    global IS_APART
+    IS_APART = True
+    with contextlib.ExitStack() as stack:
+        try:
+            own_network.needs("unshare", "ip", "setpriv")
+            stack.enter_context(own_network.apart("net"))
+        except PassedOver:
+            IS_APART = False
+        yield
+
+
 # Who asks whether a server answers yet.
 HERALD = ("127.2.250.1", 2000, "md5", KEYS["md5"].hex())
 CUSTOMERS = [customer_of(kind) for kind in ASKED if kind.algorithm != "cmac"] + [other_of(kind) for kind in ASKED] + [HERALD]
 
 
 def needs_namespaces():
-    if not IS_INSIDE:
+    if not IS_APART:
         raise PassedOver("it needs root, and namespaces")
 
 
@@ -312,8 +316,6 @@ def running(words, port):
 
 @contextlib.contextmanager
 def labntpd():
-    if not os.access(judging.PROGRAM, os.X_OK):
-        raise PassedOver(f"there is no program {judging.PROGRAM}")
     enrolled = [(*customer_of(kind, ("md5", "sha1")), kind.budget) for kind in ASKED if kind.name != STRANGER]
     enrolled += [(*other_of(kind), kind.budget) for kind in ASKED]
     with labntpd_server.Daemon(enrolled=enrolled, commands=f"revoke {OUT}\n") as it:
@@ -419,18 +421,12 @@ def table(columns):
             yield f"| {'' if at else KINDS[begin].name + ' '}{BETWEEN.join(names)} | {' | '.join(answers)} |"
 
 
-def measured(name):
-    """The heading and the column of a server."""
-    with tempfile.TemporaryDirectory(prefix="compared-") as judging.ROOM:
-        return heading(name), column(name)
-
-
 def all_columns():
     """Those of the servers that are found; of the others what the page has."""
     before = noted() if os.path.exists(f"{TOP}/{PAGE}") else {}
     for name in SERVERS:
         try:
-            yield name, measured(name)
+            yield name, (heading(name), column(name))
         except PassedOver as why:
             print(f"passed over {name}: {why}", file=sys.stderr)
             if name in before:
@@ -443,7 +439,8 @@ def write(columns):
         it.write(renewed(PAGE, text, BEGIN, END, table(columns)))
 
 
-def judge_column(name):
+@pytest.mark.parametrize("name", SERVERS)
+def test_server_answers_as_the_page_has_it(name):
     """Whether a server answers as the page has it."""
     shown, wanted = noted().get(name, ("no column", {}))
     here = heading(name)
@@ -456,58 +453,11 @@ def judge_column(name):
         raise Odd("; ".join(odd))
 
 
-def check():
-    cases = {f"{name}: answers as {PAGE} has them": lambda name=name: judge_column(name) for name in SERVERS}
-    with tempfile.TemporaryDirectory(prefix="compared-") as judging.ROOM:
-        return judging.judge(cases, TRIES)
-
-
-# ---- Start
-
-def enter(words):
-    """Starts this program once more in namespaces of its own, where that can be."""
-    namespaces = ("unshare", "--fork", "--pid", "--kill-child=KILL", "--mount-proc", "--net")
-    can = not os.geteuid() and all(map(shutil.which, ("unshare", "ip", "setpriv")))
-    if can and subprocess.run([*namespaces, "true"], capture_output=True).returncode == 0:
-        os.execvp("unshare", [*namespaces, sys.executable, os.path.realpath(__file__), INSIDE, *words])
-
-
-def named_program(words):
-    """The daemon, and the words without it."""
-    if "--labntpd" not in words:
-        return f"{TOP}/crates/labntpd/out/labntpd", words
-    at = words.index("--labntpd")
-    return os.path.abspath("".join(words[at + 1 : at + 2])), words[:at] + words[at + 2 :]
-
-
-def told(jobs):
-    """Compares with the page, writes it, or prints a table."""
-    if jobs == ["--check"]:
-        return check()
+@pytest.mark.table
+def test_table(request):
+    """Prints the table, or writes it into the page."""
     columns = dict(all_columns())
-    if jobs:
+    if request.config.option.write:
         write(columns)
     else:
-        print("\n".join(table(columns)))
-    return 0
-
-
-def main(words):
-    global IS_INSIDE
-    IS_INSIDE = words[:1] == [INSIDE]
-    judging.PROGRAM, jobs = named_program(words[IS_INSIDE:])
-    if jobs not in ([], ["--write"], ["--check"]):
-        print(__doc__.strip())
-        return 0 if jobs in (["-h"], ["--help"]) else 2
-    if IS_INSIDE:
-        subprocess.run(["ip", "link", "set", "lo", "up"], check=True)
-    else:
-        enter(words)
-    os.environ["PEERS"] = os.environ.get("NTP_PEERS") or os.environ.get("PEERS", "")
-    os.umask(0o077)
-    with judging.ended_by_signals():
-        return told(jobs)
-
-
-if __name__ == "__main__":
-    sys.exit(main(sys.argv[1:]))
+        print("", *table(columns), sep="\n")

@@ -1,7 +1,4 @@
-#!/usr/bin/env python3
 """Judges the Debian package that packaging/deb makes of the programs.
-
-    tests/package [LABNTPD [LABNTP [LABNTP-QUERY [LABNTPCTL]]]] [NAME..]
 
 - What the package has: files, modes, owners, the fields that dpkg reads, the programs, the configuration, the units, the pages of the manual.
 - Of which sources its programs were proved, and how one is refused that was not; that a touched source builds nothing anew.
@@ -12,9 +9,8 @@
 
 Programs that have no record of their proof (tools/records.py) are packed as such, and the case of the record is passed over.
 
-Without words that have a `/`, the programs are crates/NAME/out/NAME of labntpd, labntp, labntp_query and labntpctl; a NAME chooses the cases in
-whose names it stands. Prints as tests/daemon does, and the last cases apart. Status 1 where one failed. It needs dpkg, and for some cases root,
-git, rt, groff, lintian, systemd-analyze, or what tests/own_systemd.py lists; else they are passed over. No network is asked, and nothing is left.
+It needs dpkg, and for some cases root, git, rt, groff, lintian, systemd-analyze, or what tests/own_systemd.py lists; else they are passed over.
+No network is asked, and nothing is left.
 """
 import contextlib
 import hashlib
@@ -25,14 +21,12 @@ import pathlib
 import re
 import shutil
 import subprocess
-import sys
 import tarfile
 import tempfile
 import time
 
-sys.dont_write_bytecode = True
-TOP = os.path.dirname(os.path.dirname(os.path.realpath(__file__)))
-sys.path[:0] = [f"{TOP}/tests", f"{TOP}/tools"]
+import pytest
+
 import judging
 import labntpd_server
 import odd_host
@@ -40,16 +34,21 @@ import own_network
 import own_systemd
 import probe
 import records
-from judging import Odd, PassedOver, same
+from judging import LARGE, TOP, Odd, PassedOver, same
 from own_systemd import edit, run as sh
 
-# The longest that a command takes, in seconds, a build, and all that is done under systemd.
-LIMIT, BUILD, UNDER_SYSTEMD = 20, 120, 180
+# The modes of files, and the programs.
+MASK = 0o022
+LABNTPD, LABNTP, LABNTP_QUERY, LABNTPCTL = judging.built("labntpd", "labntp", "labntp_query", "labntpctl")
+pytestmark = pytest.mark.proved_alone(LARGE)
+
+# The longest that a command takes, in seconds, and a build.
+LIMIT, BUILD = 20, 120
 
 DOCUMENTATION = "usr/share/doc/labntp"
 CONFFILE = "/etc/labntp/labntpd.toml"
 KEPT = [CONFFILE, "/etc/labntp/clock.key", "/var/lib/labntp/commands"]
-SERVICE, SOCKET = "labntpd.service", "labntpd.socket"
+SERVICE, SOCKET, PORT = "labntpd.service", "labntpd.socket", 123
 UNITS = [SERVICE, SOCKET, "labntpd@.service", "labntpd@.socket", "labntpd-check@.service", "labntpd-check@.timer"]
 UNITS += ["labntpd-door@.path", "labntpd-door@.service", "labntpd-door-changed@.service"]
 # One of several, by the templates.
@@ -230,7 +229,7 @@ def tree():
 
 # ---- The package
 
-def built():
+def test_build_has_the_same_octets_each_time():
     """The same octets each time, whoever builds it when; nothing but its path is printed; a program that is not there is told."""
     first, folder = package(), f"{judging.ROOM}/again"
     before = os.umask(0o077)
@@ -245,7 +244,7 @@ def built():
     same("what is said of no program", True, said.startswith("packaging/deb: ") and "/nowhere" in said)
 
 
-def contents():
+def test_contents_have_files_modes_and_owners():
     """Each file with its mode, of root; the programs as they were handed in; the units of the examples, but for the program's path and pages."""
     wanted = {path: mode for mode, path in map(str.split, LIST.strip().splitlines())}
     wanted |= {f"{DOCUMENTATION}/{it}": "644" for it in ("proved.json", "proved.sha256") if not unproved()}
@@ -268,7 +267,7 @@ def contents():
         same(unit, read(f"{TOP}/examples/{unit}").decode(), plain)
 
 
-def told_to_dpkg():
+def test_control_has_fields_conffiles_digests_and_scripts():
     """The fields, the conffiles, the digests of all other files, and scripts that the shell reads."""
     found, wanted = members("--ctrl-tarfile"), ["control", "conffiles", "md5sums", "postinst", "prerm", "postrm"]
     same("files", sorted([".", *wanted]), sorted(found))
@@ -293,7 +292,7 @@ def wanted_version():
     return release + behind + "+dirty" * is_dirty() + "+unproved" * bool(unproved())
 
 
-def versions():
+def test_versions_of_a_later_commit_are_newer_than_their_release():
     """A later commit is newer than its release, and older than the next one; so apt upgrades to it, and from it."""
     version = wanted_version()
     release = version.partition("+")[0]
@@ -302,7 +301,7 @@ def versions():
     same("whether the version tells what is packed as such", (bool(unproved()), is_dirty()), ("+unproved" in version, "+dirty" in version))
 
 
-def record():
+def test_record_has_commit_kit_and_sources_of_each_program():
     """The package tells what its programs are, and of which commit, kit and sources they were proved; and the sources here are these."""
     if why := unproved():
         raise PassedOver(why)
@@ -332,7 +331,7 @@ def record():
     same("other sources", True, ": other sources were proved\n" in command(f"{TOP}/packaging/audit", f"{judging.ROOM}/other.json", wanted=1))
 
 
-def planted():
+def test_record_bars_a_planted_program():
     """A program is not packed that has another octet than the one that was proved, no record, or one of other sources, whatever its date;
     with the words for it, it is, and the version tells it."""
     names, room = ("labntp", "labntpd", "labntp_query", "labntpctl"), f"{judging.ROOM}/planted"
@@ -366,7 +365,7 @@ def planted():
     same("what is said of changes", True, "has changes that are in no commit; --dirty packs it all the same" in said)
 
 
-def not_dated():
+def test_record_heeds_octets_and_no_dates():
     """`.ci/proved` builds nothing of a source that was touched, and builds anew where an octet of it, of the program or of the record
     changed."""
     room = f"{judging.ROOM}/dated"
@@ -417,7 +416,7 @@ def copied(room):
     return copy
 
 
-def in_two_folders():
+def test_build_has_the_same_program_in_each_folder():
     """What the toolchain makes of one source does not depend on the folder."""
     if not is_there("rt"):
         raise PassedOver("there is no program rt")
@@ -447,7 +446,7 @@ def records_for(copy, name, octets):
         it.write(records.text_of(records.statement({name: records.digest_of(path)}, records.sources_of(name, copy), "kit")))
 
 
-def programs():
+def test_programs_start_and_replay_the_examples():
     """They start, and do what the examples say."""
     folder = tree()
     same("--version", True, re.fullmatch(r"labntpd \S+\n", command(f"{folder}/usr/sbin/labntpd", "--version")) is not None)
@@ -462,7 +461,7 @@ def programs():
             same(name, read(f"{examples}/{name[:-7]}.answers").decode(), command(f"{folder}/usr/bin/labntp", "replay", stdin=script))
 
 
-def configuration():
+def test_configuration_is_good_once_there_is_the_clocks_key():
     """As it is, it cannot be served by; with the key of the clock's daemon `--check` says `ok`, and nothing else."""
     folder = tree()
     path = f"{folder}/labntpd.toml"
@@ -480,7 +479,7 @@ def configuration():
     same("--check", "ok\n", command(*check))
 
 
-def units():
+def test_units_are_read_by_systemd():
     """systemd reads them without a word; the pages that they name are there; what it reckons of how exposed they are."""
     if not is_there("systemd-analyze"):
         raise PassedOver("there is no program systemd-analyze")
@@ -499,7 +498,7 @@ def units():
             command("systemd-analyze", "security", "--offline=true", f"--threshold={most}", f"{copies}/{name}")
 
 
-def apparmor():
+def test_apparmor_reads_the_profile():
     """Its own parser reads the profile; it is not loaded."""
     peers = f"{os.environ.get('PEERS', '')}/apparmor"
     found = shutil.which("apparmor_parser", path=f"{os.environ.get('PATH', '')}:{own_systemd.PATH}:{peers}/sbin")
@@ -510,7 +509,7 @@ def apparmor():
     same("what is said of it", [], [it for it in said.splitlines() if "labntpd" in it])
 
 
-def manual():
+def test_manual_is_read_by_groff():
     """groff reads the pages without a word."""
     if not is_there("groff"):
         raise PassedOver("there is no program groff")
@@ -521,7 +520,7 @@ def manual():
         same(f"what is said of {page}", "", said)
 
 
-def lintian():
+def test_lintian_has_no_error_and_no_warning():
     if not is_there("lintian"):
         raise PassedOver("there is no program lintian")
     said = command("lintian", "--allow-root", package(), wanted=None)
@@ -530,7 +529,7 @@ def lintian():
 
 # ---- Below another root
 
-def installed():
+def test_root_where_it_is_installed_again_removed_and_purged():
     """What dpkg installs there, keeps and deletes, also where the host's dpkg leaves pages out."""
     if os.geteuid():
         raise PassedOver("it needs root")
@@ -593,25 +592,6 @@ def accounts(root):
     return {f"/etc/{it}" for it in os.listdir(f"{root}/etc") if re.fullmatch(r"(passwd|group|shadow|gshadow)-?|\.pwd\.lock|\.updated", it)}
 
 
-CASES = {
-    "build: the same octets each time": built,
-    "contents: files, modes and owners": contents,
-    "control: fields, conffiles, digests and scripts": told_to_dpkg,
-    "build: the same program in each folder": in_two_folders,
-    "versions: a later commit is newer than its release": versions,
-    "record: commit, kit and sources of each program": record,
-    "record: no planted program is packed": planted,
-    "record: a date builds nothing, an octet does": not_dated,
-    "programs: they start, and replay the examples": programs,
-    "configuration: --check, once there is the clock's key": configuration,
-    "units: systemd reads them": units,
-    "apparmor: its parser reads the profile": apparmor,
-    "manual: groff reads the pages": manual,
-    "lintian: no error, no warning": lintian,
-    "root: installed, again, removed and purged": installed,
-}
-
-
 # ---- Under systemd
 
 def install():
@@ -620,9 +600,20 @@ def install():
     sh("dpkg --force-depends --no-triggers --install labntp.deb; cp /lib/systemd/system/labntpd[-.@]* /units; systemctl daemon-reload")
 
 
-def begun():
-    if WHY or FAULT:
-        raise PassedOver(WHY) if WHY else Odd(f"at the installation: {FAULT}")
+@pytest.fixture(scope="module")
+def systemd(room):
+    """A systemd under which dpkg has installed the package."""
+    if why := own_systemd.missing("dpkg", "userdel"):
+        raise PassedOver(why)
+    deb = package()
+    copies = {"labntp.deb": deb, "before.deb": before(deb), "docs": f"{TOP}/docs", "labntpd.apparmor": f"{TOP}/examples/labntpd.apparmor"}
+    with contextlib.suppress(PassedOver):
+        copies["opens.so"] = odd_host.made(f"{judging.ROOM}/opens.so", odd_host.OPENS)
+    if os.path.isdir(peers := f"{os.environ.get('PEERS', '')}/nftables"):
+        copies["nftables"] = peers
+    with own_systemd.entered(__name__, copies) as make:
+        make("install")
+        yield make
 
 
 def serves():
@@ -641,18 +632,16 @@ def serves():
     return pid, os.readlink(f"/proc/{pid}/fd/3")
 
 
-def quiet():
+def test_service_is_neither_enabled_nor_started(systemd):
     """Nothing is enabled or started; who may read its files."""
-    begun()
     same("enabled", "disabled\ndisabled", sh(f"systemctl is-enabled {SOCKET} {SERVICE}", None))
     same("active", "inactive\ninactive", sh(f"systemctl is-active {SOCKET} {SERVICE}", None))
     same("modes, owners and groups", INSTALLED, {it: sh(f"stat -c '%a %U %G' {it}") for it in INSTALLED})
 
 
-def answers():
+def test_service_answers_by_the_steps_of_the_page(systemd):
     """By the three commands of the page a first customer has the time soon, at any address of the host; then at the one that is named."""
     global CUSTOMER
-    begun()
     page = read(f"{own_systemd.GIVEN}/docs/OPERATIONS.md").decode()
     override = re.search(r"```ini\n(\[Socket\]\nListenDatagram=\nListenDatagram=(\S+):123\n)```", page)
     if not override:
@@ -688,9 +677,8 @@ def file_rules(profile):
         yield {*permissions}, re.compile(re.sub(r"\{([^}]*)\}", lambda it: f"(?:{it[1].replace(',', '|')})", path))
 
 
-def confined():
+def test_service_opens_what_the_apparmor_profile_lets_it(systemd):
     """Whatever it opens from its start on, the AppArmor profile lets it; and it needs each rule."""
-    begun()
     if not os.path.exists(f"{own_systemd.GIVEN}/opens.so"):
         raise PassedOver("there is no program gcc")
     folder, log = f"{own_systemd.UNITS}/{SERVICE}.d", "/run/labntp/opens"
@@ -712,10 +700,9 @@ def confined():
     sh(f"systemctl daemon-reload; systemctl restart {SERVICE}")
 
 
-def checked():
+def test_service_is_checked_each_minute_by_the_steps_of_the_page(systemd):
     """By the page's steps a check comes by itself, and passes. Without an answer, and under a wrong key, it fails, which systemd and the
     journal tell; and it passes again. A warning is no failure. It reads this key, and no other file with keys."""
-    begun()
     if not is_there("openssl"):
         raise PassedOver("there is no program openssl")
     if sh("systemctl is-active systemd-journald.service", None) != "active":
@@ -767,9 +754,8 @@ def checked():
     sh("systemctl daemon-reload")
 
 
-def upgraded():
+def test_service_is_started_anew_by_an_upgrade(systemd):
     """Another process, at the socket that stays; and so for one of several."""
-    begun()
     sh(f"systemctl enable --now {' '.join(INSTANCE)}")
     (pid, socket), text, other = serves(), read(CONFFILE), own_systemd.process(INSTANCE[0])
     sh("dpkg --force-depends --no-triggers --install labntp.deb")
@@ -779,10 +765,9 @@ def upgraded():
     same("whether the configuration is kept", True, text == read(CONFFILE))
 
 
-def up_and_back():
+def test_service_goes_on_as_apt_goes_back_a_release_and_upgrades(systemd):
     """apt goes back to a release before, and upgrades from it: configuration, the clock's key and the commands stay as they are, and the
     customer is served each time."""
-    begun()
     if not is_there("apt-get"):
         raise PassedOver("there is no program apt-get")
     serves()
@@ -808,10 +793,9 @@ def up_and_back():
         same("what is kept", kept, {path: read(path) for path in KEPT})
 
 
-def taken_over():
+def test_service_is_upgraded_from_a_register(systemd):
     """Beside the register of an older version an upgrade restarts nothing, and says what to call. That puts the customers of the
     register in front of the commands, and restarts."""
-    begun()
     serves()
     commands, pid, script = "/var/lib/labntp/commands", own_systemd.process(SERVICE), f"/{DOCUMENTATION}/examples/from_register"
     before, register = read(commands).decode(), ("192.0.2.20", 20, "sha1", "6b6579" * 6, 10)
@@ -827,9 +811,8 @@ def taken_over():
     same("whether the register is put away", False, os.path.exists("/etc/labntp/register.toml"))
 
 
-def policed():
+def test_service_has_the_doors_rules_while_it_is_there(systemd):
     """By the page's step the door's rules are loaded as customers change; they go with the package."""
-    begun()
     own_network.find_nft(own_systemd.GIVEN, "/usr/local/sbin")
     rules, enrolled = lambda: sh("nft list ruleset"), [CUSTOMER.split("/")[0], "192.0.2.77"]
     sh(own_systemd.commands_of("docs/OPERATIONS.md", "A flood")[0])
@@ -842,9 +825,8 @@ def policed():
     sh(f"systemctl start {SOCKET} {SERVICE} {' '.join(INSTANCE)} {CHECK_TIMER}")
 
 
-def gone():
+def test_service_is_removed_and_purged(systemd):
     """A removal stops all and keeps the files, a purge deletes them."""
-    begun()
     serves()
     sh("dpkg --no-triggers --remove labntp")
     same("active", "\n".join(5 * ["inactive"]), sh(f"systemctl is-active {SOCKET} {SERVICE} {' '.join(INSTANCE)} {CHECK_TIMER}", None))
@@ -854,55 +836,3 @@ def gone():
     sh("rm /units/labntpd[-.@]*; dpkg --no-triggers --purge labntp")
     same("files that stay", "", sh(f"ls -d /etc/labntp /var/lib/labntp /run/labntp* {own_systemd.UNITS}/*.wants/labntpd[-.@]* 2>/dev/null || true"))
     sh("id labntp")
-
-
-SERVICE_CASES = {
-    "service: nothing is enabled or started": quiet,
-    "service: answers, by the steps of the page": answers,
-    "service: it opens what the AppArmor profile lets it": confined,
-    "service: checked each minute, by the steps of the page": checked,
-    "service: an upgrade starts it anew": upgraded,
-    "service: apt goes back a release, and upgrades": up_and_back,
-    "service: an upgrade from a register": taken_over,
-    "service: the door's rules, while it is there": policed,
-    "service: removed and purged": gone,
-}
-PORT = 123
-
-
-# ---- Start
-
-def judge_service(why, cases):
-    global WHY, FAULT
-    WHY, FAULT = why, None if why else judging.fault_of(install)
-    return judging.judge(cases)
-
-
-def main(*words):
-    global LABNTPD, LABNTP, LABNTP_QUERY, LABNTPCTL
-    if words[:1] == (own_systemd.INSIDE,):
-        return own_systemd.begin(*words[1:3], lambda why: judge_service(why, judging.chosen(SERVICE_CASES, words[3:])))
-    usual = judging.built("labntpd", "labntp", "labntp_query", "labntpctl")
-    _, (LABNTPD, LABNTP, LABNTP_QUERY, LABNTPCTL), cases = judging.asked("package", words, usual, CASES | SERVICE_CASES)
-    of_package = {name: case for name, case in cases.items() if name in CASES}
-    of_service = {name: case for name, case in cases.items() if name in SERVICE_CASES}
-    with judging.own_room("package", 0o022):
-        status = judging.judge(of_package) if of_package else 0
-        if not of_service:
-            return status
-        try:
-            deb, why = package(), own_systemd.missing("dpkg", "userdel")
-        except PassedOver as seen:
-            why = str(seen)
-        if why:
-            return judge_service(why, of_service) or status
-        copies = {"labntp.deb": deb, "before.deb": before(deb), "docs": f"{TOP}/docs", "labntpd.apparmor": f"{TOP}/examples/labntpd.apparmor"}
-        with contextlib.suppress(PassedOver):
-            copies["opens.so"] = odd_host.made(f"{judging.ROOM}/opens.so", odd_host.OPENS)
-        if os.path.isdir(peers := f"{os.environ.get('PEERS', '')}/nftables"):
-            copies["nftables"] = peers
-        return own_systemd.enter([*of_service], copies, UNDER_SYSTEMD) or status
-
-
-if __name__ == "__main__":
-    sys.exit(main(*sys.argv[1:]))

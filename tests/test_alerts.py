@@ -1,22 +1,20 @@
-#!/usr/bin/env python3
 """Judges examples/labntpd.rules.yml and examples/labntpd.dashboard.json: labntpd prints each of its metrics that these name. And by Prometheus'
 own program the rules are well formed, and over made-up statistics each alarm fires where it should, and none fires where all is well; and each
 query of the dashboard finds something. Its panels stand beside one another.
 
-    tests/alerts
-
 promtool is looked for on the path, and below $PEERS as tests/run unpacks Debian's package `prometheus` there; where it is not found, its
-cases are passed over. Prints `ok NAME`, `FAILED NAME: what was seen` or `passed over NAME: why`. Status 1 where one failed.
+cases are passed over.
 """
 import json
 import os
 import re
 import shutil
 import subprocess
-import sys
-import tempfile
 
-TOP = os.path.dirname(os.path.dirname(os.path.realpath(__file__)))
+import pytest
+
+from judging import TOP, Odd, PassedOver, file_of, same
+
 RULES = f"{TOP}/examples/labntpd.rules.yml"
 DASHBOARD = f"{TOP}/examples/labntpd.dashboard.json"
 STATISTICS = f"{TOP}/crates/ntp_reports/src/statistics.rt"
@@ -104,18 +102,22 @@ SHOWN |= {'labntp_answers_total{answer="rate"}': "0+0x60", 'labntp_clock_believe
 BEFORE, AFTER = 20, 42
 
 
-def promtool():
-    """The path of promtool, or none."""
+def promtool(*words):
+    """promtool takes what these words name."""
     peers = os.environ.get("PEERS")
     places = os.pathsep.join([os.environ.get("PATH", os.defpath), *([f"{peers}/prometheus/usr/bin"] if peers else [])])
-    return shutil.which("promtool", path=places)
+    if not (program := shutil.which("promtool", path=places)):
+        raise PassedOver("there is no promtool")
+    ran = subprocess.run([program, *words], stdin=subprocess.DEVNULL, stdout=subprocess.PIPE, stderr=subprocess.STDOUT, text=True, timeout=LIMIT)
+    if ran.returncode:
+        raise Odd(ran.stdout.strip())
 
 
-def unknown_names():
-    """The metrics of labntpd that the rules, the dashboard or the made-up statistics name, and that it does not print."""
+def test_each_metric_is_printed():
+    """labntpd prints each of its metrics that the rules, the dashboard or the made-up statistics name."""
     with open(RULES) as rules, open(DASHBOARD) as dashboard, open(STATISTICS) as source:
         named = re.findall(r"\blabntp_\w+", " ".join([rules.read(), dashboard.read(), *WELL, *SHOWN]))
-        return sorted({*named} - {*re.findall(r'"(labntp_\w+)"', source.read())})
+        same("unknown names", [], sorted({*named} - {*re.findall(r'"(labntp_\w+)"', source.read())}))
 
 
 def panels():
@@ -123,8 +125,8 @@ def panels():
         return json.load(it)["panels"]
 
 
-def crossed():
-    """Panels of one number, and those that lie upon one another or beyond the edge, by their titles."""
+def test_panels_of_the_dashboard_stand_beside_one_another():
+    """None has another's number, lies upon another or beyond the edge."""
     found, taken = [], {}
     for number, it in enumerate(panels()):
         at = it["gridPos"]
@@ -132,7 +134,7 @@ def crossed():
         is_odd = it["id"] != number + 1 or max(x for x, _ in places) > 23 or not {*places}.isdisjoint(taken)
         taken |= dict.fromkeys(places)
         found += [it["title"]] if is_odd else []
-    return found
+    same("panels that do not", [], found)
 
 
 def queries():
@@ -148,7 +150,7 @@ def severities():
     return {name: (severity, summary) for name, severity, summary in found}
 
 
-def test_of(name, series, labels, alarms):
+def made_up(name, series, labels, alarms):
     """A test of promtool: with these series the alarm does not fire before, and fires after; without a name none fires at all."""
     severity, summary = alarms.get(name, ("", ""))
     summary = re.sub(r"\{\{ \$labels\.(\w+) \}\}", lambda it: labels[it[1]], summary)
@@ -162,46 +164,28 @@ def test_of(name, series, labels, alarms):
     }
 
 
-def main():
-    program, failed = promtool(), 0
-    for case, odd in (("each metric is printed", unknown_names()), ("the panels of the dashboard stand beside one another", crossed())):
-        print(f"FAILED {case}: {', '.join(odd)}" if odd else f"ok {case}")
-        failed += bool(odd)
-    if not program:
-        print("passed over alarms: there is no promtool")
-        return 1 if failed else 0
-
-    def run(case, *words):
-        ran = subprocess.run([program, *words], stdin=subprocess.DEVNULL, stdout=subprocess.PIPE, stderr=subprocess.STDOUT, text=True, timeout=LIMIT)
-        print(f"ok {case}" if ran.returncode == 0 else f"FAILED {case}: {ran.stdout.strip()}", flush=True)
-        return ran.returncode != 0
-
-    alarms = severities()
-    failed += run("the rules are well formed", "check", "rules", RULES)
-    if set(alarms) != set(FIRES):
-        print(f"FAILED each alarm has its case: {sorted(set(alarms) ^ set(FIRES))}")
-        failed += 1
-    with tempfile.TemporaryDirectory(prefix="alerts-") as folder:
-        cases = [("none fires where all is well", "", {}, {})]
-        cases += [(f"{name} fires", name, *FIRES[name]) for name in alarms if name in FIRES]
-        cases += [(case, case.split()[0], *it) for case, it in FIRES_TOO.items()]
-        for case, name, series, labels in cases:
-            path = f"{folder}/{name or 'well'}.json"
-            # What is JSON is YAML too.
-            with open(path, "w") as it:
-                json.dump({"rule_files": [RULES], "evaluation_interval": "1m", "tests": [test_of(name, series, labels, alarms)]}, it)
-            failed += run(case, "test", "rules", path)
-        # For each query an alarm that it finds nothing; none is to fire.
-        absent = [{"alert": f"Query{number}", "expr": f"absent({it})"} for number, it in enumerate(queries())]
-        with open(f"{folder}/absent.json", "w") as it:
-            json.dump({"groups": [{"name": "dashboard", "rules": absent}]}, it)
-        looks = [{"eval_time": f"{AFTER}m", "alertname": it["alert"], "exp_alerts": []} for it in absent]
-        series = [{"series": one, "values": values} for one, values in {**WELL, **SHOWN}.items()]
-        with open(f"{folder}/dashboard.json", "w") as it:
-            json.dump({"rule_files": [f"{folder}/absent.json"], "tests": [{"interval": "1m", "input_series": series, "alert_rule_test": looks}]}, it)
-        failed += run("each query of the dashboard finds something", "test", "rules", f"{folder}/dashboard.json")
-    return 1 if failed else 0
+def test_rules_are_well_formed():
+    promtool("check", "rules", RULES)
 
 
-if __name__ == "__main__":
-    sys.exit(main())
+def test_each_alarm_has_its_case():
+    same("alarms", {*severities()}, {*FIRES})
+
+
+@pytest.mark.parametrize("case", ["none fires where all is well", *(f"{it} fires" for it in FIRES), *FIRES_TOO])
+def test_alarms(case):
+    name = case.split()[0] if case.split()[0] in FIRES else ""
+    series, labels = FIRES_TOO.get(case) or FIRES.get(name) or ({}, {})
+    # What is JSON is YAML too.
+    rules = {"rule_files": [RULES], "evaluation_interval": "1m", "tests": [made_up(name, series, labels, severities())]}
+    promtool("test", "rules", file_of("case.json", json.dumps(rules)))
+
+
+def test_each_query_of_the_dashboard_finds_something():
+    """For each query an alarm that it finds nothing; none is to fire."""
+    absent = [{"alert": f"Query{number}", "expr": f"absent({it})"} for number, it in enumerate(queries())]
+    absent_file = file_of("absent.json", json.dumps({"groups": [{"name": "dashboard", "rules": absent}]}))
+    looks = [{"eval_time": f"{AFTER}m", "alertname": it["alert"], "exp_alerts": []} for it in absent]
+    series = [{"series": one, "values": values} for one, values in {**WELL, **SHOWN}.items()]
+    tests = [{"interval": "1m", "input_series": series, "alert_rule_test": looks}]
+    promtool("test", "rules", file_of("dashboard.json", json.dumps({"rule_files": [absent_file], "tests": tests})))

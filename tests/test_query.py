@@ -1,10 +1,4 @@
-#!/usr/bin/env python3
 """Judges the built client labntp-query from outside: what it asks, what it takes for an answer, what it prints, and its exit status.
-
-    tests/query [--tries N] [PROGRAM] [NAME..]
-
-PROGRAM is crates/labntp_query/out/labntp_query where no word with a `/` is given; a NAME chooses the cases in whose names it stands. A case
-that fails is made again, as tests/program does.
 
 - Against a server of its own, whose stamps are known: basic, interleaved, rate, deny, nak, silence, each reason why a reply is not taken,
   that nothing forged takes the place of the reply, and what comes to unsigned queries.
@@ -14,8 +8,7 @@ that fails is made again, as tests/program does.
 - Against labntpd where it is built, against chronyd (on the path, or below $PEERS as tests/peers.py says), and against NTPsec's ntpd where it
   is on the path and a network apart may be made.
 
-Prints as tests/program does. It needs Python 3 on Linux. It takes free ports of 127.0.0.1, and a directory of its own. No wait is without a
-limit, and nothing stays running.
+It needs Python 3 on Linux. It takes free ports of 127.0.0.1, and a directory of its own. No wait is without a limit.
 """
 import contextlib
 import fractions
@@ -28,18 +21,14 @@ import signal
 import socket
 import struct
 import subprocess
-import sys
 import threading
 import time
 
-sys.dont_write_bytecode = True
-TOP = os.path.dirname(os.path.dirname(os.path.realpath(__file__)))
-sys.path.insert(0, f"{TOP}/tests")
 import judging
 import labntpd_server
 import odd_host
 import probe
-from judging import Odd, PassedOver, file_of, outputs_that_take_nothing, same, until
+from judging import TOP, Odd, PassedOver, file_of, outputs_that_take_nothing, same, until
 from probe import stamps
 
 # The key of the cases, in both algorithms, and its file.
@@ -174,7 +163,7 @@ def line_of(text):
 
 # ---- Samples
 
-def basic_sample():
+def test_samples_are_basic_and_tell_what_the_reply_does():
     """Offset and half the delay are together what the server's clock is ahead: nothing else is known of when the reply came."""
     others = {Told(ahead=-2 * SECOND, leap=1, stratum=15): "127.0.0.42", Told(ahead=SECOND // 3, stay=SECOND // 7, leap=2, stratum=1): "7f00002a"}
     for told, identifier in ({Told(): "127.0.0.42"} | others).items():
@@ -193,7 +182,7 @@ def basic_sample():
             raise Odd(f"a delay of {delay} seconds in a run of {took}")
 
 
-def request_octets():
+def test_samples_are_asked_for_by_these_octets():
     """A client's request of version 4, signed, with a stamp of this host's clock, and nothing else."""
     before = probe.now()
     with FakeServer(basic()) as server:
@@ -206,7 +195,7 @@ def request_octets():
     same("the stamp is the clock's", True, before <= stamps(request)[2] <= after)
 
 
-def interleaved_samples():
+def test_samples_are_interleaved_after_the_first():
     """The first is basic; each other one carries the exchange before, and has the stamps of that one with the departure that is now told."""
     kept = {}
 
@@ -239,7 +228,7 @@ def interleaved_samples():
         same("its arrival is behind its departure", True, earlier[2] < later[1] < later[2])
 
 
-def least_delay():
+def test_samples_have_the_one_of_least_delay_told():
     """The second of three replies is late, and the third never comes."""
     def answers(request, place):
         if place == 3:
@@ -257,7 +246,7 @@ def least_delay():
     same("the last line", f"least delay of 2 samples in 3 queries: offset {offset} s, delay {delay} s", last)
 
 
-def arrivals():
+def test_samples_have_their_arrival_read_at_once():
     """The clock is read as soon as a reply has come: beside a server on this host the least delay of many is below a thousandth of a second."""
     with FakeServer(basic()) as server:
         found = objects(asked(server, "--count", "20", "--interval", "0.1", "--json")[1])
@@ -266,7 +255,7 @@ def arrivals():
         raise Odd(f"the least delay of {len(found)}: {least}")
 
 
-def times_rounded():
+def test_samples_have_times_rounded_to_the_nearest():
     """Root distances of whole units of 2^-17 seconds, to the nearest nanosecond."""
     for delay, dispersion in ((1, 0), (0, 1), (3, 5), (0xFFFFFFFF, 0xFFFFFFFF), (0, 0), (12345, 678)):
         told = Told(delay=delay, dispersion=dispersion)
@@ -282,7 +271,7 @@ REFERENCES = {
 }
 
 
-def references():
+def test_samples_tell_the_reference_as_text_or_address():
     for (stratum, identifier), text in REFERENCES.items():
         with FakeServer(basic(Told(stratum=stratum, identifier=identifier))) as server:
             same(f"the line of {text}", text, line_of(asked(server)[1].rstrip("\n"))[5])
@@ -290,7 +279,7 @@ def references():
             same(f"the object of {text}", (identifier.hex(), text), (found["reference_id"], found["reference"]))
 
 
-def eras():
+def test_samples_tell_an_offset_that_may_be_another_by_an_era():
     """Stamps have no era of 2^32 seconds (RFC 5905, 6): an offset above 2^30 seconds says so, and one above half an era is another."""
     for ahead, seen in ((2**30 - 9, 0), (2**30 + 9, 1), (-(2**30) - 9, 1), (-(2**30) + 9, 0), (2**31 + 9, 1)):
         with FakeServer(basic(Told(ahead=ahead * SECOND))) as server:
@@ -321,7 +310,7 @@ def nak(request, place):
     return [basic()(request, place)[0][:48] + bytes(4)]
 
 
-def other_results():
+def test_results_are_rate_deny_nak_and_silence():
     begun = time.monotonic()
     results = {"rate": (rate, ["--timeout", "30"]), "deny": (deny, SHORT), "nak": (nak, SHORT), "silence": (lambda *_: [], SHORT)}
     for word, (answers, more) in results.items():
@@ -365,7 +354,7 @@ REFUSED = {
 }
 
 
-def refused():
+def test_results_tell_each_reason_why_a_reply_is_not_taken():
     for word, (answers, text) in REFUSED.items():
         with FakeServer(answers) as server:
             same(f"the line of {word}", (1, f"refused: {text}\n", ""), asked(server, *SHORT, wanted=1))
@@ -373,7 +362,7 @@ def refused():
             same(f"the object of {word}", ("refused", word, None), (found["result"], found["reason"], found["offset"]))
 
 
-def refused_besides():
+def test_results_of_other_replies_that_are_not_taken():
     """Other replies that have a reason of the list."""
     others = {
         "unsynchronised": [basic(Told(stratum=0)), basic(Told(stratum=16))],
@@ -387,7 +376,7 @@ def refused_besides():
                 same(word, word, objects(asked(server, *SHORT, "--json", wanted=1)[1])[0]["reason"])
 
 
-def forged_before():
+def test_results_are_never_forged_in_the_place_of_the_reply():
     """What anybody can send leaves the query waiting, and the reply behind it is taken."""
     def answers(request, place):
         right = basic()(request, place)
@@ -397,7 +386,7 @@ def forged_before():
         same("the result", "basic", line_of(asked(server)[1].rstrip("\n"))[0])
 
 
-def last_is_told():
+def test_results_at_the_time_limit_are_the_last():
     """Where nothing authentic comes, the last of it is told, at the time limit."""
     with FakeServer(lambda request, place: nak(request, place) + deny(request, place) + [bytes(47)]) as server:
         begun = time.monotonic()
@@ -405,7 +394,7 @@ def last_is_told():
         same("the time limit", True, 0.55 < time.monotonic() - begun < 5)
 
 
-def from_elsewhere():
+def test_results_of_a_reply_from_another_port():
     """A reply from another port of the server is not heard."""
     def answers(request, place):
         with socket.socket(socket.AF_INET, socket.SOCK_DGRAM) as other:
@@ -426,7 +415,7 @@ def from_elsewhere():
 REFUSED_CONNECTION = "unreachable: the network says that nobody listens there (connection refused)\n"
 
 
-def nobody_listens():
+def test_results_where_nobody_listens():
     """That nobody listens is no authentic answer: the query goes on until its time limit, and then says so."""
     words = [*keyed(), *SHORT, f"127.0.0.1:{probe.free_port()}"]
     begun = time.monotonic()
@@ -470,7 +459,7 @@ class Network:
         time.sleep(0.02)
 
 
-def what_the_network_says():
+def test_results_are_not_ended_by_what_the_network_says():
     """It is not authentic: neither does it end a query, nor the wait for the next one."""
     def answers(request, number):
         came.append(time.monotonic())
@@ -488,7 +477,7 @@ def what_the_network_says():
             same(f"{said}: whole seconds between the requests", 1, int(came[1] - came[0]))
 
 
-def what_the_network_alone_says():
+def test_results_where_the_network_alone_says_something():
     """Where nothing else comes, the outcome is what it says; where anything else does, that."""
     def answers(request, number):
         network.says(*it, server)
@@ -506,7 +495,7 @@ def what_the_network_alone_says():
             same(f"{it} and a NAK", "nak", objects(asked(server, *SHORT, "--json", wanted=1)[1])[0]["result"])
 
 
-def what_the_network_says_before_a_request():
+def test_results_where_the_network_said_something_of_an_earlier_request():
     """The program stands still until the next request is due; then its socket has an error."""
     with Network() as network, FakeServer(basic()) as server, open(f"{judging.ROOM}/out", "wb") as out:
         for number, it in enumerate(ICMP):
@@ -521,7 +510,7 @@ def what_the_network_says_before_a_request():
         same("requests", 2 * len(ICMP), len(server.requests))
 
 
-def receives_that_fail():
+def test_sockets_with_receives_that_fail():
     """The system's fault is told: of the first receive, and of one that waits for the next request."""
     for left in (0, 1):
         environment = os.environ | odd_host.in_front(odd_host.DOWN % left)
@@ -540,7 +529,7 @@ def unsigned(change=lambda it: it, told=None):
     return lambda request, place: [change(basic(told)(request + bytes(20), place)[0][:48])]
 
 
-def unsigned_samples():
+def test_unsigned_samples_are_told():
     """A request of 48 octets; what comes to it is unauthenticated, in the line, the last line, the object and a check."""
     told = Told()
     with FakeServer(unsigned(told=told)) as server:
@@ -562,7 +551,7 @@ def unsigned_samples():
             figures(out[len(begins) :], told)
 
 
-def unsigned_others():
+def test_unsigned_replies_that_are_no_time():
     """What is no time, to an unsigned query: a kiss with its code, a reason, or nothing. A reply to another request leaves it waiting."""
     for code in ("DENY", "RATE", "RSTR"):
         with FakeServer(lambda request, _: [kiss(code.encode(), stamps(request)[2])]) as server:
@@ -596,7 +585,7 @@ def with_hosts(*words):
     return run(words, before=["unshare", "-m", "sh", "-c", script, ""])
 
 
-def names():
+def test_sockets_reach_a_server_by_its_name():
     """The first IPv4 address of a name is asked, and a name that is not found is a fault."""
     if os.geteuid() or not shutil.which("unshare") or not os.path.exists("/etc/nsswitch.conf"):
         raise PassedOver("names may not be made here")
@@ -611,7 +600,7 @@ def names():
     same("of a check", (3, "NTP UNKNOWN: no.example: failed to lookup address information: Name or service not known\n", ""), ran)
 
 
-def sources():
+def test_sockets_have_the_address_that_is_asked_from():
     """It asks from the address that is named, which must be the host's."""
     with FakeServer(basic()) as server:
         for source in ("127.0.0.5", "127.0.0.1"):
@@ -625,7 +614,7 @@ def sources():
 
 # ---- JSON
 
-def json_of_samples():
+def test_json_of_samples():
     told = Told(leap=1)
     with FakeServer(basic(told)) as server:
         _, out, err = asked(server, "--json", "--count", "2", "--interval", "0.1")
@@ -664,7 +653,7 @@ def figures(text, told):
     same("stratum, root distance", (str(told.stratum), text_of(told.root_distance())), found.groups()[2:4])
 
 
-def checks():
+def test_checks_heed_their_limits():
     told = Told(ahead=-SECOND // 4)
     well = basic(told)
     wide = ["--max-offset", "1", "--max-stratum", "2", "--max-root-distance", "1.6"]
@@ -678,7 +667,7 @@ def checks():
     same("at its limit", "", check(well, "--max-stratum", "2", status=0, begins="")[:0])
 
 
-def checks_without_sample():
+def test_checks_without_a_sample():
     same("nothing", "nothing came\n", check(lambda *_: [], "--max-offset", "1", status=2, begins="no sample, silence: "))
     unsynchronised = check(basic(Told(leap=3)), "--warn-offset", "1", status=2, begins="no sample, refused: ")
     same("not synchronised", "the server's clock is not synchronised\n", unsynchronised)
@@ -688,7 +677,7 @@ def checks_without_sample():
     figures(rest, Told())
 
 
-def checks_unknown():
+def test_checks_where_nothing_could_be_asked():
     server = f"127.0.0.1:{probe.free_port()}"
     limit = ["--max-offset", "1"]
     missing = ["--key-file", f"{judging.ROOM}/nothing", "--number", "7"]
@@ -700,7 +689,7 @@ def checks_unknown():
         same(" ".join(words), (3, "NTP UNKNOWN: usage\n", True), (status, out, bool(err)))
 
 
-def json_of_a_check():
+def test_checks_in_json():
     """With --json its objects are printed in place of the line, and the status is the check's."""
     with FakeServer(basic()) as server:
         _, out, _ = asked(server, "--json", "--max-offset", "1", wanted=2)
@@ -709,7 +698,7 @@ def json_of_a_check():
 
 # ---- The key file
 
-def odd_paths():
+def test_keys_at_a_path_with_any_character_are_told_in_one_line():
     """Of its path each character that is no printable ASCII is told as `\\u{..}`."""
     path, told = (f"{judging.ROOM}/keys {it}" for it in ("~\x1b\n\u00e9", "~\\u{1b}\\u{a}\\u{e9}"))
     for text, fault in ((None, "No such file or directory (os error 2)"), (KEYS, "there is no key 9"), (b"\xff\n", "this is no UTF-8")):
@@ -724,7 +713,7 @@ def in_file(line, number=NUMBER):
     return f"# {KEY.hex()}\n%\n;\n!\n\n   \n70 MD5 HEX:zz\nnonsense\n{line}\n{number} SHA1 other\n"
 
 
-def key_forms():
+def test_keys_in_each_form_of_a_line():
     """Each line gives the key of 127.0.0.1's customer."""
     forms = {
         f"{NUMBER} {KEY.decode()}": "md5", f"{NUMBER} MD5 {KEY.decode()}": "md5", f"{NUMBER} ASCII:{KEY.decode()}": "md5",
@@ -744,7 +733,7 @@ def key_forms():
                 same(f"with {line!r}", "basic", run(words)[1].partition(":")[0])
 
 
-def key_limits():
+def test_keys_with_the_most_octets_and_the_highest_number():
     """The longest key, and the highest number."""
     key = b"k" * 32
     def answers(request, _):
@@ -757,7 +746,7 @@ def key_limits():
         same("the longest key", "basic", run(words)[1].partition(":")[0])
 
 
-def key_faults():
+def test_keys_have_their_faults_told_with_the_line():
     wanted = "NUMBER [MD5|SHA1] [ASCII:|HEX:]KEY is wanted"
     octets = "a key of 1 to 32 octets is wanted, behind HEX: in 2 to 64 hexadecimal digits"
     lines = {
@@ -779,14 +768,14 @@ def key_faults():
     same("a folder", (3, "", f"{judging.ROOM}: a regular file is wanted\n"), run(folder))
 
 
-def sockets_refused():
+def test_sockets_with_an_address_that_is_refused():
     status, out, err = run([*keyed(), "255.255.255.255"])
     same("a broadcast", (3, "", True), (status, out, err.startswith("255.255.255.255: ") and err.count("\n") == 1))
 
 
 # ---- Words
 
-def help_and_version():
+def test_words_for_help_and_version():
     status, out, err = run(["--help"])
     same("help", (0, ""), (status, err))
     for word in ("--key-file", "--number", "--count", "--interval", "--timeout", "--json", "--max-offset", "--max-stratum",
@@ -797,7 +786,7 @@ def help_and_version():
     same("version", (0, f"labntp-query {version}\n", ""), run(["--version"]))
 
 
-def other_words():
+def test_words_that_are_others_are_refused():
     good = [*keyed(), "127.0.0.1"]
     wrong = [[], [*good[2:]], [*good[:2], "127.0.0.1"], good[:-1], [*good, "127.0.0.2"], [*good, "--nothing"], [*keyed(0), "127.0.0.1"], [*keyed(65536), "127.0.0.1"]]
     hosts = ("127.0.0.300", "127.1", "1", "127.0.0.1:", "127.0.0.1:0", "127.0.0.1:65536", "127.0.0.1:1:2", "localhost:", "localhost:ntp", "::1", "")
@@ -813,7 +802,7 @@ def other_words():
         same("a word that is no text", (3, "", "usage\n"), run([*good, *more, b"\xff"]))
 
 
-def closed_streams():
+def test_words_where_a_standard_stream_is_closed():
     """The socket does not take the place of a standard stream that is closed, and so nothing that is told goes to the server."""
     with FakeServer(basic()) as server:
         for stream, told in ((">&-", "write\n"), ("2>&-", "")):
@@ -823,7 +812,7 @@ def closed_streams():
     same("datagrams that came to the server", [], server.requests)
 
 
-def writes_that_fail():
+def test_words_and_writes_that_fail():
     with FakeServer(basic()) as server:
         for more in ([], ["--json"], ["--count", "2", "--interval", "0.1"]):
             with open("/dev/full", "wb") as full:
@@ -834,7 +823,7 @@ def writes_that_fail():
 
 # ---- Other servers
 
-def of_labntpd():
+def test_servers_labntpd():
     """Basic, interleaved, then RATE past a budget, and a NAK for another key; DENY once it is revoked."""
     (built,) = judging.built("labntpd")
     if not os.access(built, os.X_OK):
@@ -861,7 +850,7 @@ def of_labntpd():
         same("revoked", "deny", results(2, timeout="0.2")[0]["result"])
 
 
-def of_chronyd():
+def test_servers_chronyd():
     port, keys = probe.free_port(), labntpd_server.room("chrony.keys")
     labntpd_server.begin(labntpd_server.chronyd_at(port, "chrony", "local stratum 1", keys=f"1 SHA1 HEX:{SHA1_KEY}\n5 MD5 {KEY.decode()}\n"))
     words = ["--key-file", keys, "--json", f"127.0.0.1:{port}"]
@@ -877,7 +866,7 @@ def of_chronyd():
         same("offset and delay on one host", True, all(abs(it["offset"]) < 0.3 and abs(it["delay"]) < 0.5 for it in found))
 
 
-def of_ntpd():
+def test_servers_ntpd_of_ntpsec():
     """NTPsec's, which knows no port but 123: in a network apart. It is not synchronised in its first minutes, which only a reply that is signed
     with the key can tell; a query with another key is not answered so."""
     found = shutil.which("ntpd", path=f"{os.environ.get('PATH', '')}:/usr/sbin")
@@ -895,57 +884,3 @@ def of_ntpd():
     first, second = objects(ran.stdout)
     same("authentic", True, first["result"] == "basic" or first["reason"] == "unsynchronised")
     same("with another key", True, second["result"] in ("nak", "silence"))
-
-
-CASES = {
-    "samples: basic, and what the reply tells": basic_sample,
-    "samples: the octets of a request": request_octets,
-    "samples: interleaved after the first": interleaved_samples,
-    "samples: the one of least delay": least_delay,
-    "samples: their arrival": arrivals,
-    "samples: times are rounded to the nearest": times_rounded,
-    "samples: the reference as text or address": references,
-    "samples: an offset that may be another by an era": eras,
-    "results: rate, deny, nak, silence": other_results,
-    "results: each reason why a reply is not taken": refused,
-    "results: other replies that are not taken": refused_besides,
-    "results: nothing forged takes the place of the reply": forged_before,
-    "results: at the time limit the last is told": last_is_told,
-    "results: a reply from another port": from_elsewhere,
-    "results: nobody listens": nobody_listens,
-    "results: what the network says ends neither a query nor a wait": what_the_network_says,
-    "results: what the network alone says": what_the_network_alone_says,
-    "results: what the network said of an earlier request": what_the_network_says_before_a_request,
-    "sockets: receives that fail": receives_that_fail,
-    "sockets: the address that is asked from": sources,
-    "sockets: a server's name": names,
-    "unsigned: samples": unsigned_samples,
-    "unsigned: what is no time": unsigned_others,
-    "json: samples": json_of_samples,
-    "checks: limits": checks,
-    "checks: no sample": checks_without_sample,
-    "checks: nothing could be asked": checks_unknown,
-    "checks: with --json": json_of_a_check,
-    "keys: each form of a line": key_forms,
-    "keys: the longest, and the highest number": key_limits,
-    "keys: faults, with their line": key_faults,
-    "keys: a path with any character is told in one line": odd_paths,
-    "sockets: an address that is refused": sockets_refused,
-    "words: help and version": help_and_version,
-    "words: others": other_words,
-    "words: writes that fail": writes_that_fail,
-    "words: a standard stream is closed": closed_streams,
-    "servers: labntpd": of_labntpd,
-    "servers: chronyd": of_chronyd,
-    "servers: NTPsec's ntpd": of_ntpd,
-}
-
-
-def main(*words):
-    tries, (judging.PROGRAM,), cases = judging.asked("query", words, judging.built("labntp_query"), CASES)
-    with judging.own_room("query"):
-        return judging.judge(cases, tries)
-
-
-if __name__ == "__main__":
-    sys.exit(main(*sys.argv[1:]))

@@ -1,10 +1,5 @@
-#!/usr/bin/env python3
 """Judges labntpctl from outside by what a clerk does with the commands file as a whole: it is folded, lost and had back, and given many
 customers at once.
-
-    tests/clerk [--tries N] [LABNTPCTL [LABNTPD]] [NAME..]
-
-Words are as those of tests/ctl, by whose means the programs are run.
 
 - Folds: what is told, which files there are, their modes; faults, after which all is as it was; a file that is full.
 - Folds of some hundreds of random histories: tests/model.py makes the same customers of the new file, each key with its octets.
@@ -12,22 +7,17 @@ Words are as those of tests/ctl, by whose means the programs are run.
   starts then has them, and the next try is as good.
 - A clerk's day, beside a labntpd of its own: at each step it has the customers of tests/model.py.
 - That no key is shown, in any run.
-
-Prints as tests/program does.
 """
 import os
 import random
 import re
-import sys
 import time
 
-sys.dont_write_bytecode = True
-TOP = os.path.dirname(os.path.dirname(os.path.realpath(__file__)))
-sys.path.insert(0, f"{TOP}/tests")
+import pytest
+
 import judging
-import labntpctl_runs
 import probe
-from judging import Odd, enrolments, file_of, limited_to, same, until
+from judging import SLOW, Odd, enrolments, file_of, limited_to, same, until
 from labntpctl_runs import CLERK, CUSTOMERS, FILE_LIMIT, KEY, RECORD, append_text, as_told, configured, customers_by, customers_now, enrolled, history_drawn, killed_at
 from labntpctl_runs import lines_in, names_by, patient, read, room, run, served, told, wanted_text, without
 from odd_host import RENAMES, in_front
@@ -55,7 +45,7 @@ def kept():
 
 # ---- Folds
 
-def folds():
+def test_fold_writes_the_same_customers_in_the_fewest_lines():
     """The new file makes the same customers and names in the fewest lines, and the old one is kept."""
     config = configured(commands=text_of(LINES))
     os.chmod(room("commands"), 0o640)
@@ -81,7 +71,7 @@ def folds():
     same("folded again: the files", again, files())
 
 
-def records():
+def test_fold_keeps_when_and_by_whom():
     """When a customer was last changed, and by whom, is kept; what belongs to several stands there once, and to nobody else."""
     config = configured(customers=[], commands=enrolments(CUSTOMERS[:1]) + "# 2026-01-01T00:00:00Z a\n# name 192.0.2.2 A\n" + enrolments(CUSTOMERS[1:]) + "# 2026-01-02T00:00:00Z b\nbudget 127.0.0.1 5\n\n"
                         + enrolments([("192.0.2.5", 5, "md5", "00", 1), ("192.0.2.6", 6, "md5", "00", 1), ("192.0.2.7", 7, "md5", "00", 1)]) + "# 2026-01-03T00:00:00Z c\nbudget 192.0.2.6 5\nbudget 192.0.2.7 6\nrevoke 192.0.2.8\n")
@@ -91,7 +81,8 @@ def records():
     same("folded again", (0, "nothing to fold\n", ""), run(["fold", *config]))
 
 
-def long_files():
+@pytest.mark.proved_alone(SLOW)
+def test_fold_of_long_files():
     """A file of thousands of customers, and one with more octets than labntpd reads."""
     lines = [f"{word} 11.{it >> 8}.{it & 255}.1 {rest}" for it in range(1, 8001) for word, rest in (("enrol", f"{it} md5 00 1"), ("budget", "2"))]
     config = configured(customers=[], commands=text_of([*lines, "enrol 192.0.2.1 8001 md5 00 1", "revoke 192.0.2.1"]))
@@ -108,7 +99,7 @@ def long_files():
     same("a full one", customers_by(f"{enrolments(CUSTOMERS)}{line}\n"), customers_now())
 
 
-def links():
+def test_fold_of_a_link_is_refused():
     """A link is not folded: the file that it names would stay as it is."""
     config = configured(commands=text_of(LINES))
     os.rename(room("commands"), room("others"))
@@ -122,7 +113,7 @@ def links():
 CUT, BROKEN = "File too large (os error 27)", "Input/output error (os error 5)"
 
 
-def faults():
+def test_fold_leaves_all_at_a_fault_in_each_step():
     """Each step that fails: nothing is left of it, and the next try, in the same second, is good."""
     config, path, begun_at = configured(commands=text_of(LINES)), room("commands"), int(time.time())
     before = customers_now()
@@ -146,7 +137,7 @@ def faults():
     same("what is kept", ([old["commands"]], True, before), ([*kept().values()], read("commands") != old["commands"], customers_now()))
 
 
-def name_not_stored():
+def test_fold_tells_a_directory_that_is_not_stored():
     """A directory that may be written, and cannot be stored, since it cannot be opened: the file is in place, and that is told."""
     names = ("below/commands", "labntpd.toml", "below")
     config = configured(commands=text_of(LINES))
@@ -164,7 +155,7 @@ def name_not_stored():
     same("the customers", (True, before), (read(names[0]) != old, customers_by(read(names[0]))))
 
 
-def at_random():
+def test_fold_at_random_is_the_models():
     """The customers before are the customers after, and no line more than they want."""
     draw, kinds = random.Random(SEED), {"revoked": 0, "two keys": 0, "nobody": 0, "nothing to fold": 0}
     for turn in range(HISTORIES):
@@ -228,7 +219,7 @@ def killed(words, commands, good):
         raise Odd(f"it is never killed behind its work: {stood.values()} of {most}")
 
 
-def kills():
+def test_fold_and_apply_survive_kills_at_each_call():
     draw, config = random.Random(SEED + 1), configured(probe.free_port(), customers=[])
     commands = "".join(it for it in history_drawn(draw, 100).splitlines(True) if not it.startswith("revoke"))
     killed(["fold", *config], commands, 0)
@@ -238,7 +229,7 @@ def kills():
 
 # ---- A day
 
-def a_clerks_day():
+def test_clerks_day_is_the_models():
     """Changes, an editor's too; a file of customers; a lost file, which is had back of an export; a fold. At each step labntpd has the
     customers of the model."""
     config = configured(probe.free_port(), customers=[], statistics="statistics")
@@ -287,26 +278,3 @@ def a_clerks_day():
     with served(config):
         are_there(config, "folded, and begun again")
         change("enrol", "192.0.2.13")
-
-
-CASES = {
-    "fold: what is written": folds,
-    "fold: when, and by whom": records,
-    "fold: long files": long_files,
-    "fold: a link": links,
-    "fold: a fault at each step": faults,
-    "fold: a directory that is not stored": name_not_stored,
-    "fold: at random": at_random,
-    "fold and apply: kills at each call": kills,
-    "a clerk's day": a_clerks_day,
-}
-
-
-def main(*words):
-    tries, (judging.PROGRAM, labntpctl_runs.LABNTPD), cases = judging.asked("clerk", words, judging.built("labntpctl", "labntpd"), CASES)
-    with judging.own_room("clerk"):
-        return judging.judge(cases, tries)
-
-
-if __name__ == "__main__":
-    sys.exit(main(*sys.argv[1:]))

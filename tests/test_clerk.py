@@ -54,7 +54,7 @@ def test_fold_writes_the_same_customers_in_the_fewest_lines():
     before, old, stood = customers_now(), files(), os.stat(room("commands"))
     shown = run(["fold", "--dry-run", *config], 0)[1]
     same("it is only told", old, files())
-    status, out, err = run(["fold", *config])
+    status, out, err = run(["fold", *config], umask=0)
     (name, text), = kept().items()
     after = os.stat(room("commands"))
     same("fold", (0, "", [f"customers: {len(enrolled(before))}", f"commands file: {len(read('commands'))} octets, {len(old['commands'])} before", f"kept: {room(name)}", RESTART]), (status, err, out.splitlines()))

@@ -875,7 +875,7 @@ def test_export_writes_what_is_wanted():
     printed = run(["export", "--no-keys", *config], 0)[1]
     del wanted[0]["key"], wanted[1]["key"], wanted[1]["newer"]["key"]
     same("without keys", ({"customer": wanted}, False), (tomllib.loads(printed), "6b6579" in printed))
-    same("into a file", (0, "2 customers\n", ""), run(["export", "--no-keys", room("bare.toml"), *config]))
+    same("into a file", (0, "2 customers\n", ""), run(["export", "--no-keys", room("bare.toml"), *config], umask=0))
     same("it is as it is printed", (printed, 0o600), (read("bare.toml"), os.stat(room("bare.toml")).st_mode & 0o7777))
     same("it is not applied", 1, run(["apply", room("bare.toml"), *config])[0])
     same("nothing else was written", (before, files | {"new.toml", "bare.toml"}), (read("commands"), {*os.listdir(judging.ROOM)}))
@@ -1610,7 +1610,8 @@ def datagrams():
         (query_of(1, KEY, first=0x1b, fields=field), "192.0.2.1", "100 octets from 192.0.2.1, version 3, mode 3, key number 1, MAC of 24 octets: time: "),
         (query_of(3, "6b6579", "md5"), "192.0.2.2", "68 octets from 192.0.2.2, version 4, mode 3, key number 3, MAC of 20 octets: time: a signed query, the time for the first 9 of a window"),
         (query_of(), "192.0.2.1", "48 octets from 192.0.2.1, version 4, mode 3, no MAC: deny: it has no MAC; four refusals"), (good, "192.0.2.3", ": deny: its address is revoked; four refusals"),
-        (query_of(2, KEY), "192.0.2.1", ": nak: key number 2 is none of the customer's; four refusals"), (query_of(1, KEY, "md5"), "192.0.2.1", said + ": nak: key 1 is for sha1, and the MAC has the length of md5; four"),
+        (query_of(2, KEY), "192.0.2.1", ": nak: key number 2 is none of the customer's; four refusals"),
+        (query_of(3, KEY), "192.0.2.1", ": nak: key number 3 is none of the customer's: 192.0.2.2 has it; four refusals"), (query_of(1, KEY, "md5"), "192.0.2.1", said + ": nak: key 1 is for sha1, and the MAC has the length of md5; four"),
         (query_of(1, SECRET), "192.0.2.1", ": nak: its digest is not by key 1: "), (good, "192.0.2.99", ": silent unregistered: its address was never enrolled"),
         (good[:47], "192.0.2.1", "47 octets from 192.0.2.1: silent short: it has fewer than 48 octets"), (good + bytes(1024), "192.0.2.1", ": silent long: it has more than 1024 octets"),
         (query_of(tail=struct.pack(">HH", 1, 12) + bytes(24)), "192.0.2.1", ": silent field-short 48: the length of the extension field at octet 48 is below 16"),
@@ -1676,6 +1677,8 @@ def test_explain_reads_capture_files():
             good = packet_of(*datagrams()[0][:2])
             # None of these is a datagram to the port, as a whole and over IPv4.
             others = [packet_of(b"", "192.0.2.1", 20124), packet_of(b"", "192.0.2.1", protocol=6), packet_of(b"", "192.0.2.1", fragment=0x2000), packet_of(b"", "192.0.2.1", fragment=1), good[:-1], good[:27], good[:19], b"", b"\x60" + good[1:], b"\x44" + good[1:]]
+            # Nor is the server's own reply to a customer who asks from this port one to explain.
+            others.append(packet_of(query_of(1, KEY, first=0x24), "127.0.0.1"))
             frames[3:3] = [head + it for it in others]
             if head:
                 frames.append(head.replace(b"\x08\x00", b"\x86\xdd") + good)
@@ -1685,6 +1688,7 @@ def test_explain_reads_capture_files():
             same(f"link type {link}", (0, "", f"{len(frames)} records, {len(wanted)} whole UDP datagrams to port 20123"), (status, err, lines[-1]))
             for (octets, _, words), line in zip(datagrams(), lines[1:], strict=False):
                 told_of(octets, words, line)
+                same("when it was captured", "2026-09-21T14:13:20Z", line.split()[0])
     whole = capture_of(frames)
     for what, octets, status, told in (
         ("cut short", whole[:-1], 1, f"record {len(frames)} is cut short"), ("a record's header", whole + bytes(15), 1, f"record {len(frames) + 1} is cut short"), ("a length past the end", whole + b"\xff" * 16, 1, "is cut short"),

@@ -652,7 +652,8 @@ def test_service_answers_by_the_steps_of_the_page(systemd):
     own_systemd.begin_chrony()
     first = commands.partition("\n")[0]
     start = time.monotonic()
-    sh(f"cd /{DOCUMENTATION} && {first}")
+    said = sh(f"cd /{DOCUMENTATION} && {first}")
+    same("what the first says of several addresses", True, said.endswith("[Socket]\nListenDatagram=\nListenDatagram=ADDRESS:123"))
     clock = labntpd_server.FakeClock(key=read("/etc/labntp/clock.key").decode().strip(), port=11123)
     clock.__enter__()
     same("what is said of the new customer", True, "line 2: done" in sh(f"cd /tmp && {commands.partition(chr(10))[2]}"))

@@ -2,11 +2,11 @@
 
 use crate::commands_file::Loaded;
 use crate::desk::{Clerk, Desk, Stop};
-use crate::shown::Called;
+use crate::shown::{Called, date};
 use ntp_admin::{Outcome, print_answer};
 use ntp_clerk::{
-    Capture, GivenKey, Record, Terms, algorithm_under, algorithm_word, capture_in, datagram_in,
-    next_record, packet_in, terms_of,
+    Capture, Datagram, GivenKey, Order, Record, Terms, algorithm_under, algorithm_word, capture_in,
+    datagram_in, next_record, packet_in, terms_of,
 };
 use ntp_client::reference_unsynchronised;
 use ntp_host::moment_now;
@@ -19,6 +19,12 @@ use std::io::{self, BufWriter, Stdout, Write};
 
 /// The most octets of a capture file.
 const MOST_CAPTURE_OCTETS: u32 = 268_435_456;
+
+/// The form of the times of records.
+const CAPTURED_FORM: &str = "%Y-%m-%dT%H:%M:%SZ";
+
+/// The mode of a server's reply (RFC 5905, 7.3).
+const SERVER_MODE: u8 = 4;
 
 /// What holds for all datagrams.
 const HEAD: &str =
@@ -78,7 +84,8 @@ impl Explainer {
         let octets = desk.octets(path, MOST_CAPTURE_OCTETS)?;
         let capture = capture_in(&octets).map_err(|fault| desk.refusal_at(path, fault))?;
         let _ = writeln!(self.out, "{HEAD}");
-        let cut = self.capture(capture, clerk.port())?;
+        let own = clerk.server().map(|server| server.address);
+        let cut = self.capture(capture, own, clerk.port())?;
         desk.printed(self.out.flush())?;
         match cut {
             None => Ok(()),
@@ -89,8 +96,14 @@ impl Explainer {
         }
     }
 
-    // Explains the datagrams of a capture file to a port. Returns the number of the record that is cut short, if one is.
-    fn capture(&mut self, capture: Capture<'_>, port: u16) -> Result<Option<u64>, AllocError> {
+    // Explains the datagrams of a capture file to a port, but for the server's own replies. Returns the number of the record that is
+    // cut short, if one is.
+    fn capture(
+        &mut self,
+        capture: Capture<'_>,
+        own: Option<Address>,
+        port: u16,
+    ) -> Result<Option<u64>, AllocError> {
         let mut whole: u64 = 0;
         let mut rest = capture.records;
         for _ in 0..capture.records.len() {
@@ -99,7 +112,10 @@ impl Explainer {
             };
             whole = whole.saturating_add(1);
             let packet = packet_in(capture.link, frame);
-            if let Some(datagram) = packet.and_then(|packet| datagram_in(packet, port)) {
+            if let Some(datagram) = packet.and_then(|packet| datagram_in(packet, port))
+                && !is_reply_of(own, &datagram)
+            {
+                self.write_time(capture.order, rest);
                 self.datagram(Address(datagram.source), datagram.payload)?;
             }
             rest = behind;
@@ -111,6 +127,20 @@ impl Explainer {
         );
         let is_cut = !rest.is_empty();
         Ok(is_cut.then_some(whole.saturating_add(1)))
+    }
+
+    // Writes when a record was captured: it begins with the seconds since 1970 (pcap-savefile(5)).
+    fn write_time(&mut self, order: Order, record: &[u8]) {
+        let [a, b, c, d, ..] = *record else {
+            return;
+        };
+        let seconds = match order {
+            Order::BigEndian => u32::from_be_bytes([a, b, c, d]),
+            Order::LittleEndian => u32::from_le_bytes([a, b, c, d]),
+        };
+        if let Some(date) = date(self.alloc, u64::from(seconds), CAPTURED_FORM) {
+            let _ = write!(self.out, "{date} ");
+        }
     }
 
     // Explains a datagram, in a line.
@@ -205,7 +235,20 @@ impl Explainer {
             None => None,
         };
         match wanted {
-            None => write!(out, "key number {number} is none of the customer's"),
+            None => {
+                write!(out, "key number {number} is none of the customer's")?;
+                match u16::try_from(number).map_or(
+                    None,
+                    |number| self.loaded.service.holder(number),
+                ) {
+                    Some(holder) => write!(
+                        out,
+                        ": {} has it",
+                        Called(holder, self.loaded.name(holder))
+                    ),
+                    None => Ok(()),
+                }
+            }
             Some(wanted) if wanted != there => {
                 let (wanted, there) = (algorithm_word(wanted), algorithm_word(there));
                 write!(
@@ -247,4 +290,10 @@ impl Explainer {
             Reason::OverBudget => write!(out, "the budget of the window is spent"),
         }
     }
+}
+
+// Returns whether a datagram is a reply of the server at this address, if its address is known.
+fn is_reply_of(own: Option<Address>, datagram: &Datagram<'_>) -> bool {
+    own == Some(Address(datagram.source))
+        && read_header(datagram.payload).map_or(false, |header| header.mode() == SERVER_MODE)
 }

@@ -2,7 +2,7 @@
 
 use crate::applying::unled;
 use crate::commands_file::{HeldFile, Loaded};
-use crate::desk::{Clerk, Stop};
+use crate::desk::{Clerk, Desk, Stop};
 use crate::replacing::{put_in_place, store_name};
 use ntp_admin::{Command, Escaped};
 use ntp_clerk::{LeadFault, command_line, customers_of, fold, name_line};
@@ -20,16 +20,25 @@ const RESTART: &str =
 /// Writes the commands file anew in fewer lines, and keeps the old one beside it; or only prints how long it would be.
 pub fn fold_commands(clerk: &Clerk<'_>, dry_run: bool) -> Result<(), Stop> {
     judge_no_link(clerk)?;
-    let (desk, path) = (clerk.desk, clerk.commands());
     if dry_run {
-        folded(clerk, &clerk.load()?)?;
-        return Ok(());
+        let loaded = clerk.load()?;
+        return folded(clerk, &loaded).map(|_| ());
     }
-    let (_held, loaded) = HeldFile::hold(desk, path)?;
-    let Some(text) = folded(clerk, &loaded)? else {
-        return Ok(());
-    };
-    let kept = put_in_place(desk, path, text.as_str())?;
+    let held = HeldFile::hold(clerk.desk, clerk.commands())?;
+    fold_held(clerk, &held.1)
+}
+
+// Writes the commands file anew, which is held.
+fn fold_held(clerk: &Clerk<'_>, loaded: &Loaded) -> Result<(), Stop> {
+    match folded(clerk, loaded)? {
+        Some(text) => replace(clerk.desk, clerk.commands(), text.as_str()),
+        None => Ok(()),
+    }
+}
+
+// Puts the new file in the place of the old one, and prints where that is kept.
+fn replace(desk: Desk<'_>, path: &str, text: &str) -> Result<(), Stop> {
+    let kept = put_in_place(desk, path, text)?;
     desk.print(format_args!("kept: {kept}\n{RESTART}"))?;
     desk.at(path, store_name(desk.rt, path))
 }

@@ -55,7 +55,7 @@ def pytest_path():
     environment = {**os.environ, "PYTHONPATH": modules, "PYTHONDONTWRITEBYTECODE": "1"}
     if answers(IMPORTS_PYTEST, os.environ):
         return [""]
-    if not os.path.exists(kept):
+    if not answers(IMPORTS_PYTEST, environment):
         os.makedirs(cache(), exist_ok=True)
         print("fetching Debian's packages of pytest", flush=True)
         with tempfile.TemporaryDirectory(prefix="fetched-", dir=cache()) as folder:
@@ -63,8 +63,10 @@ def pytest_path():
                 print(f"they were not fetched: {why}", flush=True)
             for file in glob.glob(f"{glob.escape(folder)}/*.deb") if not why else ():
                 subprocess.run(["dpkg", "-x", file, f"{folder}/unpacked"], stdin=subprocess.DEVNULL, timeout=60, check=True)
-            # Another may have put it there meanwhile.
+            # What is there does not start, or another has put it there meanwhile.
             with contextlib.suppress(OSError):
+                if not why:
+                    shutil.rmtree(kept, ignore_errors=True)
                 os.rename(f"{folder}/unpacked", kept)
     return [modules] if answers(IMPORTS_PYTEST, environment) else []
 

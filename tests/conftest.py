@@ -15,6 +15,7 @@ from _pytest.runner import runtestprotocol
 TOP = os.path.dirname(os.path.dirname(os.path.realpath(__file__)))
 sys.path.append(f"{TOP}/tools")
 import judging
+import probe
 from judging import PROGRAMS, TESTS, UNPROVED, Odd, until
 from rooms import Ticker
 
@@ -78,8 +79,8 @@ def pytest_xdist_make_scheduler(config, log):
 
 @pytest.fixture(scope="module", autouse=True)
 def room(request):
-    """The room of a file's cases, with modes under its MASK, and the programs that it judges."""
-    test = test_of(request.node.nodeid)
+    """The room of a file's cases, with modes under its MASK, and the programs that it judges. Behind them the usual host is asked again."""
+    test, host = test_of(request.node.nodeid), probe.HOST
     for path in (paths := judging.built(*TESTS[test][0])):
         if UNPROVED in os.environ:
             until(f"{path} is compiled", lambda: os.path.exists(path), COMPILING)
@@ -89,6 +90,7 @@ def room(request):
     judging.PROGRAM = paths[0] if paths else ""
     with judging.room_of(test, getattr(request.module, "MASK", 0o077)):
         yield
+    probe.HOST = host
 
 
 @pytest.fixture(autouse=True)

@@ -12,7 +12,7 @@ use Rattle.ntp_service.specs.Headline.{StandsFor, Tells, TellsOne}
 use Rattle.ntp_service.proofs.PublicLaws.{Tells-nil, Tells-one}
 use Rattle.ntp_port.specs.{declared.sent.Sent.Sent, declared.port.PortCounts.PortCounts, declared.port.PortFault.PortFault}
 use Rattle.ntp_port.specs.{declared.port.PortFault.TheVariants.Send, Serving.FollowsList, Serving.Follows}
-use Rattle.ntp_port.specs.Port.{IncomingValue, Readings, later, TurnValue, Told, counted_send, NowTells, SendTells}
+use Rattle.ntp_port.specs.Port.{IncomingValue, ReadClock, TriedSend, Readings, behind, first_reading, departure_reading, TurnValue, Told, counted_send, NowTells, SendTells}
 use Rattle.ntp_port.specs.Made.{Made, Received, turn_of, reply_in, departing, sent_in, sending_of, is_unsent}
 use Rattle.ntp_port.specs.Sending.{saved_in, turn_with, HasBegun, IsInTurn, SendingMakes}
 
@@ -51,9 +51,10 @@ sending-sent a noted reply e f = grind arith
 sending-time : (a : Answer) (noted : Bool) (saved : Stamp) → saved_in a ≡ Some saved → (if noted then Noted else NotNoted) ≡ sending_of a true noted
 sending-time a noted saved e = grind arith
 
--- what a port tells in a turn, once it tried to send a reply
+-- what a port tells in a turn, once its clock was read and a reply was tried to be sent
 abbrev pub tried_in : List TurnValue → TurnValue → List Sent → Told
-tried_in rest turn sent = record { coming = rest; present = turn; clock = later turn.clock; has_tried_send = true; sent = sent }
+tried_in rest turn sent =
+    record { coming = rest; present = turn; clock = behind TriedSend (behind ReadClock turn.clock); has_tried_send = true; sent = sent }
 
 -- a reply to where a datagram came from
 abbrev pub sent_back : IncomingValue → Option (List ℕ) → List Sent
@@ -66,7 +67,7 @@ if_sent good sent from reply = if good then sent ++ sent_back from (Some reply) 
 -- a datagram and the first reading of the clock
 module _ (from : IncomingValue) (transmit : Moment) where
   pub record HasTriedOne (good : Bool) (reply : List ℕ) (old new : Told) (clock : Readings) (rest : List TurnValue) : Type 0 where
-    pub first : clock false 0 ≡ transmit
+    pub first : first_reading clock ≡ transmit
     pub coming : old.coming ≡ turn_with from clock good ∷ rest
     pub after : new ≡ tried_in rest (turn_with from clock good) (if_sent good old.sent from reply)
 
@@ -86,7 +87,7 @@ module _ (from : IncomingValue) (transmit : Moment) where
           → SendTells (Some (record {
             coming = rest;
             present = turn_with from clock sends;
-            clock = later clock;
+            clock = behind ReadClock clock;
             has_tried_send = false;
             sent = old.sent;
           })) (Some new) from.address from.port reply sent → HasTried (not (is_err sent)) reply (Some old) (Some new)
@@ -115,13 +116,13 @@ module _ (from : IncomingValue) (transmit : Moment) where
 
     -- a turn was made, whose clock showed this at first
     abbrev HasMade : Bool → Bool → Option Told → Option Told → Type 0
-    HasMade sends noted t u = (clock : Readings) × (clock false 0 ≡ transmit) × FollowsOne (made_of clock sends noted) t u
+    HasMade sends noted t u = (clock : Readings) × (first_reading clock ≡ transmit) × FollowsOne (made_of clock sends noted) t u
 
     -- what became of its reply
     makes-sending : (A : Type 0) (sends noted : Bool) (t u : Option Told) (k l : PortCounts) (s r : Registry) (sending : Sending)
         (made : HasMade sends noted t u) → sending ≡ sending_of a sends noted → l ≡ counted_send (is_unsent (made_of made.0 sends noted)) k
         → ((history : List (Event A)) → StandsFor s history
-        → Tells history (map (λ saved. (event.Departed from.address saved (made.0 true 1), departure_outcome noted)) (departing sends a)) r)
+        → Tells history (map (λ saved. (event.Departed from.address saved (departure_reading made.0), departure_outcome noted)) (departing sends a)) r)
         → SendingMakes A a from transmit t u k l s r sending
     makes-sending A sends noted t u k l s r sending made comes_to count tells = record {
       clock = made.0;
@@ -139,7 +140,7 @@ module _ (from : IncomingValue) (transmit : Moment) where
     nothing-sent clock sends e = grind arith
 
     follows-silent : (t u : Option Told) → reply_in a ≡ None → IsInTurn t u from transmit → (sends : Bool) × HasMade sends false t u
-    follows-silent None u none i = (false, (λ tried n. transmit, refl, tt))
+    follows-silent None u none i = (false, (λ calls. transmit, refl, tt))
     follows-silent (Some old) None none i = absurd i
     follows-silent (Some old) (Some new) none i = (
       i.1,
@@ -169,7 +170,7 @@ module _ (from : IncomingValue) (transmit : Moment) where
       tried-sent old good noted clock = grind (arith, append-nil)
 
       follows-tried : (good noted : Bool) (t w : Option Told) → HasTried good reply t w → HasMade good noted t w
-      follows-tried good noted None w p = (λ tried n. transmit, refl, tt)
+      follows-tried good noted None w p = (λ calls. transmit, refl, tt)
       follows-tried good noted (Some old) None p = absurd p
       follows-tried good noted (Some old) (Some new) p = (
         p.0,
@@ -178,14 +179,19 @@ module _ (from : IncomingValue) (transmit : Moment) where
             (ap (λ (z : Told). z.sent) p.2.after ∙ tried-sent old.sent good noted p.0),
       )
 
+      -- readings that show this moment from the second on
+      abbrev departing_at : Moment → Readings
+      departing_at moment [] = transmit
+      departing_at moment (call ∷ calls) = moment
+
       follows-departed : (noted : Bool) (t w z : Option Told) (moment : Moment) → HasTried true reply t w → NowTells w z moment
-          → (made : HasMade true noted t z) × (made.0 true 1 ≡ moment)
-      follows-departed noted None w z moment p k = ((λ tried n. if tried then moment else transmit, refl, tt), refl)
+          → (made : HasMade true noted t z) × (departure_reading made.0 ≡ moment)
+      follows-departed noted None w z moment p k = ((departing_at moment, refl, tt), refl)
       follows-departed noted (Some old) None z moment p k = absurd p
       follows-departed noted (Some old) (Some mid) None moment p k = absurd k
       follows-departed noted (Some old) (Some mid) (Some new) moment p k =
-          let shown : moment ≡ p.0 true 1 = k.0 ∙ ap (λ (x : Told). x.clock x.has_tried_send 0) p.2.after in
-          let after = k.1 ∙ ap (λ (x : Told). record x { clock = later x.clock }) p.2.after in
+          let shown : moment ≡ departure_reading p.0 = k.0 ∙ ap (λ (x : Told). x.clock []) p.2.after in
+          let after = k.1 ∙ ap (λ (x : Told). record x { clock = behind ReadClock x.clock }) p.2.after in
           let port = follows-one (made_of p.0 true noted) p.1 old new p.2.coming (ap (λ (x : Told). x.coming) after)
           (ap (λ (x : Told). x.sent) after ∙ tried-sent old.sent true noted p.0) in
           ((p.0, p.2.first, port), sym shown)
@@ -217,7 +223,7 @@ module _ (from : IncomingValue) (transmit : Moment) where
             let q = follows-departed noted t w z moment (has-tried false good) reads in
             makes-sending A true noted t z k m s r (if noted then Noted else NotNoted) q.0 (sending-time a noted saved was)
             (same ∙ count ∙ ap (λ b. counted_send b k) good) (λ history stands.
-            rw (departing-time a saved was) (Tells-one history (event.Departed from.address saved (q.0.0 true 1)) (departure_outcome noted) r
+            rw (departing-time a saved was) (Tells-one history (event.Departed from.address saved (departure_reading q.0.0)) (departure_outcome noted) r
             (subst (λ m. TellsOne history (event.Departed from.address saved m) (departure_outcome noted) r) (sym q.1)
             (subst (λ x. TellsOne history (event.Departed x saved moment) (departure_outcome noted) r) (sym e)
             (subst (λ b. TellsOne history (event.Departed address saved moment) (departure_outcome b) r) gave (departs history stands))))))

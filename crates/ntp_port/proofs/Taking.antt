@@ -23,7 +23,7 @@ record DropsOne (t u : Option Told) : Type 0 where
 
 -- the datagram of a turn that no port tells
 abbrev anything : IncomingValue
-anything = record { address = record { 0 = [] }; port = 0; receipt = no_turn.clock false 0; octets = [] }
+anything = record { address = record { 0 = [] }; port = 0; receipt = no_turn.clock []; octets = [] }
 
 drops-one : (t u : Option Told) → DropTells t u true → DropsOne t u
 drops-one None u p = record { from = anything; clock = no_turn.clock; sends = false; port = tt }

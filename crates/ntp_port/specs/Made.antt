@@ -11,7 +11,7 @@ use Rattle.ntp_service.specs.declared.observation.Sending.TheVariants.{NoReply, 
 use Rattle.ntp_service.specs.declared.event.Event.TheVariants as event
 use Rattle.ntp_service.specs.declared.outcome.Outcome.TheVariants as outcome
 use Rattle.ntp_port.specs.declared.sent.Sent.{Sent}
-use Rattle.ntp_port.specs.Port.{IncomingValue, Readings, TurnValue, received}
+use Rattle.ntp_port.specs.Port.{IncomingValue, Readings, first_reading, departure_reading, TurnValue, received}
 
 -- a turn in which nothing was received; and one with its datagram, its answer, and whether the departure is noted of the reply, if it is
 -- time and is sent. Each has what the clock shows in it, and whether a reply can be sent
@@ -38,12 +38,12 @@ departing true (answer.Time reply saved) = saved ∷ []
 departing sends other = []
 
 -- what happened in a turn: its datagram, with the first reading of the clock; and where the answer was time and was sent, the
--- departure, with the second, once a send was tried
+-- departure, with the next one, behind the send
 abbrev pub happened_in_turn : {A : Type 0} → ReferenceState → Made → List (Event A × Outcome)
 happened_in_turn reference (Missed clock sends) = []
 happened_in_turn reference (Received d clock sends a noted) =
-    (event.Datagram d.address d.receipt (clock false 0) reference (received d), outcome.Datagram a)
-    ∷ map (λ saved. (event.Departed d.address saved (clock true 1), departure_outcome noted)) (departing sends a)
+    (event.Datagram d.address d.receipt (first_reading clock) reference (received d), outcome.Datagram a)
+    ∷ map (λ saved. (event.Departed d.address saved (departure_reading clock), departure_outcome noted)) (departing sends a)
 
 -- what a turn sends: the reply, if any, to where the datagram came from
 abbrev pub sent_in : Made → List Sent

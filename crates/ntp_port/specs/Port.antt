@@ -17,13 +17,25 @@ pub record IncomingValue : Type 0 where
   pub receipt : Moment
   pub octets : List ℕ
 
--- what a clock shows in a turn, read by read: first whether a send was tried, then how many times it was read before
-abbrev pub Readings : Type 0
-Readings = Bool → ℕ → Moment
+-- a call of a turn behind its receive
+pub data TurnCall : Type 0 where
+  ReadClock : TurnCall
+  TriedSend : TurnCall
 
--- what it shows after one reading more
-abbrev pub later : Readings → Readings
-later clock = λ tried n. clock tried (suc n)
+-- what a clock shows in a turn, after these calls of it
+abbrev pub Readings : Type 0
+Readings = List TurnCall → Moment
+
+-- what it shows after one call more
+abbrev pub behind : TurnCall → Readings → Readings
+behind call clock = λ calls. clock (call ∷ calls)
+
+-- the first reading of a turn, and that behind it and a send
+abbrev pub first_reading : Readings → Moment
+first_reading clock = clock []
+
+abbrev pub departure_reading : Readings → Moment
+departure_reading clock = clock (ReadClock ∷ TriedSend ∷ [])
 
 -- one turn of a port: its datagram, if any, what the clock shows, and whether a reply can be sent; the code's `Turn`, whose datagram is
 -- in memory of an allocator, has a clock of two moments only
@@ -35,7 +47,7 @@ pub record TurnValue : Type 0 where
 -- the turn of a port before its first, and once its list has run out: nothing comes, the clock shows stamp 0 of era 0, and nothing can
 -- be sent
 abbrev pub no_turn : TurnValue
-no_turn = record { arrival = None; clock = λ tried n. record { era = 0; stamp = record { 0 = 0 } }; sends = false }
+no_turn = record { arrival = None; clock = λ calls. record { era = 0; stamp = record { 0 = 0 } }; sends = false }
 
 -- the turns to come, the present one, what the clock will show in it, whether a send was tried in it, and what was sent
 pub record Told : Type 0 where
@@ -67,7 +79,7 @@ ReceiveTells t u r buffer = IfSome t (λ old. IsSomeAnd u (λ new. Begins (get_o
 
 -- what a call of `now` tells
 abbrev pub NowTells : Option Told → Option Told → Moment → Type 0
-NowTells t u r = IfSome t (λ old. IsSomeAnd u (λ new. (r ≡ old.clock old.has_tried_send 0) × (new ≡ record old { clock = later old.clock })))
+NowTells t u r = IfSome t (λ old. IsSomeAnd u (λ new. (r ≡ old.clock []) × (new ≡ record old { clock = behind ReadClock old.clock })))
 
 -- whether a reply is sent: the turn sends, nothing was tried to be sent in it, and the reply is not too long
 abbrev pub is_sent : Told → List ℕ → Bool
@@ -77,6 +89,7 @@ is_sent old reply = (old.present.sends && not old.has_tried_send) && nat_le (len
 abbrev pub SendTells : Option Told → Option Told → Address → ℕ → List ℕ → Result (Unit {0}) PortFault → Type 0
 SendTells t u address port reply r = IfSome t (λ old. IsSomeAnd u (λ new. (r ≡ (if is_sent old reply then Ok tt else Err Send))
     × (new ≡ record old {
+      clock = behind TriedSend old.clock;
       has_tried_send = true;
       sent = if is_sent old reply then old.sent ++ record { address = address; port = port; reply = reply } ∷ [] else old.sent;
     })))

@@ -1,11 +1,11 @@
 -- What parts in memory tell.
-use Rattle.std.specs.Prelude.{ℕ, zero, suc, ◌-◌, ◌<◌, Option, None, Some, option_map, List, length, map, drop, reverse, slice_get, vec_len, vec_capacity, if◌then◌else◌}
+use Rattle.std.specs.Prelude.{ℕ, ◌-◌, ◌<◌, Option, None, Some, option_map, List, [], ◌∷◌, length, map, drop, reverse, slice_get, vec_len, vec_capacity, if◌then◌else◌}
 use Rattle.std.specs.Option.{option_map_or}
 use Rattle.ntp_packet.specs.declared.moment.Moment.{Moment}
 use Rattle.ntp_reply.specs.Reference.{ReferenceState}
 use Rattle.ntp_service.specs.declared.observation.Observation.{Observation}
 use Rattle.ntp_port.specs.{declared.port.PortCounts.PortCounts, declared.queue_event.QueueEvent.QueueEvent}
-use Rattle.ntp_port.specs.Port.{IncomingValue, Readings, later, TurnValue, no_turn, Told}
+use Rattle.ntp_port.specs.Port.{IncomingValue, ReadClock, TriedSend, Readings, behind, TurnValue, no_turn, Told}
 use Rattle.ntp_port.specs.{Sequence.firsts, Sources.Coming}
 use Rattle.test_support.specs.{declared.memory_turn.Incoming.Incoming, declared.memory_turn.Turn.Turn, declared.memory_port.MemoryPort.MemoryPort}
 use Rattle.test_support.specs.{declared.memory_queue.Log.Log, declared.memory_server.MemoryCommands.MemoryCommands}
@@ -17,8 +17,9 @@ incoming_told d = record { address = d.address; port = d.port; receipt = d.recei
 
 -- the first reading, and all later ones
 abbrev pub readings : Moment → Moment → Readings
-readings first behind tried zero = first
-readings first behind tried (suc n) = behind
+readings first next [] = first
+readings first next (ReadClock ∷ calls) = next
+readings first next (TriedSend ∷ calls) = readings first next calls
 
 -- a turn of that list
 abbrev pub turn_told : {A : Type 0} → Turn A → TurnValue
@@ -34,7 +35,7 @@ abbrev pub told_by : {A : Type 0} → MemoryPort A → Told
 told_by p = record {
   coming = map turn_told (drop p.begun p.turns.items);
   present = present_of p;
-  clock = if p.has_read_clock then later (present_of p).clock else (present_of p).clock;
+  clock = if p.has_read_clock then behind ReadClock (present_of p).clock else (present_of p).clock;
   has_tried_send = p.has_tried_send;
   sent = p.sent.items;
 }

@@ -1,7 +1,7 @@
 //! What is kept of a queue, to know after which moment its next datagram came.
 ghost use Rattle.std.specs.Prelude.{◌≡◌, ℕ, ◌+◌, ◌*◌, ◌/◌, ◌<◌, ◌↔◌, ◌⊎◌, List, [], ◌∷◌, Some, IsTrue, false};
 ghost use Rattle.ntp_port.specs.{declared.queue_event.QueueEvent.QueueEvent, Freshness.MayBeAnswered, Freshness.IsInOrder};
-ghost use Rattle.ntp_port.specs.Watch.{Watches, Counts, IsWaiting, IsKnownWithin, longest_of, kept_after};
+ghost use Rattle.ntp_port.specs.Watch.{Watches, Counts, IsWaiting, longest_of, kept_after};
 
 /// Parts of the longest time that a datagram may wait. What is known of the queue is renewed: at an age of one part by a look
 /// whether the queue is empty, and at three parts by a count.
@@ -98,14 +98,14 @@ impl QueueWatch {
 
     // Whether it is time to look whether the queue is empty.
     pub(crate) fn is_due(&self, now: u64) -> bool
-        ensures { result ≡ false → (at : ℕ) × (self.now.known ≡ Some at) × (now < at + longest_of self.now / 10) }
+        ensures { (result ≡ false) ↔ ((at : ℕ) × (self.now.known ≡ Some at) × (now < at + longest_of self.now / 10)) }
     {
         !self.is_known_within(now, self.longest / PARTS)
     }
 
     // Whether it is time to count what is in it.
     pub(crate) fn is_old(&self, now: u64) -> bool
-        ensures { result ≡ false → IsKnownWithin (longest_of self.now / 10 * 3) self.now now }
+        ensures { (result ≡ false) ↔ ((at : ℕ) × (self.now.known ≡ Some at) × (now < at + longest_of self.now / 10 * 3)) }
     {
         !self.is_known_within(now, self.longest / PARTS * PARTS_UNCOUNTED)
     }

@@ -1,4 +1,4 @@
-use Rattle.std.proofs.Common.{◌≡◌, inl, inr, rules, true}
+use Rattle.std.proofs.Common.{◌≡◌, inl, inr, rules, true, arith}
 use Rattle.ntp_port.proofs.Looking.{Looks-none, Looks-some, Looks-count}
 use Rattle.ntp_port.proofs.fresh_port.FreshPort.look_how_many.Goals as goal
 use Rattle.ntp_port.proofs.fresh_port.FreshPort.look_how_many.Goals.{else-not-is_waiting-via-then-not-is_waiting+else-is_old, else-not-is_waiting-via-else-not-is_waiting}
@@ -18,6 +18,7 @@ returns-else-not-is_waiting-clause-looks g c = elim c.else-not-is_waiting.branch
 
 pub returns-else-not-is_waiting-clause-counted : goal.returns-else-not-is_waiting-clause-counted
 returns-else-not-is_waiting-clause-counted g c = elim c.else-not-is_waiting.branch [
-  | else-not-is_waiting-via-then-not-is_waiting+else-is_old w ↦ rw w.self-is (inr (w.is_old.ensures w.if-is_old.false))
+  | else-not-is_waiting-via-then-not-is_waiting+else-is_old w ↦
+      let known = w.is_old.ensures.0 w.if-is_old.false in rw w.self-is (inr (known.0, known.1, omega (arith, known.2)))
   | else-not-is_waiting-via-else-not-is_waiting w ↦ rw w.self-is (inl (search rules))
 ]

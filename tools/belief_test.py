@@ -55,7 +55,7 @@ fn add_less(n: u8) -> u8
 {}
 """
 PROMISES = "The headline\n    low: add\nThe headline of the daemon\n    low: add; add_two (value)\n{0}\n    low: ask\n"
-PAGE = "<!-- tools/belief --write: -->\n<!-- end -->\n## {0}\n<!-- tools/belief --write: {0} -->\n<!-- end -->\n"
+PAGE = "<!-- tools/belief --write: -->\n<!-- end -->\n## {0}\n"
 SUMS, CODES, DAEMON = "crates/low/specs/Sums.antt", "crates/low/specs/Codes.antt", "What `labntpd` has besides"
 FILES = {
     **{"crates.txt": "low:\nlabntp: low\n", "crates/low/specs/Lib.antt": "pub mod Sums\npub mod Codes\n", "README.md": ""},
@@ -93,6 +93,9 @@ class Belief(unittest.TestCase):
         # The clause of ask with had, and what had names of the trait, with its clause. Of the contracts only add_less has none.
         self.says("promises: 18 lines", "promises")
         self.says("contracts: 22 lines", "contracts")
+
+    def test_clauses_are_listed_by_files(self):
+        self.says(f"{DAEMON}\n    crates/low/src/lib.rt: ask\n", "clauses")
 
     def test_a_name_that_is_bound_and_imported_is_imported(self):
         self.replace(SUMS, "\nmore n = n + 1", "\nmore two_more = two_more + 1")

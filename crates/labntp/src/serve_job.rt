@@ -8,7 +8,7 @@ use ntp_admin::{
     FaultLines, LoadFault, Loaded, MOST_FILE_OCTETS, RegisterFault, Status, load_register,
     load_status, socket_status, write_status,
 };
-use ntp_host::{UdpPort, read_regular_file};
+use ntp_host::{SystemWire, UdpPort, read_regular_file};
 use ntp_port::FixedReference;
 use ntp_server::{Server, Totals};
 use std::alloc::Global;
@@ -85,12 +85,18 @@ fn server<'a, R: Files + Clock, F: Write>(
     commands: &'a str,
     loaded: Loaded,
     faults: &'a mut F,
-) -> Server<UdpPort<&'a R>, WholeCommands<'a, R>, FixedReference, FaultLines<&'a mut F>, Global>
+) -> Server<
+    UdpPort<SystemWire<&'a R>>,
+    WholeCommands<'a, R>,
+    FixedReference,
+    FaultLines<&'a mut F>,
+    Global,
+>
     ensures { failed_calls result.port.counts ≡ 0 }
 {
     let Loaded { reference, service } = loaded;
     Server {
-        port: UdpPort::new(socket, rt),
+        port: UdpPort::new(SystemWire::new(socket, rt)),
         commands: WholeCommands::new(rt, commands),
         applied: 0,
         reference: FixedReference(reference),

@@ -3,7 +3,7 @@ ghost use Rattle.std.specs.Prelude.{◌≡◌, ℕ, ◌≤◌, OnOk};
 ghost use Rattle.std.specs.Io.KnownBytes.{Appends};
 ghost use Rattle.labntp_jobs.specs.Taken.{HasMet, word_of, line_of};
 
-use crate::pair::{Pair, service_with_one};
+use crate::pair::{service_with_one, udp_pair};
 use ntp_client::Taken;
 use std::alloc::Allocator;
 use std::io::{self, Write};
@@ -41,7 +41,7 @@ pub fn meet<R: Net + Clock, A: Allocator + Copy, W: Write>(
     let Some(service) = service_with_one(alloc) else {
         return Err(LoopbackFault::NoMemory);
     };
-    let Ok(mut pair) = Pair::new(rt, service) else {
+    let Ok(mut pair) = udp_pair(rt, service) else {
         return Err(LoopbackFault::Socket);
     };
     for _turn in 0..turns {

@@ -3,7 +3,7 @@ ghost use Rattle.std.specs.Prelude.{◌≡◌, ◌+◌, ◌-◌, ◌≤◌, ◌<
 ghost use Rattle.ntp_port.specs.Port.{failed_calls};
 
 use ntp_client::{Client, Taken};
-use ntp_host::{UdpPort, moment_now};
+use ntp_host::{SystemWire, UdpPort, moment_now};
 use ntp_mac::{Algorithm, Key};
 use ntp_packet::Short;
 use ntp_port::{MOST_RECEIVED_OCTETS, TimedPort, answer_received};
@@ -39,10 +39,10 @@ pub(crate) fn service_with_one<A: Allocator + Copy>(alloc: A) -> Option<Service<
     Some(service)
 }
 
-/// A server and a client, each with its socket.
+/// A server at a port, and a client with its socket.
 #[derive(Drop)]
-pub(crate) struct Pair<'a, R: Clock, A: Allocator> {
-    pub(crate) port: UdpPort<&'a R>,
+pub(crate) struct Pair<'a, P, R: Clock, A: Allocator> {
+    pub(crate) port: P,
     service: Service<A>,
     reference: Reference,
     asker: Asker<'a, R>,
@@ -70,28 +70,31 @@ impl<'a, R: Net + Clock> Asker<'a, R> {
     }
 }
 
-impl<'a, R: Net + Clock, A: Allocator + Copy> Pair<'a, R, A> {
-    /// The server with its socket, and a client whose socket is joined to it.
-    pub(crate) fn new(rt: &'a R, service: Service<A>) -> io::Result<Pair<'a, R, A>>
-        ensures { IfOk result (λ pair. failed_calls pair.port.counts ≡ 0) }
-    {
-        let served = UdpSocket::bind(rt, "127.0.0.1:0")?;
-        served.set_read_timeout(Some(Duration::from_secs(LONGEST_WAIT)))?;
-        let asker = Asker::new(rt, served.local_addr()?)?;
-        let now = moment_now(&rt);
-        let reference = Reference::new(0, 1, -20, Short(0), Short(0), *b"LOOP", now.stamp).unwrap();
-        Ok(Pair {
-            port: UdpPort::new(served, rt),
-            service,
-            reference,
-            asker,
-        })
-    }
+/// A server with its socket, and a client whose socket is joined to it.
+pub(crate) fn udp_pair<'a, R: Net + Clock, A: Allocator + Copy>(
+    rt: &'a R,
+    service: Service<A>,
+) -> io::Result<Pair<'a, UdpPort<SystemWire<&'a R>>, R, A>>
+    ensures { IfOk result (λ pair. failed_calls pair.port.counts ≡ 0) }
+{
+    let served = UdpSocket::bind(rt, "127.0.0.1:0")?;
+    served.set_read_timeout(Some(Duration::from_secs(LONGEST_WAIT)))?;
+    let asker = Asker::new(rt, served.local_addr()?)?;
+    let now = moment_now(&rt);
+    let reference = Reference::new(0, 1, -20, Short(0), Short(0), *b"LOOP", now.stamp).unwrap();
+    Ok(Pair {
+        port: UdpPort::new(SystemWire::new(served, rt)),
+        service,
+        reference,
+        asker,
+    })
+}
 
+impl<'a, P: TimedPort, R: Net + Clock, A: Allocator + Copy> Pair<'a, P, R, A> {
     /// One request and its reply, and what the client took it for; nothing where a socket failed or nothing came.
     pub(crate) fn meet(&mut self) -> Option<Taken>
-        requires { failed_calls self.old.port.counts < 2 ^ 64 - 1 }
-        ensures { failed_calls self.new.port.counts ≤ failed_calls self.old.port.counts + 1 }
+        requires { failed_calls (P.counts self.old.port) < 2 ^ 64 - 1 }
+        ensures { failed_calls (P.counts self.new.port) ≤ failed_calls (P.counts self.old.port) + 1 }
     {
         let departure = moment_now(&self.asker.clock);
         let query = self.asker.client.request(departure);
@@ -107,8 +110,8 @@ impl<'a, R: Net + Clock, A: Allocator + Copy> Pair<'a, R, A> {
 
     // Takes a datagram and answers it. Whether a reply was sent.
     fn answer(&mut self) -> bool
-        requires { failed_calls self.old.port.counts < 2 ^ 64 - 1 }
-        ensures { failed_calls self.new.port.counts ≤ failed_calls self.old.port.counts + 1 }
+        requires { failed_calls (P.counts self.old.port) < 2 ^ 64 - 1 }
+        ensures { failed_calls (P.counts self.new.port) ≤ failed_calls (P.counts self.old.port) + 1 }
     {
         let mut datagram = [0; MOST_RECEIVED_OCTETS];
         let Some(received) = self.port.receive_in_time(&mut datagram) else {

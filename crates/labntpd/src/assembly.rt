@@ -9,8 +9,8 @@ use labntpd_start::{
 };
 use ntp_admin::{Status, memory_status, write_status};
 use ntp_host::{
-    BoundAt, ClockSource, CommandsFile, HostClocks, KernelQueue, Log, SOCKETS_ROOM, UdpPort,
-    has_standard_streams,
+    BoundAt, ClockSource, CommandsFile, HostClocks, HostFile, KernelQueue, Log, SOCKETS_ROOM,
+    SystemWire, UdpPort, has_standard_streams,
 };
 use ntp_port::FreshPort;
 use ntp_reports::{AnswerLines, CustomerCounts};
@@ -19,7 +19,7 @@ use std::fs::File;
 use std::io::{LineWriter, Stderr};
 
 // Where the datagrams of the daemon come from.
-type UdpQueue<'a> = FreshPort<UdpPort<&'a HostRuntime, KernelQueue<'a>>>;
+type UdpQueue<'a> = FreshPort<UdpPort<SystemWire<&'a HostRuntime, KernelQueue<'a>>>>;
 
 // Who hears what it does.
 type HostObserver<'a> = ReportingObserver<'a, Stderr, LineWriter<File>>;
@@ -82,8 +82,9 @@ impl<'a> Opened<'a> {
             bound,
             room,
         };
+        let wire = SystemWire::with_queue(socket, rt, queue);
         Ok(Opened {
-            port: FreshPort::new(UdpPort::with_queue(socket, rt, queue), watch),
+            port: FreshPort::new(UdpPort::new(wire), watch),
             bound,
             reference,
             observer,
@@ -95,7 +96,7 @@ impl<'a> Opened<'a> {
 fn serve_opened<'a>(
     host: Host<'a, HostRuntime>,
     digest: [u8; 32],
-    commands: CommandsFile<'a, HostRuntime>,
+    commands: CommandsFile<'a, HostFile<'a, HostRuntime>>,
     opened: Opened<'a>,
 ) -> Result<(), Status>
     requires { opened.port.counts.failed_receives + opened.port.counts.failed_sends ≡ 0 }

@@ -1,12 +1,11 @@
 //! What the daemon reads and writes while it serves, and why that fails.
 
 use labntpd_files::{Configuration, Text};
-use ntp_host::{CommandsFault, CommandsFile};
+use ntp_host::{AppendedFile, CommandsFault, CommandsFile};
 use ntp_port::CommandsSource;
 use ntp_reports::FileGauges;
 use std::alloc::Global;
 use std::fmt;
-use std::fs::Files;
 use std::io::{self, ErrorKind};
 
 /// The commands of a daemon, and what its log and its statistics say of their file.
@@ -18,7 +17,7 @@ pub trait DaemonCommands: CommandsSource<Global> {
     fn octets(&self) -> u64;
 }
 
-impl<'a, R: Files> DaemonCommands for CommandsFile<'a, R> {
+impl<'a, F: AppendedFile> DaemonCommands for CommandsFile<'a, F> {
     fn fault(&self) -> Option<CommandsFault> {
         self.fault()
     }

@@ -1,6 +1,6 @@
 //! What a daemon works with.
 use labntpd_files::Configuration;
-use ntp_host::{BoundAt, HostClocks, KernelQueue, LogForm, ServiceManager, UdpPort};
+use ntp_host::{BoundAt, HostClocks, LogForm, QueuedWire, ServiceManager, UdpPort};
 use ntp_port::{EachMillisecond, FreshPort, QueuedPort};
 use ntp_server::Server;
 use std::alloc::Global;
@@ -13,7 +13,7 @@ pub trait DaemonPort: QueuedPort {
     fn would_wait(&self) -> u64;
 }
 
-impl<'a, C: Clock + Files + Drop> DaemonPort for UdpPort<C, KernelQueue<'a>> {
+impl<W: QueuedWire + Drop> DaemonPort for UdpPort<W> {
     fn would_wait(&self) -> u64 {
         self.would_wait()
     }

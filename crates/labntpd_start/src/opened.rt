@@ -7,7 +7,7 @@ use crate::lines::judged;
 use crate::prepared::PreparedClock;
 use labntpd_files::{Configuration, Listen};
 use ntp_admin::{Status, failed_status};
-use ntp_host::{ClockSource, CommandsFile, FollowedClock, HostClocks, emptied_file};
+use ntp_host::{ClockSource, CommandsFile, FollowedClock, HostClocks, HostFile, emptied_file};
 use ntp_port::QueueWatch;
 use std::alloc::Global;
 use std::fs::{File, Files};
@@ -77,6 +77,6 @@ pub fn commands_at<'a, R: Files, F: Write>(
     path: &'a str,
     clocks: &'a HostClocks,
     faults: &mut F,
-) -> Result<CommandsFile<'a, R>, Status> {
+) -> Result<CommandsFile<'a, HostFile<'a, R>>, Status> {
     CommandsFile::open(files, path, clocks).map_err(|error| failed_status(path, &error, faults))
 }

@@ -1,10 +1,10 @@
 -- Parts of a file that are read as pieces.
-use Rattle.std.proofs.Common.{◌≡◌, ◌≢◌, ℕ, ◌+◌, ◌-◌, ◌≤◌, ◌<◌, List, [], length, take, drop, get_or, ap, sym, ◌∙◌, inl, inr, refl, arith}
-use Rattle.std.specs.Prelude.{IsTrue, IsFalse, slice_index, slice_range}
-use Rattle.std.proofs.{lemmas.List.take-take, lemmas.List.Edits.get_or-between}
+use Rattle.std.proofs.Common.{◌≡◌, ◌≢◌, ℕ, ◌+◌, ◌-◌, ◌≤◌, ◌<◌, List, [], length, take, drop, get_or, ap, sym, subst, ◌++◌, ◌∙◌, inl, inr, refl, arith}
+use Rattle.std.specs.Prelude.{IsTrue, IsFalse, Option, None, Some, IfSome, slice_index, slice_range}
+use Rattle.std.proofs.{lemmas.List.take-take, lemmas.List.take-append-le, lemmas.List.take_all, lemmas.List.Edits.get_or-between}
 use Rattle.std.proofs.lemmas.Bool.{cases_lt, le-leb, lt-leb}
 use Rattle.ntp_host.specs.declared.progress.Progress.{Progress}
-use Rattle.ntp_host.specs.Progress.{next_from, StandsAt, HasNoEnd, GivesPart}
+use Rattle.ntp_host.specs.Progress.{next_from, StandsAt, HasNoEnd, Knows, GivesPart}
 
 -- a place in a file, and the place in a piece where the same octet stands
 pub octet_at : (file octets : List ℕ) (from j k : ℕ) → StandsAt file from octets → j ≡ from + k → k < length octets
@@ -53,3 +53,19 @@ pub next_from-short : (p : Progress) → IsFalse p.is_ended → (p.given + 65536
 next_from-short p unended short =
     let below : p.searched < p.given + 65536 = elim (cases_lt p.searched (p.given + 65536)) [ inl less ↦ less | inr long ↦ absurd (short long) ] in
     rw (unended, lt-leb (p.given + 65536) p.searched below) refl
+
+-- ---- a piece in the memory that was taken for it
+pub filled : (room rest : List ℕ) (len : ℕ) → length room ≡ len → take len (room ++ rest) ≡ room
+filled room rest len long = grind (arith, take-append-le, take_all)
+
+pub cut_to : (octets rest : List ℕ) (n len : ℕ) → n ≤ length octets → length octets ≡ len → take n (take len (octets ++ rest)) ≡ take n octets
+cut_to octets rest n len within long = grind (arith, take-append-le, take-take)
+
+-- what is known of a file that tells its octets, and what of it is given
+pub gives : (told : Option (List ℕ)) (p q : Progress) (from n : ℕ) (room read after : List ℕ) → from ≡ next_from p → read ≡ room
+    → IfSome told (λ file. Knows file p) → IfSome told (λ file. StandsAt file from room)
+    → ((file : List ℕ) → Knows file p → StandsAt file (next_from p) read → Knows file q × GivesPart file p.given q.given (take n after))
+    → IfSome told (λ file. Knows file q) × IfSome told (λ file. GivesPart file p.given q.given (take n after))
+gives None p q from n room read after starts is knows stands takes = (tt, tt)
+gives (Some file) p q from n room read after starts is knows stands takes =
+    takes file knows (subst (λ r. StandsAt file (next_from p) r) (sym is) (subst (λ f. StandsAt file f room) starts stands))

@@ -1,1 +1,2 @@
 mod FileParts
+mod Wires

@@ -2,4 +2,5 @@ pub mod Clock
 pub mod Faults
 pub mod Progress
 pub mod FixedClock
-pub mod Reading
+pub mod Wire
+pub mod UdpPort

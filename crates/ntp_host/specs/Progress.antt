@@ -1,4 +1,4 @@
--- Not to be believed: for proofs. How far a file of lines is read, and what is given of it.
+-- How far a file of lines is read, and what is given of it.
 use Rattle.std.specs.Prelude.{◌≡◌, ◌≢◌, ℕ, ◌+◌, ◌-◌, ◌≤◌, ◌<◌, nat_le, if◌then◌else◌, IsTrue, IsFalse, ◌⊎◌, List, [], ◌∷◌, ◌++◌, length, take, drop, slice_index, slice_range}
 use Rattle.ntp_host.specs.declared.progress.Progress.{Progress}
 

@@ -1,18 +1,20 @@
 //! A commands file that is looked at in each turn of a server, before its datagram is answered.
-ghost use Rattle.std.specs.Prelude.{◌≡◌, ◌+◌, ◌≤◌, None, [], ◌∷◌, vec_len, option_map, IsTrue, IfSome, IfOk};
+ghost use Rattle.std.specs.Prelude.{◌≡◌, ◌+◌, ◌≤◌, None, [], ◌∷◌, vec_len, option_map, IsTrue, IfSome, IfOk, IfErr};
 ghost use Rattle.ntp_port.specs.Sources.{Gives};
-ghost use Rattle.ntp_host.specs.Progress.{next_from};
+ghost use Rattle.std.specs.Option.{option_map_or};
+ghost use Rattle.std.proofs.Props.{props};
+ghost use Rattle.ntp_host.specs.Progress.{next_from, Knows, GivesPart};
 
+use crate::appended_file::{AppendedFile, HostFile};
 use crate::clock::HostClocks;
 use crate::growth::{FileState, Growth};
 use crate::progress::{MOST_COMMANDS_OCTETS, Progress};
-use crate::whole_file::open_regular_file;
 use ntp_packet::Moment;
 use ntp_port::CommandsSource;
 use std::alloc::Allocator;
 use std::fmt;
-use std::fs::{self, Files, OpenFile};
-use std::io::{self, Read, Seek, SeekFrom, Write};
+use std::fs::Files;
+use std::io::{self, Write};
 
 /// The octets from which on a commands file is nearly full: 80 in 100 of the most, rounded up.
 const NEARLY_FULL_OCTETS: u64 = 53_687_092;
@@ -86,41 +88,49 @@ impl fmt::Display for CommandsFault {
 /// Each look reads the metadata of what stands at its path. A file that is written anew and becomes longer looks as one that has grown; one
 /// of the same length, within a tick of the file system's clock, as unchanged.
 #[derive(Drop)]
-pub struct CommandsFile<'a, R: Files> {
-    files: &'a R,
-    path: &'a str,
+pub struct CommandsFile<'a, F: AppendedFile> {
+    file: F,
     clocks: &'a HostClocks,
-    file: R::File,
     progress: Progress,
     growth: Growth,
     // Whether it was read to its end once. Until then what stands at its path does not matter, so that a start carries out one file, and no
     // part of one.
     was_read: bool,
     fault: Option<CommandsFault>,
+    ghost knows: { IfSome (F.octets file) (λ octets. Knows octets progress) } by { Prim.hlevel props },
 }
 
-impl<'a, R: Files> CommandsFile<'a, R> {
+impl<'a, R: Files> CommandsFile<'a, HostFile<'a, R>> {
     /// Opens the regular file at `path`, and reads it once without a use, so that no start carries out a part of one that cannot be read to
     /// its end. `clocks` have the time of each look. The error is the system's, or says that a regular file is wanted.
     pub fn open(
         files: &'a R,
         path: &'a str,
         clocks: &'a HostClocks,
-    ) -> io::Result<CommandsFile<'a, R>> {
-        let (mut file, metadata) = open_regular_file(files, path)?;
-        io::copy(&mut (&mut file).take(MOST_COMMANDS_OCTETS), &mut io::sink())?;
+    ) -> io::Result<CommandsFile<'a, HostFile<'a, R>>> {
+        let file = HostFile::open(files, path, MOST_COMMANDS_OCTETS)?;
+        CommandsFile::over(file, clocks)
+    }
+}
+
+impl<'a, F: AppendedFile + Drop> CommandsFile<'a, F> {
+    /// Begins with a file of which nothing was read. The error is the system's.
+    pub fn over(mut file: F, clocks: &'a HostClocks) -> io::Result<CommandsFile<'a, F>>
+        ensures { IfOk result (λ commands. (F.octets commands.file ≡ F.octets file) × (commands.progress.given ≡ 0)) }
+    {
+        let growth = Growth::new(file.state()?);
         Ok(CommandsFile {
-            files,
-            path,
-            clocks,
             file,
+            clocks,
             progress: Progress::new(),
-            growth: Growth::new(FileState::of(&metadata)),
+            growth,
             was_read: false,
             fault: None,
         })
     }
+}
 
+impl<'a, F: AppendedFile> CommandsFile<'a, F> {
     /// Returns what was wrong with it at the last look; nothing before the first.
     pub fn fault(&self) -> Option<CommandsFault> {
         self.fault
@@ -133,7 +143,11 @@ impl<'a, R: Files> CommandsFile<'a, R> {
 
     // Does what `look` does, where it is not given up, and notes whether it has too many octets.
     fn read_on<A: Allocator>(&mut self, alloc: A) -> Result<Option<Vec<u8, A>>, CommandsFault>
-        ensures { IfOk result (λ lines. IfSome lines (λ octets. vec_len octets ≤ 65536)) }
+        ensures most { IfOk result (λ lines. IfSome lines (λ octets. vec_len octets ≤ 65536)) }
+        ensures octets { F.octets self.new.file ≡ F.octets self.old.file }
+        ensures given { IfOk result (λ lines. IfSome (F.octets self.old.file)
+            (λ file. GivesPart file self.old.progress.given self.new.progress.given (option_map_or (λ octets. octets.items) lines []))) }
+        ensures not_given { IfErr result (λ _. self.new.progress.given ≡ self.old.progress.given) }
     {
         let found = self.state()?;
         if !self.growth.is_of_file(found) {
@@ -157,13 +171,15 @@ impl<'a, R: Files> CommandsFile<'a, R> {
     }
 
     // The state of what stands at the path, and before it matters that of the file.
-    fn state(&self) -> io::Result<FileState> {
-        let metadata = if self.was_read {
-            fs::metadata(self.files, self.path)?
+    fn state(&mut self) -> io::Result<FileState>
+        ensures octets { F.octets self.new.file ≡ F.octets self.old.file }
+        ensures progress { self.new.progress ≡ self.old.progress }
+    {
+        if self.was_read {
+            self.file.state_at_path()
         } else {
-            self.file.metadata()?
-        };
-        Ok(FileState::of(&metadata))
+            self.file.state()
+        }
     }
 
     // Reads the next piece, which has `count` octets, and returns its lines; nothing where it has none, and a file of this length has
@@ -177,11 +193,15 @@ impl<'a, R: Files> CommandsFile<'a, R> {
         requires limited { next_from self.old.progress + count ≤ MOST_COMMANDS_OCTETS }
         requires ended { IsTrue self.old.progress.is_ended → count ≡ 4098 }
         requires most { count ≤ 65536 }
-        ensures { IfOk result (λ lines. IfSome lines (λ octets. vec_len octets ≤ 65536)) }
+        ensures most { IfOk result (λ lines. IfSome lines (λ octets. vec_len octets ≤ 65536)) }
+        ensures octets { F.octets self.new.file ≡ F.octets self.old.file }
+        ensures given { IfOk result (λ lines. IfSome (F.octets self.old.file)
+            (λ file. GivesPart file self.old.progress.given self.new.progress.given (option_map_or (λ octets. octets.items) lines []))) }
+        ensures not_given { IfErr result (λ _. self.new.progress.given ≡ self.old.progress.given) }
     {
         let mut octets = vec![in alloc; 0; count]?;
-        self.file.seek(SeekFrom::Start(self.progress.next_from()))?;
-        self.file.read_exact(&mut octets)?;
+        self.file
+            .read_behind(self.progress.next_from(), &mut octets)?;
         let given = self.progress.take(&mut octets);
         octets.truncate(given);
         if given == 0 && self.progress.next_count(length) == 0 {
@@ -191,7 +211,7 @@ impl<'a, R: Files> CommandsFile<'a, R> {
     }
 }
 
-impl<'a, R: Files, A: Allocator> CommandsSource<A> for CommandsFile<'a, R> {
+impl<'a, F: AppendedFile, A: Allocator> CommandsSource<A> for CommandsFile<'a, F> {
     ghost use Rattle.ntp_host.specs.Faults.{is_final};
 
     /// Returns the complete lines behind those that were given, as far as 65,536 octets of the file have them; of a line that is
@@ -203,6 +223,9 @@ impl<'a, R: Files, A: Allocator> CommandsSource<A> for CommandsFile<'a, R> {
         ensures gives { Gives None None (receipt ∷ []) (option_map (λ octets. octets.items) result ∷ []) }
         ensures most { IfSome result (λ octets. vec_len octets ≤ 65536) }
         ensures ended { IfSome self.old.fault (λ fault. IsTrue (is_final fault) → (result ≡ None) × (self.new ≡ self.old)) }
+        ensures octets { F.octets self.new.file ≡ F.octets self.old.file }
+        ensures lines { IfSome (F.octets self.old.file)
+            (λ file. GivesPart file self.old.progress.given self.new.progress.given (option_map_or (λ octets. octets.items) result [])) }
     {
         match &self.fault {
             Some(fault) if fault.is_final() => return None,

@@ -10,7 +10,7 @@ const LONGEST_WRITE: u64 = 5_000_000_000;
 
 /// Which file it is, its length in octets, and when it was last modified.
 #[derive(Clone, Copy, PartialEq, Eq)]
-pub(crate) struct FileState {
+pub struct FileState {
     device: u64,
     node: u64,
     pub length: u64,

@@ -1,67 +1,53 @@
 //! A port over a UDP socket.
-ghost use Rattle.std.specs.Prelude.{◌≡◌, ◌+◌, ◌-◌, ◌≤◌, ◌<◌, ◌^◌, None, Err, IfOk, IfErr, IfSome, IfNone, if◌then◌else◌};
-ghost use Rattle.ntp_port.specs.Port.{most_received_octets, failed_calls, CountsWait};
-ghost use Rattle.ntp_host.specs.Reading.{middle};
+ghost use Rattle.std.specs.Prelude.{◌≡◌, ◌+◌, ◌-◌, ◌≤◌, ◌<◌, ◌^◌, None, Err, Some, IfOk, IfErr, IfSome, IfNone, IsSomeAnd, option_map, false, true, if◌then◌else◌};
+ghost use Rattle.std.specs.IoError.{error_kind};
+ghost use Rattle.ntp_port.specs.Port.{most_received_octets, failed_calls, counted_send, CountsWait, ReceiveTells};
+ghost use Rattle.ntp_host.specs.{Wire.middle, Wire.is_idle, Wire.port_told, Wire.idle_before};
 
-use crate::clock::moment_now;
-use crate::kernel_queue::KernelQueue;
-use crate::socket::awaited;
-use libc::net::{POLLIN, POLLRDHUP, poll};
+use crate::wire::{QueuedWire, Wire};
 use ntp_packet::{Moment, Stamp};
 use ntp_port::{Arrival, DatagramRoom, Port, PortCounts, PortFault, QueuedPort, TimedPort};
 use ntp_service::Address;
-use std::fs::Files;
 use std::io::{self, ErrorKind};
-use std::net::{Ipv4Addr, SocketAddr, SocketAddrV4, UdpSocket};
-use std::os::fd::AsRawFd;
-use std::time::{Clock, Instant};
+use std::net::{Ipv4Addr, SocketAddr, SocketAddrV4};
 
-/// How long one wait for a datagram lasts at most at a queue, in thousandths of a second: so soon is a command carried out that is
-/// written while nobody asks, and so old is what is known of the queue when the program is stopped then.
-const LONGEST_WAIT: u16 = 20;
-
-/// The calls of a port over one bound UDP socket, with a clock. Nothing is known of what it receives. It takes no memory.
+/// The calls of a port over a wire. It takes no memory.
 ///
 /// A source that is no IPv4 address is a `Receive` fault. A reply that would wait for room in the send buffer is not sent, and a `Send`
-/// fault. `Q` is what is kept to ask for the socket's queue, if that is to be asked.
+/// fault.
 #[derive(Drop)]
-pub struct UdpPort<C: Clock + Drop, Q = ()> {
-    socket: UdpSocket,
-    clock: C,
-    queue: Q,
-    // What the clock showed when it was last asked before a reply was sent.
+pub struct UdpPort<W: Wire> {
+    wire: W,
+    // What the clock showed last in this turn, and whether a send was tried since.
     shown: Option<Moment>,
-    // Whether a reply was sent since then, and nothing was received.
-    has_sent: bool,
+    has_tried_send: bool,
     counts: PortCounts,
     would_wait: u64,
     ghost few: { failed_calls counts < 2 ^ 64 },
 }
 
-impl<C: Clock + Drop> UdpPort<C> {
-    /// A port over a bound socket. A time limit of the socket's is the longest that `receive_in_time` takes; with none it
-    /// takes as long as nothing comes.
-    pub fn new(socket: UdpSocket, clock: C) -> UdpPort<C>
-        ensures { failed_calls result.counts ≡ 0 }
-    {
-        UdpPort::with_queue(socket, clock, ())
-    }
-}
+impl<W: Wire> UdpPort<W> {
+    ghost use Rattle.ntp_host.specs.UdpPort.{told_by};
 
-impl<C: Clock + Drop, Q> UdpPort<C, Q> {
-    /// A port over a bound socket whose queue can be asked. It begins with no failure.
-    pub fn with_queue(socket: UdpSocket, clock: C, queue: Q) -> UdpPort<C, Q>
-        ensures { failed_calls result.counts ≡ 0 }
+    /// A port over a wire. It begins with no failure.
+    pub fn new(wire: W) -> UdpPort<W>
+        ensures counts { failed_calls result.counts ≡ 0 }
+        ensures turns { told_by result ≡ option_map (port_told None false) (W.turns wire) }
     {
         UdpPort {
-            socket,
-            clock,
-            queue,
+            wire,
             shown: None,
-            has_sent: false,
+            has_tried_send: false,
             counts: PortCounts::NONE,
             would_wait: 0,
         }
+    }
+
+    /// The wire.
+    pub fn wire(&self) -> &W
+        ensures { result.now ≡ self.now.wire }
+    {
+        &self.wire
     }
 
     /// How many replies were not sent since they would have waited for room in the send buffer, as far as the number can count.
@@ -69,20 +55,22 @@ impl<C: Clock + Drop, Q> UdpPort<C, Q> {
         self.would_wait
     }
 
-    // Takes a datagram, for which it waits as the socket does; nothing where none came in time, or a signal came.
+    // Takes a datagram, for which it waits as the wire does; nothing where none came in time, or a signal came.
     fn take(&mut self, datagram: &mut DatagramRoom) -> Option<Result<Arrival, PortFault>>
         requires { failed_calls self.old.counts < 2 ^ 64 - 1 }
         ensures length { IfSome result (λ received. IfOk received (λ arrival. arrival.length ≤ most_received_octets)) }
         ensures fault { IfSome result (λ received. IfErr received (λ fault. fault ≡ PortFault.Receive)) }
         ensures counts { IfSome result (λ _. CountsWait self.old.counts self.new.counts result) }
-        ensures nothing { IfNone result (self.new.counts ≡ self.old.counts) }
         ensures dropped { self.new.counts.dropped ≡ self.old.counts.dropped }
+        ensures turns { IfSome result (λ received. ReceiveTells (told_by self.old) (told_by self.new) received datagram.new) }
+        ensures nothing { IfNone result ((self.new.counts ≡ self.old.counts) × (told_by self.new ≡ told_by self.old)) }
+        ensures idle { IfNone result (IfSome (W.turns self.old.wire) (λ old. IsSomeAnd (W.turns self.new.wire)
+            (λ new. idle_before new < idle_before old))) }
     {
-        // After a reply that tells no time nobody asks for its departure.
-        self.has_sent = false;
-        match self.socket.recv_from(datagram) {
+        match self.wire.receive(datagram) {
             Ok((length, SocketAddr::V4(source))) => {
-                let receipt = moment_now(&self.clock);
+                self.begin_turn();
+                let receipt = self.wire.now();
                 Some(Ok(Arrival {
                     address: Address(source.ip().octets()),
                     port: source.port(),
@@ -90,45 +78,62 @@ impl<C: Clock + Drop, Q> UdpPort<C, Q> {
                     receipt,
                 }))
             }
+            Ok((_, SocketAddr::V6(_))) => Some(self.failed()),
             Err(error) if is_no_failure(&error) => None,
-            _ => Some(self.failed()),
+            Err(_) => Some(self.failed()),
         }
     }
 
-    // Counts a receive that failed.
+    // Forgets what the clock showed in the turn before.
+    fn begin_turn(&mut self)
+        ensures wire { self.new.wire ≡ self.old.wire }
+        ensures shown { self.new.shown ≡ None }
+        ensures unsent { self.new.has_tried_send ≡ false }
+        ensures counts { self.new.counts ≡ self.old.counts }
+    {
+        self.shown = None;
+        self.has_tried_send = false;
+    }
+
+    // Counts a receive that failed, and begins its turn.
     fn failed(&mut self) -> Result<Arrival, PortFault>
         requires { failed_calls self.old.counts < 2 ^ 64 - 1 }
         ensures fault { result ≡ Err PortFault.Receive }
         ensures counts { self.new.counts ≡ record self.old.counts { failed_receives = self.old.counts.failed_receives + 1 } }
+        ensures wire { self.new.wire ≡ self.old.wire }
+        ensures shown { self.new.shown ≡ None }
+        ensures unsent { self.new.has_tried_send ≡ false }
     {
+        self.begin_turn();
         self.counts.failed_receives += 1;
         Err(PortFault::Receive)
     }
 
-    // Counts a wait that ended with nothing.
-    fn count_idle(&mut self)
-        ensures { (CountsWait self.old.counts self.new.counts None) × (self.new.counts.dropped ≡ self.old.counts.dropped) }
+    // Counts a reply that was not sent, and whether it would have waited for room.
+    fn not_sent(&mut self, would_wait: bool) -> Result<(), PortFault>
+        requires { failed_calls self.old.counts < 2 ^ 64 - 1 }
+        ensures fault { result ≡ Err PortFault.Send }
+        ensures counts { self.new.counts ≡ counted_send true self.old.counts }
+        ensures turns { told_by self.new ≡ told_by self.old }
     {
-        self.counts.idle_waits = self.counts.idle_waits.saturating_add(1);
+        self.would_wait = self.would_wait.saturating_add(u64::from(would_wait));
+        self.counts.failed_sends += 1;
+        Err(PortFault::Send)
     }
 
-    // What `now` tells of a reading of the clock: just after a reply was sent the middle between the reading before and this one, which is
-    // nearer to the departure than either.
-    fn told(&mut self, reading: Moment) -> Moment
-        ensures told { result ≡ (if self.old.has_sent then middle self.old.shown reading else reading) }
-        ensures counts { self.new.counts ≡ self.old.counts }
+    // Counts a wait that ended with nothing.
+    fn count_idle(&mut self)
+        ensures counts { (CountsWait self.old.counts self.new.counts None) × (self.new.counts.dropped ≡ self.old.counts.dropped) }
+        ensures turns { told_by self.new ≡ told_by self.old }
     {
-        if self.has_sent {
-            self.has_sent = false;
-            return middle(self.shown, reading);
-        }
-        self.shown = Some(reading);
-        reading
+        self.counts.idle_waits = self.counts.idle_waits.saturating_add(1);
     }
 }
 
 // Whether nothing failed: the time limit passed, or a signal came.
-fn is_no_failure(error: &io::Error) -> bool {
+fn is_no_failure(error: &io::Error) -> bool
+    ensures { result ≡ is_idle (error_kind error.now) }
+{
     matches!(
         error.kind(),
         ErrorKind::WouldBlock | ErrorKind::TimedOut | ErrorKind::Interrupted
@@ -148,12 +153,16 @@ fn middle(first: Option<Moment>, second: Moment) -> Moment
     }
 }
 
-impl<C: Clock + Drop, Q: Drop> Port for UdpPort<C, Q> {
+impl<W: Wire> Port for UdpPort<W> {
+    ghost use Rattle.ntp_host.specs.UdpPort.{told_by};
+
+    ghost told = { told_by };
+
     ghost counts = { λ udp. udp.counts };
 
     /// Waits until a datagram comes: a time limit that passes, or a signal, ends no turn.
     fn receive(&mut self, datagram: &mut DatagramRoom) -> Result<Arrival, PortFault> {
-        for _ in 0..u64::MAX {
+        for _wait in 0..u64::MAX {
             if let Some(received) = self.take(datagram) {
                 return received;
             }
@@ -161,26 +170,28 @@ impl<C: Clock + Drop, Q: Drop> Port for UdpPort<C, Q> {
         self.failed()
     }
 
-    /// What the clock shows; just after a reply was sent, the middle between what it showed before and what it shows now.
+    /// What the clock shows; just after a send, the middle between what it showed before and what it shows now, which is nearer to the
+    /// departure than either.
     fn now(&mut self) -> Moment {
-        let reading = moment_now(&self.clock);
-        self.told(reading)
+        let reading = self.wire.now();
+        let shown = if self.has_tried_send {
+            middle(self.shown, reading)
+        } else {
+            reading
+        };
+        self.shown = Some(reading);
+        self.has_tried_send = false;
+        shown
     }
 
     fn send(&mut self, address: Address, port: u16, reply: &[u8]) -> Result<(), PortFault> {
         let target = SocketAddrV4::new(Ipv4Addr::from(address.0), port);
-        match self.socket.send_to(reply, target) {
-            Ok(sent) if sent == reply.len() => {
-                self.has_sent = true;
-                return Ok(());
-            }
-            Err(error) if error.kind() == ErrorKind::WouldBlock => {
-                self.would_wait = self.would_wait.saturating_add(1);
-            }
-            _ => {}
+        self.has_tried_send = true;
+        match self.wire.send(target, reply) {
+            Ok(sent) if sent == reply.len() => Ok(()),
+            Ok(_) => self.not_sent(false),
+            Err(error) => self.not_sent(error.kind() == ErrorKind::WouldBlock),
         }
-        self.counts.failed_sends += 1;
-        Err(PortFault::Send)
     }
 
     fn failures(&self) -> u64 {
@@ -188,8 +199,8 @@ impl<C: Clock + Drop, Q: Drop> Port for UdpPort<C, Q> {
     }
 }
 
-impl<C: Clock + Drop, Q: Drop> TimedPort for UdpPort<C, Q> {
-    /// Waits for a datagram as long as the socket's time limit allows. A signal ends the wait too.
+impl<W: Wire> TimedPort for UdpPort<W> {
+    /// Waits for a datagram as long as the wire does. A signal ends the wait too.
     fn receive_in_time(
         &mut self,
         datagram: &mut DatagramRoom,
@@ -202,53 +213,22 @@ impl<C: Clock + Drop, Q: Drop> TimedPort for UdpPort<C, Q> {
     }
 }
 
-impl<'a, C: Clock + Drop> UdpPort<C, KernelQueue<'a>> {
-    // Waits until a datagram may have come, or that which is expected at the other socket, and returns what was seen at this one. It takes
-    // `LONGEST_WAIT` at most; a port that spins does not sleep.
-    fn wait(&self) -> i16 {
-        let KernelQueue { clocks, bound, .. } = &self.queue;
-        let mut waits = [
-            awaited(self.socket.as_raw_fd(), POLLIN | POLLRDHUP),
-            awaited(clocks.expected.get(), POLLIN),
-        ];
-        if !bound.spins {
-            poll(&mut waits, i32::from(LONGEST_WAIT));
-            return waits[0].revents;
-        }
-        let begun = Instant::now(&self.clock).ok();
-        for _ in 0..u64::MAX {
-            if poll(&mut waits, 0) != 0 || is_over(begun, &self.clock) {
-                break;
-            }
-        }
-        waits[0].revents
-    }
-}
-
-// Whether the longest wait has passed since it began, or no clock says.
-fn is_over<C: Clock>(begun: Option<Instant>, clock: &C) -> bool {
-    match begun.map(|begun| begun.elapsed(clock)) {
-        Some(Ok(passed)) => passed.as_millis() >= u128::from(LONGEST_WAIT),
-        _ => true,
-    }
-}
-
-impl<'a, C: Clock + Files + Drop> QueuedPort for UdpPort<C, KernelQueue<'a>> {
+impl<W: QueuedWire> QueuedPort for UdpPort<W> {
     fn ticks(&mut self) -> u64 {
-        self.queue.clocks.read(&self.clock)
+        self.wire.ticks()
     }
 
     fn most_held(&mut self) -> u64 {
-        self.queue.most_held(&self.clock)
+        self.wire.most_held()
     }
 
     fn is_empty(&mut self) -> bool {
-        poll(&mut [awaited(self.socket.as_raw_fd(), POLLIN)], 0) == 0
+        self.wire.is_empty()
     }
 
     /// A wait ends too when that has come which is expected at another socket. It fails at a socket that was shut down.
     fn take_in_time(&mut self, datagram: &mut DatagramRoom) -> Option<Result<Arrival, PortFault>> {
-        if self.wait() & POLLRDHUP != 0 {
+        if self.wire.wait() {
             return Some(self.failed());
         }
         let received = self.take(datagram);
@@ -259,6 +239,10 @@ impl<'a, C: Clock + Files + Drop> QueuedPort for UdpPort<C, KernelQueue<'a>> {
     }
 
     fn drop_next(&mut self) -> bool {
-        self.socket.recv(&mut [0]).is_ok()
+        let has_dropped = self.wire.drop_next();
+        if has_dropped {
+            self.begin_turn();
+        }
+        has_dropped
     }
 }

@@ -2,3 +2,4 @@ mod Asking
 mod Handed
 mod Walking
 mod Receiving
+mod WireTurns

@@ -63,6 +63,12 @@ pub fn replies() -> [[u8; 68]; 4] {
     ]
 }
 
+/// The interleaved reply to the third where the second departed in the middle of the two readings around its send.
+pub fn reply_over_a_wire() -> [u8; 68] {
+    let digest = 0x44c8_d7d3_8360_a5dc_219f_6c57_3dcd_d177;
+    reply(PRIMARY, ARRIVAL, RECEIPTS[2], RECEIPTS[1] + 0x140, digest)
+}
+
 /// A turn in which the customer's octets come from a UDP port at a stamp. The reply is to leave 0x100 units of a stamp behind
 /// it, and leaves 0x180 behind it, if it can be sent.
 pub fn turn<A: Allocator + Copy>(

@@ -12,7 +12,9 @@ use labntpd_assembly::{
     StartupFacts,
 };
 use labntpd_files::read_configuration;
-use ntp_host::{BoundAt, ClockSource, CommandsFile, HostClocks, Log, LogForm, emptied_file};
+use ntp_host::{
+    BoundAt, ClockSource, CommandsFile, HostClocks, HostFile, Log, LogForm, emptied_file,
+};
 use ntp_port::{FreshPort, Port, QueueWatch};
 use ntp_reply::Reference;
 use ntp_reports::{AnswerLines, Counts, CustomerCounts};
@@ -51,7 +53,7 @@ pub struct Found {
 // The parts of the daemon.
 type YearParts<'a, 'd> = Parts<
     YearQueue<'a, 'd>,
-    CommandsFile<'a, MemoryHost<'d>>,
+    CommandsFile<'a, HostFile<'a, MemoryHost<'d>>>,
     ClockSource<'a, &'a MemoryHost<'d>>,
     ReportingObserver<'a, MemoryFile<'d>, LineWriter<MemoryFile<'d>>>,
     MemoryFile<'d>,
@@ -122,10 +124,10 @@ fn judged<'a, 'd>(
 // call of parts that each have two lifetimes.
 fn served<'a, P, S, O, R, L>(
     host: Host<'a, R>,
-    parts: Parts<P, CommandsFile<'a, R>, S, O, L>,
+    parts: Parts<P, CommandsFile<'a, HostFile<'a, R>>, S, O, L>,
     startup: StartupFacts,
     turns: u64,
-) -> Result<Assembly<'a, P, CommandsFile<'a, R>, S, O, R, L>, ServeFault>
+) -> Result<Assembly<'a, P, CommandsFile<'a, HostFile<'a, R>>, S, O, R, L>, ServeFault>
 where
     P: DaemonPort + Drop,
     S: DaemonClock + Drop,
@@ -173,7 +175,7 @@ fn known_at_start() -> StartupFacts {
 // The commands file, which is empty.
 fn commands_at<'a, 'd>(
     host: &Host<'a, MemoryHost<'d>>,
-) -> Result<CommandsFile<'a, MemoryHost<'d>>, Fail> {
+) -> Result<CommandsFile<'a, HostFile<'a, MemoryHost<'d>>>, Fail> {
     match CommandsFile::open(host.rt, host.configuration.commands.as_str(), host.clocks) {
         Ok(commands) => Ok(commands),
         Err(_) => Err(Fail::new("the commands file cannot be opened")),

@@ -2,6 +2,7 @@
 //! serving takes no memory; and a port about which nothing is known.
 
 use crate::servers::failing_port::FailingPort;
+use ntp_host::UdpPort;
 use ntp_port::{Port, Sent, serve};
 use ntp_reply::Reference;
 use ntp_service::Service;
@@ -9,8 +10,8 @@ use std::alloc::{Allocator, Global};
 use std::process::Abort;
 use std::test::Fail;
 use test_support::{
-    CUSTOMER, MemoryPort, RECEIPTS, Refusing, Turn, enrolled_service, moment, queries, reference,
-    replies, turn,
+    CUSTOMER, MemoryPort, MemoryWire, RECEIPTS, Refusing, Turn, enrolled_service, moment, queries,
+    reference, replies, reply_over_a_wire, turn,
 };
 
 // The UDP ports of three turns.
@@ -26,8 +27,8 @@ fn others() -> [(u16, [(u16, [u8; 68]); 2]); 3] {
     ]
 }
 
-// A port with three turns. The send to this UDP port fails.
-fn three_turns<A: Allocator + Copy>(alloc: A, failing: u16) -> Result<MemoryPort<A>, Fail> {
+// Three turns. The send to this UDP port fails.
+fn three_turns<A: Allocator + Copy>(alloc: A, failing: u16) -> Result<Vec<Turn<A>, A>, Fail> {
     let mut turns = Vec::new(alloc);
     let queries = queries();
     for place in 0..3usize {
@@ -41,7 +42,7 @@ fn three_turns<A: Allocator + Copy>(alloc: A, failing: u16) -> Result<MemoryPort
         )?;
         turns.push(turn)?;
     }
-    Ok(MemoryPort::new(alloc, turns)?)
+    Ok(turns)
 }
 
 // A turn with no datagram.
@@ -109,10 +110,31 @@ fn a_turn_without_a_datagram_is_no_event(rt: HostRuntime) -> Result<(), Fail> {
 }
 
 #[test]
+fn a_port_over_a_wire_tells_the_middle_of_two_readings_as_a_departure(
+    rt: HostRuntime,
+) -> Result<(), Fail> {
+    let reference = reference()?;
+    let wire = MemoryWire::new(rt.alloc(), three_turns(rt.alloc(), 0)?)?;
+    let mut port = UdpPort::new(wire);
+    let mut service = enrolled_service(rt.alloc())?;
+    let counts = served(&rt, &mut port, &mut service, &reference, 4);
+    assert!(rt; counts == [3, 3, 3] && port.failures() == 1);
+    let [first, second, ..] = replies();
+    let third = reply_over_a_wire();
+    assert!(rt;
+        are_sent(
+            port.wire().sent(),
+            &[(5001, first), (5002, second), (5003, third)]
+        )
+    );
+    Ok(())
+}
+
+#[test]
 fn each_send_fails_in_turn(rt: HostRuntime) -> Result<(), Fail> {
     let reference = reference()?;
     for (failing, expected) in others() {
-        let mut port = three_turns(rt.alloc(), failing)?;
+        let mut port = MemoryPort::new(rt.alloc(), three_turns(rt.alloc(), failing)?)?;
         let mut service = enrolled_service(rt.alloc())?;
         let counts = served(&rt, &mut port, &mut service, &reference, 3);
         assert!(rt; counts == [3, 2, 2] && port.failures() == 1);
@@ -126,7 +148,7 @@ fn serving_takes_no_memory(rt: HostRuntime) -> Result<(), Fail> {
     let reference = reference()?;
     let memory = Refusing::new(rt.alloc());
     let mut service = enrolled_service(&memory)?;
-    let mut port = three_turns(&memory, 5002)?;
+    let mut port = MemoryPort::new(&memory, three_turns(&memory, 5002)?)?;
     let before = memory.calls();
     memory.refuse_all();
     let counts = served(&rt, &mut port, &mut service, &reference, 4);

@@ -1,7 +1,7 @@
 //! Looks at sources of commands, with receipts that were made up.
 
 use crate::host::counting::Counting;
-use ntp_host::{CommandsFile, HostClocks};
+use ntp_host::{CommandsFile, HostClocks, HostFile};
 use ntp_packet::{Moment, Stamp};
 use ntp_port::{CommandsSource, EachMillisecond};
 use std::alloc::{Allocator, Global};
@@ -93,7 +93,7 @@ pub fn show_calls(rt: &HostRuntime) -> io::Result<()> {
 // How many octets looks with these receipts give first, if they give any.
 fn first_given<R: Files>(
     alloc: Global,
-    file: &mut CommandsFile<'_, R>,
+    file: &mut CommandsFile<'_, HostFile<'_, R>>,
     receipts: &[Option<Moment>],
 ) -> Option<usize> {
     for receipt in receipts {
@@ -107,7 +107,7 @@ fn first_given<R: Files>(
 // Prints what looks with these receipts give first, or how many calls they took.
 fn show_looks<R: Files>(
     rt: &HostRuntime,
-    file: &mut CommandsFile<'_, R>,
+    file: &mut CommandsFile<'_, HostFile<'_, R>>,
     calls: &Cell<u64>,
     what: &str,
     receipts: &[Option<Moment>],

@@ -1,0 +1,60 @@
+//! A file that others append to.
+ghost use Rattle.std.specs.Prelude.{◌≡◌, ℕ, List, Option, None, IfOk, IfSome};
+ghost use Rattle.ntp_host.specs.Progress.{StandsAt};
+
+use crate::growth::FileState;
+use crate::whole_file::open_regular_file;
+use std::fs::{self, Files, OpenFile};
+use std::io::{self, Read, Seek, SeekFrom};
+
+/// A file that stays open, and the path at which it was found. It may tell its octets.
+pub trait AppendedFile {
+    // The octets that it has in the end, as long as it is appended to alone, where it tells them.
+    ghost octets: { Self → Option (List ℕ) } = { λ _. None };
+
+    /// The state of the file.
+    fn state(&mut self) -> io::Result<FileState>
+        ensures { octets self.new ≡ octets self.old };
+
+    /// The state of what stands at its path.
+    fn state_at_path(&mut self) -> io::Result<FileState>
+        ensures { octets self.new ≡ octets self.old };
+
+    /// Fills `room` with the octets that the file has behind the first `from`.
+    fn read_behind(&mut self, from: u64, room: &mut [u8]) -> io::Result<()>
+        ensures octets { octets self.new ≡ octets self.old }
+        ensures read { IfOk result (λ _. IfSome (octets self.old) (λ file. StandsAt file from room.new)) };
+}
+
+/// A regular file of the host. Nothing is known of what it has.
+#[derive(Drop)]
+pub struct HostFile<'a, R: Files> {
+    files: &'a R,
+    path: &'a str,
+    file: R::File,
+}
+
+impl<'a, R: Files> HostFile<'a, R> {
+    /// Opens the regular file at `path`, and reads as many octets of it as `most` once without a use. The error is the system's, or says
+    /// that a regular file is wanted.
+    pub(crate) fn open(files: &'a R, path: &'a str, most: u64) -> io::Result<HostFile<'a, R>> {
+        let (mut file, _) = open_regular_file(files, path)?;
+        io::copy(&mut (&mut file).take(most), &mut io::sink())?;
+        Ok(HostFile { files, path, file })
+    }
+}
+
+impl<'a, R: Files> AppendedFile for HostFile<'a, R> {
+    fn state(&mut self) -> io::Result<FileState> {
+        Ok(FileState::of(&self.file.metadata()?))
+    }
+
+    fn state_at_path(&mut self) -> io::Result<FileState> {
+        Ok(FileState::of(&fs::metadata(self.files, self.path)?))
+    }
+
+    fn read_behind(&mut self, from: u64, room: &mut [u8]) -> io::Result<()> {
+        self.file.seek(SeekFrom::Start(from))?;
+        self.file.read_exact(room)
+    }
+}

@@ -22,6 +22,7 @@ LIMIT = 60
 
 # What a daemon tells with which all is well, each minute for an hour: `START+STEPxTIMES`, as promtool writes it.
 WELL = {
+    "up": "1+0x60",
     'node_textfile_mtime_seconds{file="/run/labntp/labntpd.prom"}': "0+60x60",
     'labntp_build_info{version="0.2.0"}': "1+0x60",
     "labntp_start_time_seconds": "1000+0x60",
@@ -86,12 +87,14 @@ FIRES = {
     "LabntpdLeap": ({"labntp_clock_leap": "0+0x29 1+0x30"}, {}),
 }
 
-# Where an alarm fires for another reason too, that and the same. `_` is no number at all.
+# A server beside the others, which stays a target, and has no statistics from the thirtieth minute on; `_` is no number at all.
+SILENT = {'up{instance="another"}': "0+0x1500", 'labntp_build_info{instance="another",version="0.2.0"}': "1+0x29 _x30"}
+# Where an alarm fires for another reason too, that and the same; and where it is looked later, when, in minutes.
 FIRES_TOO = {
-    "LabntpdSilent fires where there are no statistics": ({'labntp_build_info{version="0.2.0"}': "1+0x29 _x30"}, {"version": "0.2.0"}),
-    "LabntpdSilent fires where one of two servers has none": (
-        {'labntp_build_info{instance="another",version="0.2.0"}': "1+0x29 _x30"}, {"instance": "another", "version": "0.2.0"}
-    ),
+    "LabntpdSilent fires where there are no statistics": ({'labntp_build_info{version="0.2.0"}': "1+0x29 _x30"}, {}),
+    "LabntpdSilent fires where one of two servers has none": (SILENT, {"instance": "another"}),
+    "LabntpdSilent fires where it has had none for more than a day": (SILENT, {"instance": "another"}, 1_500),
+    "none fires where it is no target any more": ({**SILENT, 'up{instance="another"}': "1+0x29 _x30"}, {}),
 }
 
 # What the dashboard shows besides, where all is well.
@@ -150,16 +153,17 @@ def severities():
     return {name: (severity, summary) for name, severity, summary in found}
 
 
-def made_up(name, series, labels, alarms):
+def made_up(name, series, labels, alarms, after=AFTER):
     """A test of promtool: with these series the alarm does not fire before, and fires after; without a name none fires at all."""
+    well = {one: values.replace("x60", f"x{after + 18}") for one, values in WELL.items()}
     severity, summary = alarms.get(name, ("", ""))
     summary = re.sub(r"\{\{ \$labels\.(\w+) \}\}", lambda it: labels[it[1]], summary)
     fired = [{"exp_labels": {"severity": severity, **labels}, "exp_annotations": {"summary": summary}}]
     looks = [(BEFORE, each, []) for each in alarms]
-    looks += [(AFTER, each, fired if each == name else []) for each in alarms if not name or each == name]
+    looks += [(after, each, fired if each == name else []) for each in alarms if not name or each == name]
     return {
         "interval": "1m",
-        "input_series": [{"series": one, "values": values} for one, values in {**WELL, **series}.items()],
+        "input_series": [{"series": one, "values": values} for one, values in {**well, **series}.items()],
         "alert_rule_test": [{"eval_time": f"{at}m", "alertname": each, "exp_alerts": alerts} for at, each, alerts in looks],
     }
 
@@ -175,9 +179,9 @@ def test_each_alarm_has_its_case():
 @pytest.mark.parametrize("case", ["none fires where all is well", *(f"{it} fires" for it in FIRES), *FIRES_TOO])
 def test_alarms(case):
     name = case.split()[0] if case.split()[0] in FIRES else ""
-    series, labels = FIRES_TOO.get(case) or FIRES.get(name) or ({}, {})
+    series, labels, *after = FIRES_TOO.get(case) or FIRES.get(name) or ({}, {})
     # What is JSON is YAML too.
-    rules = {"rule_files": [RULES], "evaluation_interval": "1m", "tests": [made_up(name, series, labels, severities())]}
+    rules = {"rule_files": [RULES], "evaluation_interval": "1m", "tests": [made_up(name, series, labels, severities(), *after)]}
     promtool("test", "rules", file_of("case.json", json.dumps(rules)))
 
 

@@ -33,6 +33,7 @@ import signal
 import socket
 import struct
 import subprocess
+import sys
 import threading
 import time
 import tomllib
@@ -152,6 +153,11 @@ def test_customers_by_files_with_a_fault():
             same("what can be read of a customers file with a fault", (wanted, "".join(it for it in here if it != text)), (lambda it: (it[::2], it[1]))(run(["customers", "--json", *config])))
             same("as a table", (wanted, len(here)), (lambda it: (it[::2], len(it[1].splitlines())))(run(["customers", *config])))
             same("it is not compared", (1, "", wanted[1]), run(["customers", "--compare", *config]))
+    # JSON has no U+001B in a text, but U+009B, and a carriage return between members.
+    odd = [first.replace(*it) for it in (("192.0.2.1", "\x1b[2J"), ("192.0.2.1", "\x9b2J"), (",", ",\r"))]
+    file_of("customers", "".join(odd + others))
+    wanted = "".join(f"customers: line {it}: an object of a customer is wanted\n" for it in (1, 2, 3))
+    same("lines that could steer a terminal", (1, "".join(others), wanted), run(["customers", "--json", *config]))
     os.remove(room("customers"))
     file_of("customers", run(["customers", "--json", *config], 0)[1])
     listed = [run(["customers", *words, *config], 0)[1] for words in ([], ["--json"])]
@@ -365,6 +371,17 @@ def test_changes_beside_several_processes():
             same("what is told of no answer", wanted == 3, err.startswith(f"line {number}: no answer;"))
             same("the customer's file", wanted != 1, os.path.exists(room(f"{number}.keys")))
         same("the daemon did all", all_done(), lines_in("answers"))
+
+
+def test_changes_tell_odd_answers_in_a_line():
+    """An answer that could steer a terminal, a long one and an empty one: each is told in a line, and the customer's file goes."""
+    config, long = configured(), "x" * 100_000
+    odd = (("refused \x1b[2J\x9b\r\0\u202e", r"refused \u{1b}[2J\u{9b}\u{d}\u{0}\u{202e}"), (f"{long}\x07", rf"{long}\u{{7}}"), ("", '""'))
+    for turn, (answer, wanted) in enumerate(odd):
+        with answering(answer):
+            status, out, err = run(["enrol", f"192.0.2.{turn + 9}", "--output", room("new.keys"), *config])
+        same(f"answer {turn}", (1, f"line {FIRST + 2 * turn}: {wanted}", ""), (status, out.split("\n")[-2], err))
+        same("no file of a customer", False, os.path.exists(room("new.keys")))
 
 
 def counted(seconds, *unused):
@@ -972,6 +989,19 @@ def test_changes_take_keys_of_a_key_file():
     same("nothing was written", ([], False), (appended(before), os.path.exists(room("it"))))
 
 
+def test_changes_take_keys_of_a_key_file_of_ntpd():
+    """Keys as ntp.keys(5) has them, of which more than 20 characters are digits: as they stand, and as the page has them written."""
+    config, path, text, digits = configured(), room("ntp.keys"), 'L";Nw<`.I<f4U0)247"i', bytes(range(200, 220)).hex()
+    file_of("ntp.keys", f"# ntpkey_MD5key\n\n 5 MD5 {text}\n11 SHA1 {digits}\n12 sha1 {digits}\n13 M {text}\n14 SHA1 HEX:{digits} # SHA1 key\n15 MD5 {digits[:32]}\n")
+    other, two = "a key for MD5 or SHA1 is wanted", "key 15: HEX: is wanted in front of more than 20 digits"
+    for number, told in ((11, "line 4: a key of 1 to 32 octets is wanted, behind HEX: in digits"), (12, f"line 5: {other}"), (13, f"line 6: {other}"), (14, "line 7: NUMBER [MD5|SHA1] [ASCII:|HEX:]KEY is wanted"), (15, two)):
+        same(told, (1, "", f"{path}: {told}\n"), run(["enrol", "192.0.2.9", "--key-file", path, "--number", f"{number}", *config]))
+    file_of("ntp.keys", re.sub(f" ({digits[:32]})", r" HEX:\1", read("ntp.keys").replace("sha1", "SHA1").replace(" M ", " MD5 ")))
+    for number, algorithm, key in ((5, "md5", text.encode().hex()), (11, "sha1", digits), (12, "sha1", digits), (13, "md5", text.encode().hex()), (15, "md5", digits[:32])):
+        run(["enrol", f"192.0.2.{number}", "--key-file", path, "--number", f"{number}", "--wait", "0", *config], 3)
+        same(f"key {number}", f"enrol 192.0.2.{number} {number} {algorithm} {key} 10", lines_in("commands")[-1])
+
+
 def test_changes_tell_where_the_customer_asks():
     """What the customer's file says: as the words have it, else as `served_as`, else as `listen` where that is one address."""
     for number, (listen, served, words, wanted) in enumerate((("0.0.0.0:123", "", [], "SERVER"), ("0.0.0.0:123", "198.51.100.7", [], "198.51.100.7"), ("192.0.2.200:321", "198.51.100.7", [], "198.51.100.7 port 321"), ("192.0.2.200:321", "", [], "192.0.2.200 port 321"),
@@ -983,21 +1013,31 @@ def test_changes_tell_where_the_customer_asks():
         same(f"{number}: {listen} and {served}", True, f"#   server {wanted} key 2 iburst xleave\n" in read("192.0.2.9-2.keys"))
 
 
+# Binds a socket at an address, and becomes another program.
+BOUND = "import os, socket, sys; it = socket.socket(socket.AF_INET, socket.SOCK_DGRAM); it.bind((sys.argv[1], 123)); it.set_inheritable(True); os.execvp(sys.argv[2], sys.argv[2:])"
+
+
 def test_changes_at_0_0_0_0_on_a_host_with_several_addresses():
     """Where no address says where customers ask, and the host has several, a new customer's file and `check` come with a warning."""
     if os.geteuid() or not all(map(shutil.which, ("ip", "unshare"))):
         raise PassedOver("it needs root, ip and unshare")
-    both = ["192.0.2.7", "198.51.100.9"]
-    for addresses, listen, served, warned in ((both, "0.0.0.0:123", "", True), (both[:1], "0.0.0.0:123", "", False), (both, "192.0.2.7:123", "", False), (both, "0.0.0.0:123", 'served_as = "192.0.2.7"\n', False)):
+    both, named, served_as = ["192.0.2.7", "198.51.100.9"], 'listen = "192.0.2.7:123" names one', 'served_as = "192.0.2.7"\n'
+    handed = "ListenDatagram=192.0.2.7:123 names one"
+    # Of a socket that is handed down it counts where one is bound.
+    for addresses, listen, served, warned, bound in (
+        (both, "0.0.0.0:123", "", named, ""), (both[:1], "0.0.0.0:123", "", "", ""), (both, "192.0.2.7:123", "", "", ""), (both, "0.0.0.0:123", served_as, "", ""), (both, "inherited", "", "", ""),
+        (both, "inherited", "", handed, "0.0.0.0"), (both, "inherited", "", "", "192.0.2.7"), (both[:1], "inherited", "", "", "0.0.0.0"), (both, "inherited", served_as, "", "0.0.0.0"),
+    ):
         host = ["unshare", "--net", "sh", "-ec", "; ".join(["ip link set lo up", *[f"ip addr add {it}/32 dev lo" for it in addresses], 'exec "$@"']), "sh"]
+        host += [sys.executable, "-c", BOUND, bound] if bound else []
         config = configured(customers=[])
         path = file_of("labntpd.toml", re.sub("(?m)^listen = .*\n", f'listen = "{listen}"\n{served}', read("labntpd.toml")))
         os.chmod(room("commands"), 0o600)
-        warning = f"warning: {path}: listen: replies from 0.0.0.0 leave from any address of this host, as 192.0.2.7 and 198.51.100.9: " if warned else ""
-        told = lambda text: [it[: len(warning)] for it in text.splitlines() if it.startswith("warning: ")]
-        same(f"check at {listen} and {addresses}", (0, [warning] if warned else []), (lambda it: (it[0], told(it[1])))(run(["check", *config], before=host)))
+        warning = f"warning: {path}: listen: replies from 0.0.0.0 leave from any address of this host, as 192.0.2.7 and 198.51.100.9: {warned}"
+        told = lambda text: [it for it in text.splitlines() if it.startswith("warning: ")]
+        same(f"check at {listen} {bound} and {addresses}", (0, [warning] if warned else []), (lambda it: (it[0], told(it[1])))(run(["check", *config], before=host)))
         for words, wanted in ((["enrol", "192.0.2.10"], warned), (["enrol", "192.0.2.11", "--server", "192.0.2.7"], False), (["rollover", "192.0.2.10"], warned), (["budget", "192.0.2.10", "7"], False)):
-            same(f"{words} at {listen} and {addresses}", (3, [warning] if wanted else []), (lambda it: (it[0], told(it[2])))(run([*words, "--wait", "0", *config], before=host)))
+            same(f"{words} at {listen} {bound} and {addresses}", (3, [warning] if wanted else []), (lambda it: (it[0], told(it[2])))(run([*words, "--wait", "0", *config], before=host)))
 
 
 def test_changes_to_another_address():
@@ -1549,6 +1589,8 @@ def test_check_of_other_files():
         file_of("clock.key", key)
         status, out, _ = run(["check", *config])
         same(f"a key of {len(key)} octets", (int(bool(told)), True), (status, (told or "ok: 3 customers") in out))
+    os.remove(room("clock.key"))
+    same("no key", (3, f"{room('clock.key')}: No such file or directory (os error 2)\n"), checked(*config))
 
 
 @pytest.mark.proved_alone(SLOW)

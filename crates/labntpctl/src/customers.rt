@@ -96,8 +96,11 @@ pub struct Listing<'a> {
     pub json: bool,
 }
 
-// Reads a line behind `place` others, or reports that it is no line of a customer.
+// Reads a line behind `place` others, or reports that it is no line of a customer: labntpd writes printable ASCII alone.
 fn customer_in<'a>(desk: Desk<'_>, place: usize, line: &'a str) -> Result<CustomerLine<'a>, Stop> {
+    if !line.chars().all(|character| matches!(character, ' '..='~')) {
+        return Err(no_line(desk, place));
+    }
     let read = serde_json::from_str::<CustomerLine<'a>>(desk.alloc(), line);
     read.map_err(|error| if error.is_memory() {
         Stop::Memory

@@ -1,6 +1,8 @@
 //! The IPv4 addresses of this host. The kernel picks one of them for what a socket sends that is bound to 0.0.0.0.
 
+use crate::sockets::MOST_LIST_OCTETS;
 use labntpd_files::Listen;
+use ntp_host::read_regular_file;
 use std::alloc::Global;
 use std::fmt;
 use std::fs::{self, Files};
@@ -23,7 +25,8 @@ pub struct SeveralAddresses {
 
 impl SeveralAddresses {
     /// Returns what there is to warn of where a configuration listens: 0.0.0.0, where the host has several addresses beside
-    /// loopback. Returns `None` too if the kernel's table cannot be read.
+    /// loopback. A socket that is handed down counts as bound there if the kernel lists one at 0.0.0.0:123. Returns `None` too if
+    /// what the kernel tells cannot be read.
     pub fn configured<R: Files>(
         files: &R,
         alloc: Global,
@@ -33,7 +36,14 @@ impl SeveralAddresses {
             Listen::Bound(endpoint) => {
                 SeveralAddresses::at(files, alloc, endpoint.socket_address(), false)
             }
-            Listen::Inherited => None,
+            Listen::Inherited => {
+                let list = read_regular_file(files, alloc, "/proc/net/udp", MOST_LIST_OCTETS).ok()?;
+                if !str::from_utf8(&list).ok()?.contains(": 00000000:007B ") {
+                    return None;
+                }
+                let local = SocketAddrV4::new(Ipv4Addr::UNSPECIFIED, 123);
+                SeveralAddresses::at(files, alloc, local, true)
+            }
         }
     }
 

@@ -4,7 +4,7 @@ use crate::host_addresses::SeveralAddresses;
 use crate::lines::StartLines;
 use crate::places::{NamedFiles, tell_places, tell_readers};
 use labntpd_files::{
-    Clock, ClockDaemon, Configuration, ConfigurationFault, Endpoint, key_in_file,
+    Clock, ClockDaemon, Configuration, ConfigurationFault, Endpoint, Listen, key_in_file,
     read_configuration,
 };
 use ntp_admin::{Escaped, Status, failed_status, memory_status};
@@ -63,7 +63,10 @@ pub fn prepare<R: Files, F: Write + Drop>(
         Clock::Followed(daemon) => followed(files, alloc, daemon, faults)?,
     };
     tell_readers(files, configuration.commands.as_str(), faults);
-    if let Some(several) = SeveralAddresses::configured(files, alloc, configuration.listen) {
+    // A socket that is handed down is judged once it is there.
+    if matches!(configuration.listen, Listen::Bound(_))
+        && let Some(several) = SeveralAddresses::configured(files, alloc, configuration.listen)
+    {
         let _ = writeln!(faults.warning(), "{}: {several}", Escaped(path));
     }
     Ok(Prepared {

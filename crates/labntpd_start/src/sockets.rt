@@ -20,7 +20,7 @@ const INHERITED: &str = "/proc/self/fd/3";
 const OTHER_LISTS: [&str; 3] = ["/proc/net/udplite", "/proc/net/raw", "/proc/net/icmp"];
 
 /// How many octets of such a list are read at most: 2,048 lines.
-const MOST_LIST_OCTETS: u32 = 262_144;
+pub(crate) const MOST_LIST_OCTETS: u32 = 262_144;
 
 /// The socket that is bound as the configuration says, or that was handed down.
 pub fn open_socket(rt: &HostRuntime, alloc: Global, listen: Listen) -> Result<UdpSocket, Status> {

@@ -9,7 +9,7 @@ import sys
 import tempfile
 import time
 
-from judging import PassedOver
+from judging import Odd, PassedOver
 
 # The packages of the clients, of other servers, of promtool, of nft and of AppArmor's parser, and in which folder each is unpacked.
 PACKAGES = {"chrony": "chrony", "prometheus": "prometheus", "ntpsec-ntpdig": "ntpsec", "python3-ntp": "ntpsec"}
@@ -140,6 +140,14 @@ def ntpdig(port, *words):
     with open(found) as it:
         python = it.readline().removeprefix("#!").split()
     return [*python, f"{os.path.dirname(os.path.realpath(__file__))}/probe.py", "dig", str(port), found, *words], {**os.environ, **library}
+
+
+def promtool(*words, given=""):
+    """promtool finds nothing amiss in what these words name, or in what it is given."""
+    program, _ = tool("prometheus", "promtool")
+    ran = subprocess.run([program, *words], input=given, stdout=subprocess.PIPE, stderr=subprocess.STDOUT, text=True, timeout=60)
+    if ran.returncode:
+        raise Odd(ran.stdout.strip())
 
 
 def version(server):

@@ -6,19 +6,16 @@ promtool is looked for on the path, and below $PEERS as tests/run unpacks Debian
 cases are passed over.
 """
 import json
-import os
 import re
-import shutil
-import subprocess
 
 import pytest
 
-from judging import TOP, Odd, PassedOver, file_of, same
+from judging import TOP, file_of, same
+from peers import promtool
 
 RULES = f"{TOP}/examples/labntpd.rules.yml"
 DASHBOARD = f"{TOP}/examples/labntpd.dashboard.json"
 STATISTICS = f"{TOP}/crates/ntp_reports/src/statistics.rt"
-LIMIT = 60
 
 # What a daemon tells with which all is well, each minute for an hour: `START+STEPxTIMES`, as promtool writes it.
 WELL = {
@@ -103,17 +100,6 @@ SHOWN |= {'labntp_answers_total{answer="rate"}': "0+0x60", 'labntp_clock_believe
 
 # When it is looked, in minutes.
 BEFORE, AFTER = 20, 42
-
-
-def promtool(*words):
-    """promtool takes what these words name."""
-    peers = os.environ.get("PEERS")
-    places = os.pathsep.join([os.environ.get("PATH", os.defpath), *([f"{peers}/prometheus/usr/bin"] if peers else [])])
-    if not (program := shutil.which("promtool", path=places)):
-        raise PassedOver("there is no promtool")
-    ran = subprocess.run([program, *words], stdin=subprocess.DEVNULL, stdout=subprocess.PIPE, stderr=subprocess.STDOUT, text=True, timeout=LIMIT)
-    if ran.returncode:
-        raise Odd(ran.stdout.strip())
 
 
 def test_each_metric_is_printed():

@@ -51,6 +51,7 @@ from labntpd_server import run, scheduled, send_all, share_of_a_processor, short
 from labntpd_server import synchronised, tells_no_key, toml, unanswered, window
 from model import WINDOW, Model
 from odd_host import BREAKS, LONG_LIST, NO_BUFFERS, OTHER_LIST, OddHost, in_front
+from peers import promtool
 from probe import nanos
 
 # How many queries are judged by the model, and how many commands files.
@@ -1958,6 +1959,13 @@ def test_statistics_have_their_names_and_forms():
         same("the clock", [float(it == "fixed") for it in whys], [statistics()[f'labntp_clock_believed{{why="{it}"}}'] for it in whys])
         same("the files", {1.0}, {number for name, number in statistics().items() if name.startswith("labntp_file_ok")})
         same("files", [], [it for it in os.listdir(judging.ROOM) if "statistics" in it and it != "statistics"])
+
+
+def test_statistics_are_taken_by_promtool():
+    with Daemon() as daemon:
+        daemon.ask("time", ONE)
+        counted({answers("time", "basic"): 1})
+        promtool("check", "metrics", given=read("statistics"))
 
 
 def test_statistics_of_how_long_datagrams_wait():

@@ -394,7 +394,7 @@ def counted(seconds, *unused):
 
 
 DATE = r"\w\w\w, \d\d \w\w\w \d{4} \d\d:\d\d:\d\d GMT"
-NOT_KNOWN = "that the key that stays is in use is not known: --yes is wanted\n"
+NOT_KNOWN = "no other key was used in a count of a day or more: --yes is wanted\n"
 
 
 def test_changes_are_asked_about_before_a_key_goes():
@@ -841,7 +841,7 @@ def test_apply_where_more_than_a_quarter_ends():
     for count in (3, 8):
         status, out, err = run(["apply", left(count), "--yes", *config])
         same(f"{count} of 8", (1, count, f"{count} of 8 enrolments would end: --end-many is wanted\n"), (status, out.count("\n- ") + out.startswith("- "), err))
-        same("it is shown", (0, out, ""), run(["apply", left(count), "--dry-run", *config]))
+        same("it is shown", (1, out, err), run(["apply", left(count), "--dry-run", *config]))
     same("nothing was appended", [], appended(before))
     for count, words in ((2, []), (8, ["--end-many"])):
         same("those may end", (3, 8 - count), (run(["apply", left(count), "--yes", *words, "--wait", "0", *config])[0], len(enrolled(customers_now()))))

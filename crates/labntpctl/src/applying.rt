@@ -38,8 +38,8 @@ pub fn apply(clerk: &Clerk<'_>, application: &Application<'_>) -> Result<(), Sto
     let desk = clerk.desk;
     let wanted = wanted_at(desk, application.path)?;
     if application.dry_run {
-        show_changes(clerk, &clerk.load()?, &wanted)?;
-        return Ok(());
+        let changes = show_changes(clerk, &clerk.load()?, &wanted)?;
+        return judge_ending(desk, application, changes.ending, changes.enrolled);
     }
     let (held, mut loaded) = HeldFile::hold(desk, clerk.commands())?;
     let Some(addition) = addition_for(clerk, application, &mut loaded, &wanted)? else {
@@ -65,15 +65,25 @@ fn addition_for(
     if changes.shown.is_empty() {
         return Ok(None);
     }
-    let (ending, enrolled) = (changes.ending, changes.enrolled);
+    judge_ending(desk, application, changes.ending, changes.enrolled)?;
+    judge_daemon(clerk, loaded)?;
+    let commands = commands_for(desk, loaded, wanted)?;
+    Ok(Some(Addition::new(clerk, loaded, changes.names, commands)?))
+}
+
+// Refuses to end many enrolments where the clerk did not allow it.
+fn judge_ending(
+    desk: Desk<'_>,
+    application: &Application<'_>,
+    ending: usize,
+    enrolled: usize,
+) -> Result<(), Stop> {
     if ends_many(ending, enrolled) && !application.ends_many {
         return Err(desk.refusal(format_args!(
             "{ending} of {enrolled} enrolments would end: --end-many is wanted"
         )));
     }
-    judge_daemon(clerk, loaded)?;
-    let commands = commands_for(desk, loaded, wanted)?;
-    Ok(Some(Addition::new(clerk, loaded, changes.names, commands)?))
+    Ok(())
 }
 
 // Reads the customers of a file, or reports each fault in it.

@@ -139,7 +139,7 @@ fn ask_to_retire(
 ) -> Result<(), Stop> {
     let (said, are_ground) = uses(clerk, customer.0, number)?;
     if !are_ground {
-        let why = "that the key that stays is in use is not known: --yes is wanted";
+        let why = "no other key was used in a count of a day or more: --yes is wanted";
         return Err(
             clerk
                 .desk

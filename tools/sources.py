@@ -106,7 +106,8 @@ class Definition:
         left = re.match(r"((?:[^{}]|\{[^{}]*\})*?)\s=\s", self.file.code(item.numbers))
         if not left:
             raise Odd(f"{self.file.path}: {self.name}: no equation in line {item.numbers[0]}")
-        self.bound.update(it for it in TOKEN.findall(left[1]) if "." not in it and not (it[0].isupper() and len(it) > 1))
+        constructors = {*self.file.scope, *(it for found in self.file.definitions.values() for it in found.constructors)}
+        self.bound.update(it for it in TOKEN.findall(left[1]) if "." not in it and it not in constructors)
         self.body += item.comment + item.numbers
 
     def lines(self):

@@ -10,7 +10,7 @@ use labntpd_start::{
 use ntp_admin::{Status, memory_status, write_status};
 use ntp_host::{
     BoundAt, ClockSource, CommandsFile, HostClocks, HostFile, KernelQueue, Log, SOCKETS_ROOM,
-    SystemWire, UdpPort, has_standard_streams,
+    SystemClockWire, SystemWire, UdpPort, has_standard_streams,
 };
 use ntp_port::FreshPort;
 use ntp_reports::{AnswerLines, CustomerCounts};
@@ -54,7 +54,7 @@ pub fn serve(rt: &HostRuntime, alloc: Global, prepared: Prepared) -> Result<(), 
 struct Opened<'a> {
     port: UdpQueue<'a>,
     bound: BoundAt,
-    reference: ClockSource<'a, &'a HostRuntime>,
+    reference: ClockSource<SystemClockWire<'a, &'a HostRuntime>>,
     observer: HostObserver<'a>,
 }
 

@@ -1,11 +1,10 @@
 //! The clock's state in the log and in the statistics.
 
 use ntp_client::{Doubt, Follower, Reading};
-use ntp_host::{ClockSource, FollowedClock};
+use ntp_host::{ClockSource, ClockWire, FollowedClock};
 use ntp_port::ReferenceSource;
 use ntp_reply::Reference;
 use ntp_reports::{Belief, ClockGauges};
-use std::time::Clock;
 
 /// A second, in nanoseconds.
 const SECOND_NANOS: i128 = 1_000_000_000;
@@ -31,7 +30,7 @@ pub trait DaemonClock: ReferenceSource {
     fn gauges(&self, state: &ClockState, now: Reading) -> ClockGauges;
 }
 
-impl<'a, C: Clock + Copy + Drop> DaemonClock for ClockSource<'a, C> {
+impl<W: ClockWire> DaemonClock for ClockSource<W> {
     fn state(&self, now: Reading) -> ClockState {
         let belief = match self {
             ClockSource::Fixed(_) => Belief::Fixed,
@@ -106,7 +105,7 @@ fn distance_nanos(twice: u64) -> u64 {
 }
 
 // Whether the clock's daemon is believed, and else why not.
-fn belief_in<C: Clock + Copy + Drop>(followed: &FollowedClock<'_, C>, now: Reading) -> Belief {
+fn belief_in<W: ClockWire>(followed: &FollowedClock<W>, now: Reading) -> Belief {
     let follower = followed.follower();
     match follower.doubt(now) {
         Some(doubt) => Belief::Doubted(doubt),

@@ -1,9 +1,9 @@
 //! A daemon is put together, and serves.
-ghost use Rattle.std.specs.Prelude.{◌≡◌, ◌+◌, ◌<◌, ◌^◌, None, option_map, false, true, [], IfOk};
+ghost use Rattle.std.specs.Prelude.{◌≡◌, ◌+◌, ◌<◌, ◌^◌, None, false, true, [], IfOk};
 ghost use Rattle.std.specs.declared.alloc.Global.{Global};
 ghost use Rattle.ntp_reports.specs.Counted.{count_at};
 ghost use Rattle.ntp_service.specs.Headline.{StandsFor};
-ghost use Rattle.ntp_port.specs.{Port.failed_calls, Pacing.each_millisecond};
+ghost use Rattle.ntp_port.specs.{Port.failed_calls, Pacing.Paced};
 ghost use Rattle.ntp_server.specs.Rounds.{ServesRounds};
 
 use crate::daemon_clock::DaemonClock;
@@ -95,8 +95,8 @@ where
             (record {
               port = λ p. P.told p.port;
               counts = λ p. p.counts;
-              looks = λ c. option_map (each_millisecond c.asked) (C.coming c.source);
-              states = S.coming;
+              looked = Paced C.looked;
+              asked = S.asked;
               tended = S.tended;
               seen = O.seen;
             })

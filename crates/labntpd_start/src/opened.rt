@@ -7,7 +7,9 @@ use crate::lines::judged;
 use crate::prepared::PreparedClock;
 use labntpd_files::{Configuration, Listen};
 use ntp_admin::{Status, failed_status};
-use ntp_host::{ClockSource, CommandsFile, FollowedClock, HostClocks, HostFile, emptied_file};
+use ntp_host::{
+    ClockSource, CommandsFile, FollowedClock, HostClocks, HostFile, SystemClockWire, emptied_file,
+};
 use ntp_port::QueueWatch;
 use std::alloc::Global;
 use std::fs::{File, Files};
@@ -32,12 +34,17 @@ pub fn clock_source<'a>(
     rt: &'a HostRuntime,
     clocks: &'a HostClocks,
     clock: PreparedClock,
-) -> Result<ClockSource<'a, &'a HostRuntime>, Status> {
+) -> Result<ClockSource<SystemClockWire<'a, &'a HostRuntime>>, Status> {
     match clock {
         PreparedClock::Fixed(reference) => Ok(ClockSource::Fixed(reference)),
         PreparedClock::Followed(source, follower) => {
             let socket = judged(rt, "clock.source", connected(rt, source.socket_address()))?;
-            let followed = FollowedClock::new(socket, rt, clocks, follower);
+            let wire = SystemClockWire {
+                socket,
+                clock: rt,
+                clocks,
+            };
+            let followed = FollowedClock::new(wire, follower);
             Ok(ClockSource::Followed(followed))
         }
     }

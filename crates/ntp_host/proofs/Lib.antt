@@ -1,2 +1,4 @@
 mod FileParts
+mod Following
+mod Looks
 mod Wires

@@ -10,3 +10,8 @@ is_final Full = false
 is_final Replaced = true
 is_final Shorter = true
 is_final Rewritten = true
+
+-- whether the file could not be read, or there was no memory for its lines
+abbrev pub is_unreadable : CommandsFault → Bool
+is_unreadable (Unreadable error) = true
+is_unreadable fault = false

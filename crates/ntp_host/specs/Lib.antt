@@ -1,6 +1,8 @@
 pub mod Clock
 pub mod Faults
 pub mod Progress
-pub mod FixedClock
+pub mod Following
+pub mod ClockSource
+pub mod Looking
 pub mod Wire
 pub mod UdpPort

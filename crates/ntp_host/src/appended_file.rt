@@ -1,28 +1,36 @@
 //! A file that others append to.
 ghost use Rattle.std.specs.Prelude.{◌≡◌, ℕ, List, Option, None, IfOk, IfSome};
-ghost use Rattle.ntp_host.specs.Progress.{StandsAt};
+ghost use Rattle.std.specs.Result.{result_ok};
+ghost use Rattle.ntp_host.specs.declared.growth.FileState.{FileState};
+ghost use Rattle.ntp_host.specs.{Progress.StandsAt, Looking.AnswersState};
 
 use crate::growth::FileState;
 use crate::whole_file::open_regular_file;
 use std::fs::{self, Files, OpenFile};
 use std::io::{self, Read, Seek, SeekFrom};
 
-/// A file that stays open, and the path at which it was found. It may tell its octets.
+/// A file that stays open, and the path at which it was found. It may tell its octets, and the states that it will be found in.
 pub trait AppendedFile {
     // The octets that it has in the end, as long as it is appended to alone, where it tells them.
     ghost octets: { Self → Option (List ℕ) } = { λ _. None };
 
+    // What the next calls for a state will answer in turn, where it tells that: nothing where one fails.
+    ghost states: { Self → Option (List (Option FileState)) } = { λ _. None };
+
     /// The state of the file.
     fn state(&mut self) -> io::Result<FileState>
-        ensures { octets self.new ≡ octets self.old };
+        ensures octets { octets self.new ≡ octets self.old }
+        ensures states { AnswersState (states self.old) (states self.new) (result_ok result) };
 
     /// The state of what stands at its path.
     fn state_at_path(&mut self) -> io::Result<FileState>
-        ensures { octets self.new ≡ octets self.old };
+        ensures octets { octets self.new ≡ octets self.old }
+        ensures states { AnswersState (states self.old) (states self.new) (result_ok result) };
 
     /// Fills `room` with the octets that the file has behind the first `from`.
     fn read_behind(&mut self, from: u64, room: &mut [u8]) -> io::Result<()>
         ensures octets { octets self.new ≡ octets self.old }
+        ensures states { states self.new ≡ states self.old }
         ensures read { IfOk result (λ _. IfSome (octets self.old) (λ file. StandsAt file from room.new)) };
 }
 

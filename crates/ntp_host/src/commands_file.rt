@@ -1,9 +1,10 @@
 //! A commands file that is looked at in each turn of a server, before its datagram is answered.
-ghost use Rattle.std.specs.Prelude.{◌≡◌, ◌+◌, ◌≤◌, None, [], ◌∷◌, vec_len, option_map, IsTrue, IfSome, IfOk, IfErr};
-ghost use Rattle.ntp_port.specs.Sources.{Gives};
-ghost use Rattle.std.specs.Option.{option_map_or};
+ghost use Rattle.std.specs.Prelude.{◌≡◌, ℕ, ◌+◌, ◌<◌, ◌≤◌, Some, option_map, [], ◌⊎◌, vec_len, drop, min, IsTrue, IfSome, IfOk, IfErr, IsErrAnd};
+ghost use Rattle.std.specs.{Option.option_map_or, Result.result_ok};
 ghost use Rattle.std.proofs.Props.{props};
 ghost use Rattle.ntp_host.specs.Progress.{next_from, Knows, GivesPart};
+ghost use Rattle.ntp_host.specs.Faults.{is_final, is_unreadable};
+ghost use Rattle.ntp_host.specs.Looking.{AnswersState, GivesEach, IsCountFor, IsOfFile, next_of, most_commands_octets, LooksAt};
 
 use crate::appended_file::{AppendedFile, HostFile};
 use crate::clock::HostClocks;
@@ -60,7 +61,9 @@ impl CommandsFault {
 }
 
 impl From<io::Error> for CommandsFault {
-    fn from(error: io::Error) -> CommandsFault {
+    fn from(error: io::Error) -> CommandsFault
+        ensures { result ≡ CommandsFault.Unreadable error }
+    {
         CommandsFault::Unreadable(error)
     }
 }
@@ -137,7 +140,9 @@ impl<'a, F: AppendedFile> CommandsFile<'a, F> {
     }
 
     /// Returns how many octets of it the lines have that were given.
-    pub fn octets(&self) -> u64 {
+    pub fn octets(&self) -> u64
+        ensures { result ≡ self.now.progress.given }
+    {
         self.progress.given
     }
 
@@ -148,6 +153,15 @@ impl<'a, F: AppendedFile> CommandsFile<'a, F> {
         ensures given { IfOk result (λ lines. IfSome (F.octets self.old.file)
             (λ file. GivesPart file self.old.progress.given self.new.progress.given (option_map_or (λ octets. octets.items) lines []))) }
         ensures not_given { IfErr result (λ _. self.new.progress.given ≡ self.old.progress.given) }
+        ensures asks { IfSome (F.states self.old.file) (λ left. F.states self.new.file ≡ Some (drop 1 left)) }
+        ensures fault { IfOk result (λ _. IfSome self.new.fault (λ fault. fault ≡ CommandsFault.Full)) }
+        ensures due { IfSome (F.octets self.old.file) (λ file. IfSome (F.states self.old.file) (λ left. IfSome (next_of left) (λ found.
+            IsOfFile self.old.growth.last found → self.old.progress.given ≤ found.length
+            → IsErrAnd result (λ fault. IsTrue (is_unreadable fault))
+            ⊎ GivesEach file (min found.length most_commands_octets) self.old.progress self.new.progress))) }
+        ensures stops { IfSome (F.states self.old.file) (λ left. IfSome (next_of left) (λ found.
+            (¬ IsOfFile self.old.growth.last found) ⊎ (found.length < self.old.progress.given)
+            → IsErrAnd result (λ fault. IsTrue (is_final fault)))) }
     {
         let found = self.state()?;
         if !self.growth.is_of_file(found) {
@@ -161,7 +175,10 @@ impl<'a, F: AppendedFile> CommandsFile<'a, F> {
         self.fault = (found.length > MOST_COMMANDS_OCTETS).then_some(CommandsFault::Full);
         let count = self.progress.next_count(found.length);
         if count > 0 {
-            return Ok(self.lines(alloc, count, found.length)?);
+            return match self.lines(alloc, count, found.length) {
+                Ok(lines) => Ok(lines),
+                Err(error) => Err(CommandsFault::Unreadable(error)),
+            };
         }
         self.was_read = true;
         if self.growth.is_rewritten(now) {
@@ -174,6 +191,8 @@ impl<'a, F: AppendedFile> CommandsFile<'a, F> {
     fn state(&mut self) -> io::Result<FileState>
         ensures octets { F.octets self.new.file ≡ F.octets self.old.file }
         ensures progress { self.new.progress ≡ self.old.progress }
+        ensures growth { self.new.growth ≡ self.old.growth }
+        ensures states { AnswersState (F.states self.old.file) (F.states self.new.file) (result_ok result) }
     {
         if self.was_read {
             self.file.state_at_path()
@@ -198,6 +217,10 @@ impl<'a, F: AppendedFile> CommandsFile<'a, F> {
         ensures given { IfOk result (λ lines. IfSome (F.octets self.old.file)
             (λ file. GivesPart file self.old.progress.given self.new.progress.given (option_map_or (λ octets. octets.items) lines []))) }
         ensures not_given { IfErr result (λ _. self.new.progress.given ≡ self.old.progress.given) }
+        ensures states { F.states self.new.file ≡ F.states self.old.file }
+        ensures fault { self.new.fault ≡ self.old.fault }
+        ensures each { IfOk result (λ _. IfSome (F.octets self.old.file)
+            (λ file. (end : ℕ) → IsCountFor self.old.progress end count → GivesEach file end self.old.progress self.new.progress)) }
     {
         let mut octets = vec![in alloc; 0; count]?;
         self.file
@@ -212,7 +235,8 @@ impl<'a, F: AppendedFile> CommandsFile<'a, F> {
 }
 
 impl<'a, F: AppendedFile, A: Allocator> CommandsSource<A> for CommandsFile<'a, F> {
-    ghost use Rattle.ntp_host.specs.Faults.{is_final};
+    ghost looked = { λ before after asked given. LooksAt F.octets F.states before.file after.file before.progress after.progress before.growth.last
+        before.fault after.fault given };
 
     /// Returns the complete lines behind those that were given, as far as 65,536 octets of the file have them; of a line that is
     /// longer its first 4,097 octets, with a line feed. Returns nothing where nothing is to be read, and where there is a fault but
@@ -220,12 +244,9 @@ impl<'a, F: AppendedFile, A: Allocator> CommandsSource<A> for CommandsFile<'a, F
     ///
     /// It takes memory from `alloc` for what it reads. What is not read for want of memory is read at a later look.
     fn look(&mut self, alloc: A, receipt: Option<Moment>) -> Option<Vec<u8, A>>
-        ensures gives { Gives None None (receipt ∷ []) (option_map (λ octets. octets.items) result ∷ []) }
         ensures most { IfSome result (λ octets. vec_len octets ≤ 65536) }
-        ensures ended { IfSome self.old.fault (λ fault. IsTrue (is_final fault) → (result ≡ None) × (self.new ≡ self.old)) }
-        ensures octets { F.octets self.new.file ≡ F.octets self.old.file }
-        ensures lines { IfSome (F.octets self.old.file)
-            (λ file. GivesPart file self.old.progress.given self.new.progress.given (option_map_or (λ octets. octets.items) result [])) }
+        ensures looks { LooksAt F.octets F.states self.old.file self.new.file self.old.progress self.new.progress self.old.growth.last
+            self.old.fault self.new.fault (option_map (λ octets. octets.items) result) }
     {
         match &self.fault {
             Some(fault) if fault.is_final() => return None,

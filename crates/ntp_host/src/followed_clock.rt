@@ -1,15 +1,15 @@
 //! The state of the clock, from the configuration or from the host's clock daemon.
+ghost use Rattle.std.specs.Prelude.{◌≡◌, false};
+ghost use Rattle.ntp_client.specs.Learning.{looked, has_to_read_anew};
+ghost use Rattle.ntp_host.specs.{Following.TakesAt, Following.Follows, Following.AsksFollowed, ClockSource.AsksClock, ClockSource.TendsClock};
 
-use crate::clock::{HostClocks, moment_now};
+use crate::clock_wire::ClockWire;
 use ntp_client::{
     Distrust, Follower, Reading, Taken, is_read, reference_unsynchronised, reference_where_read,
 };
 use ntp_packet::Moment;
 use ntp_port::ReferenceSource;
 use ntp_reply::Reference;
-use std::net::UdpSocket;
-use std::os::fd::AsRawFd;
-use std::time::Clock;
 
 /// How long an answer is looked for in each turn, and ends a wait, in nanoseconds: 20 thousandths of a second.
 const PATIENCE: u64 = 20_000_000;
@@ -31,10 +31,8 @@ const MOST_READINGS: usize = 8;
 /// Its socket never waits. An answer is looked for in each turn, and a wait for datagrams ends when it comes; after 20
 /// thousandths of a second it is looked for each hundredth, so that a daemon that does not answer costs little.
 #[derive(Drop)]
-pub struct FollowedClock<'a, C: Clock + Copy + Drop> {
-    socket: UdpSocket,
-    clock: C,
-    clocks: &'a HostClocks,
+pub struct FollowedClock<W: ClockWire> {
+    wire: W,
     follower: Follower,
     // When the daemon was asked last, if it was since the host's clock was set.
     asked: Option<u64>,
@@ -45,18 +43,14 @@ pub struct FollowedClock<'a, C: Clock + Copy + Drop> {
     answer: Option<bool>,
 }
 
-impl<'a, C: Clock + Copy + Drop> FollowedClock<'a, C> {
-    /// A daemon that was not asked yet, by a socket that is connected to it and does not wait.
-    pub fn new(
-        socket: UdpSocket,
-        clock: C,
-        clocks: &'a HostClocks,
-        follower: Follower,
-    ) -> FollowedClock<'a, C> {
+impl<W: ClockWire> FollowedClock<W> {
+    /// A daemon that was not asked yet.
+    pub fn new(wire: W, follower: Follower) -> FollowedClock<W>
+        ensures wire { result.wire ≡ wire }
+        ensures follower { result.follower ≡ follower }
+    {
         FollowedClock {
-            socket,
-            clock,
-            clocks,
+            wire,
             follower,
             asked: None,
             is_outstanding: false,
@@ -66,7 +60,9 @@ impl<'a, C: Clock + Copy + Drop> FollowedClock<'a, C> {
     }
 
     /// What was learned of the daemon.
-    pub fn follower(&self) -> &Follower {
+    pub fn follower(&self) -> &Follower
+        ensures { result.now ≡ self.now.follower }
+    {
         &self.follower
     }
 
@@ -82,7 +78,10 @@ impl<'a, C: Clock + Copy + Drop> FollowedClock<'a, C> {
 
     // What both clocks show together; nothing where the host's could not be read. Where the process was held up between their
     // readings, they are read again.
-    fn reading(&self) -> Option<Reading> {
+    fn reading(&mut self) -> Option<Reading>
+        ensures follower { self.new.follower ≡ self.old.follower }
+        ensures received { W.received self.new.wire ≡ W.received self.old.wire }
+    {
         let mut best = self.timed_reading();
         for _ in 1..MOST_READINGS {
             if best.1 <= LONGEST_READING {
@@ -97,17 +96,23 @@ impl<'a, C: Clock + Copy + Drop> FollowedClock<'a, C> {
     }
 
     // Reads the host's clock between two readings of the ticks, and tells how long that took, in nanoseconds.
-    fn timed_reading(&self) -> (Reading, u64) {
-        let before = self.clocks.read(&self.clock);
-        let clock = moment_now(&self.clock);
-        let took = self.clocks.read(&self.clock).saturating_sub(before);
+    fn timed_reading(&mut self) -> (Reading, u64)
+        ensures follower { self.new.follower ≡ self.old.follower }
+        ensures received { W.received self.new.wire ≡ W.received self.old.wire }
+    {
+        let before = self.wire.ticks();
+        let clock = self.wire.clock();
+        let took = self.wire.ticks().saturating_sub(before);
         let ticks = before.saturating_add(took / 2);
         (Reading { clock, ticks }, took)
     }
 
     // Looks whether the host's clock was set, where a reading shows it. The process may have been held up within that reading, which would
     // then tell too little of the setting. So both clocks are read anew, and that reading is used, as long as a setting is told.
-    fn glance(&mut self, shown: Reading) -> Reading {
+    fn glance(&mut self, shown: Reading) -> Reading
+        ensures follows { Follows self.old.follower self.new.follower (W.received self.old.wire) (W.received self.new.wire) }
+        ensures kept { has_to_read_anew self.old.follower shown ≡ false → result ≡ shown }
+    {
         if !self.follower.has_to_read_anew(shown) {
             return shown;
         }
@@ -119,7 +124,10 @@ impl<'a, C: Clock + Copy + Drop> FollowedClock<'a, C> {
     }
 
     // Looks whether the host's clock was set. Where it was, no answer is waited for, and the daemon is asked again at once.
-    fn look(&mut self, now: Reading) {
+    fn look(&mut self, now: Reading)
+        ensures follower { self.new.follower ≡ looked self.old.follower now }
+        ensures received { W.received self.new.wire ≡ W.received self.old.wire }
+    {
         if self.follower.look(now) {
             self.asked = None;
             self.expect_nothing();
@@ -127,13 +135,18 @@ impl<'a, C: Clock + Copy + Drop> FollowedClock<'a, C> {
     }
 
     // No answer is waited for.
-    fn expect_nothing(&mut self) {
+    fn expect_nothing(&mut self)
+        ensures follower { self.new.follower ≡ self.old.follower }
+        ensures received { W.received self.new.wire ≡ W.received self.old.wire }
+    {
         self.is_outstanding = false;
-        self.clocks.expected.set(-1);
+        self.wire.expect(false);
     }
 
     // Asks where it is time to, and takes what has come.
-    fn exchange(&mut self, ticks: u64) {
+    fn exchange(&mut self, ticks: u64)
+        ensures { Follows self.old.follower self.new.follower (W.received self.old.wire) (W.received self.new.wire) }
+    {
         match self.asked {
             Some(asked) if ticks.saturating_sub(asked) < self.follower.period(ticks) => {
                 self.look_for_answer(ticks, ticks.saturating_sub(asked));
@@ -143,7 +156,9 @@ impl<'a, C: Clock + Copy + Drop> FollowedClock<'a, C> {
     }
 
     // Takes what has come `since` nanoseconds after the question, where an answer is waited for and it is time to look for it.
-    fn look_for_answer(&mut self, ticks: u64, since: u64) {
+    fn look_for_answer(&mut self, ticks: u64, since: u64)
+        ensures { Follows self.old.follower self.new.follower (W.received self.old.wire) (W.received self.new.wire) }
+    {
         let is_due = since < PATIENCE || ticks.saturating_sub(self.looked) >= LATER_PERIOD;
         if !self.is_outstanding || !is_due {
             return;
@@ -151,12 +166,14 @@ impl<'a, C: Clock + Copy + Drop> FollowedClock<'a, C> {
         self.looked = ticks;
         self.take_answers();
         if self.is_outstanding && since >= PATIENCE {
-            self.clocks.expected.set(-1);
+            self.wire.expect(false);
         }
     }
 
     // Sends a question. One that cannot be sent is sent again when the next one is due.
-    fn ask(&mut self, ticks: u64) {
+    fn ask(&mut self, ticks: u64)
+        ensures { Follows self.old.follower self.new.follower (W.received self.old.wire) (W.received self.new.wire) }
+    {
         // What came too late for the last question is taken before it is given up.
         self.take_answers();
         self.asked = Some(ticks);
@@ -165,39 +182,56 @@ impl<'a, C: Clock + Copy + Drop> FollowedClock<'a, C> {
             return;
         };
         let request = self.follower.request(now);
-        if self.socket.send(request.octets()).is_ok() {
+        if self.wire.send(request.octets()) {
             self.is_outstanding = true;
-            self.clocks.expected.set(self.socket.as_raw_fd());
+            self.wire.expect(true);
         }
     }
 
     // Takes what has come, until an answer is among it.
-    fn take_answers(&mut self) {
+    fn take_answers(&mut self)
+        ensures { Follows self.old.follower self.new.follower (W.received self.old.wire) (W.received self.new.wire) }
+    {
         let mut octets = [0; 256];
         for _ in 0..MOST_ANSWERS {
-            let Ok(length) = self.socket.recv(&mut octets) else {
+            let Some(length) = self.wire.receive(&mut octets) else {
                 return;
             };
             let Some(now) = self.reading() else {
                 return;
             };
-            self.look(now);
-            match self.follower.take(&octets[..length], now) {
-                Taken::Sample(_) => self.answer = Some(true),
-                Taken::Refused(Distrust::Unsynchronised) => self.answer = Some(false),
-                Taken::Rate => {}
-                _ => continue,
+            if self.take(&octets[..length], now) {
+                self.expect_nothing();
+                return;
             }
-            self.expect_nothing();
-            return;
         }
+    }
+
+    // Takes octets that came, by a reading behind that. Returns whether they are an answer.
+    fn take(&mut self, octets: &[u8], now: Reading) -> bool
+        ensures follower { TakesAt octets.now now (looked self.old.follower now) self.new.follower }
+        ensures received { W.received self.new.wire ≡ W.received self.old.wire }
+    {
+        self.look(now);
+        let taken = self.follower.take(octets, now);
+        match taken {
+            Taken::Sample(_) => self.answer = Some(true),
+            Taken::Refused(Distrust::Unsynchronised) => self.answer = Some(false),
+            Taken::Rate => {}
+            _ => return false,
+        }
+        true
     }
 }
 
-impl<'a, C: Clock + Copy + Drop> ReferenceSource for FollowedClock<'a, C> {
+impl<W: ClockWire> ReferenceSource for FollowedClock<W> {
+    ghost asked = { λ before after receipt given. AsksFollowed before.follower after.follower (W.received before.wire) (W.received after.wire) receipt given };
+
+    ghost tended = { λ before after. Follows before.follower after.follower (W.received before.wire) (W.received after.wire) };
+
     /// The state that the daemon's last answer gives by now.
     fn in_force(&mut self, receipt: Option<Moment>) -> Reference {
-        let ticks = self.clocks.ticks.get();
+        let ticks = self.wire.last_ticks();
         let Some(clock) = receipt else {
             self.exchange(ticks);
             return reference_unsynchronised();
@@ -209,8 +243,8 @@ impl<'a, C: Clock + Copy + Drop> ReferenceSource for FollowedClock<'a, C> {
     }
 
     fn tend(&mut self) {
-        let ticks = self.clocks.read(&self.clock);
-        let clock = moment_now(&self.clock);
+        let ticks = self.wire.ticks();
+        let clock = self.wire.clock();
         self.glance(Reading { clock, ticks });
         self.exchange(ticks);
     }
@@ -218,14 +252,14 @@ impl<'a, C: Clock + Copy + Drop> ReferenceSource for FollowedClock<'a, C> {
 
 /// Where the state of the clock comes from.
 #[derive(Drop)]
-pub enum ClockSource<'a, C: Clock + Copy + Drop> {
+pub enum ClockSource<W: ClockWire> {
     /// From the configuration, for ever.
     Fixed(Reference),
     /// From the host's clock daemon.
-    Followed(FollowedClock<'a, C>),
+    Followed(FollowedClock<W>),
 }
 
-impl<'a, C: Clock + Copy + Drop> ClockSource<'a, C> {
+impl<W: ClockWire> ClockSource<W> {
     /// The state of the clock by a reading of the host's clocks.
     pub fn state(&self, now: Reading) -> Reference {
         let state = match self {
@@ -236,10 +270,10 @@ impl<'a, C: Clock + Copy + Drop> ClockSource<'a, C> {
     }
 }
 
-impl<'a, C: Clock + Copy + Drop> ReferenceSource for ClockSource<'a, C> {
-    ghost use Rattle.ntp_host.specs.FixedClock.{clock_coming};
+impl<W: ClockWire> ReferenceSource for ClockSource<W> {
+    ghost asked = { AsksClock W.received };
 
-    ghost coming = { clock_coming };
+    ghost tended = { TendsClock W.received };
 
     /// The state that replies tell: of a turn whose clock could not be read, that of an unsynchronised one.
     fn in_force(&mut self, receipt: Option<Moment>) -> Reference {

@@ -1,5 +1,6 @@
 //! Whether a file that grows was written anew in its place.
 ghost use Rattle.std.specs.Prelude.{◌≡◌, ◌≢◌, ◌↔◌, ◌+◌, ◌≤◌, IsTrue};
+ghost use Rattle.ntp_host.specs.Looking.{IsOfFile};
 
 use std::fs::Metadata;
 use std::os::unix::fs::MetadataExt;
@@ -11,11 +12,15 @@ const LONGEST_WRITE: u64 = 5_000_000_000;
 /// Which file it is, its length in octets, and when it was last modified.
 #[derive(Clone, Copy, PartialEq, Eq)]
 pub struct FileState {
-    device: u64,
-    node: u64,
+    /// The device that has the file.
+    pub device: u64,
+    /// Its number there.
+    pub node: u64,
+    /// Its length in octets.
     pub length: u64,
-    seconds: i64,
-    nanos: i64,
+    /// When it was last modified, in seconds since 1970, and nanoseconds of them.
+    pub seconds: i64,
+    pub nanos: i64,
 }
 
 impl FileState {
@@ -52,7 +57,9 @@ impl Growth {
     }
 
     /// Returns whether this is the state of that file.
-    pub(crate) fn is_of_file(&self, found: FileState) -> bool {
+    pub(crate) fn is_of_file(&self, found: FileState) -> bool
+        ensures { IsTrue result ↔ IsOfFile self.now.last found }
+    {
         found.device == self.last.device && found.node == self.last.node
     }
 

@@ -4,6 +4,7 @@
 
 mod appended_file;
 mod clock;
+mod clock_wire;
 mod commands_file;
 mod followed_clock;
 mod growth;
@@ -18,8 +19,10 @@ mod wire;
 
 pub use appended_file::{AppendedFile, HostFile};
 pub use clock::{HostClocks, moment_now};
+pub use clock_wire::{ClockWire, SystemClockWire};
 pub use commands_file::{CommandsFault, CommandsFile, is_nearly_full, write_nearly_full};
 pub use followed_clock::{ClockSource, FollowedClock};
+pub use growth::FileState;
 pub use kernel_queue::{BoundAt, KernelDrops, KernelQueue, SOCKETS_ROOM};
 pub use log::{Log, LogForm, Priority, has_standard_streams, pause};
 pub use progress::MOST_COMMANDS_OCTETS;

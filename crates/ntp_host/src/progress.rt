@@ -59,6 +59,9 @@ impl Progress {
         ensures most { result ≤ 65536 }
         ensures ended { IsTrue self.now.is_ended → 0 < result → result ≡ 4098 }
         ensures searched { IsFalse self.now.is_ended → (result ≡ 0 ↔ (min length MOST_COMMANDS_OCTETS ≤ self.now.searched)) }
+        ensures unread { IsTrue self.now.is_ended → result ≡ 0 → min length MOST_COMMANDS_OCTETS < self.now.searched }
+        ensures reach { IsFalse self.now.is_ended → 0 < result
+            → result ≡ min (min length MOST_COMMANDS_OCTETS - next_from self.now) 65536 }
     {
         let end = length.min(MOST_COMMANDS_OCTETS);
         if self.is_ended && end >= self.searched {
@@ -82,6 +85,11 @@ impl Progress {
         requires limited { next_from self.old + length octets.old ≤ MOST_COMMANDS_OCTETS }
         requires ended { IsTrue self.old.is_ended → length octets.old ≡ 4098 }
         ensures within { result ≤ length octets.new }
+        ensures ended { IsTrue self.old.is_ended → (self.new.given ≡ self.old.searched) × (self.new.searched ≡ self.old.searched) }
+        ensures long { IsFalse self.old.is_ended → self.old.given + 65536 ≤ self.old.searched → 0 < length octets.old
+            → (self.new.given ≡ self.old.given) × (self.old.searched < self.new.searched) }
+        ensures short { IsFalse self.old.is_ended → self.old.searched < self.old.given + 65536
+            → IsFalse self.new.is_ended × (self.old.given ≤ self.new.given) × (self.new.searched ≡ self.old.given + length octets.old) }
         ensures given { (file : List ℕ) → Knows file self.old → StandsAt file (next_from self.old) octets.old
             → Knows file self.new × GivesPart file self.old.given self.new.given (take result octets.new) }
     {

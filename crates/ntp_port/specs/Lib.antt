@@ -1,5 +1,4 @@
 pub mod Sequence
-pub mod Sources
 pub mod Port
 pub mod Made
 pub mod Serving

@@ -1,7 +1,7 @@
 -- When it is time to ask a source of commands again.
-use Rattle.std.specs.Prelude.{ℕ, ◌+◌, ◌-◌, ◌%◌, ◌^◌, Bool, true, ◌==◌, ◌||◌, nat_le, Option, None, Some, List, [], ◌∷◌, ◌++◌, drop, if◌then◌else◌}
+use Rattle.std.specs.Prelude.{◌≡◌, ℕ, ◌+◌, ◌-◌, ◌%◌, ◌^◌, Bool, true, false, ◌==◌, ◌||◌, nat_le, Option, None, Some, List}
 use Rattle.ntp_packet.specs.{declared.stamp.Stamp.Stamp, declared.moment.Moment.Moment}
-use Rattle.ntp_port.specs.{Sequence.firsts, Sources.Coming}
+use Rattle.ntp_port.specs.declared.pacing.EachMillisecond.{EachMillisecond}
 
 -- a thousandth of a second, in units of 2^-32 seconds, rounded down
 abbrev pub millisecond : ℕ
@@ -22,17 +22,10 @@ abbrev pub asked_after : Option Stamp → Option Moment → Option Stamp
 asked_after asked None = asked
 asked_after asked (Some receipt) = Some receipt.stamp
 
--- the asks that are passed on in turn: those that are due, with `last` as the last receipt passed on
-abbrev pub passed_on : Option Stamp → List (Option Moment) → List (Option Moment)
-passed_on last [] = []
-passed_on last (a ∷ asked) = if is_due last a then a ∷ passed_on (asked_after last a) asked else passed_on last asked
-
--- the answers in turn: those in `given` to the asks that are passed on, and nothing to the rest
-abbrev pub handed_back : {X : Type 0} → Option Stamp → List (Option Moment) → List (Option X) → List (Option X)
-handed_back last [] given = []
-handed_back last (a ∷ asked) given = if is_due last a
-    then firsts None 1 given ++ handed_back (asked_after last a) asked (drop 1 given) else None ∷ handed_back last asked given
-
--- the answers to come in turn, where `coming` is what the source will answer to the asks that are passed on
-abbrev pub each_millisecond : {X : Type 0} → Option Stamp → Coming (Option X) → Coming (Option X)
-each_millisecond last coming = λ asked. handed_back last asked (coming (passed_on last asked))
+-- a look at a source that is asked where it is time to: then it is asked once, with the same receipt, and what it gives is given; else
+-- nothing is given, and all stays as it was
+abbrev pub Paced : {C : Type 0} → (C → C → Option Moment → Option (List ℕ) → Type 0) → EachMillisecond C → EachMillisecond C → Option Moment
+    → Option (List ℕ) → Type 0
+Paced Looked before after asked given =
+    (is_due before.asked asked ≡ true → Looked before.source after.source asked given × (after.asked ≡ asked_after before.asked asked))
+    × (is_due before.asked asked ≡ false → (given ≡ None) × (after ≡ before))

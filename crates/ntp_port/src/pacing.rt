@@ -1,6 +1,6 @@
 //! How often a source of commands is asked.
-ghost use Rattle.std.specs.Prelude.{◌≡◌, None, false, IsTrue, [], ◌∷◌, option_map};
-ghost use Rattle.ntp_port.specs.{Sources.Gives, Pacing.is_due, Pacing.asked_after, Pacing.each_millisecond};
+ghost use Rattle.std.specs.Prelude.{◌≡◌, None};
+ghost use Rattle.ntp_port.specs.Pacing.{is_due, Paced};
 
 use crate::CommandsSource;
 use ntp_packet::{Moment, Stamp};
@@ -39,17 +39,10 @@ impl<C> EachMillisecond<C> {
 }
 
 impl<C: CommandsSource<A>, A: Allocator> CommandsSource<A> for EachMillisecond<C> {
-    // It will give what its source will, to the asks that are passed on.
-    ghost coming = { λ e. option_map (each_millisecond e.asked) (C.coming e.source) };
+    ghost looked = { Paced C.looked };
 
     /// What the source gives, where it is asked, and else nothing. It takes memory only as the source does.
-    fn look(&mut self, alloc: A, receipt: Option<Moment>) -> Option<Vec<u8, A>>
-        // The source is asked once, with the same receipt, and what it gives is given.
-        ensures asked { IsTrue (is_due self.old.asked receipt)
-            → Gives (C.coming self.old.source) (C.coming self.new.source) (receipt ∷ []) (option_map (λ octets. octets.items) result ∷ []) }
-        ensures noted { IsTrue (is_due self.old.asked receipt) → self.new.asked ≡ asked_after self.old.asked receipt }
-        ensures between { is_due self.old.asked receipt ≡ false → (result ≡ None) × (self.new ≡ self.old) }
-    {
+    fn look(&mut self, alloc: A, receipt: Option<Moment>) -> Option<Vec<u8, A>> {
         if !is_due(self.asked, receipt) {
             return None;
         }

@@ -6,13 +6,13 @@ use Rattle.std.proofs.{lemmas.List.Elements.filter-append, lemmas.List.Elements.
 use Rattle.ntp_packet.specs.declared.moment.Moment.{Moment}
 use Rattle.ntp_service.specs.{Sees.Sees, Headline.Tells}
 use Rattle.ntp_service.proofs.PublicLaws.{Sees-nil, Sees-append, Tells-nil, Tells-append}
-use Rattle.ntp_port.specs.{Port.CountsMore, Sources.Gives, Sources.CountsOn}
+use Rattle.ntp_port.specs.{Port.CountsMore}
 use Rattle.ntp_port.proofs.PublicLaws.{CountsMore-nil, CountsMore-append}
 use Rattle.ntp_admin.specs.CommandsFile.{most_line_octets, count_on, line_observations, happened_at_lines}
 use Rattle.ntp_server.specs.declared.server.Server.{Server}
 use Rattle.ntp_server.specs.Rounds.{Round, PartsTell, AreDueInTurn, given_in, turns_in, asked_in, happened_in_round, round_observations}
 use Rattle.ntp_server.specs.Steps.{Looks, Orders, Starts, Waits}
-use Rattle.ntp_server.proofs.Telling.{Gives-nil, Gives-append, CountsOn-nil, CountsOn-append}
+use Rattle.ntp_server.proofs.Telling.{Looks-append, Asks-append}
 
 -- ---- rounds
 due-append : (xs ys : List Round) (a b c : ℕ) → AreDueInTurn a xs b → AreDueInTurn b ys c → AreDueInTurn a (xs ++ ys) c
@@ -20,17 +20,13 @@ due-append [] ys a b c p q = subst (λ n. AreDueInTurn n ys c) p q
 due-append (x ∷ xs) ys a b c p q = (p.0, p.1, due-append xs ys (count_on a (length x.taken)) b c p.2 q)
 
 pub Orders-nil : {P C R O A : Type 0} (t : PartsTell P C R O) (p : Server P C R O A) → Orders p p t []
-Orders-nil t p = search (rules, Gives-nil, Sees-nil, Tells-nil)
+Orders-nil t p = search (rules, Sees-nil, Tells-nil)
 
 pub Orders-append : {P C R O A : Type 0} (t : PartsTell P C R O) (xs ys : List Round) (p q r : Server P C R O A) → Orders p q t xs
     → Orders q r t ys → Orders p r t (xs ++ ys)
 Orders-append t xs ys p q r x y = record {
   due = due-append xs ys p.applied q.applied r.applied x.due y.due;
-  commands = subst (λ l. Gives (t.looks p.commands) (t.looks r.commands) l (given_in (xs ++ ys))) (sym (map-append asked_in xs ys))
-      (subst (λ l. Gives (t.looks p.commands) (t.looks r.commands) (map asked_in xs ++ map asked_in ys) l)
-      (sym (map-append (λ l. l.given) xs ys))
-      (Gives-append (t.looks p.commands) (t.looks q.commands) (t.looks r.commands) (map asked_in xs) (map asked_in ys) (given_in xs)
-      (given_in ys) x.commands y.commands));
+  commands = Looks-append t.looked xs ys p.commands q.commands r.commands x.commands y.commands;
   observed = subst (λ l. Sees (t.seen p.observer) (t.seen r.observer) l) (sym (flat_map-append round_observations xs ys))
       (Sees-append (t.seen p.observer) (t.seen q.observer) (t.seen r.observer) (flat_map round_observations xs) (flat_map round_observations ys)
       x.observed y.observed);
@@ -43,14 +39,14 @@ Orders-append t xs ys p q r x y = record {
 -- one that gave nothing, behind which all but the commands is as it was
 pub Looks-nothing : {P C R O A : Type 0} (t : PartsTell P C R O) (asked : Option Moment) (given : Option (List ℕ)) (p q : Server P C R O A)
     → p.applied < 2 ^ 64 → q.applied ≡ p.applied → q.observer ≡ p.observer → q.service ≡ p.service → given ≡ None
-    → Gives (t.looks p.commands) (t.looks q.commands) (asked ∷ []) (given ∷ []) → Looks p q t asked false
+    → t.looked p.commands q.commands asked given → Looks p q t asked false
 Looks-nothing t asked given p q fits applied observer service none gives = record {
   given = None;
   is = refl;
   taken = [];
   lines = refl;
   counted = omega (arith, applied);
-  commands = subst (λ o. Gives (t.looks p.commands) (t.looks q.commands) (asked ∷ []) (o ∷ [])) none gives;
+  commands = subst (λ o. t.looked p.commands q.commands asked o) none gives;
   observed = subst (λ o. Sees (t.seen p.observer) (t.seen o) []) (sym observer) (Sees-nil (t.seen p.observer));
   tells = λ history stands. subst (λ s. Tells history [] s) (sym service) (Tells-nil history p.service stands);
 }
@@ -66,7 +62,7 @@ Orders-look {p = p} {q = q} {t = t} l =
     let happened = happened_at_lines most_line_octets l.taken in
     record {
       due = (refl, l.lines, l.counted);
-      commands = l.commands;
+      commands = (q.commands, l.commands, refl);
       observed = subst (λ os. Sees (t.seen p.observer) (t.seen q.observer) os) (sym (append-nil (heard ++ []) ∙ append-nil heard)) l.observed;
       tells = λ history stands. subst (λ es. Tells history es q.service) (sym (append-nil (happened ++ []) ∙ append-nil happened))
           (l.tells history stands);
@@ -139,7 +135,7 @@ Waits-none t prompt shown p = (
     one_look = λ is. refl;
     orders = Orders-nil t p;
     waited = CountsMore-nil (t.counts p.port).idle_waits;
-    tended = CountsOn-nil (t.tended p.reference);
+    tended = refl;
     reported = Sees-nil shown;
   },
   refl,
@@ -150,7 +146,7 @@ pub Waits-more : {P C R O A : Type 0} (t : PartsTell P C R O) (prompt gave : Boo
     (p q r : Server P C R O A) (port : P) (states : R) (n : ℕ) → prompt ≡ false
     → (w : Waits p q t shown halfway prompt) × (length w.rounds ≡ n)
     → Looks (record q { port = port }) r t None gave → CountsMore (t.counts q.port).idle_waits (t.counts r.port).idle_waits 1
-    → r.reference ≡ q.reference → CountsOn (t.tended r.reference) (t.tended states) 1 → Sees halfway later (None ∷ [])
+    → r.reference ≡ q.reference → t.tended r.reference states → Sees halfway later (None ∷ [])
     → (w : Waits p (record r { reference = states }) t shown later prompt) × (length w.rounds ≡ n + 1)
 Waits-more {P} {C} {R} {O} {A} t prompt gave shown halfway later p q r port states n waits (w, many) l waited same tends shows =
     let round = waiting l in
@@ -166,9 +162,8 @@ Waits-more {P} {C} {R} {O} {A} t prompt gave shown halfway later p q r port stat
             (record { due = look.due; commands = look.commands; observed = look.observed; tells = look.tells });
         waited = CountsMore-append (t.counts p.port).idle_waits (t.counts q.port).idle_waits (t.counts r.port).idle_waits (length w.rounds) 1 _ all
             w.waited waited;
-        tended = subst (λ n. CountsOn (t.tended p.reference) (t.tended states) n) (sym all)
-            (CountsOn-append (t.tended p.reference) (t.tended q.reference) (t.tended states) (length w.rounds) 1 w.tended
-            (subst (λ c. CountsOn (t.tended c) (t.tended states) 1) same tends));
+        tended = Asks-append t.asked t.tended w.rounds (round ∷ []) p.reference q.reference states w.tended
+            (states, subst (λ s. t.tended s states) same tends, refl);
         reported = subst (λ xs. Sees shown later xs) (sym (map-append asked_in w.rounds (round ∷ [])))
             (Sees-append shown halfway later (map asked_in w.rounds) (None ∷ []) w.reported shows);
       },

@@ -12,7 +12,6 @@ use Rattle.ntp_service.specs.declared.observation.TurnOutcome.{TurnOutcome}
 use Rattle.ntp_service.specs.{Sees.Sees, Headline.Tells}
 use Rattle.ntp_service.proofs.PublicLaws.{Sees-nil, Sees-append, Tells-append}
 use Rattle.ntp_port.specs.{declared.port.PortCounts.PortCounts, declared.port.PortFault.PortFault, Serving.Makes}
-use Rattle.ntp_port.specs.Sources.{Gives, CountsOn}
 use Rattle.ntp_port.specs.Port.{failed_calls, counted_send, CountsMore}
 use Rattle.ntp_port.specs.Made.{Made, turn_of, arrival_of, happened_in_turn, sent_in, has_arrived, has_departed, is_unsent, turn_outcome}
 use Rattle.ntp_port.proofs.PublicLaws.{CountsMore-nil, CountsMore-append, TakesTurn, sent_of, count_of, if_so, count-more, Makes-nil, Makes-append, Makes-few, at-most-one, sent-one, noted-one}
@@ -20,7 +19,7 @@ use Rattle.ntp_admin.specs.CommandsFile.{most_line_octets, line_observations, ha
 use Rattle.ntp_server.specs.{declared.server.Server.Server, declared.server.Totals.Totals}
 use Rattle.ntp_server.specs.Rounds.{Round, PartsTell, ServesRounds, turns_in, made_in, waits_in, receipt_in, asked_in}
 use Rattle.ntp_server.specs.Steps.{Looks, Orders, Starts, Waits, MakesTurn, arrivals_in, replies_of_turn, departures_in}
-use Rattle.ntp_server.proofs.Telling.{Gives-nil, Gives-append, CountsOn-nil, CountsOn-append}
+use Rattle.ntp_server.proofs.Telling.{Asks-append}
 use Rattle.ntp_server.proofs.Looking.{Orders-append}
 
 -- ---- a turn behind a wait and a look
@@ -33,14 +32,13 @@ pub Makes-turn : {P C R O A : Type 0} (t : PartsTell P C R O) (prompt may gave :
     (shown halfway later : Option (List (Option Moment))) (p q r s : Server P C R O A) (reference : ReferenceState)
     (received : Result Arrival PortFault) (buffer : List ℕ) (outcome : TurnOutcome) → s.applied ≡ r.applied → s.commands ≡ r.commands
     → Waits p q t shown halfway prompt → Looks q r t asked gave → asked ≡ option_map (λ a. a.receipt) (result_ok received)
-    → t.states r.reference ≡ t.states p.reference → Gives (t.states r.reference) (t.states s.reference) (asked ∷ []) (reference ∷ [])
-    → t.tended s.reference ≡ t.tended q.reference → r.port ≡ q.port
+    → r.reference ≡ q.reference → t.asked r.reference s.reference asked reference → r.port ≡ q.port
     → TakesTurn A reference may received buffer (t.port p.port) (t.port s.port) (t.counts p.port) (t.counts r.port) (t.counts s.port) r.service
     s.service outcome
     → Sees (t.seen r.observer) (t.seen s.observer) (Turn outcome ∷ []) → Sees halfway later (asked ∷ [])
     → MakesTurn p s t shown later prompt may outcome
-Makes-turn t prompt may gave asked shown halfway later p q r s reference received buffer outcome applied commands w l receipt same states tended
-    port taken seen shows =
+Makes-turn t prompt may gave asked shown halfway later p q r s reference received buffer outcome applied commands w l receipt same asks port taken
+    seen shows =
     let turn = taken.turn in
     let right : asked ≡ receipt_in turn.made = receipt ∙ came turn.made received turn.arrived in
     let round : Round = record { applied = q.applied; given = l.given; taken = l.taken; turn = Some (reference, turn.made) } in
@@ -57,8 +55,11 @@ Makes-turn t prompt may gave asked shown halfway later p q r s reference receive
       one_look = w.one_look;
       orders = Orders-append t w.rounds (round ∷ []) p q s w.orders (record {
         due = (refl, l.lines, applied ∙ l.counted);
-        commands = subst (λ a. Gives (t.looks q.commands) (t.looks s.commands) (a ∷ []) (l.given ∷ [])) right
-            (subst (λ c. Gives (t.looks q.commands) (t.looks c) (asked ∷ []) (l.given ∷ [])) (sym commands) l.commands);
+        commands = (
+          s.commands,
+          subst (λ a. t.looked q.commands s.commands a l.given) right (subst (λ c. t.looked q.commands c asked l.given) (sym commands) l.commands),
+          refl,
+        );
         observed = subst (λ os. Sees (t.seen q.observer) (t.seen s.observer) os) (sym (append-nil (heard ++ Turn (turn_outcome turn.made) ∷ [])))
             (Sees-append (t.seen q.observer) (t.seen r.observer) (t.seen s.observer) heard (Turn (turn_outcome turn.made) ∷ []) l.observed
             (subst (λ o. Sees (t.seen r.observer) (t.seen s.observer) (Turn o ∷ [])) turn.comes_to seen));
@@ -67,12 +68,14 @@ Makes-turn t prompt may gave asked shown halfway later p q r s reference receive
             (Tells-append history happened (happened_in_turn reference turn.made) r.service s.service (l.tells history stands)
             (λ stood. turn.tells _ stood));
       });
-      states = subst (λ a. Gives (t.states p.reference) (t.states s.reference) (a ∷ []) (reference ∷ [])) right
-          (subst (λ l. Gives l (t.states s.reference) (asked ∷ []) (reference ∷ [])) same states);
+      states = Asks-append t.asked t.tended w.rounds (round ∷ []) p.reference q.reference s.reference w.tended (
+        s.reference,
+        subst (λ a. t.asked q.reference s.reference a reference) right (subst (λ x. t.asked x s.reference asked reference) same asks),
+        refl,
+      );
       waits = subst (λ n. CountsMore (t.counts p.port).idle_waits n (length w.rounds))
           (sym (ap (λ (k : PortCounts). k.idle_waits) (turn.counts ∙ ap (λ port. counted_send (is_unsent turn.made) (t.counts port)) port)))
           w.waited;
-      tended = subst (λ c. CountsOn (t.tended p.reference) c (length w.rounds)) (sym tended) w.tended;
       reported = subst (λ xs. Sees shown later xs) (sym (map-append asked_in w.rounds (round ∷ [])))
           (Sees-append shown halfway later (map asked_in w.rounds) (receipt_in turn.made ∷ []) w.reported
           (subst (λ a. Sees halfway later (a ∷ [])) right shows));
@@ -121,9 +124,8 @@ Serves-none t prompt may shown p q port reference s =
       one_look = λ is. refl;
       due = orders.due;
       commands = orders.commands;
-      states = subst (λ x. Gives (t.states p.reference) (t.states x) [] []) (sym reference) (Gives-nil (t.states p.reference));
+      states = reference;
       waits = subst (λ x. CountsMore (t.counts p.port).idle_waits (t.counts x).idle_waits 0) (sym port) (CountsMore-nil (t.counts p.port).idle_waits);
-      tended = subst (λ x. CountsOn (t.tended p.reference) (t.tended x) 0) (sym reference) (CountsOn-nil (t.tended p.reference));
       reported = Sees-nil shown;
       port = subst (λ x. Makes may [] (t.counts p.port) (t.counts x) (t.port p.port) (t.port x)) (sym port) (Makes-nil may (t.counts p.port) (t.port p.port));
       observed = orders.observed;
@@ -191,18 +193,9 @@ Serves-turn t prompt may shown halfway later n p q r a b outcome s m arrivals se
       one_look = λ is. waits ∙ ap (λ l. l ++ m.earlier) (s.one_look is) ∙ m.one_look is;
       due = orders.due;
       commands = orders.commands;
-      states = subst (λ l. Gives (t.states p.reference) (t.states r.reference) (map receipt_in l) (map (λ x. x.0) (turns_in (s.rounds ++ more)))) (sym made)
-          (subst (λ l. Gives (t.states p.reference) (t.states r.reference) l (map (λ x. x.0) (turns_in (s.rounds ++ more))))
-          (sym (map-append receipt_in (made_in s.rounds) (m.made ∷ [])))
-          (subst (λ l. Gives (t.states p.reference) (t.states r.reference) (map receipt_in (made_in s.rounds) ++ receipt_in m.made ∷ []) l)
-          (sym (ap (map (λ x. x.0)) turns ∙ map-append (λ x. x.0) (turns_in s.rounds) ((m.reference, m.made) ∷ [])))
-          (Gives-append (t.states p.reference) (t.states q.reference) (t.states r.reference) (map receipt_in (made_in s.rounds)) (receipt_in m.made ∷ [])
-          (map (λ x. x.0) (turns_in s.rounds)) (m.reference ∷ []) s.states m.states)));
+      states = Asks-append t.asked t.tended s.rounds more p.reference q.reference r.reference s.states m.states;
       waits = CountsMore-append (t.counts p.port).idle_waits (t.counts q.port).idle_waits (t.counts r.port).idle_waits (length (waits_in s.rounds))
           (length m.earlier) _ many s.waits m.waits;
-      tended = subst (λ n. CountsOn (t.tended p.reference) (t.tended r.reference) n) (sym many)
-          (CountsOn-append (t.tended p.reference) (t.tended q.reference) (t.tended r.reference) (length (waits_in s.rounds)) (length m.earlier)
-          s.tended m.tended);
       reported = subst (λ l. Sees shown later l) (sym (map-append asked_in s.rounds more))
           (Sees-append shown halfway later (map asked_in s.rounds) (map asked_in more) s.reported m.reported);
       port = subst (λ l. Makes may l (t.counts p.port) (t.counts r.port) (t.port p.port) (t.port r.port)) (sym made)

@@ -8,7 +8,6 @@ use Rattle.ntp_service.specs.{declared.observation.Observation.Observation, decl
 use Rattle.ntp_service.specs.{Sees.Sees, Headline.StandsFor, Headline.Tells}
 use Rattle.ntp_port.specs.{declared.port.PortCounts.PortCounts, Port.Told, Port.CountsMore, Serving.Makes}
 use Rattle.ntp_port.specs.Made.{Made, turn_of, happened_in_turn, sent_in, has_arrived, has_departed, turn_outcome}
-use Rattle.ntp_port.specs.Sources.{Coming, Gives, CountsOn}
 use Rattle.ntp_admin.specs.CommandsFile.{most_line_octets, count_on, complete_lines, TakenLine, happened_at_lines, line_observations}
 use Rattle.ntp_server.specs.{declared.server.Server.Server, declared.server.Totals.Totals}
 
@@ -48,6 +47,24 @@ receipt_in m = option_map (λ d. d.receipt) (turn_of m).arrival
 abbrev pub asked_in : Round → Option Moment
 asked_in r = option_and_then (λ t. receipt_in t.1) r.turn
 
+-- the looks of rounds follow one another, from one state of the source of commands to another
+abbrev pub LooksInTurn : {C : Type 0} → (C → C → Option Moment → Option (List ℕ) → Type 0) → C → C → List Round → Type 0
+LooksInTurn Looked before after [] = after ≡ before
+LooksInTurn {C = C} Looked before after (r ∷ rounds) = (between : C) × Looked before between (asked_in r) r.given
+    × LooksInTurn Looked between after rounds
+
+-- in a round the source of the states was asked for that of the turn, or without a turn given time
+abbrev pub AsksOnce : {R : Type 0} → (R → R → Option Moment → ReferenceState → Type 0) → (R → R → Type 0) → R → R
+    → Option (ReferenceState × Made) → Type 0
+AsksOnce Asked Tended before after None = Tended before after
+AsksOnce Asked Tended before after (Some (state, made)) = Asked before after (receipt_in made) state
+
+-- and so once in each of these rounds, in turn
+abbrev pub AsksInTurn : {R : Type 0} → (R → R → Option Moment → ReferenceState → Type 0) → (R → R → Type 0) → R → R → List Round → Type 0
+AsksInTurn Asked Tended before after [] = after ≡ before
+AsksInTurn {R = R} Asked Tended before after (r ∷ rounds) = (between : R)
+    × AsksOnce Asked Tended before between r.turn × AsksInTurn Asked Tended between after rounds
+
 -- what happened in a round: at the lines that were taken, then in its turn
 abbrev pub happened_in_round : {A : Type 0} → Round → List (Event A × Outcome)
 happened_in_round r = happened_at_lines most_line_octets r.taken ++ option_map_or (λ t. happened_in_turn t.0 t.1) r.turn []
@@ -56,14 +73,14 @@ happened_in_round r = happened_at_lines most_line_octets r.taken ++ option_map_o
 abbrev pub round_observations : Round → List Observation
 round_observations r = line_observations most_line_octets r.applied r.taken ++ option_map_or (λ t. Turn (turn_outcome t.1) ∷ []) r.turn []
 
--- what the parts of a server tell: its port, and what that counted; what looks at its commands will give; its states, and how often
--- their source was given time; its observer
-pub record PartsTell (P C R O : Type 0) : Type 0 where
+-- what the parts of a server tell: its port, and what that counted; a look at its commands; an ask for the state of its clock, and time
+-- for the source of that; its observer
+pub record PartsTell (P C R O : Type 0) : Type 1 where
   pub port : P → Option Told
   pub counts : P → PortCounts
-  pub looks : C → Option (Coming (Option (List ℕ)))
-  pub states : R → Option (Coming ReferenceState)
-  pub tended : R → Option ℕ
+  pub looked : C → C → Option Moment → Option (List ℕ) → Type 0
+  pub asked : R → R → Option Moment → ReferenceState → Type 0
+  pub tended : R → R → Type 0
   pub seen : O → Option (List Observation)
 
 -- a server that was `before` made `turns` turns and is `after`, at a port that is prompt or not, and may drop or not; its reporter tells
@@ -82,12 +99,10 @@ pub record ServesRounds {P C R O A : Type 0} (before after : Server P C R O A) (
   -- where no wait of the port ends with nothing, each of them has one
   pub one_look : prompt ≡ true → waits_in rounds ≡ []
   pub due : AreDueInTurn before.applied (start ++ rounds) after.applied
-  pub commands : Gives (t.looks before.commands) (t.looks after.commands) (map asked_in (start ++ rounds)) (given_in (start ++ rounds))
-  pub states : Gives (t.states before.reference) (t.states after.reference) (map receipt_in (made_in rounds))
-      (map (λ x. x.0) (turns_in rounds))
-  -- in each round without a turn one wait of the port ended with nothing, and the source of the states was given time once
+  pub commands : LooksInTurn t.looked before.commands after.commands (start ++ rounds)
+  pub states : AsksInTurn t.asked t.tended before.reference after.reference rounds
+  -- in each round without a turn one wait of the port ended with nothing
   pub waits : CountsMore (t.counts before.port).idle_waits (t.counts after.port).idle_waits (length (waits_in rounds))
-  pub tended : CountsOn (t.tended before.reference) (t.tended after.reference) (length (waits_in rounds))
   -- the reporter was shown the server once in each round, with what the source of commands was asked with there
   pub reported : Sees shown later (map asked_in rounds)
   pub port : Makes may_drop (made_in rounds) (t.counts before.port) (t.counts after.port) (t.port before.port) (t.port after.port)

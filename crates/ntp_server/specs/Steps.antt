@@ -6,10 +6,10 @@ use Rattle.ntp_reply.specs.Reference.{ReferenceState}
 use Rattle.ntp_service.specs.{declared.event.Event.Event, declared.observation.TurnOutcome.TurnOutcome}
 use Rattle.ntp_service.specs.declared.observation.TurnOutcome.TheVariants.{NothingReceived, Answered}
 use Rattle.ntp_service.specs.{Sees.Sees, Sending.was_sent, Sending.was_noted, Headline.StandsFor, Headline.Tells}
-use Rattle.ntp_port.specs.{Port.CountsMore, Made.Made, Made.turn_outcome, Serving.Makes, Sources.Gives, Sources.CountsOn}
+use Rattle.ntp_port.specs.{Port.CountsMore, Made.Made, Made.turn_outcome, Serving.Makes}
 use Rattle.ntp_admin.specs.CommandsFile.{most_line_octets, count_on, complete_lines, TakenLine, happened_at_lines, line_observations}
 use Rattle.ntp_server.specs.declared.server.Server.{Server}
-use Rattle.ntp_server.specs.Rounds.{Round, PartsTell, AreDueInTurn, given_in, turns_in, waits_in, receipt_in, asked_in, happened_in_round, round_observations}
+use Rattle.ntp_server.specs.Rounds.{Round, PartsTell, AreDueInTurn, LooksInTurn, AsksInTurn, given_in, turns_in, waits_in, asked_in, happened_in_round, round_observations}
 
 -- a look was made, which asked with this, and gave something or not
 pub record Looks {P C R O A : Type 0} (before after : Server P C R O A) (t : PartsTell P C R O) (asked : Option Moment) (gave : Bool)
@@ -19,7 +19,7 @@ pub record Looks {P C R O A : Type 0} (before after : Server P C R O A) (t : Par
   pub taken : List TakenLine
   pub lines : map (λ x. x.line) taken ≡ option_map_or complete_lines given []
   pub counted : after.applied ≡ count_on before.applied (length taken)
-  pub commands : Gives (t.looks before.commands) (t.looks after.commands) (asked ∷ []) (given ∷ [])
+  pub commands : t.looked before.commands after.commands asked given
   pub observed : Sees (t.seen before.observer) (t.seen after.observer) (line_observations most_line_octets before.applied taken)
   pub tells : (history : List (Event A)) → StandsFor before.service history
       → Tells history (happened_at_lines most_line_octets taken) after.service
@@ -27,7 +27,7 @@ pub record Looks {P C R O A : Type 0} (before after : Server P C R O A) (t : Par
 -- what was done in these rounds at the service and its commands
 pub record Orders {P C R O A : Type 0} (before after : Server P C R O A) (t : PartsTell P C R O) (rounds : List Round) : Type 0 where
   pub due : AreDueInTurn before.applied rounds after.applied
-  pub commands : Gives (t.looks before.commands) (t.looks after.commands) (map asked_in rounds) (given_in rounds)
+  pub commands : LooksInTurn t.looked before.commands after.commands rounds
   pub observed : Sees (t.seen before.observer) (t.seen after.observer) (flat_map round_observations rounds)
   pub tells : (history : List (Event A)) → StandsFor before.service history
       → Tells history (flat_map happened_in_round rounds) after.service
@@ -49,7 +49,7 @@ pub record Waits {P C R O A : Type 0} (before after : Server P C R O A) (t : Par
   pub one_look : prompt ≡ true → rounds ≡ []
   pub orders : Orders before after t rounds
   pub waited : CountsMore (t.counts before.port).idle_waits (t.counts after.port).idle_waits (length rounds)
-  pub tended : CountsOn (t.tended before.reference) (t.tended after.reference) (length rounds)
+  pub tended : AsksInTurn t.asked t.tended before.reference after.reference rounds
   pub reported : Sees shown later (map asked_in rounds)
 
 -- rounds were made; the last one alone has a turn, which came to this
@@ -64,9 +64,8 @@ pub record MakesTurn {P C R O A : Type 0} (before after : Server P C R O A) (t :
   pub turn : round.turn ≡ Some (reference, made)
   pub one_look : prompt ≡ true → earlier ≡ []
   pub orders : Orders before after t (earlier ++ round ∷ [])
-  pub states : Gives (t.states before.reference) (t.states after.reference) (receipt_in made ∷ []) (reference ∷ [])
+  pub states : AsksInTurn t.asked t.tended before.reference after.reference (earlier ++ round ∷ [])
   pub waits : CountsMore (t.counts before.port).idle_waits (t.counts after.port).idle_waits (length earlier)
-  pub tended : CountsOn (t.tended before.reference) (t.tended after.reference) (length earlier)
   pub reported : Sees shown later (map asked_in (earlier ++ round ∷ []))
   pub port : Makes may_drop (made ∷ []) (t.counts before.port) (t.counts after.port) (t.port before.port) (t.port after.port)
   pub comes_to : outcome ≡ turn_outcome made

@@ -63,7 +63,7 @@ impl<
     pub fn serve(&mut self, turns: u64) -> Totals
         requires { failed_calls (P.counts self.old.port) + turns < 2 ^ 64 }
         ensures { ServesRounds self.old self.new
-            (record { port = P.told; counts = P.counts; looks = C.coming; states = R.coming; tended = R.tended; seen = O.seen })
+            (record { port = P.told; counts = P.counts; looked = C.looked; asked = R.asked; tended = R.tended; seen = O.seen })
             None None P.is_prompt P.may_drop turns result }
     {
         self.serve_reported(turns, &mut NoReports)
@@ -81,7 +81,7 @@ impl<
     ) -> Totals
         requires { failed_calls (P.counts self.old.port) + turns < 2 ^ 64 }
         ensures rounds { ServesRounds self.old self.new
-            (record { port = P.told; counts = P.counts; looks = C.coming; states = R.coming; tended = R.tended; seen = O.seen })
+            (record { port = P.told; counts = P.counts; looked = C.looked; asked = R.asked; tended = R.tended; seen = O.seen })
             (Q.shown reporter.old) (Q.shown reporter.new) P.is_prompt P.may_drop turns result }
         ensures known { 0 < turns → Q.knows reporter.new self.new }
     {
@@ -107,7 +107,7 @@ impl<
     ) -> TurnOutcome
         requires { failed_calls (P.counts self.old.port) < 2 ^ 64 - 1 }
         ensures made { MakesTurn self.old self.new
-            (record { port = P.told; counts = P.counts; looks = C.coming; states = R.coming; tended = R.tended; seen = O.seen })
+            (record { port = P.told; counts = P.counts; looked = C.looked; asked = R.asked; tended = R.tended; seen = O.seen })
             (Q.shown reporter.old) (Q.shown reporter.new) P.is_prompt P.may_drop result }
         ensures known { Q.knows reporter.new self.new }
     {
@@ -138,9 +138,8 @@ impl<
         ensures counts { CountsReceive (P.counts self.old.port) (P.counts self.new.port) (is_err result) }
         ensures turns { Receives P.may_drop (P.counts self.old.port).dropped (P.counts self.new.port).dropped
             (P.told self.old.port) (P.told self.new.port) result datagram.new }
-        ensures reference { R.coming self.new.reference ≡ R.coming self.old.reference }
         ensures waits { Waits self.old self.new
-            (record { port = P.told; counts = P.counts; looks = C.coming; states = R.coming; tended = R.tended; seen = O.seen })
+            (record { port = P.told; counts = P.counts; looked = C.looked; asked = R.asked; tended = R.tended; seen = O.seen })
             (Q.shown reporter.old) (Q.shown reporter.new) P.is_prompt }
     {
         for _wait in 0..UNCOUNTED_WAITS {
@@ -159,7 +158,7 @@ impl<
         ensures port { self.new.port ≡ self.old.port }
         ensures reference { self.new.reference ≡ self.old.reference }
         ensures starts { Starts self.old self.new
-            (record { port = P.told; counts = P.counts; looks = C.coming; states = R.coming; tended = R.tended; seen = O.seen }) }
+            (record { port = P.told; counts = P.counts; looked = C.looked; asked = R.asked; tended = R.tended; seen = O.seen }) }
     {
         for _look in 0..u64::MAX {
             if !self.look(None) {
@@ -173,7 +172,7 @@ impl<
         ensures port { self.new.port ≡ self.old.port }
         ensures reference { self.new.reference ≡ self.old.reference }
         ensures looks { Looks self.old self.new
-            (record { port = P.told; counts = P.counts; looks = C.coming; states = R.coming; tended = R.tended; seen = O.seen })
+            (record { port = P.told; counts = P.counts; looked = C.looked; asked = R.asked; tended = R.tended; seen = O.seen })
             receipt result }
     {
         let before = self.applied;

@@ -1,12 +1,11 @@
 -- What parts in memory tell.
-use Rattle.std.specs.Prelude.{ℕ, ◌-◌, ◌<◌, Option, None, Some, option_map, List, [], ◌∷◌, length, map, drop, reverse, slice_get, vec_len, vec_capacity, if◌then◌else◌}
+use Rattle.std.specs.Prelude.{◌≡◌, ℕ, ◌-◌, ◌<◌, Option, None, Some, option_map, List, [], ◌∷◌, length, map, drop, reverse, slice_get, vec_len, vec_capacity, if◌then◌else◌}
 use Rattle.std.specs.Option.{option_map_or}
 use Rattle.ntp_packet.specs.declared.moment.Moment.{Moment}
 use Rattle.ntp_reply.specs.Reference.{ReferenceState}
 use Rattle.ntp_service.specs.declared.observation.Observation.{Observation}
 use Rattle.ntp_port.specs.{declared.port.PortCounts.PortCounts, declared.queue_event.QueueEvent.QueueEvent}
 use Rattle.ntp_port.specs.Port.{IncomingValue, ReadClock, TriedSend, Readings, behind, TurnValue, no_turn, Told}
-use Rattle.ntp_port.specs.{Sequence.firsts, Sources.Coming}
 use Rattle.test_support.specs.{declared.memory_turn.Incoming.Incoming, declared.memory_turn.Turn.Turn, declared.memory_port.MemoryPort.MemoryPort}
 use Rattle.test_support.specs.{declared.memory_queue.Log.Log, declared.memory_server.MemoryCommands.MemoryCommands}
 use Rattle.test_support.specs.{declared.memory_server.MemoryStates.MemoryStates, declared.memory_server.MemoryObserver.MemoryObserver}
@@ -48,21 +47,17 @@ memory_counts p = record { failed_receives = p.failed_receives; failed_sends = p
 abbrev pub history_in : {A : Type 0} → Log A → Option (List QueueEvent)
 history_in log = if log.has_missed then None else Some (reverse log.events.items)
 
--- these and then nothing more, whatever is asked with
-abbrev pub commands_coming : List (Option (List ℕ)) → Coming (Option (List ℕ))
-commands_coming looks = λ asked. firsts None (length asked) looks
+-- the first of a list is taken from it, or else this
+abbrev pub Takes : {X : Type 0} → X → List X → List X → X → Type 0
+Takes behind left after given = (given ≡ option_map_or (λ x. x) (slice_get left 0) behind) × (after ≡ drop 1 left)
 
--- what a commands file in memory will give
-abbrev pub commands_told : {A : Type 0} → MemoryCommands A → Coming (Option (List ℕ))
-commands_told m = commands_coming (map (λ look. option_map (λ octets. octets.items) look) (drop m.made m.looks.items))
+-- what the looks at a commands file in memory have still to give, and then nothing
+abbrev pub pieces_left : {A : Type 0} → MemoryCommands A → List (Option (List ℕ))
+pieces_left m = map (λ look. option_map (λ octets. octets.items) look) (drop m.made m.looks.items)
 
--- these states and then one for ever, whatever is asked with
-abbrev pub states_coming : List ReferenceState → ReferenceState → Coming ReferenceState
-states_coming states behind = λ asked. firsts behind (length asked) states
-
--- what a list of states will give
-abbrev pub states_told : {A : Type 0} → MemoryStates A → Coming ReferenceState
-states_told m = states_coming (drop m.given m.states.items) m.behind
+-- what a list of states has still to give, and then one for ever
+abbrev pub states_left : {A : Type 0} → MemoryStates A → List ReferenceState
+states_left m = drop m.given m.states.items
 
 -- what an observer in memory has seen, where it missed nothing
 abbrev pub seen_by : {A : Type 0} → MemoryObserver A → Option (List Observation)

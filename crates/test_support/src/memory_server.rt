@@ -18,20 +18,20 @@ pub struct MemoryCommands<A: Allocator = Global> {
 }
 
 impl<A: Allocator> MemoryCommands<A> {
-    ghost use Rattle.test_support.specs.Memory.{commands_coming, commands_told};
+    ghost use Rattle.test_support.specs.Memory.{pieces_left};
 
     /// Commands whose looks will give these pieces.
     pub fn new(looks: Vec<Option<Vec<u8, A>>, A>) -> MemoryCommands<A>
-        ensures { commands_told result ≡ commands_coming (map (λ look. option_map (λ octets. octets.items) look) looks.items) }
+        ensures { pieces_left result ≡ map (λ look. option_map (λ octets. octets.items) look) looks.items }
     {
         MemoryCommands { looks, made: 0 }
     }
 }
 
 impl<A: Allocator + Copy> CommandsSource<A> for MemoryCommands<A> {
-    ghost use Rattle.test_support.specs.Memory.{commands_told};
+    ghost use Rattle.test_support.specs.Memory.{pieces_left, Takes};
 
-    ghost coming = { λ m. Some (commands_told m) };
+    ghost looked = { λ before after asked given. Takes None (pieces_left before) (pieces_left after) given };
 
     // The octets are handed out, and not copied.
     fn look(&mut self, _alloc: A, _receipt: Option<Moment>) -> Option<Vec<u8, A>> {
@@ -55,11 +55,12 @@ pub struct MemoryStates<A: Allocator = Global> {
 }
 
 impl<A: Allocator> MemoryStates<A> {
-    ghost use Rattle.test_support.specs.Memory.{states_coming, states_told};
+    ghost use Rattle.test_support.specs.Memory.{states_left};
 
     /// These states, and then another one for ever.
     pub fn new(states: Vec<Reference, A>, behind: Reference) -> MemoryStates<A>
-        ensures { states_told result ≡ states_coming states.items behind }
+        ensures left { states_left result ≡ states.items }
+        ensures behind { result.behind ≡ behind }
     {
         MemoryStates {
             states,
@@ -70,9 +71,11 @@ impl<A: Allocator> MemoryStates<A> {
 }
 
 impl<A: Allocator> ReferenceSource for MemoryStates<A> {
-    ghost use Rattle.test_support.specs.Memory.{states_told};
+    ghost use Rattle.test_support.specs.Memory.{states_left, Takes};
 
-    ghost coming = { λ m. Some (states_told m) };
+    ghost asked = { λ before after receipt given. Takes before.behind (states_left before) (states_left after) given × (after.behind ≡ before.behind) };
+
+    ghost tended = { λ before after. after ≡ before };
 
     fn in_force(&mut self, _receipt: Option<Moment>) -> Reference {
         let at = self.given;

@@ -13,7 +13,8 @@ use labntpd_assembly::{
 };
 use labntpd_files::read_configuration;
 use ntp_host::{
-    BoundAt, ClockSource, CommandsFile, HostClocks, HostFile, Log, LogForm, emptied_file,
+    BoundAt, ClockSource, CommandsFile, HostClocks, HostFile, Log, LogForm, SystemClockWire,
+    emptied_file,
 };
 use ntp_port::{FreshPort, Port, QueueWatch};
 use ntp_reply::Reference;
@@ -54,7 +55,7 @@ pub struct Found {
 type YearParts<'a, 'd> = Parts<
     YearQueue<'a, 'd>,
     CommandsFile<'a, HostFile<'a, MemoryHost<'d>>>,
-    ClockSource<'a, &'a MemoryHost<'d>>,
+    ClockSource<SystemClockWire<'a, &'a MemoryHost<'d>>>,
     ReportingObserver<'a, MemoryFile<'d>, LineWriter<MemoryFile<'d>>>,
     MemoryFile<'d>,
 >;

@@ -2,6 +2,7 @@
 //! writes, receives and sends that fail.
 
 mod command_line;
+mod commands_file;
 mod customer_reports;
 mod fail_after;
 mod failing_port;

@@ -5,7 +5,7 @@ use Rattle.ntp_server.proofs.server.Server.serve_reported.Given as goal
 abbrev pub invariant-loop-turn : goal.invariant-loop-turn
 invariant-loop-turn g l = record {
   rounds : ServesRounds l.fn.self l.self
-      (record { port = g.P.Port.told; counts = g.P.Port.counts; looks = g.C.CommandsSource.coming; states = g.R.ReferenceSource.coming; tended = g.R.ReferenceSource.tended; seen = g.O.Observer.seen })
+      (record { port = g.P.Port.told; counts = g.P.Port.counts; looked = g.C.CommandsSource.looked; asked = g.R.ReferenceSource.asked; tended = g.R.ReferenceSource.tended; seen = g.O.Observer.seen })
       (g.Q.Reporter.shown l.fn.reporter) (g.Q.Reporter.shown l.reporter) g.P.TimedPort.is_prompt g.P.Port.may_drop l._turn l.totals;
   known : 0 < l._turn → g.Q.Reporter.knows l.reporter l.self;
 }

@@ -1,4 +1,4 @@
-use Rattle.std.proofs.Common.{refl, sym, ap, ◌∙◌, subst}
+use Rattle.std.proofs.Common.{refl, sym, subst}
 use Rattle.std.specs.Prelude.{is_err}
 use Rattle.ntp_port.specs.Port.{CountsReceive, Receives}
 use Rattle.ntp_port.proofs.PublicLaws.{takes-turn}
@@ -15,6 +15,5 @@ returns-clause-made g c =
     let taken = takes-turn _ _ _ _ _ _ _ _ _ _ _ _ _ counts _ received c.answer_received-outcome.ensures.idle
     c.answer_received-outcome.ensures.makes in
     Makes-turn _ _ _ _ _ _ _ _ _ _ _ _ _ _ _ _ refl refl c.wait-received.ensures.waits c.look.ensures.looks
-    c.receipt_of-receipt.ensures (ap g.R.ReferenceSource.coming c.look.ensures.reference ∙ c.wait-received.ensures.reference)
-    c.in_force-reference.ensures.given (c.in_force-reference.ensures.tended ∙ ap g.R.ReferenceSource.tended c.look.ensures.reference)
-    c.look.ensures.port taken c.turn.ensures c.report.ensures.shown
+    c.receipt_of-receipt.ensures c.look.ensures.reference c.in_force-reference.ensures c.look.ensures.port taken c.turn.ensures
+    c.report.ensures.shown

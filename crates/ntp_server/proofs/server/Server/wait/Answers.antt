@@ -1,11 +1,11 @@
-use Rattle.std.proofs.Common.{rules, ap, sym, subst, ◌∙◌, arith, length}
+use Rattle.std.proofs.Common.{rules, ap, sym, subst, arith, length}
 use Rattle.ntp_port.specs.{declared.port.PortCounts.PortCounts, Port.CountsMore, Port.DropsAny}
 use Rattle.ntp_port.proofs.PublicLaws.{DropsAny-none, DropsAny-append, Receives-after}
 use Rattle.ntp_server.proofs.Looking.{Waits-none, Waits-more, Waits-port}
 use Rattle.ntp_server.proofs.server.Server.wait.Goals as goal
 
 pub loop-wait-init : goal.loop-wait-init
-loop-wait-init g c = record { port = DropsAny-none _ _ _; counts = search rules; reference = search rules; waits = Waits-none _ _ _ _ }
+loop-wait-init g c = record { port = DropsAny-none _ _ _; counts = search rules; waits = Waits-none _ _ _ _ }
 
 pub loop-wait-preserved : goal.loop-wait-preserved
 loop-wait-preserved g c =
@@ -19,10 +19,9 @@ loop-wait-preserved g c =
         omega (arith, ap (λ (k : PortCounts). k.failed_receives) same, waited.1.0, c.loop-wait.invariant.counts.0),
         omega (arith, ap (λ (k : PortCounts). k.failed_sends) same, waited.1.1, c.loop-wait.invariant.counts.1),
       );
-      reference = c.tend.ensures.coming ∙ ap g.R.ReferenceSource.coming c.look.ensures.reference ∙ c.loop-wait.invariant.reference;
       waits = Waits-more _ _ _ _ _ _ _ _ _ _ _ _ c.in_default.ensures.nothing.0 c.loop-wait.invariant.waits c.look.ensures.looks
           (subst (λ (k : PortCounts). CountsMore (g.P.Port.counts c.loop-wait.self.port).idle_waits k.idle_waits 1) (sym same) waited.0)
-          c.look.ensures.reference c.tend.ensures.tended c.report.ensures.shown;
+          c.look.ensures.reference c.tend.ensures c.report.ensures.shown;
     }
 
 pub returns-in-Some-clause-turns : goal.returns-in-Some-clause-turns

@@ -8,9 +8,8 @@ invariant-loop-wait g l = record {
   port : DropsAny g.P.Port.may_drop (g.P.Port.counts l.fn.self.port).dropped (g.P.Port.counts l.self.port).dropped
       (g.P.Port.told l.fn.self.port) (g.P.Port.told l.self.port);
   counts : CountsReceive (g.P.Port.counts l.fn.self.port) (g.P.Port.counts l.self.port) false;
-  reference : g.R.ReferenceSource.coming l.self.reference ≡ g.R.ReferenceSource.coming l.fn.self.reference;
   waits : (w : Waits l.fn.self l.self
-      (record { port = g.P.Port.told; counts = g.P.Port.counts; looks = g.C.CommandsSource.coming; states = g.R.ReferenceSource.coming; tended = g.R.ReferenceSource.tended; seen = g.O.Observer.seen })
+      (record { port = g.P.Port.told; counts = g.P.Port.counts; looked = g.C.CommandsSource.looked; asked = g.R.ReferenceSource.asked; tended = g.R.ReferenceSource.tended; seen = g.O.Observer.seen })
       (g.Q.Reporter.shown l.fn.reporter) (g.Q.Reporter.shown l.reporter) g.P.TimedPort.is_prompt) × (length w.rounds ≡ l._wait);
 }
 

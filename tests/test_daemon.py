@@ -1781,34 +1781,40 @@ def handing_down(s, **environment):
 
 
 def test_socket_that_is_handed_down_is_judged():
-    """One that no datagram can be received from, or that was handed down to nobody here, is a fault in words."""
+    """One that no datagram can be received from, or that was handed down to nobody here, is a fault in words; of one that is there --check
+    says so too."""
     file_of("commands", "")
     words, ours = configured(configuration(listen="inherited")), {"LISTEN_PID": "PID", "LISTEN_FDS": "1"}
+
+    def judged(what, s, line, words=words, checks=([], ["--check"]), **environment):
+        for check in checks:
+            same(f"{what} {check}", (3, "", f"listen: {line}\n"), run([*check, *words], **handing_down(s, **environment or ours)))
+
     kinds = [(socket.AF_INET, socket.SOCK_STREAM, (probe.HOST, 0), "a UDP socket"), (socket.AF_INET6, socket.SOCK_DGRAM, ("::1", 0), "an IPv4 socket")]
     kinds += [(socket.AF_UNIX, socket.SOCK_DGRAM, "", "an IPv4 socket"), (socket.AF_INET, socket.SOCK_DGRAM, None, "a socket that is bound")]
     for family, kind, address, wanted in kinds:
         with socket.socket(family, kind) as s:
             if address is not None:
                 s.bind(address)
-            same(f"{family!r} {kind!r} {address}", (3, "", f"listen: {wanted} is wanted\n"), run(words, **handing_down(s, **ours)))
+            judged(f"{family!r} {kind!r} {address}", s, f"{wanted} is wanted")
     with handed_down() as s:
+        same("a good one", (0, "ok\n", ""), run(["--check", *words], **handing_down(s, **ours)))
         s.connect((probe.HOST, probe.free_port()))
-        same("a connected one", (3, "", "listen: a socket that is not connected is wanted\n"), run(words, **handing_down(s, **ours)))
+        judged("a connected one", s, "a socket that is not connected is wanted")
     # Others that are bound and of IPv4: one of UDP-Lite, and one that gets all UDP packets.
     for kind, protocol in ((socket.SOCK_DGRAM, 136), (socket.SOCK_RAW, socket.IPPROTO_UDP)):
         with contextlib.suppress(OSError), socket.socket(socket.AF_INET, kind, protocol) as s:
             s.bind((probe.HOST, 0))
-            same(f"{kind!r} {protocol}", (3, "", "listen: a UDP socket is wanted\n"), run(words, **handing_down(s, **ours)))
+            judged(f"{kind!r} {protocol}", s, "a UDP socket is wanted")
     with handed_down() as s:
-        for environment in ({}, {"LISTEN_FDS": "1"}, {"LISTEN_PID": "1", "LISTEN_FDS": "1"}):
-            line = "listen: LISTEN_PID, the number of this process, is wanted: no socket is there\n"
-            same(f"{environment}", (3, "", line), run(words, **handing_down(s, **environment)))
+        same("no word", (3, "", "listen: LISTEN_PID, the number of this process, is wanted: no socket is there\n"), run(words, **handing_down(s)))
+        for environment in ({"LISTEN_FDS": "1"}, {"LISTEN_PID": "1", "LISTEN_FDS": "1"}):
+            judged(f"{environment}", s, "LISTEN_PID, the number of this process, is wanted: no socket is there", checks=[[]], **environment)
+            same(f"--check with {environment}", (0, "ok\n", ""), run(["--check", *words], **handing_down(s, **environment)))
         for environment in ({"LISTEN_PID": "PID"}, {"LISTEN_PID": "PID", "LISTEN_FDS": "2"}):
-            line = "listen: LISTEN_FDS = 1, for one socket that was handed down, is wanted\n"
-            same(f"{environment}", (3, "", line), run(words, **handing_down(s, **environment)))
-        words = configured(configuration(listen=f"127.0.0.1:{probe.free_port()}"))
-        line = 'listen: a socket was handed down (LISTEN_FDS): "inherited" is wanted\n'
-        same("an address, and a socket", (3, "", line), run(words, **handing_down(s, **ours)))
+            judged(f"{environment}", s, "LISTEN_FDS = 1, for one socket that was handed down, is wanted", **environment)
+        at_an_address = configured(configuration(listen=f"127.0.0.1:{probe.free_port()}"))
+        judged("an address, and a socket", s, 'a socket was handed down (LISTEN_FDS): "inherited" is wanted', words=at_an_address)
 
 
 def test_socket_that_does_not_wait_is_made_to():

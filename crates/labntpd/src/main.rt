@@ -6,7 +6,7 @@ mod assembly;
 use assembly::serve;
 use labntpd_files::Configuration;
 use labntpd_files::command_line::{Asked, parse, refused_status};
-use labntpd_start::{commands_at, prepare, start_lines};
+use labntpd_start::{check_socket, commands_at, prepare, start_lines};
 use ntp_admin::{Escaped, Status, unread_status, write_status};
 use ntp_host::{HostClocks, is_nearly_full, write_nearly_full};
 use std::io::Write;
@@ -42,14 +42,15 @@ fn job_status(rt: &HostRuntime, check: bool, config: &str) -> Status {
 fn do_job(rt: &HostRuntime, check: bool, config: &str) -> Result<(), Status> {
     let prepared = prepare(rt, rt.alloc(), config, &mut start_lines(rt))?;
     if check {
-        check_commands(rt, &prepared.configuration)
+        check_host(rt, &prepared.configuration)
     } else {
         serve(rt, rt.alloc(), prepared)
     }
 }
 
-// Opens the commands file too, and says that all is well.
-fn check_commands(rt: &HostRuntime, configuration: &Configuration) -> Result<(), Status> {
+// Judges the socket that was handed down, if one was, opens the commands file, and says that all is well.
+fn check_host(rt: &HostRuntime, configuration: &Configuration) -> Result<(), Status> {
+    check_socket(rt, rt.alloc(), configuration.listen)?;
     let mut faults = start_lines(rt);
     let path = configuration.commands.as_str();
     let clocks = HostClocks::new();

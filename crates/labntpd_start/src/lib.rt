@@ -16,4 +16,4 @@ pub use places::{NamedFiles, directory_of, readers_of, tell_places};
 pub use prepared::{
     KEY_LINE_WANTED, Prepared, PreparedClock, configuration_at, prepare, small_text,
 };
-pub use sockets::{open_socket, set_up};
+pub use sockets::{check_socket, open_socket, set_up};

@@ -67,14 +67,33 @@ pub fn set_up(
     }
 }
 
-// A socket at an address, where none was handed down to this process: that one would never be read.
+/// Judges the socket that was handed down to this process, where one was, and opens none. Prints a fault in one line, and returns the
+/// exit status.
+pub fn check_socket(rt: &HostRuntime, alloc: Global, listen: Listen) -> Result<(), Status> {
+    match listen {
+        Listen::Inherited if is_ours(rt) => {
+            open_socket(rt, alloc, listen)?;
+            Ok(())
+        }
+        Listen::Inherited => Ok(()),
+        Listen::Bound(_) => judged(rt, "listen", refuse_handed_down(rt)),
+    }
+}
+
+// A socket at an address.
 fn bind(rt: &HostRuntime, address: SocketAddrV4) -> io::Result<UdpSocket> {
+    refuse_handed_down(rt)?;
+    UdpSocket::bind(rt, address)
+}
+
+// Fails where a socket was handed down to this process: beside one at an address it would never be read.
+fn refuse_handed_down(rt: &HostRuntime) -> io::Result<()> {
     match env::var(rt, "LISTEN_FDS") {
         Ok(_) if is_ours(rt) => {
             let fault = "a socket was handed down (LISTEN_FDS): \"inherited\" is wanted";
             Err(io::Error::new(ErrorKind::InvalidInput, fault))
         }
-        _ => UdpSocket::bind(rt, address),
+        _ => Ok(()),
     }
 }
 

@@ -9,6 +9,7 @@ import tempfile
 import textwrap
 import time
 
+import hypothesis
 import pytest
 from _pytest.runner import runtestprotocol
 
@@ -23,6 +24,13 @@ from rooms import Ticker
 SPREAD, ALONE = ("daemon", "program"), ("door", "scale", "compared")
 # After how many seconds without a line one tells what runs; and how many seconds the compiling of a program may take.
 SILENCE, COMPILING = 10, 1800
+
+# What is drawn is the same in each run, however long a case takes, and is kept nowhere.
+hypothesis.settings.register_profile(
+    "labntp", derandomize=True, deadline=None, database=None, report_multiple_bugs=False,
+    suppress_health_check=[*hypothesis.HealthCheck],
+)
+hypothesis.settings.load_profile("labntp")
 
 
 def pytest_addoption(parser):
@@ -113,7 +121,7 @@ def pytest_pyfunc_call(pyfuncitem):
 def seen_in(report):
     """What was seen where a case failed, in a line that is not too long."""
     crash = getattr(report.longrepr, "reprcrash", None)
-    return textwrap.shorten((crash.message if crash else str(report.longrepr)).removeprefix("judging.Odd: "), 400)
+    return textwrap.shorten(crash.message if crash else str(report.longrepr), 400)
 
 
 def outcome_of(reports):

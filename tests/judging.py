@@ -46,12 +46,10 @@ TESTS = {
 # The programs, from the one that is compiled in the shortest time.
 PROGRAMS = ("labntp", "labntp_query", "labntpd", "labntpctl")
 
+# What was seen in place of what is wanted.
+Odd = AssertionError
 # The program that is judged, the folder of a case's files, and what was started and has not been ended yet.
 PROGRAM, ROOM, started = "", "", []
-
-
-class Odd(AssertionError):
-    """What was seen in place of what is wanted."""
 
 
 class PassedOver(unittest.SkipTest):
@@ -60,6 +58,13 @@ class PassedOver(unittest.SkipTest):
 
 class Ended(KeyboardInterrupt):
     """A signal that asks for the end: no case takes it for a fault."""
+
+
+def needs(*programs, root=False):
+    """Passes over what cannot be made here."""
+    path = f"{os.environ.get('PATH', os.defpath)}:/usr/local/sbin:/usr/sbin:/sbin"
+    if missing := ["leave of root"] * (root and os.geteuid() != 0) + [it for it in programs if not shutil.which(it, path=path)]:
+        raise PassedOver(f"there is no {missing[0]}")
 
 
 def same(what, wanted, seen):
@@ -75,8 +80,7 @@ def until(what, is_so, seconds=WAIT):
     __tracebackhide__ = True
     end = time.monotonic() + seconds
     while not is_so():
-        if time.monotonic() > end:
-            raise Odd(f"not within {seconds} seconds: {what}")
+        assert time.monotonic() <= end, f"not within {seconds} seconds: {what}"
         time.sleep(0.002)
 
 

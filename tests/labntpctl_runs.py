@@ -13,7 +13,7 @@ import subprocess
 import judging
 import model
 import probe
-from judging import REFERENCE, Odd, PassedOver, enrolments, file_of, same, until
+from judging import REFERENCE, PassedOver, enrolments, file_of, same, until
 
 KEY = "c40b7a1d93e65f2288bb01d4e7f3a69c5d20e8f1"
 CUSTOMERS = [("192.0.2.1", 1, "sha1", KEY, 4), ("192.0.2.2", 3, "md5", "6b6579", 9), ("127.0.0.1", 4, "sha1", KEY[::-1], 65535)]
@@ -54,16 +54,14 @@ def keys():
 def shows_no_key(*texts):
     for text in texts:
         for key in keys():
-            if key in text.lower():
-                raise Odd(f"a key stands in {text!r}")
+            assert key not in text.lower(), f"a key stands in {text!r}"
 
 
 def run(words, wanted=None, **how):
     """A run of the program: its status, standard output and standard error. No key stands in what it prints."""
     status, out, err = judging.run(words, **how)
     shows_no_key(out, err)
-    if wanted is not None and status != wanted:
-        raise Odd(f"{' '.join(words)}: status {status}, and not {wanted}; {out}{err}")
+    assert wanted is None or status == wanted, f"{' '.join(words)}: status {status}, and not {wanted}; {out}{err}"
     return status, out, err
 
 
@@ -161,8 +159,6 @@ def begun(words, **how):
 @contextlib.contextmanager
 def serving(**how):
     """A labntpd, its port, and the words that name its configuration."""
-    if not os.access(LABNTPD, os.X_OK):
-        raise PassedOver("labntpd is not built")
     port = probe.free_port()
     words = configured(port, **how)
     with served(words):
@@ -187,8 +183,7 @@ def appended(before):
     """The lines of the commands file behind those that were there before, but for records of orders."""
     text = read("commands")
     same("what was there stays", before, text[: len(before)])
-    if text and not text.endswith("\n"):
-        raise Odd("the commands file does not end with a line feed")
+    assert not text or text.endswith("\n"), "the commands file does not end with a line feed"
     return [it for it in text[len(before) :].splitlines() if not RECORD.fullmatch(it)]
 
 
@@ -244,19 +239,3 @@ def wanted_text(customers, names={}):
         text += "".join(f'newer = {{ number = {number}, algorithm = "{algorithm}", key = "{key.hex()}" }}\n' for number, (algorithm, key) in newer)
         text += f"name = {json.dumps(names[address], ensure_ascii=False)}\n" if address in names else ""
     return text
-
-
-NAMES = ("PTB", "Frau Müller, \"77\"", "a\\b", "时间", "#")
-
-
-def history_drawn(draw, lines):
-    """A commands file at random, among few addresses and numbers."""
-    addresses, numbers = [f"192.0.2.{it}" for it in range(1, 13)], range(1, 16)
-    text = []
-    for _ in range(lines):
-        address, number, budget = draw.choice(addresses), draw.choice(numbers), draw.randrange(1, 65536)
-        key = f"{draw.choice(('md5', 'sha1'))} {draw.randbytes(draw.choice((1, 16, 20, 32))).hex()}"
-        text.append(draw.choice((f"enrol {address} {number} {key} {budget}", f"enrol {address} {number} {key} {budget}", f"revoke {address}", f"budget {address} {budget}",
-                                 f"rollover {address} {number} {key}", f"rollover {address} {number} {key}", f"retire {address} {number}",
-                                 f"# name {address} {draw.choice(NAMES)}", "", "nonsense")))
-    return "".join(f"{it}\n" for it in text)

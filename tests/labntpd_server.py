@@ -190,6 +190,7 @@ class Daemon:
 
     def __enter__(self):
         self.serves()
+        assert not self.on or self.on.readings, "the program does not call the C library for its clocks, so that nothing is seen here"
         return self
 
     def __exit__(self, kind, *_):
@@ -197,8 +198,7 @@ class Daemon:
         if kind is None and ended is None:
             self.is_quiet()
         end(self.process)
-        if kind is None and ended is not None:
-            raise Odd(f"it ended by itself with status {ended}: {read('err')[-200:]}")
+        assert kind is not None or ended is None, f"it ended by itself with status {ended}: {read('err')[-200:]}"
         if kind is None:
             tells_no_key(told_octets())
 
@@ -252,8 +252,7 @@ class Daemon:
         """While nobody asks it takes less than 2 in 100 of a processor, once it has ended what it had begun."""
         give_up = time.monotonic() + 5
         while (taken := share_of_a_processor(self.process, 0.3)) >= 0.02:
-            if time.monotonic() > give_up:
-                raise Odd(f"it takes {taken:.1%} of a processor while nobody asks")
+            assert time.monotonic() <= give_up, f"it takes {taken:.1%} of a processor while nobody asks"
 
     def again(self):
         """It is killed, and started anew with the same files, up to its first line."""
@@ -294,8 +293,7 @@ class Daemon:
             took = time.monotonic() - begun
             if is_so(state):
                 return state, took
-            if took > seconds:
-                raise Odd(f"not within {seconds:.1f} seconds: {what}; it tells {state}")
+            assert took <= seconds, f"not within {seconds:.1f} seconds: {what}; it tells {state}"
             time.sleep(0.01)
 
 
@@ -318,15 +316,13 @@ def state_in(reply):
 def statistics():
     """The numbers of the statistics file, by the texts in front of them."""
     text, numbers = read("statistics"), {}
-    if text and not text.endswith("\n"):
-        raise Odd(f"a statistics file that was cut off: {text[-80:]!r}")
+    assert not text or text.endswith("\n"), f"a statistics file that was cut off: {text[-80:]!r}"
     for line in text.splitlines():
         if not re.fullmatch(r'# (HELP|TYPE) [a-z_]+ .+|[a-z_]+({[a-z]+="[^"]*"(,[a-z]+="[^"]*")*})? (-?[0-9]+(\.[0-9]+)?|NaN)', line):
             raise Odd(f"a line of the statistics file: {line!r}")
         if line[0] != "#":
             name, _, number = line.rpartition(" ")
-            if name in numbers:
-                raise Odd(f"twice in the statistics file: {name}")
+            assert name not in numbers, f"twice in the statistics file: {name}"
             numbers[name] = float(number)
     return numbers
 
@@ -341,8 +337,7 @@ def counted(wanted, of=("labntp_answers_total",)):
     while seen() != wanted and time.monotonic() < give_up:
         time.sleep(0.05)
     odd = {name: (wanted.get(name, 0), seen().get(name, 0)) for name in wanted | seen() if wanted.get(name) != seen().get(name)}
-    if odd:
-        raise Odd("statistics: " + "; ".join(f"{name}: wanted {first}, saw {second}" for name, (first, second) in odd.items()))
+    assert not odd, "statistics: " + "; ".join(f"{name}: wanted {first}, saw {second}" for name, (first, second) in odd.items())
 
 
 def answers(answer, label=None):
@@ -422,8 +417,7 @@ class Asker:
             reply = self.socket.recv(2048)
         except BlockingIOError:
             raise Odd(f"no reply within {WAIT} seconds")
-        if len(reply) != len(query) or reply[24:32] != query[40:48]:
-            raise Odd(f"not the reply to {query.hex()}: {reply.hex()}")
+        assert len(reply) == len(query) and reply[24:32] == query[40:48], f"not the reply to {query.hex()}: {reply.hex()}"
         return reply
 
 
@@ -470,11 +464,36 @@ def short(seconds):
     return round(seconds * 65536)
 
 
-class FakeClock:
+class FakeServer:
+    """A socket of this host at which `hear` takes each datagram, with where it came from, meanwhile."""
+
+    def __init__(self, port=0):
+        self.socket, self.has_ended = probe.bound(port), False
+        self.socket.settimeout(0.05)
+        self.port = self.socket.getsockname()[1]
+        self.thread = threading.Thread(target=self.run, daemon=True)
+
+    def run(self):
+        while not self.has_ended:
+            with contextlib.suppress(TimeoutError):
+                self.hear(*self.socket.recvfrom(2048))
+
+    def __enter__(self):
+        self.thread.start()
+        return self
+
+    def __exit__(self, *_):
+        self.has_ended = True
+        self.thread.join()
+        self.socket.close()
+
+
+class FakeClock(FakeServer):
     """A clock daemon that answers as it is told to. What it is told is in force for its next answer. Its clock is `offset` seconds ahead. A
     question takes the first of `lags` in seconds to come to it, and an answer the second to leave."""
 
     def __init__(self, algorithm="sha1", number=1, key=CLOCK_KEY, port=0):
+        super().__init__(port)
         self.owner = probe.Customer(f"127.0.0.1/{number}/{algorithm}/{key}")
         self.forger = probe.Customer(f"127.0.0.1/{number}/{algorithm}/{key[::-1]}")
         self.is_silent = self.is_forged = self.is_kiss = False
@@ -484,12 +503,6 @@ class FakeClock:
         # An answer is made while this is held.
         self.lock = threading.Lock()
         self.tell()
-        self.socket = socket.socket(socket.AF_INET, socket.SOCK_DGRAM)
-        self.socket.bind((probe.HOST, port))
-        self.socket.settimeout(0.05)
-        self.port = self.socket.getsockname()[1]
-        self.has_ended = False
-        self.thread = threading.Thread(target=self.run, daemon=True)
 
     def tell(self, leap=0, stratum=3, precision=0xE8, delay=0.001, dispersion=0.004, age=10.0, identifier="0a0b0c0d"):
         """What it tells of itself from now on. `age` is that of its reference time, in seconds; None: the time is unknown."""
@@ -497,36 +510,26 @@ class FakeClock:
         self.state = State(leap, stratum, precision, short(delay), short(dispersion), bytes.fromhex(identifier), reference)
         return self.state
 
-    def __enter__(self):
-        self.thread.start()
-        return self
-
     def __exit__(self, kind, *_):
-        self.has_ended = True
-        self.thread.join()
-        self.socket.close()
-        if kind is None and self.faults:
-            raise Odd(f"the daemon asked its clock: {self.faults[0]}")
+        super().__exit__()
+        assert kind is not None or not self.faults, f"the daemon asked its clock: {self.faults[0]}"
         # A question that was held up on its way comes close to the next.
         spans = [late - early for early, late in zip(self.asked, self.asked[2:])]
         is_often = sum(it < ASKS_EACH for it in spans) > 2 * self.hurried
         if kind is None and (is_often or len(spans) > 3 and sorted(spans)[len(spans) // 2] > 3 * ASKS_EACH):
             raise Odd(f"the daemon asked its clock {len(self.asked)} times in {self.asked[-1] - self.asked[0]:.1f} seconds")
 
-    def run(self):
-        while not self.has_ended:
-            with contextlib.suppress(TimeoutError):
-                query, where = self.socket.recvfrom(2048)
-                time.sleep(self.lags[0])
-                self.asked.append(time.monotonic())
-                if query[0] != 0x23 or query[48:] != self.owner.mac(query[:48]):
-                    self.faults.append(query.hex())
-                elif not self.is_silent:
-                    with self.lock:
-                        answer = self.answer(query, self.now())
-                    time.sleep(self.lags[1])
-                    self.socket.sendto(answer, where)
-                    self.answered = time.monotonic()
+    def hear(self, query, where):
+        time.sleep(self.lags[0])
+        self.asked.append(time.monotonic())
+        if query[0] != 0x23 or query[48:] != self.owner.mac(query[:48]):
+            self.faults.append(query.hex())
+        elif not self.is_silent:
+            with self.lock:
+                answer = self.answer(query, self.now())
+            time.sleep(self.lags[1])
+            self.socket.sendto(answer, where)
+            self.answered = time.monotonic()
 
     def is_heard(self):
         """The daemon asks twice more, so that it has taken the answer to the first of the two questions, or given it up; and no exchange goes

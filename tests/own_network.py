@@ -24,13 +24,6 @@ ALLOWED = sorted(os.sched_getaffinity(0))
 NEW = {"mnt": 0x00020000, "net": 0x40000000}
 
 
-def needs(*programs):
-    """Passes over what cannot be made here."""
-    missing = [it for it in programs if not shutil.which(it)]
-    if os.geteuid() or missing:
-        raise PassedOver("it needs root" if os.geteuid() else f"there is no program {missing[0]}")
-
-
 @contextlib.contextmanager
 def apart(*kinds):
     """What is begun and made meanwhile is in namespaces of its own of these kinds, where the loopback interface is up: this thread, and what it
@@ -106,8 +99,6 @@ def nft(*words, given=None, fault=Odd):
 
 def load_door(labntpctl, *words):
     """Loads the rules that labntpctl prints, and gives the name of their table."""
-    if not os.access(labntpctl, os.X_OK):
-        raise PassedOver(f"there is no program {labntpctl}")
     ran = subprocess.run([labntpctl, "door", *words], capture_output=True, text=True, timeout=judging.WAIT)
     judging.same("labntpctl door", (0, ""), (ran.returncode, ran.stderr))
     nft("-f", "-", given=ran.stdout)

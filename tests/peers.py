@@ -9,7 +9,7 @@ import sys
 import tempfile
 import time
 
-from judging import Odd, PassedOver
+from judging import PassedOver
 
 # The packages of the clients, of other servers, of promtool, of nft and of AppArmor's parser, and in which folder each is unpacked.
 PACKAGES = {"chrony": "chrony", "prometheus": "prometheus", "ntpsec-ntpdig": "ntpsec", "python3-ntp": "ntpsec"}
@@ -17,15 +17,15 @@ PACKAGES |= {"ntpsec": "ntpsec", "openntpd": "openntpd", "apparmor": "apparmor"}
 PACKAGES |= {it: "nftables" for it in ("nftables", "libnftables1", "libnftnl11", "libmnl0", "libjansson4", "libxtables12", "libedit2", "libbsd0", "libmd0", "libgmp10")}
 FETCH_LIMIT = 120
 # What runs the tests, for a Python that has no pytest with these plugins.
-PYTEST = [f"python3-{it}" for it in "pytest pytest-xdist pytest-timeout pluggy iniconfig packaging execnet apipkg attr".split()]
-IMPORTS_PYTEST = [sys.executable, "-c", "import pytest, pytest_timeout, xdist"]
+PYTEST = "pytest pytest-xdist pytest-timeout pluggy iniconfig packaging execnet apipkg attr hypothesis sortedcontainers".split()
+IMPORTS_PYTEST = [sys.executable, "-c", "import hypothesis, pytest, pytest_timeout, xdist"]
 
 
 def answers(words, environment):
     """Whether a client starts here: unpacked without the packages that it depends on it may not."""
     how = {"stdin": subprocess.DEVNULL, "stdout": subprocess.DEVNULL, "stderr": subprocess.DEVNULL}
     try:
-        return subprocess.run(words, env=environment, timeout=20, **how).returncode == 0
+        return subprocess.run(words, env=environment, timeout=60, **how).returncode == 0
     except (OSError, subprocess.TimeoutExpired):
         return False
 
@@ -59,7 +59,7 @@ def pytest_path():
         os.makedirs(cache(), exist_ok=True)
         print("fetching Debian's packages of pytest", flush=True)
         with tempfile.TemporaryDirectory(prefix="fetched-", dir=cache()) as folder:
-            if why := lists(folder) or apt_get(folder, FETCH_LIMIT, "download", *PYTEST):
+            if why := lists(folder) or apt_get(folder, FETCH_LIMIT, "download", *(f"python3-{it}" for it in PYTEST)):
                 print(f"they were not fetched: {why}", flush=True)
             for file in glob.glob(f"{glob.escape(folder)}/*.deb") if not why else ():
                 subprocess.run(["dpkg", "-x", file, f"{folder}/unpacked"], stdin=subprocess.DEVNULL, timeout=60, check=True)
@@ -146,8 +146,7 @@ def promtool(*words, given=""):
     """promtool finds nothing amiss in what these words name, or in what it is given."""
     program, _ = tool("prometheus", "promtool")
     ran = subprocess.run([program, *words], input=given, stdout=subprocess.PIPE, stderr=subprocess.STDOUT, text=True, timeout=60)
-    if ran.returncode:
-        raise Odd(ran.stdout.strip())
+    assert not ran.returncode, ran.stdout.strip()
 
 
 def version(server):

@@ -31,6 +31,13 @@ def now():
     return (seconds + SINCE_1900 << 32 | (nanos << 32) // 1_000_000_000) & 0xFFFF_FFFF_FFFF_FFFF
 
 
+def bound(port=0, host=HOST):
+    """A UDP socket at a port, or at a free one."""
+    s = socket.socket(socket.AF_INET, socket.SOCK_DGRAM)
+    s.bind((host, port))
+    return s
+
+
 class Customer:
     def __init__(self, text):
         words = text.split("/")
@@ -44,8 +51,7 @@ class Customer:
         return struct.pack(">I", self.number) + hashlib.new(self.algorithm, self.key + octets).digest()[:LONGEST_DIGEST]
 
     def socket(self, port):
-        s = socket.socket(socket.AF_INET, socket.SOCK_DGRAM)
-        s.bind((self.address, 0))
+        s = bound(host=self.address)
         s.connect((HOST, port))
         return s
 
@@ -279,8 +285,7 @@ def flood(port, count, text):
 
 def relay(port, log):
     """Each client's datagrams go on from that client's address, so that the server sees whose they are."""
-    near = socket.socket(socket.AF_INET, socket.SOCK_DGRAM)
-    near.bind((HOST, 0))
+    near = bound()
     print(near.getsockname()[1], flush=True)
     far, clients = {}, {}
     with open(log, "w") as notes:
@@ -324,8 +329,7 @@ def dig(port, *words):
 
 
 def free_port():
-    with socket.socket(socket.AF_INET, socket.SOCK_DGRAM) as s:
-        s.bind((HOST, 0))
+    with bound() as s:
         return s.getsockname()[1]
 
 

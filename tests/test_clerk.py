@@ -9,21 +9,22 @@ customers at once.
 - That no key is shown, in any run.
 """
 import os
-import random
 import re
 import time
 
 import pytest
+from hypothesis import given, settings
 
 import judging
 import probe
-from judging import SLOW, Odd, enrolments, file_of, limited_to, same, until
-from labntpctl_runs import CLERK, CUSTOMERS, FILE_LIMIT, KEY, RECORD, append_text, as_told, configured, customers_by, customers_now, enrolled, history_drawn, killed_at
+from drawn import histories
+from judging import SLOW, enrolments, file_of, limited_to, same, until
+from labntpctl_runs import CLERK, CUSTOMERS, FILE_LIMIT, KEY, RECORD, append_text, as_told, configured, customers_by, customers_now, enrolled, killed_at
 from labntpctl_runs import lines_in, names_by, patient, read, room, run, served, told, wanted_text, without
 from odd_host import RENAMES, in_front
 
-# How many histories are folded, and from which seed they are drawn.
-HISTORIES, SEED = 300, 20261127
+# How many histories are folded.
+HISTORIES = 300
 KEPT = re.compile(r"commands\.\d{8}T\d{6}Z")
 RESTART = "labntpd reads the new file at its next start, and carries out no further line before: restart labntpd"
 LINES = [f"enrol 192.0.2.9 2 sha1 {KEY} 7", "revoke 192.0.2.1", f"rollover 192.0.2.2 9 sha1 {KEY[::-1]}", "# name 192.0.2.2 A", "# name 192.0.2.2 B", "budget 192.0.2.2 11", "nonsense", "# a comment", f"enrol 192.0.2.10 1 md5 {'00' * 32} 5", "revoke 192.0.2.9",
@@ -157,25 +158,28 @@ def test_fold_tells_a_directory_that_is_not_stored():
 
 def test_fold_at_random_is_the_models():
     """The customers before are the customers after, and no line more than they want."""
-    draw, kinds = random.Random(SEED), {"revoked": 0, "two keys": 0, "nobody": 0, "nothing to fold": 0}
-    for turn in range(HISTORIES):
-        config = configured()
-        text = file_of("commands", history_drawn(draw, draw.choice((0, 1, 5, 20, 60, 200)))) and read("commands")
-        before, names = customers_now(), names_by(text)
-        same(f"history {turn}: told", as_told(before), told(*config))
+    kinds = {"revoked": 0, "two keys": 0, "nobody": 0, "nothing to fold": 0}
+
+    @settings(max_examples=HISTORIES)
+    @given(histories(200))
+    def is_folded(history):
+        config = configured(customers=[], commands=history)
+        before, names = customers_now(), names_by(history)
+        same("told", as_told(before), told(*config))
         status, out, _ = run(["fold", *config])
-        same(f"history {turn}: fold", (0, before), (status, customers_now()))
-        same(f"history {turn}: the program", as_told(before), told(*config))
-        same(f"history {turn}: names", {it: names[it] for it in names if before.get(it)}, {it: name for it, name in names_by(read("commands")).items() if before.get(it)})
+        same("fold", (0, before), (status, customers_now()))
+        same("the program", as_told(before), told(*config))
+        same("names", {it: names[it] for it in names if before.get(it)}, {it: name for it, name in names_by(read("commands")).items() if before.get(it)})
         fewest = sum(len(it[0]) if it else 2 for it in before.values())
         lines = [it for it in lines_in("commands") if it and it[0] != "#"]
-        same(f"history {turn}: lines", len(lines) if "nothing" in out else fewest, len(lines))
+        same("lines", len(lines) if "nothing" in out else fewest, len(lines))
         kinds["revoked"] += any(not it for it in before.values())
         kinds["two keys"] += any(it and len(it[0]) == 2 for it in before.values())
         kinds["nobody"] += not before
         kinds["nothing to fold"] += "nothing" in out
-    if min(kinds.values()) < 5:
-        raise Odd(f"few kinds of histories: {kinds}")
+
+    is_folded()
+    assert min(kinds.values()) >= 5, f"few kinds of histories: {kinds}"
 
 
 # ---- Kills
@@ -215,16 +219,18 @@ def killed(words, commands, good):
         same(f"killed at call {most}: the next run", (True, whole), (run(words)[0] in (0, good), now()))
         same(f"killed at call {most}: what is left", [], [it for it in files() if it.endswith(".new")])
     same("it is killed before and behind its work", [commands, whole], [*stood])
-    if not stood[whole] < most or stood[commands] != 1:
-        raise Odd(f"it is never killed behind its work: {stood.values()} of {most}")
+    assert stood[whole] < most and stood[commands] == 1, f"it is never killed behind its work: {stood.values()} of {most}"
 
 
 def test_fold_and_apply_survive_kills_at_each_call():
-    draw, config = random.Random(SEED + 1), configured(probe.free_port(), customers=[])
-    commands = "".join(it for it in history_drawn(draw, 100).splitlines(True) if not it.startswith("revoke"))
+    many = [(f"192.0.2.{it}", it, "md5", f"{it:02x}" * 16, it) for it in range(20, 60)]
+    config = configured(probe.free_port(), customers=[])
+    # The key that a fold gives whoever is revoked is another one each time.
+    commands = enrolments([*CUSTOMERS, *many]) + text_of(it for it in LINES if not it.startswith("revoke"))
     killed(["fold", *config], commands, 0)
-    other = history_drawn(draw, 100)
-    killed(["apply", file_of("wanted.toml", wanted_text(enrolled(customers_by(other)), names_by(other))), "--yes", "--end-many", "--wait", "0", *config], commands, 3)
+    others = customers_by(enrolments([*CUSTOMERS[1:], *many[10:30], *((*it[:4], 100) for it in many[30:])]))
+    path = file_of("wanted.toml", wanted_text(others, {"192.0.2.2": "A", "192.0.2.33": "B"}))
+    killed(["apply", path, "--yes", "--end-many", "--wait", "0", *config], commands, 3)
 
 
 # ---- A day

@@ -284,7 +284,7 @@ def namespaces(room):
     IS_APART = True
     with contextlib.ExitStack() as stack:
         try:
-            own_network.needs("unshare", "ip", "setpriv")
+            judging.needs("unshare", "ip", "setpriv", root=True)
             stack.enter_context(own_network.apart("net"))
         except PassedOver:
             IS_APART = False
@@ -449,8 +449,7 @@ def test_server_answers_as_the_page_has_it(name):
     seen, rows = column(name), {kind.name for kind in ASKED}
     odd = [f"{it}: the page has {wanted.get(it, 'nothing')}, it answers {seen[it]}" for it in seen if seen[it] != wanted.get(it)]
     odd += [f"the page has the kind {it}" for it in wanted if wanted[it] and it not in rows]
-    if odd:
-        raise Odd("; ".join(odd))
+    assert not odd, "; ".join(odd)
 
 
 @pytest.mark.table

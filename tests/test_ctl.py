@@ -25,7 +25,6 @@ import hashlib
 import json
 import os
 import pathlib
-import random
 import re
 import select
 import shutil
@@ -39,20 +38,21 @@ import time
 import tomllib
 
 import pytest
+from hypothesis import given, settings, strategies as st
 
 import judging
-import labntpctl_runs
 import labntpd_server
 import model
 import own_network
 import peers
 import probe
-from judging import SLOW, TOP, Odd, PassedOver, enrolments, file_of, limited_to, outputs_that_take_nothing, register_of, same, until
-from labntpctl_runs import CLERK, CUSTOMERS, ENROL, FILE_LIMIT, KEY, RECORD, all_done, append_text, appended, as_told, begun, configured, customers_by, customers_now, enrolled, fresh, history_drawn, killed_at
+from drawn import any_of, histories, many
+from judging import SLOW, TOP, PassedOver, enrolments, file_of, limited_to, outputs_that_take_nothing, register_of, same, until
+from labntpctl_runs import CLERK, CUSTOMERS, ENROL, FILE_LIMIT, KEY, RECORD, all_done, append_text, appended, as_told, begun, configured, customers_by, customers_now, enrolled, fresh, killed_at
 from labntpctl_runs import lines_in, names_by, next_line, patient, read, room, run, served, serving, shows_no_key, told, wanted_text, without
 
-# How many changes of a long sequence are drawn, how many short sequences and histories, how many with --long, and from which seed.
-CHANGES, SEQUENCES, HISTORIES, LONG_SEQUENCES, LONG_HISTORIES, SEED = 200, 20, 30, 1_000, 10_000, 20261126
+# How many sequences of changes and how many histories are drawn, and how many with --long.
+SEQUENCES, HISTORIES, LONG_SEQUENCES, LONG_HISTORIES = 20, 90, 1_000, 10_000
 # What reads a customer's key.
 (QUERY,) = judging.built("labntp_query")
 # Two customers more, and the line of the command that is appended first behind those of the customers and its record.
@@ -507,8 +507,6 @@ def test_changes_with_no_daemon():
     config = configured(probe.free_port())
     same("enrol", (3, f"line {FIRST}: enrol 192.0.2.9 2 sha1 KEY 10\nfor the customer: 192.0.2.9-2.keys\n",
                    f"line {FIRST}: no answer; where labntpd does not run, it carries the line out at its next start\n"), run(["enrol", "192.0.2.9", "--wait", "0.1", *config]))
-    if not os.access(labntpctl_runs.LABNTPD, os.X_OK):
-        raise PassedOver("labntpd is not built")
     with served(config):
         until("it answers", lambda: lines_in("answers")[-1:] == [f"{FIRST} done"] and os.path.exists(room("customers")))
     # The answers of a daemon that has ended are not taken for those of other lines.
@@ -788,8 +786,7 @@ def apply(config, file, is_answered=False):
 def test_apply_takes_a_file_of_many():
     """Two hundred customers; again; two are changed and one removed; numbers and keys go round; who keeps a key keeps saved exchanges."""
     with serving() as (port, config):
-        draw = random.Random(SEED)
-        key = lambda number: (number, (draw.choice(("md5", "sha1")), draw.randbytes(20)))
+        key = lambda number: (number, (("md5", "sha1")[number % 3 % 2], hashlib.sha1(bytes([number % 251])).digest()))
         customers = {f"10.2.{it // 100}.{it % 100}": ([key(2 * it)] + ([key(2 * it + 1)] if it % 5 == 0 else []), it) for it in range(100, 300)}
         names = {address: f'{address} "Ä"' for address in [*customers][::3]}
         customers["127.0.0.1"] = customers_now()["127.0.0.1"]
@@ -900,26 +897,31 @@ def test_export_writes_what_is_wanted():
 
 def test_export_of_histories_at_random_is_had_back():
     """What is exported of a history, and applied to no customers, or to those of another history, gives the same customers and names."""
-    draw, kinds = random.Random(SEED + 2), {"nobody": 0, "two keys": 0, "names": 0, "kept": 0}
-    for turn in range(LONG_HISTORIES if judging.IS_LONG else HISTORIES):
-        config, text = configured(answers=None), history_drawn(draw, draw.choice((0, 5, 20, 60, 200)))
+    kinds = {"nobody": 0, "two keys": 0, "names": 0, "kept": 0}
+
+    @settings(max_examples=LONG_HISTORIES if judging.IS_LONG else HISTORIES)
+    @given(histories(200), histories(60), histories(10))
+    def is_had_back(text, other, more):
+        config = configured(answers=None)
         file_of("commands", text)
         customers, names = customers_now(), names_by(text)
         after, names = enrolled(customers), {it: names[it] for it in names if customers.get(it)}
-        same(f"history {turn}: told", as_told(customers), told(*config))
-        same(f"history {turn}: export", (0, f"{len(after)} customers\n", ""), run(["export", room("new.toml"), *config]))
+        same("told", as_told(customers), told(*config))
+        same("export", (0, f"{len(after)} customers\n", ""), run(["export", room("new.toml"), *config]))
         file = read("new.toml")
-        same(f"history {turn}: what it says", (sorted(after, key=lambda it: after[it][0][0][0]), after, names), ([*said_by(file)[0]], *said_by(file)))
-        for before in ("", history_drawn(draw, draw.choice((5, 20, 60))), text + history_drawn(draw, 3)):
+        by_number = sorted(after, key=lambda it: after[it][0][0][0])
+        same("what it says", (by_number, after, names), ([*said_by(file)[0]], *said_by(file)))
+        for before in ("", other, text + more):
             file_of("commands", before)
             kinds["kept"] += any(it in enrolled(customers_now()) for it in after)
             apply(config, file)
-            same(f"history {turn}: applied again", [], apply(config, file))
+            same("applied again", [], apply(config, file))
         kinds["nobody"] += not after
         kinds["two keys"] += any(len(it[0]) == 2 for it in after.values())
         kinds["names"] += bool(names)
-    if min(kinds.values()) < 3:
-        raise Odd(f"few kinds of histories: {kinds}")
+
+    is_had_back()
+    assert min(kinds.values()) >= 3, f"few kinds of histories: {kinds}"
 
 
 def test_changes_make_keys_that_few_may_read():
@@ -1019,8 +1021,7 @@ BOUND = "import os, socket, sys; it = socket.socket(socket.AF_INET, socket.SOCK_
 
 def test_changes_at_0_0_0_0_on_a_host_with_several_addresses():
     """Where no address says where customers ask, and the host has several, a new customer's file and `check` come with a warning."""
-    if os.geteuid() or not all(map(shutil.which, ("ip", "unshare"))):
-        raise PassedOver("it needs root, ip and unshare")
+    judging.needs("ip", "unshare", root=True)
     both, named, served_as = ["192.0.2.7", "198.51.100.9"], 'listen = "192.0.2.7:123" names one', 'served_as = "192.0.2.7"\n'
     handed = "ListenDatagram=192.0.2.7:123 names one"
     # Of a socket that is handed down it counts where one is bound.
@@ -1172,55 +1173,54 @@ def next_number():
     return next(it for it in range(1, 65536) if str(it) not in given)
 
 
-def drawn_change(draw, judge):
-    """A change at random: its words, and its line as the model expects it, with KEY in the place of a key."""
-    address = f"192.0.2.{draw.randrange(1, 13)}"
-    verb = draw.choice(("enrol", "enrol", "revoke", "budget", "rollover", "rollover", "retire", "retire"))
+# A change: its verb, the address by number, a budget, an algorithm, and the number that `retire` names, if it names one.
+VERBS = any_of(("revoke", "budget", "retire", "retire", "rollover", "rollover", "enrol", "enrol"))
+CHANGES = st.tuples(VERBS, st.integers(1, 12), st.integers(1, 65535), any_of(("md5", "sha1")), st.none() | st.integers(1, 15))
+
+
+def change_of(judge, verb, address, budget, algorithm, number):
+    """The words of a change, and its line as the model expects it, with KEY in the place of a key."""
+    address = f"192.0.2.{address}"
     enrolment = judge.enrolments.get(address)
     older = next(iter(enrolment.keys)) if enrolment else 1
-    budget, number = draw.randrange(1, 65536), draw.randrange(1, 16)
-    algorithm = draw.choice(("md5", "sha1"))
     words, line = {
         "enrol": (["--budget", str(budget), "--algorithm", algorithm], f"enrol {address} {next_number()} {algorithm} KEY {budget}"),
         "revoke": ([], f"revoke {address}"),
         "budget": ([str(budget)], f"budget {address} {budget}"),
         "rollover": (["--algorithm", algorithm], f"rollover {address} {next_number()} {algorithm} KEY"),
-        "retire": (["--yes"], f"retire {address} {older}"),
+        "retire": ([*(["--number", str(number)] if number else []), "--yes"], f"retire {address} {number or older}"),
     }[verb]
-    if verb == "retire" and draw.random() < 0.5:
-        words, line = ["--number", str(number), "--yes"], f"retire {address} {number}"
     if verb in ("enrol", "rollover"):
-        words += ["--output", room(f"{draw.randrange(10**12)}.keys")]
+        words += ["--output", room(f"{next_line()}.keys")]
     return [verb, address, *words], line
 
 
-def sequence(draw, changes, done):
-    """Changes at random beside a daemon: each answer is the model's, and each line too."""
-    judge = model.Model()
-    for line in enrolments(CUSTOMERS).splitlines():
-        same("a customer at first", "done", judge.line(line))
-    with serving() as (_, config):
-        for _ in range(changes):
-            words, line = drawn_change(draw, judge)
-            before = read("commands")
-            answer = judge.line(line.replace("KEY", KEY))
-            status, out, err = run([*words, *config])
-            lines = [re.sub(r"\b[0-9a-f]{40}\b", "KEY", it) for it in appended(before)]
-            # Behind a refusal's word stands what it means.
-            same(line, (0, "", [line], ": done\n") if answer == "done" else (1, answer, [], ""), (status, err.partition(":")[0], lines, out[-7:]))
-            done[answer] = done.get(answer, 0) + 1
-        same("who is enrolled at the end", as_told(customers_now()), told(room("commands")))
-        same("the daemon refused nothing", {"done"}, {it.split(" ", 1)[1] for it in lines_in("answers")} or {"done"})
-
-
 def test_many_at_random_are_the_models():
-    """A long sequence, and many short ones."""
-    draw, done = random.Random(SEED), {}
-    sequence(draw, CHANGES, done)
-    for _ in range(LONG_SEQUENCES if judging.IS_LONG else SEQUENCES):
-        sequence(draw, draw.randrange(1, 12), done)
-    if len(done) < 6:
-        raise Odd(f"few kinds of answers: {done}")
+    """Changes at random beside a daemon: each answer is the model's, and each line too."""
+    done = {}
+
+    @settings(max_examples=LONG_SEQUENCES if judging.IS_LONG else SEQUENCES)
+    @given(many(CHANGES, 60))
+    def are_the_models(changes):
+        judge = model.Model()
+        for line in enrolments(CUSTOMERS).splitlines():
+            same("a customer at first", "done", judge.line(line))
+        with serving() as (_, config):
+            for change in changes:
+                words, line = change_of(judge, *change)
+                before = read("commands")
+                answer = judge.line(line.replace("KEY", KEY))
+                status, out, err = run([*words, *config])
+                lines = [re.sub(r"\b[0-9a-f]{40}\b", "KEY", it) for it in appended(before)]
+                # Behind a refusal's word stands what it means.
+                wanted = (0, "", [line], ": done\n") if answer == "done" else (1, answer, [], "")
+                same(line, wanted, (status, err.partition(":")[0], lines, out[-7:]))
+                done[answer] = done.get(answer, 0) + 1
+            same("who is enrolled at the end", as_told(customers_now()), told(room("commands")))
+            same("the daemon refused nothing", {"done"}, {it.split(" ", 1)[1] for it in lines_in("answers")} or {"done"})
+
+    are_the_models()
+    assert len(done) >= 6, f"few kinds of answers: {done}"
 
 
 def test_many_kills_at_each_call():
@@ -1234,8 +1234,7 @@ def test_many_kills_at_each_call():
         lines = [ENROL.fullmatch(it) for it in appended(enrolments(CUSTOMERS))]
         until("each is answered", lambda: len(lines_in("answers")) == len(all_done()))
         same("done", all_done(), lines_in("answers"))
-        if not 3 < len(lines) < turn - 3:
-            raise Odd(f"{len(lines)} of {turn} lines were written")
+        assert 3 < len(lines) < turn - 3, f"{len(lines)} of {turn} lines were written"
         # A line that was written has its customer's file, whole: that one is stored first.
         for address, number, algorithm, key in (it.group(1, 2, 3, 4) for it in lines):
             same("what the customer gets", f"{number} {algorithm.upper()} HEX:{key}", read(f"{address}.keys").splitlines()[0])
@@ -1273,8 +1272,6 @@ def test_given_key_is_good_at_labntpd_and_labntp_query_reads_it():
         for algorithm, (number, word, key) in new_keys(config):
             same("its algorithm", algorithm.upper(), word)
             same(f"a query under {algorithm}", "time", probe.ask(port, "plain", f"127.0.0.1/{number}/{algorithm}/{key.removeprefix('HEX:')}"))
-            if not os.access(QUERY, os.X_OK):
-                raise PassedOver("labntp-query is not built")
             status, out, _ = asked_of([QUERY, "--key-file", room(f"{algorithm}.keys"), "--number", number, f"127.0.0.1:{port}"])
             same(f"labntp-query under {algorithm}", (0, "basic"), (status, out.partition(":")[0]))
 
@@ -1397,8 +1394,7 @@ class Planted:
 def faults_told(out):
     """The faults that were told: path, line and what is said."""
     faults = [re.fullmatch(r"(\S+?): line (\d+): (.*)", it) for it in out.splitlines() if not it.startswith("warning: ")]
-    if None in faults:
-        raise Odd(f"no fault of a line: {out}")
+    assert None not in faults, f"no fault of a line: {out}"
     return [(it[1], int(it[2]), it[3]) for it in faults]
 
 
@@ -1409,8 +1405,7 @@ def same_faults(planted, out):
     same(f"lines of {planted.name}", [it[0] for it in wanted], [it[0] for it in told])
     for (line, words), (_, what) in zip(wanted, told):
         for word in words:
-            if word not in what:
-                raise Odd(f"{planted.name}: line {line}: {word!r} is not told in {what!r}")
+            assert word in what, f"{planted.name}: line {line}: {word!r} is not told in {what!r}"
     return len(wanted)
 
 
@@ -1522,8 +1517,7 @@ def test_check_tells_every_fault_with_its_line():
     same("no key is shown", False, SECRET[:12] in out)
     told = [same_faults(it, out) for it in files]
     same("files in their order", sorted(range(3), key=lambda it: out.index(room(files[it].name))), [0, 1, 2])
-    if sum(told) < 90:
-        raise Odd(f"only {told} faults are planted")
+    assert sum(told) >= 90, f"only {told} faults are planted"
     # The same files by themselves.
     status, alone, _ = run(["check", room("commands"), "--wanted", room("wanted.toml")])
     same("by themselves", (1, faults_told(out)[told[0] :]), (status, faults_told(alone)))
@@ -1545,8 +1539,7 @@ def test_check_explains_each_word():
     out = run(["check", room("commands")], 1)[1]
     # Want of memory ends the program.
     for word in {*words} - {"no-memory"}:
-        if not re.search(rf": (faulty|refused) {word}: \w.{{10,}}", out):
-            raise Odd(f"{word} is not told with its meaning")
+        assert re.search(rf": (faulty|refused) {word}: \w.{{10,}}", out), f"{word} is not told with its meaning"
     same("no word is missing here", 17, len({*words}))
 
 
@@ -1630,8 +1623,7 @@ def test_check_of_large_files():
     file_of("commands", "")
     same("customers", 40_000 * 5, len(faults_told(run(["check", room("commands"), "--wanted", room("wanted.toml")], 1)[1])))
     seconds = time.monotonic() - begun_at
-    if seconds > 60:
-        raise Odd(f"{seconds:.0f} seconds")
+    assert seconds <= 60, f"{seconds:.0f} seconds"
 
 
 def query_of(number=None, key="", digest="sha1", first=0x23, fields=b"", tail=None):
@@ -1669,8 +1661,7 @@ def explained_files(port=20123):
 
 
 def told_of(datagram, wanted, line):
-    if wanted not in line:
-        raise Odd(f"{datagram.hex()}: {wanted!r} is not told in {line!r}")
+    assert wanted in line, f"{datagram.hex()}: {wanted!r} is not told in {line!r}"
 
 
 def test_explain_tells_each_outcome_and_why():

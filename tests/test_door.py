@@ -82,7 +82,7 @@ LABNTPD, LABNTP, LABNTPCTL = judging.built("labntpd", "labntp", "labntpctl")
 @pytest.fixture(scope="module", autouse=True)
 def namespaces(room):
     """A network apart, the processors of the customer, and what floods."""
-    own_network.needs("ip", "taskset", "gcc")
+    judging.needs("ip", "taskset", "gcc", root=True)
     with own_network.apart("net"), own_network.preferred(ASKED_FROM):
         own_network.compiled(own_network.FLOOD, "flood")
         yield
@@ -100,8 +100,6 @@ def labntpd(**keys):
 @contextlib.contextmanager
 def labntp():
     judging.PROGRAM = LABNTP
-    if not os.access(LABNTP, os.X_OK):
-        raise PassedOver(f"there is no program {LABNTP}")
     with labntp_server.Server(turns=TURNS, register=judging.register_of([ASKER, NEIGHBOUR])) as it:
         yield it.process, it.port
         if it.process.poll() is not None:
@@ -165,8 +163,7 @@ def asks(port, rate):
             while True:
                 reply = s.recv(2048)
                 before = sent.pop(probe.stamps(reply)[0], None)
-                if before is None or reply[48:] != customer.mac(reply[:48]):
-                    raise Odd(f"a reply to no query: {reply.hex()}")
+                assert before is not None and reply[48:] == customer.mac(reply[:48]), f"a reply to no query: {reply.hex()}"
                 late.append((probe.nanos(probe.stamps(reply)[1]) - before) / 1e6)
 
     with customer.socket(port) as s:
@@ -242,14 +239,12 @@ def stopped_at_the_door(kind, rate, share):
     late, unjudged = [], []
     for _ in range(MOST_ROUNDS):
         seen = measure(labntpd, kind, rate, share, door)
-        if seen.came > COMES_THROUGH * rate:
-            raise Odd(f"{kind}, {rate} a second: too much comes through: {seen}")
+        assert seen.came <= COMES_THROUGH * rate, f"{kind}, {rate} a second: too much comes through: {seen}"
         if is_in_time(seen):
             return
         without = measure(labntpd, kind, 0, share, door)
         (late if is_in_time(without) else unjudged).append(seen)
-        if len(late) == ROUNDS:
-            raise Odd(f"{kind}, {rate} a second, where answers are in time without it: {late}")
+        assert len(late) != ROUNDS, f"{kind}, {rate} a second, where answers are in time without it: {late}"
     raise PassedOver(f"the host is too busy for 1/{share} of a processor: without a flood too answers are late; with one {unjudged}")
 
 

@@ -34,7 +34,7 @@ import own_network
 import own_systemd
 import probe
 import records
-from judging import LARGE, TOP, Odd, PassedOver, same
+from judging import LARGE, TOP, PassedOver, same
 from own_systemd import edit, run as sh
 
 # The modes of files, and the programs.
@@ -147,8 +147,7 @@ def command(*words, wanted=0, env_of=(), **how):
     how = {"stdin": subprocess.DEVNULL, "stdout": subprocess.PIPE, "stderr": subprocess.STDOUT, "text": True, "errors": "replace", "timeout": LIMIT, **how}
     environment = {**os.environ, "PATH": f"{os.environ.get('PATH', '')}:{own_systemd.PATH}", "LC_ALL": "C.UTF-8", **dict(env_of)}
     ran = subprocess.run(words, env=environment, **how)
-    if wanted not in (None, ran.returncode):
-        raise Odd(f"{' '.join(words)} ended with {ran.returncode}: {(ran.stdout or '').strip()[-300:]}")
+    assert wanted in (None, ran.returncode), f"{' '.join(words)} ended with {ran.returncode}: {(ran.stdout or '').strip()[-300:]}"
     return ran.stdout
 
 
@@ -418,8 +417,7 @@ def copied(room):
 
 def test_build_has_the_same_program_in_each_folder():
     """What the toolchain makes of one source does not depend on the folder."""
-    if not is_there("rt"):
-        raise PassedOver("there is no program rt")
+    judging.needs("rt")
     seen = set()
     for name in ("one", "another"):
         crate = f"{judging.ROOM}/{name}/crates/small"
@@ -481,8 +479,7 @@ def test_configuration_is_good_once_there_is_the_clocks_key():
 
 def test_units_are_read_by_systemd():
     """systemd reads them without a word; the pages that they name are there; what it reckons of how exposed they are."""
-    if not is_there("systemd-analyze"):
-        raise PassedOver("there is no program systemd-analyze")
+    judging.needs("systemd-analyze")
     folder, names = tree(), [SERVICE, SOCKET, *INSTANCE, CHECK, CHECK_TIMER, *DOOR]
     with tempfile.TemporaryDirectory(dir=judging.ROOM) as copies:
         for unit, name in zip(UNITS, names):
@@ -511,8 +508,7 @@ def test_apparmor_reads_the_profile():
 
 def test_manual_is_read_by_groff():
     """groff reads the pages without a word."""
-    if not is_there("groff"):
-        raise PassedOver("there is no program groff")
+    judging.needs("groff")
     for page in ("labntp.1", "labntp-query.1", "labntpctl.8", "labntpd.8"):
         said = command("groff", "-man", "-mdoc", "-Tutf8", "-ww", "-z", f"{TOP}/packaging/man/{page}", wanted=None)
         if "can't find" in said or "cannot open" in said or "can't open" in said:
@@ -521,8 +517,7 @@ def test_manual_is_read_by_groff():
 
 
 def test_lintian_has_no_error_and_no_warning():
-    if not is_there("lintian"):
-        raise PassedOver("there is no program lintian")
+    judging.needs("lintian")
     said = command("lintian", "--allow-root", package(), wanted=None)
     same("errors and warnings", [], [it for it in said.splitlines() if it.startswith(("E:", "W:"))])
 
@@ -531,10 +526,7 @@ def test_lintian_has_no_error_and_no_warning():
 
 def test_root_where_it_is_installed_again_removed_and_purged():
     """What dpkg installs there, keeps and deletes, also where the host's dpkg leaves pages out."""
-    if os.geteuid():
-        raise PassedOver("it needs root")
-    if not is_there("systemd-sysusers"):
-        raise PassedOver("there is no program systemd-sysusers")
+    judging.needs("systemd-sysusers", root=True)
     deb, root = package(), f"{judging.ROOM}/root"
     for it in ("var/lib/dpkg/info", "var/lib/dpkg/updates", "var/lib/dpkg/triggers", "var/log", "etc/systemd/system/multi-user.target.wants"):
         os.makedirs(f"{root}/{it}")
@@ -644,8 +636,7 @@ def test_service_answers_by_the_steps_of_the_page(systemd):
     global CUSTOMER
     page = read(f"{own_systemd.GIVEN}/docs/OPERATIONS.md").decode()
     override = re.search(r"```ini\n(\[Socket\]\nListenDatagram=\nListenDatagram=(\S+):123\n)```", page)
-    if not override:
-        raise Odd("the page has no drop-in with an address and port 123")
+    assert override, "the page has no drop-in with an address and port 123"
     commands = own_systemd.commands_of("docs/OPERATIONS.md", "Install")[0]
     same("how many commands", 3, len(commands.strip().split("\n")))
     sh(f"ip address add {override[2]}/32 dev lo; ip address add {TEN}/32 dev lo")
@@ -660,8 +651,7 @@ def test_service_answers_by_the_steps_of_the_page(systemd):
     number, algorithm, key = re.match(r"(\d+) (\S+) HEX:(\S+)\n", read(f"/tmp/{TEN}-1.keys").decode()).groups()
     CUSTOMER, probe.HOST = f"{TEN}/{number}/{algorithm.lower()}/{key.lower()}", TEN
     serves()
-    if (took := time.monotonic() - start) > SOON:
-        raise Odd(f"the first customer had the time after {took:.1f} s")
+    assert (took := time.monotonic() - start) <= SOON, f"the first customer had the time after {took:.1f} s"
     os.makedirs(f"{own_systemd.UNITS}/{SOCKET}.d")
     pathlib.Path(f"{own_systemd.UNITS}/{SOCKET}.d/override.conf").write_text(override[1])
     probe.HOST = override[2]
@@ -704,8 +694,7 @@ def test_service_opens_what_the_apparmor_profile_lets_it(systemd):
 def test_service_is_checked_each_minute_by_the_steps_of_the_page(systemd):
     """By the page's steps a check comes by itself, and passes. Without an answer, and under a wrong key, it fails, which systemd and the
     journal tell; and it passes again. A warning is no failure. It reads this key, and no other file with keys."""
-    if not is_there("openssl"):
-        raise PassedOver("there is no program openssl")
+    judging.needs("openssl")
     if sh("systemctl is-active systemd-journald.service", None) != "active":
         raise PassedOver("journald does not run")
     serves()
@@ -769,8 +758,7 @@ def test_service_is_started_anew_by_an_upgrade(systemd):
 def test_service_goes_on_as_apt_goes_back_a_release_and_upgrades(systemd):
     """apt goes back to a release before, and upgrades from it: configuration, the clock's key and the commands stay as they are, and the
     customer is served each time."""
-    if not is_there("apt-get"):
-        raise PassedOver("there is no program apt-get")
+    judging.needs("apt-get")
     serves()
     kept, versions = {path: read(path) for path in KEPT}, []
     os.makedirs("/repository")

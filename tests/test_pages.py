@@ -20,7 +20,7 @@ import pytest
 
 import judging
 import probe
-from judging import SLOW, TOP, Odd, PassedOver, same, until
+from judging import SLOW, TOP, PassedOver, needs, same, until
 
 loader = importlib.machinery.SourceFileLoader("pages_script", f"{TOP}/tests/pages")
 loader.exec_module(checks := importlib.util.module_from_spec(importlib.util.spec_from_loader(loader.name, loader)))
@@ -34,17 +34,10 @@ HERE = "127.0.0.1/9/sha1/6c61626e74702d6578616d706c652d6b65792d39"
 ROLLED = "127.0.0.1/11/sha1/1f8b6b1c0e3f5a7d9c2b4e6f8a0d1c3e5b7f9a2d"
 
 
-def needs(*names):
-    for it in names:
-        if not shutil.which(it):
-            raise PassedOver(f"there is no program {it}")
-
-
 def says(page, *texts):
     """The page says this, wherever its lines end."""
     for words in texts:
-        if words not in " ".join(pages()[page].split()):
-            raise Odd(f"{page} does not say: {words}")
+        assert words in " ".join(pages()[page].split()), f"{page} does not say: {words}"
 
 
 class Place:
@@ -67,8 +60,7 @@ class Place:
         """What commands print, of which each has to end well."""
         command = self.here(" && ".join(commands), words)
         ran = subprocess.run(["sh", "-ec", command], timeout=COMMAND_LIMIT, stdout=subprocess.PIPE, text=True, **self.how)
-        if ran.returncode:
-            raise Odd(f"{command!r} ended with {ran.returncode}: {ran.stdout.strip()[-300:]}")
+        assert not ran.returncode, f"{command!r} ended with {ran.returncode}: {ran.stdout.strip()[-300:]}"
         return ran.stdout.strip()
 
     @contextlib.contextmanager
@@ -79,8 +71,7 @@ class Place:
         judging.started.append(process)
         serves = lambda: f"serving 127.0.0.1:{self.port}\n" in self.read("said")
         until("it serves", lambda: serves() or process.poll() is not None, SOON)
-        if not serves():
-            raise Odd(f"{command} ended with {process.returncode}: {self.read('said')[-300:]}")
+        assert serves(), f"{command} ended with {process.returncode}: {self.read('said')[-300:]}"
         yield
         process.send_signal(signal.SIGINT)
         process.wait(SOON)

@@ -33,7 +33,7 @@ import judging
 import labntpd_server
 import peers
 import probe
-from judging import FIVE, REFERENCE, SECOND, SLOW, TOP, WAIT, Odd, PassedOver
+from judging import FIVE, REFERENCE, SECOND, SLOW, TOP, WAIT, PassedOver
 from judging import bound_by_modes, end, file_of, outputs_that_take_nothing, register_of, run, same, start, until
 from labntp_server import CUSTOMERS, ONE, TWO, Server, serving
 from labntpd_server import halted, read, room, window
@@ -56,8 +56,7 @@ def exchange(s, customer, wanted, origin=0, receive=0):
 def in_order(what, *moments):
     """Each moment is at or before the next, to a microsecond."""
     for earlier, later in zip(moments, moments[1:]):
-        if earlier > later + 1000:
-            raise Odd(f"{what}: {earlier / SECOND:.6f} stands before {later / SECOND:.6f}")
+        assert earlier <= later + 1000, f"{what}: {earlier / SECOND:.6f} stands before {later / SECOND:.6f}"
 
 
 def test_stamps_are_the_hosts_clock_to_a_microsecond():
@@ -72,8 +71,7 @@ def test_stamps_are_the_hosts_clock_to_a_microsecond():
                     in_order("query, receipt, transmit, reply", before, nanos(receive), nanos(transmit), after)
                     between.append(nanos(transmit) - nanos(receive))
                     time.sleep(rng.uniform(0, 0.005))
-            if max(between) < 100:
-                raise Odd(f"at most {max(between)} nanoseconds from the receipt to the transmit stamp")
+            assert max(between) >= 100, f"at most {max(between)} nanoseconds from the receipt to the transmit stamp"
 
 
 def test_interleaved_replies_tell_when_the_earlier_one_left():
@@ -92,8 +90,7 @@ def test_interleaved_replies_tell_when_the_earlier_one_left():
                     in_order("made, departed, next receipt", nanos(made), nanos(departed), nanos(receive))
                     in_order("departed, 0.4 seconds behind its arrival", nanos(departed), came + SECOND * 4 // 10)
                     in_order("query, receipt, reply", before, nanos(receive), after)
-                    if departed == made:
-                        raise Odd("it tells when the reply was made")
+                    assert departed != made, "it tells when the reply was made"
                     made = receive
 
 
@@ -536,8 +533,7 @@ def test_commands_are_heard_while_it_waits():
     window(10)
     with Server(3) as server:
         taken = labntpd_server.share_of_a_processor(server.process, 3)
-        if taken > 0.05:
-            raise Odd(f"it takes {taken:.1%} of a processor while it waits")
+        assert taken <= 0.05, f"it takes {taken:.1%} of a processor while it waits"
         server.append("enrol 127.0.0.5 5 md5 6b6579 10")
         server.ask("time", FIVE)
         time.sleep(1.5)
@@ -813,8 +809,7 @@ def test_loopback_tells_that_no_socket_can_be_made():
         return lambda: resource.setrlimit(resource.RLIMIT_NOFILE, (number, number))
 
     few = next((it for it in range(3, 20) if run(["replay"], preexec_fn=limit(it))[0] == 0), None)
-    if few is None:
-        raise Odd("replay does not run with 20 open files")
+    assert few is not None, "replay does not run with 20 open files"
     same("loopback", (3, "", "socket\n"), run(["loopback", "--turns", "2"], preexec_fn=limit(few)))
 
 

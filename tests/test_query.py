@@ -21,7 +21,6 @@ import signal
 import socket
 import struct
 import subprocess
-import threading
 import time
 
 import judging
@@ -51,10 +50,8 @@ def run(words, wanted=None, **how):
     status, out, err = judging.run(words, **how)
     for text in (out, err):
         for key in (KEY.decode(), KEY.hex(), SHA1_KEY):
-            if key in text or key in text.lower():
-                raise Odd(f"a key stands in {text!r}")
-    if wanted is not None and status != wanted:
-        raise Odd(f"{' '.join(words)}: status {status}, and not {wanted}; {out}{err}")
+            assert key not in text and key not in text.lower(), f"a key stands in {text!r}"
+    assert wanted is None or status == wanted, f"{' '.join(words)}: status {status}, and not {wanted}; {out}{err}"
     return status, out, err
 
 
@@ -70,8 +67,7 @@ def text_of(seconds):
 
 def seconds_in(text):
     """A text of seconds with nine decimals, as a fraction."""
-    if not re.fullmatch(r"-?\d+\.\d{9}", text):
-        raise Odd(f"{text!r} is no number of seconds with nine decimals")
+    assert re.fullmatch(r"-?\d+\.\d{9}", text), f"{text!r} is no number of seconds with nine decimals"
     return fractions.Fraction(text)
 
 
@@ -96,33 +92,19 @@ class Told:
         return fractions.Fraction(self.delay, 1 << 17) + fractions.Fraction(self.dispersion, 1 << 16)
 
 
-class FakeServer:
+class FakeServer(labntpd_server.FakeServer):
     """A server that answers each request by a call, which gives the datagrams that it sends. It notes the requests."""
 
     def __init__(self, answers):
+        super().__init__()
         self.answers, self.requests, self.client = answers, [], None
-        self.socket = socket.socket(socket.AF_INET, socket.SOCK_DGRAM)
-        self.socket.bind((probe.HOST, 0))
-        self.socket.settimeout(0.05)
-        self.port, self.ended = self.socket.getsockname()[1], False
-        self.thread = threading.Thread(target=self.serve, daemon=True)
 
-    def serve(self):
-        while not self.ended:
-            with contextlib.suppress(TimeoutError, OSError):
-                request, self.client = self.socket.recvfrom(2048)
-                self.requests.append(request)
-                for datagram in self.answers(request, len(self.requests)):
-                    self.socket.sendto(datagram, self.client)
-
-    def __enter__(self):
-        self.thread.start()
-        return self
-
-    def __exit__(self, *_):
-        self.ended = True
-        self.thread.join()
-        self.socket.close()
+    def hear(self, request, client):
+        self.requests.append(request)
+        self.client = client
+        with contextlib.suppress(OSError):
+            for datagram in self.answers(request, len(self.requests)):
+                self.socket.sendto(datagram, client)
 
     def words(self, *more):
         return [*keyed(), *more, f"{probe.HOST}:{self.port}"]
@@ -156,8 +138,7 @@ LINE = re.compile(rf"(basic|interleaved|unauthenticated): offset (\S+) s(?:{re.e
 
 def line_of(text):
     found = LINE.fullmatch(text)
-    if not found:
-        raise Odd(f"no line of a sample: {text!r}")
+    assert found, f"no line of a sample: {text!r}"
     return found.groups()
 
 
@@ -217,10 +198,8 @@ def test_samples_are_interleaved_after_the_first():
         same("results", ["basic", "interleaved", "interleaved"], [it["result"] for it in found])
     for i, it in enumerate(found):
         # The sample is that of the exchange before; the server's clock is ahead by 1000 seconds and some units.
-        if abs(it["offset"] + it["delay"] / 2 - 1000) > 1e-8 + 4 / SECOND:
-            raise Odd(f"{it}")
-        if i and not -0.001 <= it["delay"] < 1:
-            raise Odd(f"a delay of {it['delay']}")
+        assert abs(it["offset"] + it["delay"] / 2 - 1000) <= 1e-8 + 4 / SECOND, f"{it}"
+        assert not i or -0.001 <= it["delay"] < 1, f"a delay of {it['delay']}"
     firsts = [stamps(it) for it in server.requests]
     same("the first carries nothing", (0, 0), firsts[0][:2])
     for earlier, later in zip(firsts, firsts[1:]):
@@ -251,8 +230,7 @@ def test_samples_have_their_arrival_read_at_once():
     with FakeServer(basic()) as server:
         found = objects(asked(server, "--count", "20", "--interval", "0.1", "--json")[1])
     least = min(it["delay"] for it in found)
-    if not 0 <= least < 0.001:
-        raise Odd(f"the least delay of {len(found)}: {least}")
+    assert 0 <= least < 0.001, f"the least delay of {len(found)}: {least}"
 
 
 def test_samples_have_times_rounded_to_the_nearest():
@@ -647,8 +625,7 @@ def check(answers, *limits, status, begins, more=()):
 
 def figures(text, told):
     found = re.fullmatch(FIGURES, text)
-    if not found:
-        raise Odd(f"no figures: {text!r}")
+    assert found, f"no figures: {text!r}"
     same("the figures again", found.groups()[:4], found.groups()[4:])
     same("stratum, root distance", (str(told.stratum), text_of(told.root_distance())), found.groups()[2:4])
 

@@ -67,7 +67,7 @@ SETTLE = 0.1
 @pytest.fixture(scope="module", autouse=True)
 def namespaces(room):
     """Namespaces of its own, and what floods. Those of networks are named below /run, so that is its own too."""
-    own_network.needs("mount", "ip", "sysctl", "gcc")
+    judging.needs("mount", "ip", "sysctl", "gcc", root=True)
     with own_network.apart("mnt", "net"), own_network.preferred():
         sh("mount -t tmpfs tmpfs /run && mkdir /run/netns")
         Space.entered.append(os.open("/proc/thread-self/ns/net", os.O_RDONLY))
@@ -371,8 +371,7 @@ def exchange(site, address, received=0):
         packet = probe.query(customer, "plain", received, probe.now())
         s.send(packet)
         reply = probe.answer(s, judging.WAIT)
-    if reply is None:
-        raise Odd(f"{address} has no answer")
+    assert reply is not None, f"{address} has no answer"
     return probe.kind(customer, packet, reply), probe.stamps(reply)[1]
 
 

@@ -29,7 +29,7 @@ import labntpd_server
 import own_network
 import own_systemd
 import probe
-from judging import SECOND, SLOW, TOP, Odd, PassedOver, same, until
+from judging import SECOND, SLOW, TOP, PassedOver, same, until
 from own_systemd import UNITS, commands_of, edit, run as sh
 from probe import nanos
 
@@ -123,8 +123,7 @@ def serves(host=SERVER):
     """A customer that asks again and again has a signed answer soon, and the time once the clock has told it."""
     customer, begun, told, probe.HOST = probe.Customer(ASKER), time.monotonic(), "nothing", host
     while told != "time":
-        if time.monotonic() > begun + (SOON if told == "nothing" else 2 * SOON):
-            raise Odd(f"at {host}, too late: {told}")
+        assert time.monotonic() <= begun + (SOON if told == "nothing" else 2 * SOON), f"at {host}, too late: {told}"
         with customer.socket(PORT) as s, contextlib.suppress(ConnectionRefusedError):
             packet = probe.query(customer)
             s.send(packet)
@@ -187,8 +186,7 @@ def anew(*steps, apart=150, **wanted):
     waited = [(nanos(probe.stamps(it.reply)[1]) - it.after) / SECOND for it in asked if it.reply]
     same("seconds that answered queries had waited", [], [it for it in waited if it > LONGEST_WAIT])
     lost = (max((it.after for it in asked if not it.reply), default=0) - done[-1][1]) / SECOND
-    if lost > RESTART + SOON:
-        raise Odd(f"a query had no answer {lost:.2f} seconds later")
+    assert lost <= RESTART + SOON, f"a query had no answer {lost:.2f} seconds later"
     until("new files", lambda: all(os.path.getmtime(FILES[it]) > done[-1][1] / SECOND for it in ("answers", "statistics")), RESTART + SOON)
     same("whether it is another process, and the socket", (True, handed), (pid() != first, handed_down()))
     shown(ActiveState="active", **wanted)
@@ -231,8 +229,7 @@ def test_ended_by_a_restart_it_is_soon_there_again():
     found, idle = sorted(silences()), statistics.median(idle_restarts())
     silence = statistics.median(found)
     print(f"at {RESTARTS} restarts nobody was answered for {silence:.3f} s (median; {found[0]:.3f} to {found[-1]:.3f}); an idle service takes {idle:.3f} s")
-    if silence > max(SILENCE, AS_IDLE * idle):
-        raise Odd(f"nobody was answered for {silence:.3f} seconds")
+    assert silence <= max(SILENCE, AS_IDLE * idle), f"nobody was answered for {silence:.3f} seconds"
 
 
 def asked_in_vain(count):
@@ -362,8 +359,7 @@ def test_ended_by_a_start_that_fails_it_is_soon_there_once_it_does_not():
         sh(f"mv {FILES['commands']}.away {FILES['commands']}")
 
     anew(spoil, mend, apart=1300)
-    if not 4 <= tried[0] <= 13 // RESTART:
-        raise Odd(f"in thirteen seconds it was tried again {tried[0]} times")
+    assert 4 <= tried[0] <= 13 // RESTART, f"in thirteen seconds it was tried again {tried[0]} times"
 
 
 def test_start_has_ended_once_it_serves():

@@ -96,7 +96,11 @@ fn server<'a, R: Files + Clock, F: Write>(
 {
     let Loaded { reference, service } = loaded;
     Server {
-        port: UdpPort::new(SystemWire::new(socket, rt)),
+        port: UdpPort::new(SystemWire {
+            socket,
+            clock: rt,
+            queue: (),
+        }),
         commands: WholeCommands::new(rt, commands),
         applied: 0,
         reference: FixedReference(reference),

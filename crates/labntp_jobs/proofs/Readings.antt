@@ -2,7 +2,7 @@
 use Rattle.std.proofs.Common.{◌≡◌, ℕ, ◌^◌, ◌<◌, List, [], ◌++◌, Ok, refl, sym, ap, subst, ◌∙◌, append-nil, arith}
 use Rattle.std.proofs.lemmas.List.Elements.{All-append}
 use Rattle.ntp_packet.specs.Header.{HeaderFields, IsHeader, header_octets}
-use Rattle.ntp_packet.proofs.PublicLaws.{length-header_octets, AreOctets-all, length-tail}
+use Rattle.ntp_packet.proofs.PublicLaws.{length_header_octets, AreOctets-all, length-tail}
 use Rattle.ntp_packet.specs.Tail.{TailValue, NoTail, BareTail, MacTail, tail_octets, IsTail}
 use Rattle.ntp_packet.specs.Request.{RequestValue, IsRequest, signed_octets}
 use Rattle.ntp_mac.specs.{Key.SymmetricKey, Digest.hash, Digest.digest_of, Mac.mac_of, Mac.nak_octets, Reading.reading_of}
@@ -20,7 +20,7 @@ packet h tail = record { header = h; fields = []; signed = header_octets h; tail
 IsRequest-packet : (h : HeaderFields) (tail : TailValue) → IsHeader h → IsTail tail
     → IsRequest (header_octets h ++ tail_octets tail) (packet h tail)
 unfolding signed_octets
-IsRequest-packet h tail is is-tail = grind (arith, append-nil, length-header_octets, length-tail)
+IsRequest-packet h tail is is-tail = grind (arith, append-nil, length_header_octets, length-tail)
 
 -- and are read as it
 read-packet : (h : HeaderFields) (tail : TailValue) → IsHeader h → IsTail tail → Octets (header_octets h ++ tail_octets tail)

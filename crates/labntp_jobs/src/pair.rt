@@ -83,7 +83,11 @@ pub(crate) fn udp_pair<'a, R: Net + Clock, A: Allocator + Copy>(
     let now = moment_now(&rt);
     let reference = Reference::new(0, 1, -20, Short(0), Short(0), *b"LOOP", now.stamp).unwrap();
     Ok(Pair {
-        port: UdpPort::new(SystemWire::new(served, rt)),
+        port: UdpPort::new(SystemWire {
+            socket: served,
+            clock: rt,
+            queue: (),
+        }),
         service,
         reference,
         asker,

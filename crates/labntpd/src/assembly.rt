@@ -82,7 +82,11 @@ impl<'a> Opened<'a> {
             bound,
             room,
         };
-        let wire = SystemWire::with_queue(socket, rt, queue);
+        let wire = SystemWire {
+            socket,
+            clock: rt,
+            queue,
+        };
         Ok(Opened {
             port: FreshPort::new(UdpPort::new(wire), watch),
             bound,

@@ -46,7 +46,7 @@ impl<'a, W: Write + Drop> CommandLog<'a, W> {
 
     /// How many lines of the log were dropped.
     pub fn dropped(&self) -> u64 {
-        self.log.dropped()
+        self.log.dropped
     }
 
     /// Hears what became of the line with a number, and of its command, if it is one.

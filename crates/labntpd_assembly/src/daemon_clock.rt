@@ -46,7 +46,7 @@ impl<W: ClockWire> DaemonClock for ClockSource<W> {
         let ClockState { reference, belief } = state;
         let follower = match self {
             ClockSource::Fixed(_) => None,
-            ClockSource::Followed(followed) => Some(followed.follower()),
+            ClockSource::Followed(followed) => Some(&followed.follower),
         };
         let limits = follower.map(|it| it.limits());
         ClockGauges {
@@ -106,14 +106,16 @@ fn distance_nanos(twice: u64) -> u64 {
 
 // Whether the clock's daemon is believed, and else why not.
 fn belief_in<W: ClockWire>(followed: &FollowedClock<W>, now: Reading) -> Belief {
-    let follower = followed.follower();
+    let follower = &followed.follower;
     match follower.doubt(now) {
         Some(doubt) => Belief::Doubted(doubt),
         None if follower.learned().is_some() => Belief::Believed,
         // An answer is forgotten where a later one says that its clock is not synchronised, and where none shows an update since
         // the host's clock was set.
-        None if followed.is_unsynchronised() => Belief::Doubted(Doubt::Unsynchronised),
-        None if followed.has_answered() => Belief::Doubted(Doubt::Set),
-        None => Belief::NoAnswer,
+        None => match followed.is_synchronised {
+            Some(false) => Belief::Doubted(Doubt::Unsynchronised),
+            Some(true) => Belief::Doubted(Doubt::Set),
+            None => Belief::NoAnswer,
+        },
     }
 }

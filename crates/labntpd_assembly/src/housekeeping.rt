@@ -299,10 +299,10 @@ impl<'a, R: Files + Clock, L: Write + Drop> Housekeeping<'a, R, L> {
         S: DaemonClock,
         O: DaemonObserver,
     {
-        let (commands, dropped) = (server.commands.inner(), self.news.log.dropped());
+        let (commands, dropped) = (server.commands.inner(), self.news.log.dropped);
         let gauges = Gauges {
             stale: server.port.stale(),
-            kernel_drops: self.written.drops.count(),
+            kernel_drops: self.written.drops.drops,
             receive_buffer: u64::from(self.startup.bound.buffer),
             queue_wait: Some(self.seen.queue_wait),
             send_would_wait: server.port.port().would_wait(),
@@ -332,7 +332,7 @@ impl<'a, R: Files + Clock, L: Write + Drop> Housekeeping<'a, R, L> {
         let (basic, interleaved) = (counts.count(Kind::Basic), counts.count(Kind::Interleaved));
         let time = basic.saturating_add(interleaved);
         let rate = counts.count(Kind::Rate);
-        let drops = self.written.drops.count();
+        let drops = self.written.drops.drops;
         self.news.say(
             Priority::Information,
             format_args!(

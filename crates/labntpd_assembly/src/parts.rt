@@ -15,7 +15,7 @@ pub trait DaemonPort: QueuedPort {
 
 impl<W: QueuedWire + Drop> DaemonPort for UdpPort<W> {
     fn would_wait(&self) -> u64 {
-        self.would_wait()
+        self.would_wait
     }
 }
 

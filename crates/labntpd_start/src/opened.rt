@@ -85,5 +85,7 @@ pub fn commands_at<'a, R: Files, F: Write>(
     clocks: &'a HostClocks,
     faults: &mut F,
 ) -> Result<CommandsFile<'a, HostFile<'a, R>>, Status> {
-    CommandsFile::open(files, path, clocks).map_err(|error| failed_status(path, &error, faults))
+    HostFile::open(files, path)
+        .and_then(|file| CommandsFile::over(file, clocks))
+        .map_err(|error| failed_status(path, &error, faults))
 }

@@ -95,6 +95,7 @@ pub Due-none : (A : Type 0) (applied : ℕ) (octets : List ℕ) (s : Registry) (
     → (IsText octets → ⊥) → CarriesOutDue A applied octets applied s s seen seen
 Due-none A applied octets s seen not = record {
   lines = [];
-  due = (λ yes. absurd (not yes), λ no. (refl, refl));
+  text = λ yes. absurd (not yes);
+  other = λ no. (refl, refl);
   carried = CarriesOut-none A _ applied s seen;
 }

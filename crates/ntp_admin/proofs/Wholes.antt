@@ -3,7 +3,7 @@ use Rattle.std.proofs.Common.{◌≡◌, ℕ, ℤ, pos, ◌<◌, ◌^◌, Option
 use Rattle.std.specs.Prelude.{MatchOption}
 use Rattle.std.specs.{Int.FitsUnsignedBits, Result.OkIff, Result.result_ok, declared.num.NonZeroU16.NonZeroU16}
 use Rattle.std.proofs.{Math.IntN.nat_abs, lemmas.Bool.Decides.nat_tests}
-use Rattle.ntp_admin.specs.{Words.non_zero, Enrolment.non_zero_whole}
+use Rattle.ntp_admin.specs.{Words.non_zero, RegisterFile.non_zero_whole}
 use Rattle.ntp_admin.proofs.Numbers.{new-non_zero}
 
 -- a number that fits is looked at by itself alone

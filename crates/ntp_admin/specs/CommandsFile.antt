@@ -71,18 +71,13 @@ pub record CarriesOut (A : Type 0) (most before : ℕ) (lines : List (List ℕ))
   pub observed : Sees seen told (line_observations most before taken)
   pub tells : (history : List (Event A)) → StandsFor old history → Tells history (happened_at_lines most taken) new
 
--- the lines of a file that are due, where `applied` are applied, and how many are applied once they were taken: of a text, its complete
--- lines behind those; of other octets none
-abbrev pub AreDue : ℕ → List ℕ → List (List ℕ) → ℕ → Type 0
-AreDue applied octets lines after =
-    (IsText octets → (lines ≡ drop applied (complete_lines octets)) × (after ≡ max applied (length (complete_lines octets))))
-    × ((IsText octets → ⊥) → (lines ≡ []) × (after ≡ applied))
-
--- the lines that are due in a file's octets were carried out; each may be as long as the file
+-- the lines that are due in a file's octets were carried out, where `applied` are applied, and `after` once they were taken: of a
+-- text, its complete lines behind those; of other octets none. Each may be as long as the file
 pub record CarriesOutDue (A : Type 0) (applied : ℕ) (octets : List ℕ) (after : ℕ) (old new : Registry)
     (seen told : Option (List Observation)) : Type 0 where
   pub lines : List (List ℕ)
-  pub due : AreDue applied octets lines after
+  pub text : IsText octets → (lines ≡ drop applied (complete_lines octets)) × (after ≡ max applied (length (complete_lines octets)))
+  pub other : ¬ IsText octets → (lines ≡ []) × (after ≡ applied)
   pub carried : CarriesOut A most_file_octets applied lines old new seen told
 
 -- the line that tells of a fault of the commands file

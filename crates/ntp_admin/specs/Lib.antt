@@ -2,7 +2,6 @@ pub mod Words
 pub mod Spells
 pub mod Answers
 pub mod Form
-pub mod Enrolment
 pub mod RegisterFile
 pub mod FileText
 pub mod CommandsFile

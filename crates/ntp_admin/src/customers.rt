@@ -1,8 +1,7 @@
 //! Customers to commands.
 ghost use Rattle.std.specs.Prelude.{◌≡◌, ◌⊎◌, IfOk, IfErr};
 ghost use Rattle.toml.specs.View.{view, items_view};
-ghost use Rattle.ntp_admin.specs.Enrolment.{non_zero_whole, enrolment_command};
-ghost use Rattle.ntp_admin.specs.RegisterFile.{customer_in, customers_in};
+ghost use Rattle.ntp_admin.specs.RegisterFile.{non_zero_whole, enrolment_command, customer_in, customers_in};
 
 use crate::form::{Entry, entry_of};
 use crate::{RegisterFault, words};

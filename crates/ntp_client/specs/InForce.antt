@@ -17,6 +17,12 @@ unsynchronised = record blank_clock { leap = 3; stratum = 16; precision = neg_�
 abbrev pub is_read : Moment → Bool
 is_read clock = not (units clock == 0)
 
+-- the state that is told in a turn with this receipt: where the clock could not be read for it, that of an unsynchronised one
+-- (profile)
+abbrev pub told_with : Option Moment → ReferenceState → ReferenceState
+told_with None state = state
+told_with (Some receipt) state = if is_read receipt then state else unsynchronised
+
 -- how long ago the question of an answer left, in nanoseconds (profile)
 abbrev pub age : ClockAnswer → ℕ → ℕ
 age a ticks = ticks - a.ticks

@@ -1,5 +1,5 @@
 -- What is learned from the answers of the host's clock daemon.
-use Rattle.std.specs.Prelude.{ℕ, ◌+◌, ◌-◌, ◌*◌, ◌^◌, min, unsigned_abs, Bool, false, ◌&&◌, ◌||◌, nat_lt, if◌then◌else◌, Option, Some, None, option_map, option_and_then}
+use Rattle.std.specs.Prelude.{ℕ, List, ◌+◌, ◌-◌, ◌*◌, ◌^◌, min, unsigned_abs, Bool, false, ◌&&◌, ◌||◌, nat_lt, if◌then◌else◌, Option, Some, None, option_map, option_and_then}
 use Rattle.std.specs.Int.{div_ceil}
 use Rattle.ntp_packet.specs.{declared.stamp.Stamp.Stamp, declared.stamp.Short.Short, Header.HeaderFields, Header.no_stamp}
 use Rattle.ntp_mac.specs.Key.{SymmetricKey}
@@ -9,6 +9,7 @@ use Rattle.ntp_client.specs.{declared.answer.ClockAnswer.ClockAnswer, declared.l
 use Rattle.ntp_client.specs.{declared.reading.Reading.Reading, declared.watch.ClockWatch.ClockWatch, InForce.is_read}
 use Rattle.ntp_client.specs.declared.taken.Taken.TheVariants as taken
 use Rattle.ntp_client.specs.declared.taken.Distrust.TheVariants as distrust
+use Rattle.ntp_client.specs.{Taking.header_taken, Taking.after_taken}
 use Rattle.ntp_client.specs.Watching.{new_watch, is_set_since, after_set, shows_update}
 
 -- what a follower of the host's clock daemon knows: the client that asks it, the limits, how the host's clock was set, the last answer
@@ -95,6 +96,15 @@ told_after told header _ = told
 abbrev pub slowed_after : Option ℕ → ℕ → Taken → Option ℕ
 slowed_after slowed ticks taken.Rate = Some ticks
 slowed_after slowed ticks _ = slowed
+
+-- the follower that has taken octets for something at a reading, once it has looked at the clocks (profile)
+abbrev pub took : FollowerState → List ℕ → Reading → Taken → FollowerState
+took f octets now taken = record f {
+  client = after_taken f.client octets now.clock taken;
+  watch = record f.watch { told = told_after f.watch.told (header_taken f.client octets) taken };
+  learned = learned_after f.watch f.learned (header_taken f.client octets) taken;
+  slowed = slowed_after f.slowed now.ticks taken;
+}
 
 -- how long after a question the next one is due, in nanoseconds: a second, and eight for an hour after a RATE (RFC 5905, 7.4; profile)
 abbrev pub period : Option ℕ → ℕ → ℕ

@@ -3,9 +3,9 @@ ghost use Rattle.std.specs.Prelude.{◌≡◌, ◌<◌, Some, option_and_then, o
 ghost use Rattle.ntp_packet.specs.Request.{RequestValue, IsRequest};
 ghost use Rattle.ntp_mac.specs.Signed.{IsSigned};
 ghost use Rattle.ntp_client.specs.{Query.query_octets, Sample.IsTimeReply, Watching.is_set_since};
-ghost use Rattle.ntp_client.specs.Taking.{taken_for, header_taken, after_taken};
+ghost use Rattle.ntp_client.specs.Taking.{taken_for};
 ghost use Rattle.ntp_client.specs.InForce.{age, reference_age, root_distance_twice, is_followed, doubt_of, in_force};
-ghost use Rattle.ntp_client.specs.Learning.{new_follower, looked, rests_before, has_to_read_anew, question, asked, root_delay_by, base_of, learned_of, learned_after, told_after, slowed_after, period};
+ghost use Rattle.ntp_client.specs.Learning.{new_follower, looked, rests_before, has_to_read_anew, question, asked, root_delay_by, base_of, learned_of, took, period};
 
 use crate::believing::{reference_age, root_distance_twice};
 use crate::doubt::doubt_of;
@@ -114,13 +114,7 @@ impl Follower {
     /// (profile).
     pub fn take(&mut self, octets: &[u8], now: Reading) -> Taken
         ensures taken { result ≡ taken_for (looked self.old now).client octets.now now.clock }
-        ensures client { self.new.client ≡ after_taken (looked self.old now).client octets.now now.clock result }
-        ensures limits { self.new.limits ≡ self.old.limits }
-        ensures seen { self.new.watch.seen ≡ (looked self.old now).watch.seen }
-        ensures set { self.new.watch.set ≡ (looked self.old now).watch.set }
-        ensures told { self.new.watch.told ≡ told_after (looked self.old now).watch.told (header_taken (looked self.old now).client octets.now) result }
-        ensures learned { self.new.learned ≡ learned_after (looked self.old now).watch self.old.learned (header_taken (looked self.old now).client octets.now) result }
-        ensures slowed { self.new.slowed ≡ slowed_after self.old.slowed now.ticks result }
+        ensures took { self.new ≡ took (looked self.old now) octets.now now result }
         ensures forged { ((reply : RequestValue) → IsRequest octets.now reply → ¬ IsSigned self.old.client.key self.old.client.number reply)
             → self.new.learned ≡ self.old.learned }
     {
@@ -131,13 +125,7 @@ impl Follower {
     // The same, once the clocks were looked at.
     fn take_seen(&mut self, octets: &[u8], now: Reading) -> Taken
         ensures taken { result ≡ taken_for self.old.client octets.now now.clock }
-        ensures client { self.new.client ≡ after_taken self.old.client octets.now now.clock result }
-        ensures limits { self.new.limits ≡ self.old.limits }
-        ensures seen { self.new.watch.seen ≡ self.old.watch.seen }
-        ensures set { self.new.watch.set ≡ self.old.watch.set }
-        ensures told { self.new.watch.told ≡ told_after self.old.watch.told (header_taken self.old.client octets.now) result }
-        ensures learned { self.new.learned ≡ learned_after self.old.watch self.old.learned (header_taken self.old.client octets.now) result }
-        ensures slowed { self.new.slowed ≡ slowed_after self.old.slowed now.ticks result }
+        ensures took { self.new ≡ took self.old octets.now now result }
         ensures forged { ((reply : RequestValue) → IsRequest octets.now reply → ¬ IsSigned self.old.client.key self.old.client.number reply)
             → self.new.learned ≡ self.old.learned }
     {
@@ -156,13 +144,10 @@ impl Follower {
 
     // Learns of a sample and the header of its packet.
     fn learn(&mut self, header: &Header, sample: Sample)
-        ensures client { self.new.client ≡ self.old.client }
-        ensures limits { self.new.limits ≡ self.old.limits }
-        ensures seen { self.new.watch.seen ≡ self.old.watch.seen }
-        ensures set { self.new.watch.set ≡ self.old.watch.set }
-        ensures told { self.new.watch.told ≡ Some header.now.clock.reference }
-        ensures learned { IsTimeReply header.now → self.new.learned ≡ learned_of self.old.watch self.old.learned header.now sample }
-        ensures slowed { self.new.slowed ≡ self.old.slowed }
+        ensures { IsTimeReply header.now → self.new ≡ record self.old {
+          watch = record self.old.watch { told = Some header.now.clock.reference };
+          learned = learned_of self.old.watch self.old.learned header.now sample;
+        } }
     {
         self.learned = learned_of(&self.watch, self.learned.as_ref(), header, sample);
         self.watch.told = Some(header.reference());

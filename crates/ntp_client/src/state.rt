@@ -1,6 +1,6 @@
 //! The state that replies tell.
-ghost use Rattle.std.specs.Prelude.{◌≡◌, true, option_copied, if◌then◌else◌};
-ghost use Rattle.ntp_client.specs.InForce.{unsynchronised, is_read, precision_told, grown, in_force};
+ghost use Rattle.std.specs.Prelude.{◌≡◌, true, option_copied};
+ghost use Rattle.ntp_client.specs.InForce.{unsynchronised, is_read, told_with, precision_told, grown, in_force};
 ghost use Rattle.ntp_client.specs.Taking.{is_synchronised};
 
 use crate::doubt::doubt_of;
@@ -42,16 +42,15 @@ pub fn reference_unsynchronised() -> Reference
     .unwrap()
 }
 
-/// The reference state that is told in a turn whose clock showed a moment: that of an unsynchronised clock where it could not be read,
+/// The reference state that is told in a turn: that of an unsynchronised clock where the clock could not be read for its receipt,
 /// which is told as stamp 0 of era 0; else `state` (profile).
 #[must_use]
-pub fn reference_where_read(clock: Moment, state: Reference) -> Reference
-    ensures { result ≡ (if is_read clock then state else unsynchronised) }
+pub fn reference_where_read(receipt: Option<Moment>, state: Reference) -> Reference
+    ensures { result ≡ told_with receipt state }
 {
-    if is_read(clock) {
-        state
-    } else {
-        reference_unsynchronised()
+    match receipt {
+        Some(clock) if !is_read(clock) => reference_unsynchronised(),
+        _ => state,
     }
 }
 

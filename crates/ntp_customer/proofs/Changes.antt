@@ -122,3 +122,6 @@ receives-spent xs receive = receives-with_unused receive (λ x. record x { used 
 pub all_stamps-spent : (xs : List Slot) (receive : Stamp) → all_stamps (spent xs receive) ≡ all_stamps xs
 unfolding spent
 all_stamps-spent xs receive = grind (arith, map-with_unused, receives-spent)
+
+-- who is found at a first place or at none, and a change there
+pub ruleset changes = (find-at_position, find-from_no_position, written-at_place, unchanged-from_none)

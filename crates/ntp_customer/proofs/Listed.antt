@@ -1,7 +1,7 @@
 -- Stamps that are listed one exchange after another.
 use Rattle.std.proofs.Common.{◌≡◌, ℕ, ◌+◌, ◌<◌, List, ◌++◌, ◌∷◌, [], length, take, map, slice_index_or, arith}
 use Rattle.std.proofs.lemmas.Grind.{common_steps}
-use Rattle.std.proofs.lemmas.List.{take_more, map-append, append_assoc}
+use Rattle.std.proofs.lemmas.List.{take_more, map-append, append_assoc, take_all, append-nil}
 use Rattle.ntp_packet.specs.declared.stamp.Stamp.{Stamp}
 use Rattle.ntp_customer.specs.declared.slot.Slot.{Slot}
 
@@ -10,3 +10,6 @@ pub one-more : (stamp : Slot → Stamp) (before listed now : List Stamp) (slots 
     → listed ≡ before ++ map stamp (take at slots) → now ≡ listed ++ stamp (slice_index_or slots at d) ∷ []
     → now ≡ before ++ map stamp (take (at + 1) slots)
 one-more stamp before listed now slots at d within so_far more = grind (arith, common_steps, take_more, append_assoc, map-append)
+
+-- one more, at the start and at the end of a loop
+pub ruleset listed = (take_all, append-nil, one-more)

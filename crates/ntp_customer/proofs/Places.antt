@@ -24,9 +24,9 @@ count-from_none : {X : Type 0} (p : X → Bool) (xs : List X) → position p xs 
 count-from_none p xs none = grind (arith, cases_Bool, ltb-false, prefix_len-le-length)
 
 -- so what is lent of that place is there
-pub lent-at_place : {X T : Type 0} (p : X → Bool) (xs : List X) (i : ℕ) (f : T → X) (lent : Option T) → position p xs ≡ Some i
+pub lent_at_place : {X T : Type 0} (p : X → Bool) (xs : List X) (i : ℕ) (f : T → X) (lent : Option T) → position p xs ≡ Some i
     → option_map f lent ≡ slice_get xs i → IsSome lent
-lent-at_place p xs i f lent e g = grind (arith, slice_get_cases, count-from_place)
+lent_at_place p xs i f lent e g = grind (arith, slice_get_cases, count-from_place)
 
 -- a first place in the first of two pieces is that in both
 pub place-in_first : {X : Type 0} (p : X → Bool) (xs ys : List X) (i : ℕ) → position p xs ≡ Some i → position p (xs ++ ys) ≡ Some i
@@ -56,3 +56,6 @@ none-at_zero receive xs zero received (Some i) at =
     let there = position-Some (is_unused_at receive) xs i d at in
     let parts = and_parts (not (get_or xs i d).used) (is_received_at receive (get_or xs i d)) there.1 in
     absurd (received i d there.0 (eqb-true (get_or xs i d).receive.0 receive.0 parts.1 ∙ zero))
+
+-- the place in either piece, or in none
+pub ruleset places = (place-in_first, place-in_second, place-in_neither, none-at_zero)

@@ -10,8 +10,9 @@ use Rattle.ntp_packet.specs.{declared.stamp.Stamp.Stamp, declared.moment.Moment.
 use Rattle.ntp_packet.specs.Fresh.{is_free, fresh, IsFresh}
 use Rattle.ntp_packet.proofs.PublicLaws.{free-nonzero, free-apart, free-from_apart, IsFresh-fresh}
 use Rattle.ntp_customer.specs.declared.slot.Slot.{Slot}
-use Rattle.ntp_customer.specs.Exchanges.{most_slots, recent, new_exchange, receives, transmits, all_stamps, AreSaved, is_received_at, is_unused_at, exchange_at, unused_at, unless_used, with_unused, spent, with_departure}
+use Rattle.ntp_customer.specs.Exchanges.{most_slots, recent, new_exchange, receives, transmits, all_stamps, AreSaved, is_received_at, is_unused_at, exchange_at, unused_at, with_unused, spent, with_departure}
 use Rattle.ntp_customer.proofs.Changes.{find-member, length-with_unused, receives-with_unused}
+use Rattle.std.proofs.lemmas.List.Folds.{find-append}
 
 -- exchanges as they are saved, however many
 record AreApart (xs : List Slot) : Type 0 where
@@ -206,7 +207,7 @@ used-alone xs receive x are found used (Some y) other =
 
 -- the unused exchange with a receive stamp is the one with it, unless that is used
 unused-from : (xs : List Slot) (receive : Stamp) → AreSaved xs → (o : Option Slot) → exchange_at xs receive ≡ o
-    → unused_at xs receive ≡ option_and_then unless_used o
+    → unused_at xs receive ≡ option_and_then (λ x. cond x.used None (Some x)) o
 unused-from xs receive are None none = find-neither (is_received_at receive) (λ x. not x.used) xs none
 unused-from xs receive are (Some x) found =
     elim (cases_Bool x.used) [
@@ -216,5 +217,8 @@ unused-from xs receive are (Some x) found =
     ]
 
 pub unused_at-from_exchange_at : (xs : List Slot) (receive : Stamp) → AreSaved xs
-    → unused_at xs receive ≡ option_and_then unless_used (exchange_at xs receive)
+    → unused_at xs receive ≡ option_and_then (λ x. cond x.used None (Some x)) (exchange_at xs receive)
 unused_at-from_exchange_at xs receive are = unused-from xs receive are (exchange_at xs receive) refl
+
+-- what stays saved at a push, and which of them is unused
+pub ruleset saved = (AreSaved-push, unused_at-from_exchange_at, find-append)

@@ -107,3 +107,6 @@ tally-of_some_list (Some t) is =
       tally-row t.window (t.count - 1) (omega arith)
           ∙ ap (λ n. Some (record { window = t.window; count = n })) counted,
     )
+
+-- what a charge makes of a tally, and that each is of a list
+pub ruleset tallies = (tally-nil, capped_count-tally, tally-append, tally-of_some_list)

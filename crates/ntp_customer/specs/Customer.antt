@@ -1,8 +1,8 @@
 -- One customer, as contracts see it. Its counts are of a kind that is a parameter, C: a tally in what the code keeps, a list of
 -- windows in what an address had.
-use Rattle.std.specs.Prelude.{◌≢◌, ℕ, ◌<◌, ◌≤◌, Bool, not, ◌==◌, Option, Some, None, is_some, option_map, IfSome, List, [], ◌∷◌, ◌++◌, length, map, filter, find, slice_get, AllPairs}
+use Rattle.std.specs.Prelude.{◌≢◌, ℕ, ◌<◌, ◌≤◌, Bool, not, ◌==◌, Option, Some, None, is_some, option_map, IfSome, List, [], ◌∷◌, ◌++◌, length, map, filter, find, AllPairs}
 use Rattle.std.specs.Option.{option_map_or}
-use Rattle.ntp_customer.specs.Tally.{Tally, IsTally, tally}
+use Rattle.ntp_customer.specs.Tally.{Tally, IsTally}
 use Rattle.ntp_customer.specs.{declared.slot.Slot.Slot, Exchanges.AreSaved, declared.numbered_key.NumberedKey.NumberedKey}
 
 -- how many keys a customer can have (profile)
@@ -22,10 +22,6 @@ enrolment_of key budget = record { keys = key ∷ []; budget = budget }
 -- the key numbers of an enrolment (profile)
 abbrev pub numbers_in : Enrolment → List ℕ
 numbers_in e = map (λ k. k.number) e.keys
-
--- the older key of an enrolment, or its only one (profile)
-abbrev pub older_in : Enrolment → Option NumberedKey
-older_in e = slice_get e.keys 0
 
 -- the key of an enrolment with a number, if it has one (profile)
 abbrev pub held_in : Enrolment → ℕ → Option NumberedKey
@@ -106,10 +102,6 @@ module _ {C : Type 0} where
 
   abbrev pub retired : CustomerOf C → ℕ → CustomerOf C
   retired c number = with_terms (λ e. record e { keys = filter (λ k. not (k.number == number)) e.keys }) c
-
--- a customer as the code keeps it at its enrolment: nothing is counted yet, and nothing saved (profile)
-abbrev pub new_customer : Enrolment → CustomerState
-new_customer e = customer_from (tally []) e
 
 -- what holds of each account: its keys have different numbers, its count is such as some queries leave, and its exchanges are apart (profile)
 pub record IsAccount (a : Account) : Type 0 where

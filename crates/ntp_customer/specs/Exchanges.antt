@@ -1,5 +1,5 @@
 -- Exchanges: what is saved of the time replies to one customer, oldest first.
-use Rattle.std.specs.Prelude.{◌≢◌, ℕ, ◌-◌, ◌≤◌, Bool, true, false, not, ◌&&◌, ◌==◌, if◌then◌else◌, IsTrue, List, ◌++◌, length, take, drop, map, find, Option, Some, None, All}
+use Rattle.std.specs.Prelude.{◌≢◌, ℕ, ◌-◌, ◌≤◌, Bool, true, false, not, ◌&&◌, ◌==◌, if◌then◌else◌, IsTrue, List, ◌++◌, length, take, drop, map, find, Option, All}
 use Rattle.std.specs.List.{AllPairs}
 use Rattle.ntp_packet.specs.{declared.stamp.Stamp.Stamp, declared.moment.Moment.Moment, Fresh.fresh, Fresh.is_free}
 use Rattle.ntp_customer.specs.declared.slot.Slot.{Slot}
@@ -54,10 +54,6 @@ exchange_at xs receive = find (is_received_at receive) xs
 -- the unused exchange with this receive stamp (profile, after RFC 9769)
 abbrev pub unused_at : List Slot → Stamp → Option Slot
 unused_at xs receive = find (is_unused_at receive) xs
-
--- an exchange that is unused, and else nothing (profile)
-abbrev pub unless_used : Slot → Option Slot
-unless_used x = if x.used then None else Some x
 
 -- with a change to the unused exchange with this receive stamp, and all else as it was (profile)
 abbrev pub with_unused : List Slot → Stamp → (Slot → Slot) → List Slot

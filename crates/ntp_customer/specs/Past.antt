@@ -2,7 +2,7 @@
 use Rattle.std.specs.Prelude.{ℕ, List, [], ◌∷◌, ◌++◌, option_map}
 use Rattle.std.specs.Option.{option_map_or}
 use Rattle.ntp_customer.specs.{Tally.tally, Exchanges.recent}
-use Rattle.ntp_customer.specs.Customer.{AccountOf, CustomerOf, Account, CustomerState, changing}
+use Rattle.ntp_customer.specs.Customer.{CustomerOf, CustomerState, changing}
 
 -- the past of an address that was enrolled once: the windows of its refusals since it was enrolled last, and while it is enrolled its
 -- enrolment, the windows of all its signed queries and all its exchanges since then. A list has the oldest first (profile)
@@ -20,10 +20,9 @@ with_refusal past w = record past { refusals = past.refusals ++ w ∷ [] }
 abbrev pub with_query : Past → ℕ → Past
 with_query past w = changing (λ a. record a { queries = a.queries ++ w ∷ [] }) past
 
--- what is kept of an account: of windows the tally, and of exchanges the recent ones (profile)
-abbrev pub short_account : AccountOf (List ℕ) → Account
-short_account a = record { enrolment = a.enrolment; queries = tally a.queries; exchanges = recent a.exchanges }
-
--- what is kept of a past (profile)
+-- what is kept of a past: of windows the tally, and of exchanges the recent ones (profile)
 abbrev pub short : Past → CustomerState
-short past = record { account = option_map short_account past.account; refusals = tally past.refusals }
+short past = record {
+  account = option_map (λ a. record { enrolment = a.enrolment; queries = tally a.queries; exchanges = recent a.exchanges }) past.account;
+  refusals = tally past.refusals;
+}

@@ -1,6 +1,7 @@
 -- Counts per window, and what is kept of them. Events are given by their windows, oldest first.
 use Rattle.std.specs.Prelude.{ℕ, ◌≤◌, ◌==◌, List, Option, None, option_map, IfSome, min}
 use Rattle.std.specs.List.{suffix_len, last_or}
+use Rattle.ntp_customer.specs.declared.window.Counted.{Counted}
 
 -- where counting stops: above every budget (profile)
 abbrev pub most_counted : ℕ
@@ -14,14 +15,9 @@ count_in windows w = suffix_len (λ v. v == w) windows
 abbrev pub capped_count : List ℕ → ℕ → ℕ
 capped_count windows w = min (count_in windows w) most_counted
 
--- a window, and the count in it as it is kept; the code's `Window` hides both (profile)
-pub record Tallied : Type 0 where
-  pub window : ℕ
-  pub count : ℕ
-
--- what is kept of events: nothing where there are none
+-- what is kept of events: the newest window, with the count in it as it is kept, or nothing where there are none (profile)
 abbrev pub Tally : Type 0
-Tally = Option Tallied
+Tally = Option Counted
 
 -- the newest window, with the count in it as it is kept (profile)
 unfoldable pub tally : List ℕ → Tally

@@ -1,8 +1,8 @@
 //! What a customer has while it is enrolled.
-ghost use Rattle.std.specs.Prelude.{◌≡◌, ◌≢◌, ◌↔◌, ◌<◌, ℕ, None, Some, IfSome, IsSome, Contains, List, [], ◌∷◌, ◌++◌, length, nat_lt, option_copied, option_map, ◌==◌, not, filter};
-ghost use Rattle.std.specs.{Borrow.sem, Option.option_to_list};
+ghost use Rattle.std.specs.Prelude.{◌≡◌, ◌≢◌, ◌↔◌, ◌<◌, ℕ, None, Some, IfSome, IsSome, Contains, List, [], ◌∷◌, ◌++◌, length, nat_lt, slice_get, option_copied, option_map, ◌==◌, not, filter};
+ghost use Rattle.std.specs.{Borrow.Lends, Borrow.sem, Option.option_to_list};
 ghost use Rattle.ntp_customer.specs.Tally.{capped_count, tally};
-ghost use Rattle.ntp_customer.specs.Customer.{most_keys, enrolment_of, numbers_in, older_in, held_in, IsAccount};
+ghost use Rattle.ntp_customer.specs.Customer.{most_keys, enrolment_of, numbers_in, held_in, IsAccount};
 
 use crate::{NumberedKey, Slots, Window};
 use ntp_mac::Key;
@@ -25,11 +25,9 @@ pub(crate) struct Account<A: Allocator = Global> {
 impl<A: Allocator> Model for Account<A> {
     ghost use Rattle.std.specs.Prelude.{◌≢◌, ◌<◌, ◌∷◌, IfSome};
     ghost use Rattle.std.specs.Option.{option_to_list};
-    ghost use Rattle.ntp_customer.specs.{Tally.IsTally, Customer.Account, Codes.coded_account};
+    ghost use Rattle.ntp_customer.specs.{Tally.IsTally, Customer.Account};
 
     ghost Value = { Account };
-
-    ghost coded = { coded_account };
 
     ghost view = { λ a. record {
       enrolment = record { keys = a.older ∷ option_to_list a.newer; budget = a.budget };
@@ -42,7 +40,7 @@ impl<A: Allocator> Model for Account<A> {
 }
 
 impl<A: Allocator> Account<A> {
-    ghost use Rattle.ntp_customer.specs.Lends.{lends_exchanges};
+    ghost use Rattle.ntp_customer.specs.{contracts.account.Account.the_row, contracts.slots.Slots.the_row as slots_row};
 
     // An account at the enrolment of its customer, with slots that are empty.
     pub(crate) fn new(key: NumberedKey, budget: u16, slots: Slots<A>) -> Self
@@ -69,7 +67,7 @@ impl<A: Allocator> Account<A> {
 
     // The older key with its number.
     pub(crate) fn older(&self) -> &NumberedKey
-        ensures older { older_in self.now.enrolment ≡ Some result.now }
+        ensures older { slice_get self.now.enrolment.keys 0 ≡ Some result.now }
         ensures positive { 0 < result.now.number }
     {
         &self.older
@@ -186,7 +184,8 @@ impl<A: Allocator> Account<A> {
 
     // The last exchanges, to be written to.
     pub(crate) fn slots_mut(&mut self) -> &mut Slots<A>
-        ensures* writes_back { sem 𝓛 (lends_exchanges A.row A.Allocator self.entry result) }
+        ensures* writes_back { sem 𝓛 (Lends (the_row A.row A.Allocator) (slots_row A.row A.Allocator) self.entry result
+            (λ exchanges. record self.old { exchanges = exchanges })) }
         ensures value { result.now ≡ self.old.exchanges }
     {
         &mut self.slots

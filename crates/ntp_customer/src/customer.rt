@@ -1,8 +1,8 @@
 //! One customer.
-ghost use Rattle.std.specs.Prelude.{◌≡◌, ◌≢◌, ◌↔◌, ◌<◌, [], ◌∷◌, None, Some, IfSome, IsSome, is_some, Contains, length, nat_lt, option_copied, option_map};
-ghost use Rattle.std.specs.{Option.option_to_list, Borrow.sem};
-ghost use Rattle.ntp_customer.specs.Tally.{capped_count};
-ghost use Rattle.ntp_customer.specs.Customer.{most_keys, enrolment_of, new_customer, revoked, rebudgeted, rolled_over, retired, enrolment_at, is_enrolled, numbers_of, older_in, held_in, IsCustomer};
+ghost use Rattle.std.specs.Prelude.{◌≡◌, ◌≢◌, ◌↔◌, ◌<◌, [], ◌∷◌, None, Some, IfSome, IsSome, is_some, Contains, length, nat_lt, slice_get, option_copied, option_map};
+ghost use Rattle.std.specs.{Option.option_to_list, Borrow.Lends, Borrow.sem};
+ghost use Rattle.ntp_customer.specs.Tally.{capped_count, tally};
+ghost use Rattle.ntp_customer.specs.Customer.{most_keys, enrolment_of, customer_from, revoked, rebudgeted, rolled_over, retired, enrolment_at, is_enrolled, numbers_of, held_in, with_saved, IsCustomer};
 ghost use Rattle.ntp_customer.specs.Past.{Past, queries_in, with_refusal, with_query, short};
 
 use crate::account::Account;
@@ -20,11 +20,9 @@ pub struct Customer<A: Allocator = Global> {
 }
 
 impl<A: Allocator> Model for Customer<A> {
-    ghost use Rattle.ntp_customer.specs.{Tally.IsTally, Customer.CustomerState, Codes.coded_customer};
+    ghost use Rattle.ntp_customer.specs.{Tally.IsTally, Customer.CustomerState};
 
     ghost Value = { CustomerState };
-
-    ghost coded = { coded_customer };
 
     ghost view = { λ c. record { account = c.account; refusals = c.refusals } };
 
@@ -32,14 +30,14 @@ impl<A: Allocator> Model for Customer<A> {
 }
 
 impl<A: Allocator> Customer<A> {
-    ghost use Rattle.ntp_customer.specs.Lends.{lends_slots};
+    ghost use Rattle.ntp_customer.specs.{contracts.customer.Customer.the_row, contracts.slots.Slots.the_row as slots_row};
 
     /// A customer at its enrolment, with slots that are empty.
     pub fn new(key: NumberedKey, budget: u16, slots: Slots<A>) -> Self
         requires number_given { 0 < key.number }
         requires budget_given { 0 < budget }
         requires empty { slots ≡ [] }
-        ensures { result ≡ new_customer (enrolment_of key budget) }
+        ensures { result ≡ customer_from (tally []) (enrolment_of key budget) }
     {
         Customer {
             account: Some(Account::new(key, budget, slots)),
@@ -75,7 +73,7 @@ impl<A: Allocator> Customer<A> {
     /// The number of the older key of an enrolled customer, from 1 to 65,535.
     pub fn number(&self) -> u16
         requires { IsSome (enrolment_at self.now) }
-        ensures number { IfSome (enrolment_at self.now) (λ e. option_map (λ older. older.number) (older_in e) ≡ Some result) }
+        ensures number { IfSome (enrolment_at self.now) (λ e. option_map (λ older. older.number) (slice_get e.keys 0) ≡ Some result) }
         ensures positive { 0 < result }
     {
         let account = self.account.as_ref().unwrap();
@@ -85,7 +83,7 @@ impl<A: Allocator> Customer<A> {
     /// The older key of an enrolled customer.
     pub fn key(&self) -> &Key
         requires { IsSome (enrolment_at self.now) }
-        ensures { IfSome (enrolment_at self.now) (λ e. option_map (λ older. older.key) (older_in e) ≡ Some result.now) }
+        ensures { IfSome (enrolment_at self.now) (λ e. option_map (λ older. older.key) (slice_get e.keys 0) ≡ Some result.now) }
     {
         let account = self.account.as_ref().unwrap();
         &account.older().key
@@ -166,7 +164,8 @@ impl<A: Allocator> Customer<A> {
     /// The last exchanges of an enrolled customer, to be written to. All else stays as it is.
     pub fn slots_mut(&mut self) -> &mut Slots<A>
         requires { IsSome (enrolment_at self.old) }
-        ensures* writes_back { sem 𝓛 (lends_slots A.row A.Allocator self.entry result) }
+        ensures* writes_back { sem 𝓛 (Lends (the_row A.row A.Allocator) (slots_row A.row A.Allocator) self.entry result
+            (with_saved self.old)) }
         ensures value { IfSome self.old.account (λ a. result.now ≡ a.exchanges) }
     {
         let account = self.account.as_mut().unwrap();

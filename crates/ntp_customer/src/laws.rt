@@ -13,6 +13,7 @@ pub fn a_tally_tells_all()
 {}
 
 /// Each tally is that of some list.
+#[tactic(auto, using(crate::proofs::Tallies::tallies))]
 pub fn every_tally_is_of_a_list()
     ensures { (t : Tally) → IsTally t → (windows : List ℕ) × (tally windows ≡ t) }
 {}

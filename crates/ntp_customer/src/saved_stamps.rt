@@ -37,6 +37,7 @@ impl<A: Allocator> Slots<A> {
 }
 
 // Puts the receive stamps of exchanges behind others.
+#[tactic(auto, using(crate::proofs::Listed::listed))]
 fn add_receives(stamps: &mut ArrayVec<Stamp, MOST_STAMPS>, slots: &[Slot])
     requires { length stamps.old.items + length slots.now ≤ 17 }
     ensures { stamps.new.items ≡ stamps.old.items ++ receives slots.now }
@@ -47,6 +48,7 @@ fn add_receives(stamps: &mut ArrayVec<Stamp, MOST_STAMPS>, slots: &[Slot])
 }
 
 // Puts the transmit stamps of exchanges behind others.
+#[tactic(auto, using(crate::proofs::Listed::listed))]
 fn add_transmits(stamps: &mut ArrayVec<Stamp, MOST_STAMPS>, slots: &[Slot])
     requires { length stamps.old.items + length slots.now ≤ 17 }
     ensures { stamps.new.items ≡ stamps.old.items ++ transmits slots.now }

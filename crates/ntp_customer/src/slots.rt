@@ -1,8 +1,8 @@
 //! The exchanges that are saved. Nothing else opens them.
-ghost use Rattle.std.specs.Prelude.{◌≡◌, [], ◌∷◌, ◌++◌, IfOk, IsNone, IsTrue, is_some, option_and_then, position};
+ghost use Rattle.std.specs.Prelude.{◌≡◌, [], ◌∷◌, ◌++◌, if◌then◌else◌, None, Some, IfOk, IsNone, IsTrue, is_some, option_and_then, position};
 ghost use Rattle.std.specs.Bool.{OnFalse};
 ghost use Rattle.ntp_packet.specs.Fresh.{is_free};
-ghost use Rattle.ntp_customer.specs.Exchanges.{AreSaved, recent, new_exchange, receives, all_stamps, exchange_at, unused_at, unless_used, is_unused_at, spent, with_departure};
+ghost use Rattle.ntp_customer.specs.Exchanges.{AreSaved, recent, new_exchange, receives, all_stamps, exchange_at, unused_at, is_unused_at, spent, with_departure};
 
 use crate::{NoMemory, Slot};
 use circular_buffer::HeapCircularBuffer;
@@ -24,11 +24,8 @@ pub struct Slots<A: Allocator = Global> {
 impl<A: Allocator> Model for Slots<A> {
     ghost use Rattle.std.specs.Prelude.{◌≡◌, List};
     ghost use Rattle.ntp_customer.specs.{declared.slot.Slot.Slot, Exchanges.most_slots, Exchanges.AreSaved};
-    ghost use Rattle.ntp_customer.specs.Codes.{coded_exchanges};
 
     ghost Value = { List Slot };
-
-    ghost coded = { coded_exchanges };
 
     ghost view = { λ s. s.exchanges.items };
 
@@ -61,9 +58,10 @@ impl<A: Allocator> Slots<A> {
     }
 
     /// The exchange with this receive stamp, used or not.
+    #[tactic(auto, using(crate::proofs::Saved::saved))]
     pub fn find(&self, receive: Stamp) -> Option<Slot>
         ensures found { result ≡ exchange_at self.now receive }
-        ensures unused { unused_at self.now receive ≡ option_and_then unless_used result }
+        ensures unused { unused_at self.now receive ≡ option_and_then (λ x. if x.used then None else Some x) result }
         ensures saved { AreSaved self.now }
     {
         let (older, newer) = self.exchanges.as_slices();
@@ -83,6 +81,7 @@ impl<A: Allocator> Slots<A> {
 
     /// Marks the unused exchange with this receive stamp as used, and gives it as it was before (profile, after
     /// RFC 9769). Where there is none, nothing changes.
+    #[tactic(auto, using(crate::proofs::Changes::changes, crate::proofs::Places::lent_at_place), unfolding(crate::specs::Exchanges::spent))]
     pub fn spend_unused(&mut self, receive: Stamp) -> Option<Slot>
         ensures found { result ≡ unused_at self.old receive }
         ensures spent { self.new ≡ spent self.old receive }
@@ -99,6 +98,7 @@ impl<A: Allocator> Slots<A> {
     /// Saves a new exchange, unused; the oldest goes where there are more than are saved (profile). Its
     /// receive stamp is neither 0 nor a saved stamp, and its transmit stamp is neither 0, nor that receive
     /// stamp, nor a saved one.
+    #[tactic(auto, using(crate::proofs::Saved::saved), unfolding(crate::specs::Exchanges::recent))]
     pub fn push(&mut self, receive: Stamp, transmit: Stamp)
         requires receive_free { IsTrue (is_free (all_stamps self.old) receive) }
         requires transmit_free { IsTrue (is_free (receives self.old ++ receive ∷ []) transmit) }
@@ -115,6 +115,7 @@ impl<A: Allocator> Slots<A> {
     /// A reply left at this moment: its transmit stamp becomes the moment's, or the first after it that
     /// is neither 0 nor a saved receive stamp, where an unused exchange has this receive stamp (profile,
     /// after RFC 9769). Where there is none, the answer is `false` and nothing changes.
+    #[tactic(auto, using(crate::proofs::Changes::changes), unfolding(crate::specs::Exchanges::with_departure))]
     pub fn depart(&mut self, receive: Stamp, moment: Moment) -> bool
         ensures found { result ≡ is_some (unused_at self.old receive) }
         ensures departed { self.new ≡ with_departure self.old receive moment }
@@ -131,6 +132,7 @@ impl<A: Allocator> Slots<A> {
 
     // Where the unused exchange with this receive stamp stands, counted from the oldest. No saved stamp is 0, and a query
     // that asks about no exchange has that origin, so the exchanges are not looked through for it.
+    #[tactic(auto, using(crate::proofs::Places::places))]
     fn unused_place(&self, receive: Stamp) -> Option<usize>
         ensures { result ≡ position (is_unused_at receive) self.now }
     {

@@ -22,21 +22,20 @@ pub struct Window {
 }
 
 impl Model for Window {
-    ghost use Rattle.ntp_customer.specs.{Tally.Tally, Tally.IsTally, Codes.coded_tally, Kept.tally_of, Kept.newest_of};
+    ghost use Rattle.ntp_customer.specs.Tally.{Tally, IsTally};
 
     ghost Value = { Tally };
 
-    ghost coded = { coded_tally };
+    ghost view = { λ w. w.newest };
 
-    ghost view = { λ w. tally_of w.newest };
+    ghost inverse = { λ t. record { newest = t } };
 
-    ghost inverse = { λ t. record { newest = newest_of t } };
-
-    ghost invariant = { λ w. IsTally (tally_of w.newest) };
+    ghost invariant = { λ w. IsTally w.newest };
 }
 
 impl Window {
     /// What is kept where there were no events.
+    #[tactic(auto, using(crate::proofs::Tallies::tallies))]
     pub fn new() -> Self
         ensures { result ≡ tally [] }
     {
@@ -46,6 +45,7 @@ impl Window {
     /// How many of the newest events, without a gap, lie in the window `w`, at most 65,536; this event is
     /// then counted in `w` (profile). A window is 64 seconds long, and `w` is its number since 1900. A clock
     /// that steps back to another window starts a new count.
+    #[tactic(auto, using(crate::proofs::Tallies::tallies))]
     pub fn charge(&mut self, w: u64) -> u32
         ensures counted { (windows : List ℕ) → tally windows ≡ self.old → result ≡ capped_count windows w }
         ensures after { (windows : List ℕ) → tally windows ≡ self.old → self.new ≡ tally (windows ++ w ∷ []) }

@@ -1,46 +1,29 @@
 -- Steps of a follower, one behind another.
-use Rattle.std.proofs.Common.{◌≡◌, ℕ, Option, None, Some, List, [], ◌∷◌, ◌++◌, refl, sym, ap, ◌∙◌, subst, append-nil}
+use Rattle.std.proofs.Common.{◌≡◌, ℕ, Option, None, Some, List, [], ◌∷◌, ◌++◌, sym, ap, ◌∙◌, subst, append-nil}
 use Rattle.std.specs.Prelude.{false, IfSome}
-use Rattle.std.proofs.lemmas.List.{append_assoc}
+use Rattle.std.specs.List.{fold, flat_map}
+use Rattle.std.proofs.{lemmas.List.append_assoc, lemmas.List.Sums.fold-append, lemmas.Grind.flat_map-append}
 use Rattle.ntp_packet.specs.declared.moment.Moment.{Moment}
 use Rattle.ntp_reply.specs.Reference.{ReferenceState}
 use Rattle.ntp_client.specs.{declared.reading.Reading.Reading, InForce.in_force}
-use Rattle.ntp_client.specs.Learning.{FollowerState, looked, asked, has_to_read_anew}
-use Rattle.ntp_host.specs.Following.{ComesIn, Step, Looks, Asks, Takes, Drops, TakesAt, Leads, octets_in, Follows, AsksFollowed}
+use Rattle.ntp_client.specs.Learning.{FollowerState, looked, has_to_read_anew}
+use Rattle.ntp_host.specs.Following.{ComesIn, Step, Looks, Takes, Drops, behind, octets_at, Follows, AsksFollowed}
 
-Leads-append : (xs ys : List Step) (p q r : FollowerState) → Leads xs p q → Leads ys q r → Leads (xs ++ ys) p r
-Leads-append [] ys p q r l m = subst (λ s. Leads ys s r) l m
-Leads-append (Looks now ∷ xs) ys p q r l m = Leads-append xs ys (looked p now) q r l m
-Leads-append (Asks now ∷ xs) ys p q r l m = Leads-append xs ys (asked p now) q r l m
-Leads-append (Drops octets ∷ xs) ys p q r l m = Leads-append xs ys p q r l m
-Leads-append (Takes octets now ∷ xs) ys p q r l m = (l.0, l.1, Leads-append xs ys l.0 q r l.2 m)
-
-octets-append : (xs ys : List Step) → octets_in (xs ++ ys) ≡ octets_in xs ++ octets_in ys
-octets-append [] ys = refl
-octets-append (Looks now ∷ xs) ys = octets-append xs ys
-octets-append (Asks now ∷ xs) ys = octets-append xs ys
-octets-append (Drops octets ∷ xs) ys = ap (λ l. octets ∷ l) (octets-append xs ys)
-octets-append (Takes octets now ∷ xs) ys = ap (λ l. octets ∷ l) (octets-append xs ys)
-
-came-same : (a b : Option (List (List ℕ))) → b ≡ a → IfSome a (λ earlier. b ≡ Some (earlier ++ []))
-came-same None b same = tt
-came-same (Some earlier) b same = same ∙ ap Some (sym (append-nil earlier))
-
-pub Follows-same : (p q : FollowerState) (a b : Option (List (List ℕ))) → q ≡ p → b ≡ a → Follows p q a b
-Follows-same p q a b same received = record { steps = []; lead = same; came = came-same a b received }
-
-pub Follows-looked : (p q : FollowerState) (now : Reading) (a b : Option (List (List ℕ))) → q ≡ looked p now → b ≡ a → Follows p q a b
-Follows-looked p q now a b same received = record { steps = Looks now ∷ []; lead = same; came = came-same a b received }
-
-pub Follows-asked : (p q : FollowerState) (now : Reading) (a b : Option (List (List ℕ))) → q ≡ asked p now → b ≡ a → Follows p q a b
-Follows-asked p q now a b same received = record { steps = Asks now ∷ []; lead = same; came = came-same a b received }
+-- a step at which nothing comes in, or none
+pub Follows-quiet : (steps : List Step) (p q : FollowerState) (a b : Option (List (List ℕ))) → flat_map octets_at steps ≡ [] → q ≡ fold behind p steps
+    → b ≡ a → Follows p q a b
+Follows-quiet steps p q a b quiet lead same = record { steps = steps; lead = lead; came = by a same }
+  where
+    by : (o : Option (List (List ℕ))) → b ≡ o → IfSome o (λ earlier. b ≡ Some (earlier ++ flat_map octets_at steps))
+    by None same = tt
+    by (Some earlier) same = same ∙ ap Some (sym (append-nil earlier) ∙ ap (λ l. earlier ++ l) (sym quiet))
 
 -- octets came in, and then it looked and took them
 pub Follows-took : (p between q : FollowerState) (octets : List ℕ) (now : Reading) (a b c : Option (List (List ℕ))) → between ≡ p
-    → TakesAt octets now (looked between now) q → ComesIn a b (Some octets) → c ≡ b → Follows p q a c
+    → q ≡ behind (looked between now) (Takes octets now) → ComesIn a b (Some octets) → c ≡ b → Follows p q a c
 Follows-took p between q octets now a b c kept taken came same = record {
   steps = Looks now ∷ Takes octets now ∷ [];
-  lead = (q, subst (λ s. TakesAt octets now (looked s now) q) kept taken, refl);
+  lead = taken ∙ ap (λ s. behind (looked s now) (Takes octets now)) kept;
   came = subst (λ o. ComesIn a o (Some octets)) (sym same) came;
 }
 
@@ -52,16 +35,17 @@ Follows-dropped p q octets a b c kept came same =
 pub Follows-append : (p q r : FollowerState) (a b c : Option (List (List ℕ))) → Follows p q a b → Follows q r b c → Follows p r a c
 Follows-append p q r a b c x y = record {
   steps = x.steps ++ y.steps;
-  lead = Leads-append x.steps y.steps p q r x.lead y.lead;
+  lead = y.lead ∙ ap (λ s. fold behind s y.steps) x.lead ∙ sym (fold-append behind p x.steps y.steps);
   came = by a x.came;
 }
   where
-    by : (o : Option (List (List ℕ))) → IfSome o (λ earlier. b ≡ Some (earlier ++ octets_in x.steps))
-        → IfSome o (λ earlier. c ≡ Some (earlier ++ octets_in (x.steps ++ y.steps)))
+    by : (o : Option (List (List ℕ))) → IfSome o (λ earlier. b ≡ Some (earlier ++ flat_map octets_at x.steps))
+        → IfSome o (λ earlier. c ≡ Some (earlier ++ flat_map octets_at (x.steps ++ y.steps)))
     by None first = tt
     by (Some earlier) first =
-        let second = subst (λ o. IfSome o (λ e. c ≡ Some (e ++ octets_in y.steps))) first y.came in
-        second ∙ ap Some (append_assoc earlier (octets_in x.steps) (octets_in y.steps) ∙ ap (λ l. earlier ++ l) (sym (octets-append x.steps y.steps)))
+        let second = subst (λ o. IfSome o (λ e. c ≡ Some (e ++ flat_map octets_at y.steps))) first y.came in
+        second ∙ ap Some (append_assoc earlier (flat_map octets_at x.steps) (flat_map octets_at y.steps)
+        ∙ ap (λ l. earlier ++ l) (sym (flat_map-append octets_at x.steps y.steps)))
 
 -- an ask with a receipt
 pub asks-with : (p q : FollowerState) (a b : Option (List (List ℕ))) (receipt : Option Moment) (clock : Moment) (ticks : ℕ) (now : Reading)

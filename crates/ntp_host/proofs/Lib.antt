@@ -1,4 +1,3 @@
 mod FileParts
 mod Following
-mod Looks
 mod Wires

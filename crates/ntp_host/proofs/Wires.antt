@@ -80,10 +80,10 @@ not-idle (Ok taken) fails idle = idle
 not-idle (Err error) fails idle = false≢true (sym fails ∙ idle)
 
 -- nothing is told anew where nothing came
-pub stays : {X : Type 0} (A : Type 0) (r : Option X) (before mid after first : Option Told) → IfNone r (A × (mid ≡ before)) → after ≡ mid → before ≡ first
-    → IfNone r ((false ≡ false) × (after ≡ first))
-stays A None before mid after first nothing next start = (refl, next ∙ nothing.1 ∙ start)
-stays A (Some x) before mid after first nothing next start = tt
+pub stays : {X : Type 0} (A B : Type 0) (r : Option X) (before after first : Option Told) → IfNone r (A × (B × (after ≡ before))) → before ≡ first
+    → IfNone r (A × (after ≡ first))
+stays A B None before after first nothing start = (nothing.0, nothing.1.1 ∙ start)
+stays A B (Some x) before after first nothing start = tt
 
 -- ---- the calls, of a wire that tells or not
 -- what the port tells

@@ -1,11 +1,12 @@
--- How the state of a clock follows from the answers of its daemon.
+-- How the state of a clock follows from the answers of its daemon, and what a source of it gives.
 use Rattle.std.specs.Prelude.{◌≡◌, ℕ, false, Option, Some, IfSome, IfNone, List, [], ◌∷◌, ◌++◌}
-use Rattle.std.specs.Option.{option_map_or}
+use Rattle.std.specs.{List.fold, List.flat_map, Option.option_map_or}
 use Rattle.ntp_packet.specs.declared.moment.Moment.{Moment}
 use Rattle.ntp_reply.specs.Reference.{ReferenceState}
-use Rattle.ntp_client.specs.{declared.reading.Reading.Reading, declared.taken.Taken.Taken, InForce.in_force, InForce.unsynchronised}
-use Rattle.ntp_client.specs.Learning.{FollowerState, looked, asked, has_to_read_anew, told_after, learned_after, slowed_after}
-use Rattle.ntp_client.specs.Taking.{taken_for, header_taken, after_taken}
+use Rattle.ntp_client.specs.{declared.reading.Reading.Reading, InForce.in_force, InForce.unsynchronised, InForce.told_with, Taking.taken_for}
+use Rattle.ntp_client.specs.Learning.{FollowerState, looked, asked, took, has_to_read_anew}
+use Rattle.ntp_host.specs.declared.followed_clock.ClockSource.{ClockSource}
+use Rattle.ntp_host.specs.declared.followed_clock.ClockSource.TheVariants.{Fixed, Followed}
 
 -- these octets came in, or none did
 abbrev pub ComesIn : Option (List (List ℕ)) → Option (List (List ℕ)) → Option (List ℕ) → Type 0
@@ -19,39 +20,24 @@ pub data Step : Type 0 where
   Takes : List ℕ → Reading → Step
   Drops : List ℕ → Step
 
--- a follower took octets at a reading, as `Follower::take` says
-pub record TakesAt (octets : List ℕ) (now : Reading) (old new : FollowerState) : Type 0 where
-  pub taken : Taken
-  pub is : taken ≡ taken_for (looked old now).client octets now.clock
-  pub client : new.client ≡ after_taken (looked old now).client octets now.clock taken
-  pub limits : new.limits ≡ old.limits
-  pub seen : new.watch.seen ≡ (looked old now).watch.seen
-  pub set : new.watch.set ≡ (looked old now).watch.set
-  pub told : new.watch.told ≡ told_after (looked old now).watch.told (header_taken (looked old now).client octets) taken
-  pub learned : new.learned ≡ learned_after (looked old now).watch old.learned (header_taken (looked old now).client octets) taken
-  pub slowed : new.slowed ≡ slowed_after old.slowed now.ticks taken
+-- the follower behind a step
+abbrev pub behind : FollowerState → Step → FollowerState
+behind f (Looks now) = looked f now
+behind f (Asks now) = asked f now
+behind f (Takes octets now) = took (looked f now) octets now (taken_for (looked f now).client octets now.clock)
+behind f (Drops octets) = f
 
--- these steps lead from one follower to another
-abbrev pub Leads : List Step → FollowerState → FollowerState → Type 0
-Leads [] old new = new ≡ old
-Leads (Looks now ∷ steps) old new = Leads steps (looked old now) new
-Leads (Asks now ∷ steps) old new = Leads steps (asked old now) new
-Leads (Drops octets ∷ steps) old new = Leads steps old new
-Leads (Takes octets now ∷ steps) old new = (between : FollowerState) × TakesAt octets now old between × Leads steps between new
-
--- the octets that came in steps
-abbrev pub octets_in : List Step → List (List ℕ)
-octets_in [] = []
-octets_in (Looks now ∷ steps) = octets_in steps
-octets_in (Asks now ∷ steps) = octets_in steps
-octets_in (Takes octets now ∷ steps) = octets ∷ octets_in steps
-octets_in (Drops octets ∷ steps) = octets ∷ octets_in steps
+-- the octets that came in at a step
+abbrev pub octets_at : Step → List (List ℕ)
+octets_at (Takes octets now) = octets ∷ []
+octets_at (Drops octets) = octets ∷ []
+octets_at step = []
 
 -- a follower went on by steps, in which what came in came as it did
 pub record Follows (old new : FollowerState) (before after : Option (List (List ℕ))) : Type 0 where
   pub steps : List Step
-  pub lead : Leads steps old new
-  pub came : IfSome before (λ earlier. after ≡ Some (earlier ++ octets_in steps))
+  pub lead : new ≡ fold behind old steps
+  pub came : IfSome before (λ earlier. after ≡ Some (earlier ++ flat_map octets_at steps))
 
 -- an ask with a receipt is answered by the follower's state as it is by then, at that reading, or where the clocks have to be read anew at
 -- a later one; without a receipt by that of an unsynchronised clock
@@ -61,3 +47,16 @@ pub record AsksFollowed (old new : FollowerState) (before after : Option (List (
   pub unread : IfNone receipt (given ≡ unsynchronised)
   pub state : IfSome receipt (λ clock. (ticks : ℕ) × (now : Reading) × (given ≡ in_force new.limits new.learned now)
       × (has_to_read_anew old (record { clock = clock; ticks = ticks }) ≡ false → now ≡ record { clock = clock; ticks = ticks }))
+
+-- an ask at a source of a clock's state: a fixed one gives its state, one that follows a daemon its follower's; each stays of its sort
+abbrev pub AsksClock : {W : Type 0} → (W → Option (List (List ℕ))) → ClockSource W → ClockSource W → Option Moment → ReferenceState → Type 0
+AsksClock received (Fixed state) after receipt given = (given ≡ told_with receipt state) × (after ≡ Fixed state)
+AsksClock received (Followed old) (Followed new) receipt given = (state : ReferenceState)
+    × AsksFollowed old.follower new.follower (received old.wire) (received new.wire) receipt state × (given ≡ told_with receipt state)
+AsksClock received (Followed old) (Fixed state) receipt given = ⊥
+
+-- time to look after itself
+abbrev pub TendsClock : {W : Type 0} → (W → Option (List (List ℕ))) → ClockSource W → ClockSource W → Type 0
+TendsClock received (Fixed state) after = after ≡ Fixed state
+TendsClock received (Followed old) (Followed new) = Follows old.follower new.follower (received old.wire) (received new.wire)
+TendsClock received (Followed old) (Fixed state) = ⊥

@@ -2,12 +2,14 @@
 ghost use Rattle.std.specs.Prelude.{◌≡◌, ℕ, List, Option, None, IfOk, IfSome};
 ghost use Rattle.std.specs.Result.{result_ok};
 ghost use Rattle.ntp_host.specs.declared.growth.FileState.{FileState};
-ghost use Rattle.ntp_host.specs.{Progress.StandsAt, Looking.AnswersState};
+ghost use Rattle.ntp_host.specs.Looking.{StandsAt, AnswersState};
 
 use crate::growth::FileState;
+use crate::progress::MOST_COMMANDS_OCTETS;
 use crate::whole_file::open_regular_file;
 use std::fs::{self, Files, OpenFile};
 use std::io::{self, Read, Seek, SeekFrom};
+use std::os::unix::fs::MetadataExt;
 
 /// A file that stays open, and the path at which it was found. It may tell its octets, and the states that it will be found in.
 pub trait AppendedFile {
@@ -17,13 +19,8 @@ pub trait AppendedFile {
     // What the next calls for a state will answer in turn, where it tells that: nothing where one fails.
     ghost states: { Self → Option (List (Option FileState)) } = { λ _. None };
 
-    /// The state of the file.
-    fn state(&mut self) -> io::Result<FileState>
-        ensures octets { octets self.new ≡ octets self.old }
-        ensures states { AnswersState (states self.old) (states self.new) (result_ok result) };
-
-    /// The state of what stands at its path.
-    fn state_at_path(&mut self) -> io::Result<FileState>
+    /// The state of the file, or that of what stands at its path.
+    fn state(&mut self, at_path: bool) -> io::Result<FileState>
         ensures octets { octets self.new ≡ octets self.old }
         ensures states { AnswersState (states self.old) (states self.new) (result_ok result) };
 
@@ -43,22 +40,29 @@ pub struct HostFile<'a, R: Files> {
 }
 
 impl<'a, R: Files> HostFile<'a, R> {
-    /// Opens the regular file at `path`, and reads as many octets of it as `most` once without a use. The error is the system's, or says
-    /// that a regular file is wanted.
-    pub(crate) fn open(files: &'a R, path: &'a str, most: u64) -> io::Result<HostFile<'a, R>> {
-        let (mut file, _) = open_regular_file(files, path)?;
-        io::copy(&mut (&mut file).take(most), &mut io::sink())?;
+    /// Opens the regular file at `path`, and reads `MOST_COMMANDS_OCTETS` of it once without a use, so that no start carries out a
+    /// part of one that cannot be read to its end. The error is the system's, or says that a regular file is wanted.
+    pub fn open(files: &'a R, path: &'a str) -> io::Result<HostFile<'a, R>> {
+        let mut file = open_regular_file(files, path)?;
+        io::copy(&mut (&mut file).take(MOST_COMMANDS_OCTETS), &mut io::sink())?;
         Ok(HostFile { files, path, file })
     }
 }
 
 impl<'a, R: Files> AppendedFile for HostFile<'a, R> {
-    fn state(&mut self) -> io::Result<FileState> {
-        Ok(FileState::of(&self.file.metadata()?))
-    }
-
-    fn state_at_path(&mut self) -> io::Result<FileState> {
-        Ok(FileState::of(&fs::metadata(self.files, self.path)?))
+    fn state(&mut self, at_path: bool) -> io::Result<FileState> {
+        let metadata = if at_path {
+            fs::metadata(self.files, self.path)?
+        } else {
+            self.file.metadata()?
+        };
+        Ok(FileState {
+            device: metadata.dev(),
+            node: metadata.ino(),
+            length: metadata.len(),
+            seconds: metadata.mtime(),
+            nanos: metadata.mtime_nsec(),
+        })
     }
 
     fn read_behind(&mut self, from: u64, room: &mut [u8]) -> io::Result<()> {

@@ -59,12 +59,10 @@ impl<'a, C: Clock + Copy + Drop> ClockWire for SystemClockWire<'a, C> {
     }
 
     fn expect(&mut self, is_expected: bool) {
-        let descriptor = if is_expected {
-            self.socket.as_raw_fd()
-        } else {
-            -1
-        };
-        self.clocks.expected.set(descriptor);
+        let socket = self.socket.as_raw_fd();
+        self.clocks
+            .expected
+            .set(if is_expected { socket } else { -1 });
     }
 
     fn clock(&mut self) -> Moment {

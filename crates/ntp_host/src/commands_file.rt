@@ -1,24 +1,24 @@
 //! A commands file that is looked at in each turn of a server, before its datagram is answered.
-ghost use Rattle.std.specs.Prelude.{◌≡◌, ℕ, ◌+◌, ◌<◌, ◌≤◌, Some, option_map, [], ◌⊎◌, vec_len, drop, min, IsTrue, IfSome, IfOk, IfErr, IsErrAnd};
-ghost use Rattle.std.specs.{Option.option_map_or, Result.result_ok};
+ghost use Rattle.std.specs.Prelude.{◌≡◌, ℕ, ◌-◌, ◌<◌, ◌+◌, ◌≤◌, None, Some, option_map, [], vec_len, min, IfSome, IfOk, IfErr, MatchResult};
+ghost use Rattle.std.specs.Option.{option_map_or};
 ghost use Rattle.std.proofs.Props.{props};
-ghost use Rattle.ntp_host.specs.Progress.{next_from, Knows, GivesPart};
-ghost use Rattle.ntp_host.specs.Faults.{is_final, is_unreadable};
-ghost use Rattle.ntp_host.specs.Looking.{AnswersState, GivesEach, IsCountFor, IsOfFile, next_of, most_commands_octets, LooksAt};
+ghost use Rattle.ntp_host.specs.Looking.{is_final, next_from, HasNoEnd, GivesPart, GivesEach, LooksAt};
 
-use crate::appended_file::{AppendedFile, HostFile};
+use crate::appended_file::AppendedFile;
 use crate::clock::HostClocks;
-use crate::growth::{FileState, Growth};
-use crate::progress::{MOST_COMMANDS_OCTETS, Progress};
+use crate::growth::Growth;
+use crate::progress::{MOST_COMMANDS_OCTETS, MOST_PIECE_OCTETS, Progress};
 use ntp_packet::Moment;
 use ntp_port::CommandsSource;
 use std::alloc::Allocator;
 use std::fmt;
-use std::fs::Files;
 use std::io::{self, Write};
 
 /// The octets from which on a commands file is nearly full: 80 in 100 of the most, rounded up.
 const NEARLY_FULL_OCTETS: u64 = 53_687_092;
+
+/// The octets that are given of a line that has no room in a piece: one more than a line of commands may have.
+const CUT_OCTETS: usize = 4_097;
 
 /// Returns whether a commands file of `octets` octets is nearly full.
 pub fn is_nearly_full(octets: u64) -> bool {
@@ -50,21 +50,11 @@ pub enum CommandsFault {
 }
 
 impl CommandsFault {
-    ghost use Rattle.ntp_host.specs.Faults.{is_final};
-
     /// Returns whether nothing is given any more, whatever becomes of the file.
     pub fn is_final(&self) -> bool
         ensures { result ≡ is_final self.now }
     {
         !matches!(self, CommandsFault::Unreadable(_) | CommandsFault::Full)
-    }
-}
-
-impl From<io::Error> for CommandsFault {
-    fn from(error: io::Error) -> CommandsFault
-        ensures { result ≡ CommandsFault.Unreadable error }
-    {
-        CommandsFault::Unreadable(error)
     }
 }
 
@@ -100,33 +90,19 @@ pub struct CommandsFile<'a, F: AppendedFile> {
     // part of one.
     was_read: bool,
     fault: Option<CommandsFault>,
-    ghost knows: { IfSome (F.octets file) (λ octets. Knows octets progress) } by { Prim.hlevel props },
-}
-
-impl<'a, R: Files> CommandsFile<'a, HostFile<'a, R>> {
-    /// Opens the regular file at `path`, and reads it once without a use, so that no start carries out a part of one that cannot be read to
-    /// its end. `clocks` have the time of each look. The error is the system's, or says that a regular file is wanted.
-    pub fn open(
-        files: &'a R,
-        path: &'a str,
-        clocks: &'a HostClocks,
-    ) -> io::Result<CommandsFile<'a, HostFile<'a, R>>> {
-        let file = HostFile::open(files, path, MOST_COMMANDS_OCTETS)?;
-        CommandsFile::over(file, clocks)
-    }
+    ghost knows: { IfSome (F.octets file) (λ octets. HasNoEnd octets progress.given progress.searched) } by { Prim.hlevel props },
 }
 
 impl<'a, F: AppendedFile + Drop> CommandsFile<'a, F> {
-    /// Begins with a file of which nothing was read. The error is the system's.
+    /// Begins with a file of which nothing was read. `clocks` have the time of each look. The error is the system's.
     pub fn over(mut file: F, clocks: &'a HostClocks) -> io::Result<CommandsFile<'a, F>>
         ensures { IfOk result (λ commands. (F.octets commands.file ≡ F.octets file) × (commands.progress.given ≡ 0)) }
     {
-        let growth = Growth::new(file.state()?);
         Ok(CommandsFile {
+            growth: Growth::new(file.state(false)?),
             file,
             clocks,
             progress: Progress::new(),
-            growth,
             was_read: false,
             fault: None,
         })
@@ -149,21 +125,17 @@ impl<'a, F: AppendedFile> CommandsFile<'a, F> {
     // Does what `look` does, where it is not given up, and notes whether it has too many octets.
     fn read_on<A: Allocator>(&mut self, alloc: A) -> Result<Option<Vec<u8, A>>, CommandsFault>
         ensures most { IfOk result (λ lines. IfSome lines (λ octets. vec_len octets ≤ 65536)) }
-        ensures octets { F.octets self.new.file ≡ F.octets self.old.file }
-        ensures given { IfOk result (λ lines. IfSome (F.octets self.old.file)
-            (λ file. GivesPart file self.old.progress.given self.new.progress.given (option_map_or (λ octets. octets.items) lines []))) }
-        ensures not_given { IfErr result (λ _. self.new.progress.given ≡ self.old.progress.given) }
-        ensures asks { IfSome (F.states self.old.file) (λ left. F.states self.new.file ≡ Some (drop 1 left)) }
+        ensures looks { MatchResult result
+            (λ lines. LooksAt F.octets F.states self.old.file self.new.file self.old.progress self.new.progress
+            self.old.growth.last None self.new.fault (option_map (λ octets. octets.items) lines))
+            (λ fault. LooksAt F.octets F.states self.old.file self.new.file self.old.progress self.new.progress
+            self.old.growth.last None (Some fault) None) }
         ensures fault { IfOk result (λ _. IfSome self.new.fault (λ fault. fault ≡ CommandsFault.Full)) }
-        ensures due { IfSome (F.octets self.old.file) (λ file. IfSome (F.states self.old.file) (λ left. IfSome (next_of left) (λ found.
-            IsOfFile self.old.growth.last found → self.old.progress.given ≤ found.length
-            → IsErrAnd result (λ fault. IsTrue (is_unreadable fault))
-            ⊎ GivesEach file (min found.length most_commands_octets) self.old.progress self.new.progress))) }
-        ensures stops { IfSome (F.states self.old.file) (λ left. IfSome (next_of left) (λ found.
-            (¬ IsOfFile self.old.growth.last found) ⊎ (found.length < self.old.progress.given)
-            → IsErrAnd result (λ fault. IsTrue (is_final fault)))) }
     {
-        let found = self.state()?;
+        let found = match self.file.state(self.was_read) {
+            Ok(found) => found,
+            Err(error) => return Err(CommandsFault::Unreadable(error)),
+        };
         if !self.growth.is_of_file(found) {
             return Err(CommandsFault::Replaced);
         }
@@ -175,30 +147,15 @@ impl<'a, F: AppendedFile> CommandsFile<'a, F> {
         self.fault = (found.length > MOST_COMMANDS_OCTETS).then_some(CommandsFault::Full);
         let count = self.progress.next_count(found.length);
         if count > 0 {
-            return match self.lines(alloc, count, found.length) {
-                Ok(lines) => Ok(lines),
-                Err(error) => Err(CommandsFault::Unreadable(error)),
-            };
+            return self
+                .lines(alloc, count, found.length)
+                .map_err(CommandsFault::Unreadable);
         }
         self.was_read = true;
         if self.growth.is_rewritten(now) {
             return Err(CommandsFault::Rewritten);
         }
         Ok(None)
-    }
-
-    // The state of what stands at the path, and before it matters that of the file.
-    fn state(&mut self) -> io::Result<FileState>
-        ensures octets { F.octets self.new.file ≡ F.octets self.old.file }
-        ensures progress { self.new.progress ≡ self.old.progress }
-        ensures growth { self.new.growth ≡ self.old.growth }
-        ensures states { AnswersState (F.states self.old.file) (F.states self.new.file) (result_ok result) }
-    {
-        if self.was_read {
-            self.file.state_at_path()
-        } else {
-            self.file.state()
-        }
     }
 
     // Reads the next piece, which has `count` octets, and returns its lines; nothing where it has none, and a file of this length has
@@ -210,7 +167,6 @@ impl<'a, F: AppendedFile> CommandsFile<'a, F> {
         length: u64,
     ) -> io::Result<Option<Vec<u8, A>>>
         requires limited { next_from self.old.progress + count ≤ MOST_COMMANDS_OCTETS }
-        requires ended { IsTrue self.old.progress.is_ended → count ≡ 4098 }
         requires most { count ≤ 65536 }
         ensures most { IfOk result (λ lines. IfSome lines (λ octets. vec_len octets ≤ 65536)) }
         ensures octets { F.octets self.new.file ≡ F.octets self.old.file }
@@ -219,17 +175,26 @@ impl<'a, F: AppendedFile> CommandsFile<'a, F> {
         ensures not_given { IfErr result (λ _. self.new.progress.given ≡ self.old.progress.given) }
         ensures states { F.states self.new.file ≡ F.states self.old.file }
         ensures fault { self.new.fault ≡ self.old.fault }
-        ensures each { IfOk result (λ _. IfSome (F.octets self.old.file)
-            (λ file. (end : ℕ) → IsCountFor self.old.progress end count → GivesEach file end self.old.progress self.new.progress)) }
+        ensures each { IfOk result (λ _. IfSome (F.octets self.old.file) (λ file. (end : ℕ) → 0 < count
+            → count ≡ min (end - next_from self.old.progress) 65536 → GivesEach file end self.old.progress self.new.progress)) }
     {
         let mut octets = vec![in alloc; 0; count]?;
         self.file
             .read_behind(self.progress.next_from(), &mut octets)?;
-        let given = self.progress.take(&mut octets);
-        octets.truncate(given);
-        if given == 0 && self.progress.next_count(length) == 0 {
+        let next = self.progress.behind(&octets);
+        let given = next.given - self.progress.given;
+        if given > MOST_PIECE_OCTETS {
+            octets.resize(CUT_OCTETS, 0)?;
+            self.file.read_behind(self.progress.given, &mut octets)?;
+            octets.push(b'\n')?;
+            self.progress = next;
+            return Ok(Some(octets));
+        }
+        self.progress = next;
+        if given == 0 && next.next_count(length) == 0 {
             return Ok(None);
         }
+        octets.truncate(given as usize);
         Ok(Some(octets))
     }
 }

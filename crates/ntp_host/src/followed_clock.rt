@@ -1,7 +1,7 @@
 //! The state of the clock, from the configuration or from the host's clock daemon.
 ghost use Rattle.std.specs.Prelude.{◌≡◌, false};
 ghost use Rattle.ntp_client.specs.Learning.{looked, has_to_read_anew};
-ghost use Rattle.ntp_host.specs.{Following.TakesAt, Following.Follows, Following.AsksFollowed, ClockSource.AsksClock, ClockSource.TendsClock};
+ghost use Rattle.ntp_host.specs.Following.{Takes, behind, Follows, AsksFollowed, AsksClock, TendsClock};
 
 use crate::clock_wire::ClockWire;
 use ntp_client::{
@@ -33,14 +33,15 @@ const MOST_READINGS: usize = 8;
 #[derive(Drop)]
 pub struct FollowedClock<W: ClockWire> {
     wire: W,
-    follower: Follower,
+    /// What was learned of the daemon.
+    pub follower: Follower,
     // When the daemon was asked last, if it was since the host's clock was set.
     asked: Option<u64>,
     is_outstanding: bool,
     // When an answer was looked for last.
     looked: u64,
-    // Whether the last answer said that its clock is synchronised, where one came.
-    answer: Option<bool>,
+    /// Whether the daemon's last answer said that its clock is synchronised, where one came.
+    pub is_synchronised: Option<bool>,
 }
 
 impl<W: ClockWire> FollowedClock<W> {
@@ -55,56 +56,8 @@ impl<W: ClockWire> FollowedClock<W> {
             asked: None,
             is_outstanding: false,
             looked: 0,
-            answer: None,
+            is_synchronised: None,
         }
-    }
-
-    /// What was learned of the daemon.
-    pub fn follower(&self) -> &Follower
-        ensures { result.now ≡ self.now.follower }
-    {
-        &self.follower
-    }
-
-    /// Whether the daemon has told the state of its clock at all, even if only that it is not synchronised.
-    pub fn has_answered(&self) -> bool {
-        self.answer.is_some()
-    }
-
-    /// Whether the daemon's last answer said that its clock is not synchronised.
-    pub fn is_unsynchronised(&self) -> bool {
-        self.answer == Some(false)
-    }
-
-    // What both clocks show together; nothing where the host's could not be read. Where the process was held up between their
-    // readings, they are read again.
-    fn reading(&mut self) -> Option<Reading>
-        ensures follower { self.new.follower ≡ self.old.follower }
-        ensures received { W.received self.new.wire ≡ W.received self.old.wire }
-    {
-        let mut best = self.timed_reading();
-        for _ in 1..MOST_READINGS {
-            if best.1 <= LONGEST_READING {
-                break;
-            }
-            let next = self.timed_reading();
-            if next.1 < best.1 {
-                best = next;
-            }
-        }
-        Some(best.0).filter(|it| is_read(it.clock))
-    }
-
-    // Reads the host's clock between two readings of the ticks, and tells how long that took, in nanoseconds.
-    fn timed_reading(&mut self) -> (Reading, u64)
-        ensures follower { self.new.follower ≡ self.old.follower }
-        ensures received { W.received self.new.wire ≡ W.received self.old.wire }
-    {
-        let before = self.wire.ticks();
-        let clock = self.wire.clock();
-        let took = self.wire.ticks().saturating_sub(before);
-        let ticks = before.saturating_add(took / 2);
-        (Reading { clock, ticks }, took)
     }
 
     // Looks whether the host's clock was set, where a reading shows it. The process may have been held up within that reading, which would
@@ -116,7 +69,7 @@ impl<W: ClockWire> FollowedClock<W> {
         if !self.follower.has_to_read_anew(shown) {
             return shown;
         }
-        let Some(now) = self.reading() else {
+        let Some(now) = reading(&mut self.wire) else {
             return shown;
         };
         self.look(now);
@@ -147,10 +100,10 @@ impl<W: ClockWire> FollowedClock<W> {
     fn exchange(&mut self, ticks: u64)
         ensures { Follows self.old.follower self.new.follower (W.received self.old.wire) (W.received self.new.wire) }
     {
-        match self.asked {
-            Some(asked) if ticks.saturating_sub(asked) < self.follower.period(ticks) => {
-                self.look_for_answer(ticks, ticks.saturating_sub(asked));
-            }
+        match self.asked.map(|asked| ticks.saturating_sub(asked)) {
+            Some(since) if since < self.follower.period(ticks) => self.look_for_answer(
+                ticks, since,
+            ),
             _ => self.ask(ticks),
         }
     }
@@ -178,7 +131,7 @@ impl<W: ClockWire> FollowedClock<W> {
         self.take_answers();
         self.asked = Some(ticks);
         self.expect_nothing();
-        let Some(now) = self.reading() else {
+        let Some(now) = reading(&mut self.wire) else {
             return;
         };
         let request = self.follower.request(now);
@@ -197,7 +150,7 @@ impl<W: ClockWire> FollowedClock<W> {
             let Some(length) = self.wire.receive(&mut octets) else {
                 return;
             };
-            let Some(now) = self.reading() else {
+            let Some(now) = reading(&mut self.wire) else {
                 return;
             };
             if self.take(&octets[..length], now) {
@@ -209,19 +162,47 @@ impl<W: ClockWire> FollowedClock<W> {
 
     // Takes octets that came, by a reading behind that. Returns whether they are an answer.
     fn take(&mut self, octets: &[u8], now: Reading) -> bool
-        ensures follower { TakesAt octets.now now (looked self.old.follower now) self.new.follower }
+        ensures follower { self.new.follower ≡ behind (looked self.old.follower now) (Takes octets.now now) }
         ensures received { W.received self.new.wire ≡ W.received self.old.wire }
     {
         self.look(now);
-        let taken = self.follower.take(octets, now);
-        match taken {
-            Taken::Sample(_) => self.answer = Some(true),
-            Taken::Refused(Distrust::Unsynchronised) => self.answer = Some(false),
+        match self.follower.take(octets, now) {
+            Taken::Sample(_) => self.is_synchronised = Some(true),
+            Taken::Refused(Distrust::Unsynchronised) => self.is_synchronised = Some(false),
             Taken::Rate => {}
             _ => return false,
         }
         true
     }
+}
+
+// What both clocks show together; nothing where the host's could not be read. Where the process was held up between their
+// readings, they are read again.
+fn reading<W: ClockWire>(wire: &mut W) -> Option<Reading>
+    ensures { W.received wire.new ≡ W.received wire.old }
+{
+    let mut best = timed_reading(wire);
+    for _ in 1..MOST_READINGS {
+        if best.1 <= LONGEST_READING {
+            break;
+        }
+        let next = timed_reading(wire);
+        if next.1 < best.1 {
+            best = next;
+        }
+    }
+    Some(best.0).filter(|it| is_read(it.clock))
+}
+
+// Reads the host's clock between two readings of the ticks, and tells how long that took, in nanoseconds.
+fn timed_reading<W: ClockWire>(wire: &mut W) -> (Reading, u64)
+    ensures { W.received wire.new ≡ W.received wire.old }
+{
+    let before = wire.ticks();
+    let clock = wire.clock();
+    let took = wire.ticks().saturating_sub(before);
+    let ticks = before.saturating_add(took / 2);
+    (Reading { clock, ticks }, took)
 }
 
 impl<W: ClockWire> ReferenceSource for FollowedClock<W> {
@@ -266,7 +247,7 @@ impl<W: ClockWire> ClockSource<W> {
             ClockSource::Fixed(reference) => *reference,
             ClockSource::Followed(followed) => followed.follower.in_force(now),
         };
-        reference_where_read(now.clock, state)
+        reference_where_read(Some(now.clock), state)
     }
 }
 
@@ -281,10 +262,7 @@ impl<W: ClockWire> ReferenceSource for ClockSource<W> {
             ClockSource::Fixed(reference) => *reference,
             ClockSource::Followed(followed) => followed.in_force(receipt),
         };
-        match receipt {
-            Some(clock) => reference_where_read(clock, state),
-            None => state,
-        }
+        reference_where_read(receipt, state)
     }
 
     fn tend(&mut self) {

@@ -2,9 +2,6 @@
 ghost use Rattle.std.specs.Prelude.{◌≡◌, ◌≢◌, ◌↔◌, ◌+◌, ◌≤◌, IsTrue};
 ghost use Rattle.ntp_host.specs.Looking.{IsOfFile};
 
-use std::fs::Metadata;
-use std::os::unix::fs::MetadataExt;
-
 /// How long a file that was modified may become no longer, in nanoseconds: 5 s. A write changes the time first, and the length when its
 /// octets are stored, for which a busy disk takes a while.
 const LONGEST_WRITE: u64 = 5_000_000_000;
@@ -21,19 +18,6 @@ pub struct FileState {
     /// When it was last modified, in seconds since 1970, and nanoseconds of them.
     pub seconds: i64,
     pub nanos: i64,
-}
-
-impl FileState {
-    /// Reads them in the metadata of a file.
-    pub(crate) fn of(metadata: &Metadata) -> FileState {
-        FileState {
-            device: metadata.dev(),
-            node: metadata.ino(),
-            length: metadata.len(),
-            seconds: metadata.mtime(),
-            nanos: metadata.mtime_nsec(),
-        }
-    }
 }
 
 /// What was seen of a file that grows. Moments are in nanoseconds of a clock that never goes back.

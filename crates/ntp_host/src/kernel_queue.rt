@@ -11,9 +11,7 @@ use std::net::SocketAddrV4;
 /// with its line feed. For each page of it the kernel goes over all sockets before.
 pub const SOCKETS_ROOM: usize = 16_384;
 
-/// How many such parts are read at most, and how many of them in one go.
-const MOST_PARTS: u32 = 64;
-
+/// How many such parts are read in one go at most.
 const MOST_PARTS_AT_ONCE: u32 = 16;
 
 /// The kernel's list of UDP sockets (proc(5)).
@@ -45,17 +43,9 @@ pub struct KernelQueue<'a> {
     pub room: Vec<u8>,
 }
 
-impl<'a> KernelQueue<'a> {
-    /// How many datagrams are in the queue at most.
-    pub(crate) fn most_held<R: Files>(&mut self, files: &R) -> u64 {
-        let used = used_octets(files, self.bound.local, &mut self.room);
-        most_held(used, self.bound.buffer)
-    }
-}
-
 // How many datagrams are at most in a queue that takes `used` octets of a receive buffer. Where these are not known it is not taken for
 // empty: then it is as many as the whole buffer holds, and one more, which the kernel takes in while what is used does not exceed the buffer.
-fn most_held(used: Option<u32>, buffer: u32) -> u64
+pub(crate) fn most_held(used: Option<u32>, buffer: u32) -> u64
     ensures known { IfSome used (λ octets. result ≡ octets / 640) }
     ensures unknown { IfNone used (result ≡ buffer / 640 + 1) }
 {
@@ -67,7 +57,11 @@ fn most_held(used: Option<u32>, buffer: u32) -> u64
 
 // How many octets of its receive buffer the datagrams take that wait at a UDP socket, as the kernel counts; nothing where it does not
 // tell, or where 2,048 other sockets or more stand before.
-fn used_octets<R: Files>(files: &R, local: SocketAddrV4, room: &mut Vec<u8>) -> Option<u32> {
+pub(crate) fn used_octets<R: Files>(
+    files: &R,
+    local: SocketAddrV4,
+    room: &mut Vec<u8>,
+) -> Option<u32> {
     let mut list = fs::open(files, UDP_LIST).ok()?;
     for _ in 0..MOST_PARTS_AT_ONCE {
         if let Some((used, _)) = queue_in(next_part(&mut list, room)?, local) {
@@ -82,10 +76,10 @@ fn used_octets<R: Files>(files: &R, local: SocketAddrV4, room: &mut Vec<u8>) -> 
 pub struct KernelDrops<R: Files> {
     local: SocketAddrV4,
     room: Vec<u8>,
-    // What is read on at the next look, and how many parts of it were read.
+    // What is read on at the next look.
     list: Option<R::File>,
-    parts: u32,
-    drops: u64,
+    /// How many are known of.
+    pub drops: u64,
 }
 
 impl<R: Files> KernelDrops<R> {
@@ -95,33 +89,22 @@ impl<R: Files> KernelDrops<R> {
             local,
             room: Vec::with_capacity(alloc, SOCKETS_ROOM)?,
             list: None,
-            parts: 0,
             drops: 0,
         })
     }
 
-    /// How many are known of. Those of a socket behind 8,191 others or more are not seen.
-    pub fn count(&self) -> u64 {
-        self.drops
-    }
-
     /// Reads the next part of the list; the first one again behind its end, and behind the line of the socket.
     pub fn look(&mut self, files: &R) {
-        if self.list.is_none() {
-            self.list = fs::open(files, UDP_LIST).ok();
-            self.parts = 0;
-        }
-        let Some(mut list) = self.list.take() else {
+        let begun = self.list.take();
+        let Some(mut list) = begun.or_else(|| fs::open(files, UDP_LIST).ok()) else {
             return;
         };
         let Some(text) = next_part(&mut list, &mut self.room) else {
             return;
         };
-        self.parts = self.parts.saturating_add(1);
         match queue_in(text, self.local) {
             Some((_, drops)) => self.drops = drops,
-            None if self.parts < MOST_PARTS => self.list = Some(list),
-            None => {}
+            None => self.list = Some(list),
         }
     }
 }

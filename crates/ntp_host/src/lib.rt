@@ -30,6 +30,7 @@ pub use socket::{ServiceManager, inherited, receive_buffer, set_receive_buffer, 
 pub use system_wire::SystemWire;
 pub use udp_port::UdpPort;
 pub use whole_file::{
-    emptied_file, new_file, not_regular, put_in_place, read_regular_file, replace_file,
+    emptied_file, new_file, not_regular, open_shared_file, put_in_place, read_regular_file,
+    read_shared_file, replace_file,
 };
 pub use wire::{QueuedWire, Wire};

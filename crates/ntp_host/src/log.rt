@@ -1,6 +1,6 @@
 //! The log of the daemon, for which nothing waits.
 
-use crate::socket::awaited;
+use crate::socket::ready;
 use libc::net::{POLLNVAL, POLLOUT, poll};
 use std::alloc::{AllocError, Global};
 use std::io::Write;
@@ -43,7 +43,8 @@ pub struct Log<W: Write + Drop> {
     out: W,
     form: LogForm,
     line: Vec<u8>,
-    dropped: u64,
+    /// How many lines were dropped.
+    pub dropped: u64,
 }
 
 impl<W: Write + Drop> Log<W> {
@@ -55,11 +56,6 @@ impl<W: Write + Drop> Log<W> {
             line: Vec::with_capacity(alloc, MOST_LINE_OCTETS)?,
             dropped: 0,
         })
-    }
-
-    /// How many lines were dropped.
-    pub fn dropped(&self) -> u64 {
-        self.dropped
     }
 
     /// Begins a line of a priority, and returns where its words are written, without a line feed.
@@ -74,32 +70,21 @@ impl<W: Write + Drop> Log<W> {
     /// Ends the line that was begun, and writes it or drops it.
     pub fn end(&mut self) {
         let has_room = self.line.len() < MOST_LINE_OCTETS && self.line.push(b'\n').is_ok();
-        if !has_room || !would_take() || self.out.write_all(&self.line).is_err() {
+        let would_take = ready(STANDARD_ERROR, POLLOUT) & (POLLOUT | POLLNVAL) == POLLOUT;
+        if !has_room || !would_take || self.out.write_all(&self.line).is_err() {
             self.dropped = self.dropped.saturating_add(1);
         }
     }
 }
 
-// Whether standard error would take a line at once.
-fn would_take() -> bool {
-    asked(STANDARD_ERROR, POLLOUT) & (POLLOUT | POLLNVAL) == POLLOUT
-}
-
 /// Whether standard output and standard error are open. Where one is not, a file or a socket that is opened takes its place,
 /// and would get what is written to it.
 pub fn has_standard_streams() -> bool {
-    let is_open = |descriptor| asked(descriptor, 0) & POLLNVAL == 0;
+    let is_open = |descriptor| ready(descriptor, 0) & POLLNVAL == 0;
     is_open(STANDARD_OUTPUT) && is_open(STANDARD_ERROR)
 }
 
 /// Waits for `milliseconds` thousandths of a second.
 pub fn pause(milliseconds: i32) {
     poll(&mut [], milliseconds);
-}
-
-// What a descriptor is ready for, of these events, without waiting.
-fn asked(descriptor: i32, events: i16) -> i16 {
-    let mut asked = [awaited(descriptor, events)];
-    poll(&mut asked, 0);
-    asked[0].revents
 }

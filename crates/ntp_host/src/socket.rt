@@ -1,10 +1,10 @@
 //! The sockets of the daemon: the one that it serves at, and its service manager's.
-ghost use Rattle.std.specs.Prelude.{◌≤◌, pos};
+ghost use Rattle.std.specs.Prelude.{◌≡◌, ◌≤◌, ◌≤ℤ◌, ◌<ℤ◌, pos};
 ghost use Rattle.libc.specs.Net.{SockOption};
 
 use libc::net::{
-    AF_UNIX, IPPROTO_TCP, MSG_DONTWAIT, MSG_NOSIGNAL, SO_RCVBUF, SO_SNDBUF, SOCK_CLOEXEC,
-    SOCK_DGRAM, SOL_SOCKET, TCP_NODELAY, getsockopt, sendto, setsockopt, socket,
+    AF_UNIX, IPPROTO_TCP, MSG_DONTWAIT, MSG_NOSIGNAL, POLLERR, SO_RCVBUF, SO_SNDBUF, SOCK_CLOEXEC,
+    SOCK_DGRAM, SOL_SOCKET, TCP_NODELAY, getsockopt, poll, sendto, setsockopt, socket,
 };
 use libc::types::pollfd;
 use os::{FromRawFd, errno};
@@ -19,28 +19,17 @@ const FIRST_INHERITED: i32 = 3;
 /// wanted, or is the system's.
 pub fn inherited() -> io::Result<UdpSocket> {
     let socket = unsafe { UdpSocket::from_raw_fd(FIRST_INHERITED) };
-    let local = match socket.local_addr() {
-        Ok(SocketAddr::V4(local)) => local,
+    let wanted = match socket.local_addr() {
         // An address of another family than the two of IP is an invalid one.
         Err(error) if error.kind() != ErrorKind::InvalidInput => return Err(error),
-        _ => return Err(unsuited("an IPv4 socket is wanted")),
+        Err(_) | Ok(SocketAddr::V6(_)) => "an IPv4 socket is wanted",
+        // Only a socket of TCP has this option (tcp(7)).
+        Ok(_) if option_of(&socket, IPPROTO_TCP, TCP_NODELAY).is_ok() => "a UDP socket is wanted",
+        Ok(local) if local.port() == 0 => "a socket that is bound is wanted",
+        Ok(_) if socket.peer_addr().is_ok() => "a socket that is not connected is wanted",
+        Ok(_) => return Ok(socket),
     };
-    // Only a socket of TCP has this option (tcp(7)).
-    if option_of(&socket, IPPROTO_TCP, TCP_NODELAY).is_ok() {
-        return Err(unsuited("a UDP socket is wanted"));
-    }
-    if local.port() == 0 {
-        return Err(unsuited("a socket that is bound is wanted"));
-    }
-    if socket.peer_addr().is_ok() {
-        return Err(unsuited("a socket that is not connected is wanted"));
-    }
-    Ok(socket)
-}
-
-// What is wrong with a socket that was handed down.
-fn unsuited(what: &str) -> io::Error {
-    io::Error::new(ErrorKind::InvalidInput, what)
+    Err(io::Error::new(ErrorKind::InvalidInput, wanted))
 }
 
 /// Asks for a receive buffer of `octets` octets.
@@ -133,6 +122,21 @@ impl ServiceManager {
             )
         };
     }
+}
+
+/// What a descriptor is ready for, of these events, without waiting; with what poll tells unasked, and `POLLERR` where it fails.
+pub(crate) fn ready(descriptor: i32, events: i16) -> i16 {
+    let mut asked = [awaited(descriptor, events)];
+    let count = poll(&mut asked, 0);
+    told_by(count, asked[0].revents)
+}
+
+// What poll has told of a descriptor. Where it failed that is no quiet one.
+fn told_by(count: i32, revents: i16) -> i16
+    ensures failed { count <ℤ pos 0 → result ≡ POLLERR }
+    ensures told { pos 0 ≤ℤ count → result ≡ revents }
+{
+    if count < 0 { POLLERR } else { revents }
 }
 
 /// A descriptor that is waited for until it is ready for one of these events.

@@ -1,8 +1,8 @@
 //! The wire of the host.
 
 use crate::clock::moment_now;
-use crate::kernel_queue::KernelQueue;
-use crate::socket::awaited;
+use crate::kernel_queue::{KernelQueue, most_held, used_octets};
+use crate::socket::{awaited, ready};
 use crate::wire::{QueuedWire, Wire};
 use libc::net::{POLLIN, POLLRDHUP, poll};
 use ntp_packet::Moment;
@@ -15,34 +15,17 @@ use std::time::{Clock, Instant};
 
 /// How long one wait for a datagram lasts at most at a queue, in thousandths of a second: so soon is a command carried out that is
 /// written while nobody asks, and so old is what is known of the queue when the program is stopped then.
-const LONGEST_WAIT: u16 = 20;
+const LONGEST_WAIT: i32 = 20;
 
 /// One bound UDP socket, with a clock. Nothing is known of what its calls answer. They take no memory.
-///
-/// `Q` is what is kept to ask for the socket's queue, if that is to be asked.
 #[derive(Drop)]
 pub struct SystemWire<C: Clock + Drop, Q = ()> {
-    socket: UdpSocket,
-    clock: C,
-    queue: Q,
-}
-
-impl<C: Clock + Drop> SystemWire<C> {
-    /// A socket, whose time limit is the longest that a receive takes; with none it takes as long as nothing comes.
-    pub fn new(socket: UdpSocket, clock: C) -> SystemWire<C> {
-        SystemWire::with_queue(socket, clock, ())
-    }
-}
-
-impl<C: Clock + Drop, Q> SystemWire<C, Q> {
-    /// A socket whose queue can be asked.
-    pub fn with_queue(socket: UdpSocket, clock: C, queue: Q) -> SystemWire<C, Q> {
-        SystemWire {
-            socket,
-            clock,
-            queue,
-        }
-    }
+    /// The socket, whose time limit is the longest that a receive takes; with none it takes as long as nothing comes.
+    pub socket: UdpSocket,
+    /// The clock.
+    pub clock: C,
+    /// What is kept to ask for the socket's queue, if that is to be asked.
+    pub queue: Q,
 }
 
 impl<C: Clock + Drop, Q: Drop> Wire for SystemWire<C, Q> {
@@ -65,11 +48,12 @@ impl<'a, C: Clock + Files + Drop> QueuedWire for SystemWire<C, KernelQueue<'a>> 
     }
 
     fn most_held(&mut self) -> u64 {
-        self.queue.most_held(&self.clock)
+        let KernelQueue { bound, room, .. } = &mut self.queue;
+        most_held(used_octets(&self.clock, bound.local, room), bound.buffer)
     }
 
     fn is_empty(&mut self) -> bool {
-        poll(&mut [awaited(self.socket.as_raw_fd(), POLLIN)], 0) == 0
+        ready(self.socket.as_raw_fd(), POLLIN) == 0
     }
 
     /// A wait ends too when that has come which is expected at another socket. It takes `LONGEST_WAIT` at most; where the port
@@ -80,13 +64,11 @@ impl<'a, C: Clock + Files + Drop> QueuedWire for SystemWire<C, KernelQueue<'a>> 
             awaited(self.socket.as_raw_fd(), POLLIN | POLLRDHUP),
             awaited(clocks.expected.get(), POLLIN),
         ];
-        if !bound.spins {
-            poll(&mut waits, i32::from(LONGEST_WAIT));
-            return waits[0].revents & POLLRDHUP != 0;
-        }
+        let longest = if bound.spins { 0 } else { LONGEST_WAIT };
         let begun = Instant::now(&self.clock).ok();
         for _ in 0..u64::MAX {
-            if poll(&mut waits, 0) != 0 || is_over(begun, &self.clock) {
+            let has_ended = poll(&mut waits, longest) != 0 || !bound.spins;
+            if has_ended || is_over(begun, &self.clock) {
                 break;
             }
         }
@@ -101,7 +83,7 @@ impl<'a, C: Clock + Files + Drop> QueuedWire for SystemWire<C, KernelQueue<'a>> 
 // Whether the longest wait has passed since it began, or no clock says.
 fn is_over<C: Clock>(begun: Option<Instant>, clock: &C) -> bool {
     match begun.map(|begun| begun.elapsed(clock)) {
-        Some(Ok(passed)) => passed.as_millis() >= u128::from(LONGEST_WAIT),
+        Some(Ok(passed)) => passed.as_millis() >= LONGEST_WAIT as u128,
         _ => true,
     }
 }

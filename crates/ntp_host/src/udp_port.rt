@@ -17,12 +17,14 @@ use std::net::{Ipv4Addr, SocketAddr, SocketAddrV4};
 /// fault.
 #[derive(Drop)]
 pub struct UdpPort<W: Wire> {
-    wire: W,
+    /// The wire.
+    pub wire: W,
     // What the clock showed last in this turn, and whether a send was tried since.
     shown: Option<Moment>,
     has_tried_send: bool,
     counts: PortCounts,
-    would_wait: u64,
+    /// How many replies were not sent since they would have waited for room in the send buffer, as far as the number can count.
+    pub would_wait: u64,
     ghost few: { failed_calls counts < 2 ^ 64 },
 }
 
@@ -41,18 +43,6 @@ impl<W: Wire> UdpPort<W> {
             counts: PortCounts::NONE,
             would_wait: 0,
         }
-    }
-
-    /// The wire.
-    pub fn wire(&self) -> &W
-        ensures { result.now ≡ self.now.wire }
-    {
-        &self.wire
-    }
-
-    /// How many replies were not sent since they would have waited for room in the send buffer, as far as the number can count.
-    pub fn would_wait(&self) -> u64 {
-        self.would_wait
     }
 
     // Takes a datagram, for which it waits as the wire does; nothing where none came in time, or a signal came.
@@ -119,14 +109,6 @@ impl<W: Wire> UdpPort<W> {
         self.would_wait = self.would_wait.saturating_add(u64::from(would_wait));
         self.counts.failed_sends += 1;
         Err(PortFault::Send)
-    }
-
-    // Counts a wait that ended with nothing.
-    fn count_idle(&mut self)
-        ensures counts { (CountsWait self.old.counts self.new.counts None) × (self.new.counts.dropped ≡ self.old.counts.dropped) }
-        ensures turns { told_by self.new ≡ told_by self.old }
-    {
-        self.counts.idle_waits = self.counts.idle_waits.saturating_add(1);
     }
 }
 
@@ -207,7 +189,7 @@ impl<W: Wire> TimedPort for UdpPort<W> {
     ) -> Option<Result<Arrival, PortFault>> {
         let received = self.take(datagram);
         if received.is_none() {
-            self.count_idle();
+            self.counts.idle_waits = self.counts.idle_waits.saturating_add(1);
         }
         received
     }
@@ -231,11 +213,7 @@ impl<W: QueuedWire> QueuedPort for UdpPort<W> {
         if self.wire.wait() {
             return Some(self.failed());
         }
-        let received = self.take(datagram);
-        if received.is_none() {
-            self.count_idle();
-        }
-        received
+        self.receive_in_time(datagram)
     }
 
     fn drop_next(&mut self) -> bool {

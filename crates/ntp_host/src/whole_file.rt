@@ -1,7 +1,7 @@
 //! Files that are read and written whole: regular ones alone, so that nothing waits for who has the other end of a pipe.
 
 use std::alloc::Allocator;
-use std::fs::{self, Files, Metadata, OpenFile, OpenOptions};
+use std::fs::{self, Files, OpenFile, OpenOptions};
 use std::io::{self, ErrorKind, Read, Write};
 
 /// The octets of the regular file at a path, cut to one more than `most`, so that a longer file is still told from one of `most` octets. It
@@ -12,26 +12,56 @@ pub fn read_regular_file<R: Files, A: Allocator + Copy>(
     path: &str,
     most: u32,
 ) -> io::Result<Vec<u8, A>> {
-    let (mut file, _) = open_regular_file(files, path)?;
+    octets_of(open_regular_file(files, path)?, alloc, most)
+}
+
+/// Returns the same of a file in whose place another user may put a pipe at any moment.
+pub fn read_shared_file<R: Files, A: Allocator + Copy>(
+    files: &R,
+    alloc: A,
+    path: &str,
+    most: u32,
+) -> io::Result<Vec<u8, A>> {
+    octets_of(open_shared_file(files, path)?, alloc, most)
+}
+
+// The octets of an open file, cut to one more than `most`.
+fn octets_of<F: Read + Drop, A: Allocator + Copy>(
+    file: F,
+    alloc: A,
+    most: u32,
+) -> io::Result<Vec<u8, A>> {
     let mut octets = Vec::new(alloc);
     file.take(u64::from(most) + 1).read_to_end(&mut octets)?;
     Ok(octets)
 }
 
-/// The regular file at a path, to be read, and its metadata.
-pub(crate) fn open_regular_file<R: Files>(
-    files: &R,
-    path: &str,
-) -> io::Result<(R::File, Metadata)> {
+/// The regular file at a path, to be read.
+pub(crate) fn open_regular_file<R: Files>(files: &R, path: &str) -> io::Result<R::File> {
     // To open a pipe might take for ever.
     if fs::metadata(files, path)?.is_file() {
         let file = fs::open(files, path)?;
-        let metadata = file.metadata()?;
-        if metadata.is_file() {
-            return Ok((file, metadata));
+        if file.metadata()?.is_file() {
+            return Ok(file);
         }
     }
     Err(not_regular())
+}
+
+/// The regular file at a path where another user may put a pipe at any moment, to be read. It is opened for writing too, if it may be: so a
+/// pipe is opened at once, whoever holds its other end (fifo(7)).
+pub fn open_shared_file<R: Files>(files: &R, path: &str) -> io::Result<R::File> {
+    if !fs::metadata(files, path)?.is_file() {
+        return Err(not_regular());
+    }
+    let file = match OpenOptions::new().read(true).write(true).open(files, path) {
+        Err(error) if error.kind() == ErrorKind::PermissionDenied => fs::open(files, path)?,
+        file => file?,
+    };
+    match file.metadata()?.is_file() {
+        true => Ok(file),
+        false => Err(not_regular()),
+    }
 }
 
 /// That a regular file is wanted, as an error.

@@ -1,5 +1,5 @@
 -- Octets have a reading or a fault.
-use Rattle.std.proofs.Common.{◌≡◌, ℕ, zero, suc, ◌+◌, ◌%◌, ◌^◌, ◌<◌, ◌≤◌, ◌⊎◌, List, ◌++◌, length, take, drop, refl, sym, ap, subst, arith, inl, inr}
+use Rattle.std.proofs.Common.{◌≡◌, ℕ, zero, suc, ◌+◌, ◌%◌, ◌^◌, ◌<◌, ◌≤◌, ◌⊎◌, List, length, take, drop, refl, sym, arith, inl, inr}
 use Rattle.std.specs.Int.{w32, to_be_bytes, from_be_bytes}
 use Rattle.std.proofs.{lemmas.Bool.cases_lt, lemmas.Bool.cases_eq, lemmas.Nat.be_bytes_4}
 use Rattle.std.proofs.lemmas.List.{length-append, length-take, length-drop, nil_from_length}
@@ -7,7 +7,7 @@ use Rattle.ntp_packet.specs.{Field.written_length, declared.digests.Digest.Diges
 use Rattle.ntp_packet.specs.declared.digests.Digest.TheVariants.{Md5, Sha1}
 use Rattle.ntp_packet.specs.{Faults.Stands, Faults.Fails, declared.malformed.Malformed.Malformed}
 use Rattle.ntp_packet.specs.Tail.{TailValue, NoTail, BareTail, MacTail, digest_octets, tail_octets, IsTail}
-use Rattle.ntp_packet.specs.Request.{RequestValue, IsRequest, request_of, signed_octets}
+use Rattle.ntp_packet.specs.Request.{RequestValue, IsRequest}
 use Rattle.ntp_packet.proofs.RestFaults.{IsFieldShort, IsFieldUnaligned, IsFieldPastEnd, IsNoTail}
 use Rattle.ntp_packet.proofs.{OneAnswer.HasOneReading, OneAnswer.HasOneFault, Octets.AreOctets, Octets.AreOctets-take}
 use Rattle.ntp_packet.proofs.{Headers.header-there, Tails.number-alone, Tails.number-and-digest, Composed.composed}
@@ -64,15 +64,7 @@ Answered octets = ((r : RequestValue) × IsRequest octets r) ⊎ ((fault : Malfo
 
 module _ (octets : List ℕ) (are : AreOctets octets) (fits : length octets ≤ 1024) where
   with-tail : (place : ℕ) (rest : List ℕ) → Stands octets place rest → TailThere rest → Answered octets
-  with-tail place rest s t =
-      let whole : octets ≡ signed_octets s.header s.fields ++ tail_octets t.tail = rw t.spelled s.spelled in
-      let room : length (signed_octets s.header s.fields) + length (tail_octets t.tail) ≤ 1024 =
-      omega (arith, ap length whole, length-append (signed_octets s.header s.fields) (tail_octets t.tail)) in
-      inl (
-        request_of s.header s.fields t.tail,
-        subst (λ o. IsRequest o (request_of s.header s.fields t.tail)) (sym whole)
-            (composed s.header s.fields t.tail s.is_header (rw t.spelled s.are_fields) t.is room),
-      )
+  with-tail place rest s t = grind (arith, length-append, composed)
 
   at-end : (place : ℕ) (rest : List ℕ) → Stands octets place rest → length rest ≤ 24 → Answered octets
   at-end place rest s end =
@@ -125,18 +117,4 @@ answered octets are =
 
 -- and only one
 pub one-answer : (octets : List ℕ) → AreOctets octets → HasOneReading octets ⊎ HasOneFault octets
-one-answer octets are =
-    elim (answered octets are) [
-      | inl a ↦ inl (record {
-        request = a.0;
-        is_request = a.1;
-        only = λ other is. one-reading octets other a.0 is a.1;
-        sound = λ fault f. no-fault octets a.0 fault a.1 f;
-      })
-      | inr a ↦ inr (record {
-        fault = a.0;
-        fails = a.1;
-        only = λ other f. one-fault octets other a.0 f a.1;
-        unread = λ r is. no-fault octets r a.0 is a.1;
-      })
-    ]
+one-answer octets are = grind (arith, answered, one-reading, no-fault, one-fault)

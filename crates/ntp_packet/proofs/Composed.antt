@@ -21,7 +21,7 @@ AreFields-mac (f ∷ fs) after mac all =
     let len = length-append (field_octets f) (flat_map field_octets fs) in
     (all.0, omega arith, AreFields-mac fs after mac all.1)
 
-pub composed-mac : (h : HeaderFields) (fs : List Field) (t : TailValue) → IsHeader h → All IsField fs → IsTail t
+pub composed_mac : (h : HeaderFields) (fs : List Field) (t : TailValue) → IsHeader h → All IsField fs → IsTail t
     → 20 ≤ length (tail_octets t) → length (signed_octets h fs) + length (tail_octets t) ≤ 1024
     → IsRequest (signed_octets h fs ++ tail_octets t) (request_of h fs t)
-composed-mac h fs t is-header all is-tail mac fits = grind (arith, composed, AreFields-mac, recursion_from_All)
+composed_mac h fs t is-header all is-tail mac fits = grind (arith, composed, AreFields-mac, recursion_from_All)

@@ -13,12 +13,7 @@ pub record Begins (rest : List ℕ) : Type 0 where
   pub whole : IsWhole rest
 
 Begins-field : (f : Field) (rest : List ℕ) → IsField f → 24 < length (field_octets f ++ rest) → Begins (field_octets f ++ rest)
-Begins-field f rest is more =
-    let written = written_length-field f rest is in
-    let least = is.least in
-    let len = length-append (field_octets f) rest in
-    let size = length-field_octets f in
-    record { more = more; whole = record { least = omega arith; aligned = rw written is.aligned; whole = omega arith } }
+Begins-field f rest is more = grind (arith, written_length-field, length-append, length-field_octets)
 
 Begins-fields : (g : Field) (gs : List Field) (rest : List ℕ) → AreFields (g ∷ gs) (length rest)
     → Begins (flat_map field_octets (g ∷ gs) ++ rest)

@@ -15,8 +15,8 @@ AreFields-each (f ∷ fs) after are = (are.0, AreFields-each fs after are.2)
 
 module _ (octets : List ℕ) (place : ℕ) (rest : List ℕ) (s : Stands octets place rest) where
   -- a place is behind the header
-  pub place-behind : 48 ≤ place
-  place-behind = omega (arith, s.place_is, length-signed s.header s.fields s.is_header)
+  pub place_behind : 48 ≤ place
+  place_behind = omega (arith, s.place_is, length-signed s.header s.fields s.is_header)
 
   take-place : take place octets ≡ signed_octets s.header s.fields
   take-place = ap (take place) s.spelled ∙ take_at (signed_octets s.header s.fields) rest place (sym s.place_is)

@@ -20,14 +20,7 @@ units_later-apart n i j h few e = omega arith
 
 -- the numbers of at most 2^64 stamps in a row differ
 distinct-later : (n m : ℕ) → m ≤ 2 ^ 64 → IsDistinct eqb (map (units_later n) (range_with_len 0 m))
-distinct-later n m few =
-    IsDistinct-from_apart eqb _ (λ i j d h short.
-    let below : j < m = subst (λ k. j < k) (length-map-range_with_len (units_later n) 0 m) short in
-    rw (
-      get_or-map-range_with_len (units_later n) 0 m i i d (omega arith) (omega arith),
-      get_or-map-range_with_len (units_later n) 0 m j j d (omega arith) (omega arith),
-    )
-    (ne_eqb _ _ (units_later-apart n i j h (omega arith))))
+distinct-later n m few = grind (arith, IsDistinct-from_apart, length-map-range_with_len, get_or-map-range_with_len, ne_eqb, units_later-apart)
 
 -- where each f k of a row is in ys, so is each member of the row
 members-all : (f : ℕ → ℕ) (ys : List ℕ) (a m : ℕ) → ((k : ℕ) → a ≤ k → k < a + m → list_any (eqb (f k)) ys ≡ true)
@@ -102,9 +95,9 @@ find-first p f a (suc m) k from below before passes =
     ]
 
 -- no other stamp than the fresh one is the first free one
-pub fresh-from_IsFresh : (s : Stamp) (avoid : List Stamp) (r : Stamp) → IsFresh s avoid r → r ≡ fresh s avoid
+pub fresh_from_IsFresh : (s : Stamp) (avoid : List Stamp) (r : Stamp) → IsFresh s avoid r → r ≡ fresh s avoid
 unfolding fresh
-fresh-from_IsFresh s avoid r is =
+fresh_from_IsFresh s avoid r is =
     let found : find (is_free avoid) (map (later s) (range_with_len 0 (length avoid + 2))) ≡ Some (later s is.steps) =
     find-first (is_free avoid) (later s) 0 (length avoid + 2) is.steps (omega arith) (omega (arith, is.few))
     (λ j _ before. false_from_ne_true _ (is.least j before)) (subst (λ x. is_free avoid x ≡ true) is.reached is.free) in
@@ -122,7 +115,7 @@ IsFresh-fresh s avoid small =
             free = first.passes;
             least = λ j before free. both_ways _ (first.before j before) free;
           } in
-          subst (IsFresh s avoid) (fresh-from_IsFresh s avoid _ is) is
+          subst (IsFresh s avoid) (fresh_from_IsFresh s avoid _ is) is
       | inr none ↦ absurd (some-free s avoid small none)
     ]
 
@@ -200,3 +193,6 @@ fresh-below s avoid small = IsFresh-below (IsFresh-fresh s avoid small)
 pub free-from_apart : (avoid : List Stamp) (s : Stamp) → s.0 ≢ 0 → ((a : Stamp) → Contains avoid a → a ≢ s) → is_free avoid s ≡ true
 unfolding is_free
 free-from_apart avoid s known apart = grind (arith, and_from, not_from_false, ne_eqb, false_from_ne_true, Any-from_list_any, eqb-true)
+
+-- the first candidate that is free, and what a test tells of it
+pub ruleset freshness = (cases_lt, first-is-fresh, last-is-fresh, free-nonzero, free-from_test, taken-from_test)

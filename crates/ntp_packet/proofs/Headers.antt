@@ -3,29 +3,29 @@ use Rattle.std.proofs.Common.{◌≡◌, ℕ, ◌+◌, ◌≤◌, arith, List, �
 use Rattle.std.specs.List.{flat_map}
 use Rattle.std.proofs.lemmas.List.{take_at, drop_at, length-append, length-take}
 use Rattle.ntp_packet.specs.Header.{HeaderFields, header_octets, IsHeader}
-use Rattle.ntp_packet.proofs.Readings.{header_in, fits-in, spelled-again, only-header, length-header_octets}
+use Rattle.ntp_packet.proofs.Readings.{header_in, fits-in, spelled-again, only-header, length_header_octets}
 use Rattle.ntp_packet.specs.{Field.Field, Field.field_octets, Request.signed_octets}
 use Rattle.ntp_packet.proofs.Octets.{AreOctets, AreOctets-take}
 
 pub length-signed : (h : HeaderFields) (fs : List Field) → IsHeader h → length (signed_octets h fs) ≡ 48 + length (flat_map field_octets fs)
 unfolding signed_octets
-length-signed h fs is = omega (arith, length-append (header_octets h) (flat_map field_octets fs), length-header_octets h is)
+length-signed h fs is = omega (arith, length-append (header_octets h) (flat_map field_octets fs), length_header_octets h is)
 
 -- the header at the front
 pub take-signed : (h : HeaderFields) (fs : List Field) (rest : List ℕ) → IsHeader h → take 48 (signed_octets h fs ++ rest) ≡ header_octets h
 unfolding signed_octets
-take-signed h fs rest is = search (rules, is, append_assoc, take_at, length-header_octets)
+take-signed h fs rest is = search (rules, is, append_assoc, take_at, length_header_octets)
 
 -- what stands behind it
 pub drop-signed : (h : HeaderFields) (fs : List Field) (rest : List ℕ) → IsHeader h
     → drop 48 (signed_octets h fs ++ rest) ≡ flat_map field_octets fs ++ rest
 unfolding signed_octets
-drop-signed h fs rest is = search (rules, is, append_assoc, drop_at, length-header_octets)
+drop-signed h fs rest is = search (rules, is, append_assoc, drop_at, length_header_octets)
 
 -- the fields behind it
 pub drop-header : (h : HeaderFields) (fs : List Field) → IsHeader h → drop 48 (signed_octets h fs) ≡ flat_map field_octets fs
 unfolding signed_octets
-drop-header h fs is = drop_at (header_octets h) (flat_map field_octets fs) 48 (length-header_octets h is)
+drop-header h fs is = drop_at (header_octets h) (flat_map field_octets fs) 48 (length_header_octets h is)
 
 -- octets begin with one header at most
 pub same-header : (h h' : HeaderFields) → IsHeader h → IsHeader h' → header_octets h ≡ header_octets h' → h ≡ h'

@@ -37,3 +37,6 @@ in_parts octets n least =
 
 pub AreOctets-all : (octets : List ℕ) → All (λ octet. octet < 256) octets → AreOctets octets
 AreOctets-all octets all i = grind (arith, cases_lt, get_or_past)
+
+-- a member of a part
+pub ruleset parts = (get_or-take, get_or-drop)

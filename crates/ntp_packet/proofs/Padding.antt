@@ -8,9 +8,9 @@ use Rattle.ntp_packet.proofs.Spelling.{length-field_octets}
 length-value : (kind : ℕ) (value : List ℕ) → length (padded_field kind value).value ≡ length value + padding (length value)
 length-value kind value = grind (arith, length-append, length-replicate)
 
-pub length-padded_field : (kind : ℕ) (value : List ℕ)
+pub length_padded_field : (kind : ℕ) (value : List ℕ)
     → length (field_octets (padded_field kind value)) ≡ 4 + (length value + padding (length value))
-length-padded_field kind value = length-field_octets (padded_field kind value) ∙ ap (λ n. 4 + n) (length-value kind value)
+length_padded_field kind value = length-field_octets (padded_field kind value) ∙ ap (λ n. 4 + n) (length-value kind value)
 
 padding-aligned : (n : ℕ) → (4 + (n + padding n)) % 4 ≡ 0
 padding-aligned n = omega arith
@@ -18,9 +18,9 @@ padding-aligned n = omega arith
 padding-least : (n : ℕ) → 16 ≤ 4 + (n + padding n)
 padding-least n = omega arith
 
-pub IsField-padded : (kind : ℕ) (value : List ℕ) → kind < 2 ^ 16
+pub IsField_padded : (kind : ℕ) (value : List ℕ) → kind < 2 ^ 16
     → 4 + (length value + padding (length value)) < 2 ^ 16 → IsField (padded_field kind value)
-IsField-padded kind value k fits = search (rules, length-value, padding-aligned, padding-least)
+IsField_padded kind value k fits = search (rules, length-value, padding-aligned, padding-least)
 
 appended : (old kind len value zeros a b c d : List ℕ) → a ≡ old ++ kind → b ≡ a ++ len → c ≡ b ++ value → d ≡ c ++ zeros
     → d ≡ old ++ (kind ++ len ++ (value ++ zeros))

@@ -61,10 +61,10 @@ Stands-next octets place rest s are more whole =
     (IsField-first_field rest mine whole) (first_field-octets rest mine whole) more)
 
 -- the same within the octets: part is what is left from the place on
-pub Stands-on : (octets : List ℕ) (at n : ℕ) (part : List ℕ) → AreOctets octets → (at ≤ length octets) × Stands octets at (drop at octets)
+pub Stands_on : (octets : List ℕ) (at n : ℕ) (part : List ℕ) → AreOctets octets → (at ≤ length octets) × Stands octets at (drop at octets)
     → part ≡ drop at octets → 24 < length octets - at → n ≡ written_length part → 16 ≤ n → n % 4 ≡ 0 → n ≤ length part
     → (at + n ≤ length octets) × Stands octets (at + n) (drop (at + n) octets)
-Stands-on octets at n part are s part-is more n-is least aligned whole =
+Stands_on octets at n part are s part-is more n-is least aligned whole =
     let len = ap length part-is ∙ length-drop at octets in
     let here : Stands octets at part = rw part-is s.1 in
     let next =

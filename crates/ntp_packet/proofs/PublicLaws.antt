@@ -13,7 +13,7 @@ pub use Rattle.ntp_packet.proofs.Parts.{four-cells}
 -- a fresh stamp is the first free one: one of the first length avoid + 2 is free
 pub use Rattle.ntp_packet.proofs.Freshness.{IsFresh-fresh}
 -- no other stamp is the first free one
-pub use Rattle.ntp_packet.proofs.Freshness.{fresh-from_IsFresh}
+pub use Rattle.ntp_packet.proofs.Freshness.{fresh_from_IsFresh}
 -- a fresh stamp is not 0
 pub use Rattle.ntp_packet.proofs.Freshness.{fresh-nonzero}
 -- a fresh stamp is none of those to avoid
@@ -27,7 +27,7 @@ pub use Rattle.ntp_packet.proofs.Freshness.{free-apart}
 -- a stamp that is not 0 and none of those to avoid is free
 pub use Rattle.ntp_packet.proofs.Freshness.{free-from_apart}
 -- a header has 48 octets
-pub use Rattle.ntp_packet.proofs.Readings.{length-header_octets}
+pub use Rattle.ntp_packet.proofs.Readings.{length_header_octets}
 -- what is signed has the octets of the header and of the extension fields
 pub use Rattle.ntp_packet.proofs.Headers.{length-signed}
 -- a tail has at most 24 octets

@@ -129,6 +129,6 @@ pub only-header : (h : HeaderFields) (b : List ℕ) → IsHeader h → header_oc
 only-header h b is e = sym (header-again h is) ∙ ap header_in e
 
 -- a header has 48 octets
-pub length-header_octets : (h : HeaderFields) → IsHeader h → length (header_octets h) ≡ 48
+pub length_header_octets : (h : HeaderFields) → IsHeader h → length (header_octets h) ≡ 48
 unfolding header_octets
-length-header_octets h is = grind (arith, four-cells)
+length_header_octets h is = grind (arith, four-cells)

@@ -33,8 +33,8 @@ whole-eras a b d fa fb is =
     ]
 
 -- the difference of stamps is one
-pub IsDifference-difference : (a b : Stamp) → a.0 < 2 ^ 64 → b.0 < 2 ^ 64 → IsDifference a b (difference a b)
+pub IsDifference_difference : (a b : Stamp) → a.0 < 2 ^ 64 → b.0 < 2 ^ 64 → IsDifference a b (difference a b)
 unfolding difference
-IsDifference-difference a b fa fb =
+IsDifference_difference a b fa fb =
     let apart = whole-eras a.0 b.0 (difference a b) fa fb refl in
     record { signed = signed-fits ((a.0 + (2 ^ 64 - b.0)) % 2 ^ 64) (omega arith); eras = apart.0; same = apart.1 }

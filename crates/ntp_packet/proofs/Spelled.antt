@@ -19,8 +19,7 @@ first_fields-suc n octets e = grind arith
 first_fields-spelled : (fs : List Field) (n : ℕ) → AllByRecursion IsField fs → length (flat_map field_octets fs) ≤ n
     → first_fields n (flat_map field_octets fs) ≡ fs
 first_fields-spelled [] n all room = first_fields-nil n
-first_fields-spelled (f ∷ fs) zero all room =
-    absurd (omega (arith, length-append (field_octets f) (flat_map field_octets fs), length-field_octets f))
+first_fields-spelled (f ∷ fs) zero all room = grind (arith, length-append, length-field_octets)
 first_fields-spelled (f ∷ fs) (suc n) all room =
     let len = length-append (field_octets f) (flat_map field_octets fs) in
     let size = length-field_octets f in
@@ -33,14 +32,14 @@ first_fields-spelled (f ∷ fs) (suc n) all room =
       first_fields-spelled fs n all.1 rest,
     ) refl
 
-pub fields_of-spelled : (fs : List Field) → AllByRecursion IsField fs → fields_of (flat_map field_octets fs) ≡ fs
+pub fields_of_spelled : (fs : List Field) → AllByRecursion IsField fs → fields_of (flat_map field_octets fs) ≡ fs
 unfolding fields_of
-fields_of-spelled fs all = first_fields-spelled fs (length (flat_map field_octets fs)) all (omega arith)
+fields_of_spelled fs all = first_fields-spelled fs (length (flat_map field_octets fs)) all (omega arith)
 
 -- the octets of fields spell just those
 pub SpellFields-fields : (octets : List ℕ) (fs : List Field) → AllByRecursion IsField fs → octets ≡ flat_map field_octets fs
     → SpellFields octets × (fields_of octets ≡ fs)
-SpellFields-fields octets fs all e = grind (arith, fields_of-spelled)
+SpellFields-fields octets fs all e = grind (arith, fields_of_spelled)
 
 -- what the octets of fields begin with, and what is behind the first
 pub record FirstStands (octets : List ℕ) : Type 0 where
@@ -59,8 +58,8 @@ first_stands f fs i all =
     record {
       long = omega arith;
       least = omega arith;
-      fields = rw (first_field-spelled f (flat_map field_octets fs) i, drop-field f (flat_map field_octets fs) i, fields_of-spelled fs all)
-          (fields_of-spelled (f ∷ fs) (i, all));
+      fields = rw (first_field-spelled f (flat_map field_octets fs) i, drop-field f (flat_map field_octets fs) i, fields_of_spelled fs all)
+          (fields_of_spelled (f ∷ fs) (i, all));
       rest = rw (drop-field f (flat_map field_octets fs) i) (SpellFields-fields (flat_map field_octets fs) fs all refl).0;
     }
 
@@ -74,7 +73,7 @@ pub SpellFields-first : (octets : List ℕ) → 0 < length octets → SpellField
 SpellFields-first octets some s = stands_first octets (fields_of octets) some s.each s.whole
 
 pub fields_of-nil : (octets : List ℕ) → length octets ≡ 0 → fields_of octets ≡ []
-fields_of-nil [] none = fields_of-spelled [] tt
+fields_of-nil [] none = fields_of_spelled [] tt
 fields_of-nil (octet ∷ octets) none = absurd (omega arith)
 
 -- a field and what is behind it, cut from the octets where its length says

@@ -56,18 +56,11 @@ module _ (octets : List ℕ) (are : AreOctets octets) where
       (AreOctets-take 2 (drop 2 octets) (AreOctets-drop 2 octets are)) refl
 
   pub length-first_field : IsWhole octets → 4 + length (first_field octets).value ≡ written_length octets
-  length-first_field f =
-      let least = f.least in
-      let whole = f.whole in
-      omega (arith, length-take (written_length octets - 4) (drop 4 octets), length-drop 4 octets)
+  length-first_field f = grind (arith, length-take, length-drop)
 
   -- then a field stands first
   pub IsField-first_field : IsWhole octets → IsField (first_field octets)
-  IsField-first_field f =
-      let len = length-first_field f in
-      let below = written_length-fits in
-      let least = f.least in
-      record { kind = written_kind-fits; fits = omega arith; aligned = rw len f.aligned; least = omega arith }
+  IsField-first_field f = grind (arith, length-first_field, written_length-fits, written_kind-fits)
 
   pub first_field-octets : IsWhole octets → field_octets (first_field octets) ++ drop (written_length octets) octets ≡ octets
   unfolding field_octets

@@ -1,7 +1,8 @@
 -- A tail that is read is spelled so, and what is spelled is read again.
 use Rattle.std.proofs.Common.{◌≡◌, ℕ, ◌^◌, ◌<◌, ◌≤◌, List, ◌++◌, length, take, drop, sym, ap, ◌∙◌, arith}
 use Rattle.std.specs.Int.{w32, to_be_bytes, from_be_bytes}
-use Rattle.std.proofs.{lemmas.List.take_all, lemmas.List.take-append-drop, lemmas.Nat.from_be_bytes-to_be_bytes_4}
+use Rattle.std.proofs.lemmas.List.{take_all, take-append-drop, take_rest, nil_from_length}
+use Rattle.std.proofs.lemmas.Nat.{from_be_bytes-to_be_bytes_4}
 use Rattle.ntp_packet.specs.Tail.{TailValue, tail_octets, IsTail}
 
 -- the key number alone
@@ -11,6 +12,9 @@ number-alone octets number four e = e ∙ take_all 4 octets (omega arith)
 -- the key number and the digest
 pub number-and-digest : (octets number digest : List ℕ) → number ≡ take 4 octets → digest ≡ drop 4 octets → number ++ digest ≡ octets
 number-and-digest octets number digest e d = rw (e, d) (take-append-drop 4 octets)
+
+-- a tail as it is read
+pub ruleset tails = (nil_from_length, take_rest, number-alone, number-and-digest)
 
 -- how many octets a tail has
 pub length-tail : (t : TailValue) → IsTail t → length (tail_octets t) ≤ 24

@@ -1,7 +1,7 @@
 -- Octets have one reading or one fault, and not both.
-use Rattle.std.proofs.Common.{◌≡◌, ℕ, ◌%◌, ◌<◌, ◌≤◌, ◌⊎◌, cond, leb, ltb, eqb, List, length, refl, sym, ap, subst, ◌∙◌, arith, inl, inr}
+use Rattle.std.proofs.Common.{◌≡◌, ℕ, ◌%◌, ◌<◌, ◌≤◌, ◌⊎◌, cond, leb, ltb, eqb, List, length, refl, sym, ap, ◌∙◌, arith, inl, inr}
 use Rattle.std.proofs.lemmas.Bool.{cond-true, cond-false, lt-ltb, le-ltb, le-leb, lt-leb, eq-eqb, ne_eqb}
-use Rattle.std.proofs.lemmas.List.{length-append}
+use Rattle.std.proofs.{lemmas.List.length-append, lemmas.Result.err_from_is_err_and}
 use Rattle.ntp_packet.specs.{Header.HeaderFields, Field.Field, Field.written_length}
 use Rattle.ntp_packet.specs.declared.digests.Digest.TheVariants.{Md5, Sha1}
 use Rattle.ntp_packet.specs.{Request.RequestValue, Request.IsRequest, declared.malformed.Malformed.Malformed}
@@ -13,14 +13,7 @@ use Rattle.ntp_packet.proofs.{Places.Stands-long, Tails.length-tail, Tails.same-
 
 -- behind its fields stands the tail of a request
 pub IsRequest-stands : (octets : List ℕ) (r : RequestValue) → IsRequest octets r → Stands octets (length r.signed) (tail_octets r.tail)
-IsRequest-stands octets r is = record {
-  header = r.header;
-  fields = r.fields;
-  is_header = is.reading.header;
-  are_fields = is.reading.fields;
-  spelled = rw (← is.reading.signed) is.spelled;
-  place_is = ap length is.reading.signed;
-}
+IsRequest-stands octets r is = grind arith
 
 tail-ends : (octets : List ℕ) (r : RequestValue) → IsRequest octets r → Begins (tail_octets r.tail) → ⊥
 tail-ends octets r is b = let most = length-tail r.tail is.reading.tail in let more = b.more in omega arith
@@ -106,17 +99,11 @@ module _ (place : ℕ) (rest : List ℕ) where
 
   shows-rest : IsNoTail rest → Shows place rest (Rest place)
   unfolding fault_at
-  shows-rest f = record {
-    end = λ b. let more = b.more in let most = f.0 in omega arith;
-    is = sym (cond-true _ _ _ (le-leb (length rest) 24 f.0));
-    unread = λ t is e. no-tail t is (let P : List ℕ → Type 0 = IsNoTail in subst P (sym e) f);
-  }
+  shows-rest f = grind (arith, cond-true, le-leb, no-tail, IsNoTail)
 
 locate : {fault : List ℕ → Type 0} (octets : List ℕ) (place : ℕ) (is : Malformed) → FailsAt octets place fault
     → ((rest : List ℕ) → fault rest → Shows place rest is) → Located octets is
-locate octets place is f shows =
-    let s = shows f.2 f.4 in
-    record { least = f.0; most = f.1; place = place; rest = f.2; stands = f.3; end = s.end; is = s.is; unread = s.unread }
+locate octets place is f shows = grind arith
 
 located : (octets : List ℕ) (fault : Malformed) → Fails octets fault
     → ((fault ≡ Short) × (length octets < 48)) ⊎ (((fault ≡ Long) × (1024 < length octets)) ⊎ Located octets fault)
@@ -165,3 +152,6 @@ no-fault octets r fault is f =
         | inr a ↦ a.unread r.tail is.reading.tail (same-end octets _ _ _ _ stands a.stands (tail-ends octets r is) a.end).rest
       ]
     ]
+
+-- of a datagram there is one reading or one fault, which an error passes on
+pub ruleset unique = (one-fault, no-fault, err_from_is_err_and)

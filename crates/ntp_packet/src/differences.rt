@@ -8,6 +8,7 @@ use crate::{Moment, Stamp};
 /// `a` minus `b`, in units of 2^-32 seconds: modulo 2^64, and read as a signed number (RFC 5905, 6). It
 /// is right while the moments are less than half an era apart.
 #[must_use]
+#[tactic(auto, using(crate::proofs::Signed::IsDifference_difference), unfolding(crate::specs::Difference::difference))]
 pub fn difference(a: Stamp, b: Stamp) -> i64
     ensures value { result ≡ difference a b }
     ensures signed { IsDifference a b result }

@@ -20,6 +20,7 @@ pub enum FieldFault {
 /// Appends an extension field (RFC 7822, 3): its kind and its whole length, each in 2 octets, then the
 /// value, with zeros behind it up to a multiple of 4 octets and to at least 16 in all. `Full` exactly
 /// where that does not fit; then `out` is unchanged.
+#[tactic(auto, using(crate::proofs::Padding::length_padded_field, crate::proofs::Padding::IsField_padded))]
 pub fn write_field(
     kind: u16,
     value: &[u8],

@@ -54,6 +54,7 @@ impl<'a> Iterator for Fields<'a> {
 }
 
 // The kind at the front of a field's octets.
+#[tactic(auto, using(crate::proofs::Octets::parts), unfolding(crate::specs::Field::written_kind))]
 fn written_kind(octets: &[u8]) -> u16
     requires { 4 ≤ length octets.now }
     ensures { result ≡ kind_of octets.now }
@@ -62,6 +63,7 @@ fn written_kind(octets: &[u8]) -> u16
 }
 
 // The length behind the kind. It counts the whole field.
+#[tactic(auto, using(crate::proofs::Octets::parts), unfolding(crate::specs::Field::written_length))]
 pub(crate) fn written_length(octets: &[u8]) -> u16
     requires { 4 ≤ length octets.now }
     ensures { result ≡ length_of octets.now }

@@ -7,6 +7,7 @@ use crate::Stamp;
 /// The first of `s`, `s + 1`, `s + 2`, .. modulo 2^64, in units of 2^-32 seconds, that is not 0 and is
 /// not in `avoid` (profile).
 #[must_use]
+#[tactic(auto, using(crate::proofs::Freshness::fresh_from_IsFresh))]
 pub fn fresh(s: Stamp, avoid: &[Stamp]) -> Stamp
     ensures value { result ≡ fresh s avoid.now }
     ensures least { IsFresh s avoid.now result }
@@ -16,6 +17,7 @@ pub fn fresh(s: Stamp, avoid: &[Stamp]) -> Stamp
 
 /// The first of `s`, `s + 1`, `s + 2`, .. modulo 2^64 that is not 0, which means an unknown time, and is not
 /// taken, as `is_taken` says; at most `most_taken` stamps are.
+#[tactic(auto, using(crate::proofs::Freshness::freshness))]
 pub fn first_free<F: Fn(Stamp) -> bool>(s: Stamp, most_taken: usize, is_taken: F) -> Stamp
     requires callable { F.IsAlwaysCallable is_taken }
     requires few { most_taken < 2 ^ 63 }

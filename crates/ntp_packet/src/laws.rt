@@ -9,6 +9,7 @@ ghost use Rattle.ntp_packet.specs.Request.{most_datagram_octets, signed_octets, 
 ghost use Rattle.ntp_packet.specs.Fields.{fields_of};
 
 /// The spelling of a header has 48 octets.
+#[tactic(auto, using(crate::proofs::Readings::length_header_octets))]
 pub fn spelling_has_48_octets()
     ensures { (h : HeaderFields) → IsHeader h → length (header_octets h) ≡ header_length }
 {}
@@ -21,6 +22,7 @@ pub fn any_48_octets_are_one_header()
 {}
 
 /// A header, fields and a MAC, one behind another and of at most 1,024 octets, are the request of those.
+#[tactic(auto, using(crate::proofs::Composed::composed_mac))]
 pub fn parts_with_mac_are_a_request()
     ensures { (header : HeaderFields) (fields : List Field) (tail : TailValue)
         → IsHeader header → All IsField fields → IsTail tail → 20 ≤ length (tail_octets tail)
@@ -29,6 +31,7 @@ pub fn parts_with_mac_are_a_request()
 {}
 
 /// The same with any tail, where each field begins with more than 24 octets left.
+#[tactic(auto, using(crate::proofs::Composed::composed))]
 pub fn parts_are_a_request()
     ensures { (header : HeaderFields) (fields : List Field) (tail : TailValue)
         → IsHeader header → AreFields fields (length (tail_octets tail)) → IsTail tail
@@ -37,6 +40,7 @@ pub fn parts_are_a_request()
 {}
 
 /// The octets of fields, one behind another, spell those fields.
+#[tactic(auto, using(std::proofs::lemmas::List::Elements::recursion_from_All, crate::proofs::Spelled::fields_of_spelled))]
 pub fn fields_are_read_back()
     ensures { (fields : List Field) → All IsField fields → fields_of (flat_map field_octets fields) ≡ fields }
 {}

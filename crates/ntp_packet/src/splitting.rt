@@ -18,6 +18,7 @@ const LEAST_FIELD_OCTETS: u16 = 16;
 /// extension fields (RFC 7822, 3), then a tail of 0, 4, 20 or 24 octets. While more than 24 octets remain
 /// behind the header, a field stands there; what remains then is the tail (profile). The kinds and values
 /// of the fields are not looked at. `Err` has the one fault of a datagram that cannot be split so.
+#[tactic(auto, using(crate::proofs::Unique::unique, crate::proofs::Found::place_behind))]
 pub fn read_request(octets: &[u8]) -> Result<Request<'_>, Malformed>
     ensures found { IfOk result (λ request. IsRequest octets.now request) }
     ensures fault { IfErr result (λ fault. Fails octets.now fault) }
@@ -45,6 +46,7 @@ pub fn read_request(octets: &[u8]) -> Result<Request<'_>, Malformed>
 }
 
 // The place of the tail: the first from which at most 24 octets remain, going from field to field.
+#[tactic(auto, using(std::proofs::lemmas::List::take_rest, crate::proofs::Places::Stands_on))]
 fn tail_place(octets: &[u8]) -> Result<u16, Malformed>
     requires most { length octets.now ≤ most_datagram_octets }
     requires header { Stands octets.now header_length (drop header_length octets.now) }
@@ -83,6 +85,7 @@ fn field_length(rest: &[u8], at: u16) -> Result<u16, Malformed>
 }
 
 // Reads a tail, of 0, 4, 20 or 24 octets. `None` exactly where no tail has as many.
+#[tactic(auto, using(crate::proofs::Tails::tails), unfolding(crate::specs::Tail::tail_octets))]
 fn read_tail(octets: &[u8]) -> Option<Tail<'_>>
     ensures found { IfSome result (λ tail. tail_octets (tail_value tail) ≡ octets.now) }
     ensures tail { IfSome result (λ tail. IsTail (tail_value tail)) }

@@ -11,7 +11,7 @@ use Rattle.ntp_service.specs.declared.outcome.Outcome.TheVariants as outcome
 use Rattle.ntp_service.proofs.PublicLaws.{Tells-nil, Tells-one, Tells-append}
 use Rattle.ntp_port.specs.{declared.sent.Sent.Sent, declared.port.PortCounts.PortCounts, declared.port.PortFault.PortFault}
 use Rattle.ntp_port.specs.Serving.{TurnMakes}
-use Rattle.ntp_port.specs.Port.{IncomingValue, Readings, TurnValue, no_turn, Told, Arrives, Begins, ReceiveTells, NowTells, ReadClock, behind, first_reading, received, counted_send}
+use Rattle.ntp_port.specs.Port.{IncomingValue, Readings, TurnValue, no_turn, Told, Arrives, Begins, ReceiveTells, NowTells, ReadClock, behind, received, counted_send}
 use Rattle.ntp_port.specs.Made.{Missed, Received, turn_of, arrival_of, sending_of, is_unsent}
 use Rattle.ntp_port.specs.Sending.{turn_with, IsInTurn, SendingMakes}
 use Rattle.ntp_port.proofs.OneTurn.{FollowsOne, follows-one, counted-none}
@@ -94,7 +94,7 @@ module _ (x : Arrival) (buffer : List ℕ) (transmit : Moment) (most : x.length 
       by_arrival : (y : Option IncomingValue) → turn.arrival ≡ y → Arrives y (Ok x) buffer → Comes (Some old) (Some new) x buffer transmit
       by_arrival None is a = cc
       by_arrival (Some d) is a =
-          let shown : transmit ≡ first_reading turn.clock = q.0 ∙ ap (λ (t : Told). t.clock []) p.1 in
+          let shown : transmit ≡ turn.clock [] = q.0 ∙ ap (λ (t : Told). t.clock []) p.1 in
           let whole : turn ≡ turn_with d turn.clock turn.sends =
           ap (λ z. record { arrival = z; clock = turn.clock; sends = turn.sends }) is in
           record {
@@ -135,11 +135,11 @@ pub answered : (A : Type 0) (reference : ReferenceState) (x : Arrival) (buffer :
 answered A reference x buffer transmit t v u i j l s r q a sending k count told p =
     let d = k.from in
     let same : ◌≡◌ {A = Event A} (event.Datagram x.address x.receipt transmit reference (take x.length buffer))
-    (event.Datagram d.address d.receipt (first_reading p.clock) reference (received d)) =
+    (event.Datagram d.address d.receipt (p.clock []) reference (received d)) =
     ap (λ (z : Arrival). event.Datagram z.address z.receipt transmit reference (take x.length buffer)) (sym k.arrival)
     ∙ ap (λ z. event.Datagram d.address d.receipt transmit reference z) (sym k.octets)
     ∙ ap (λ z. event.Datagram d.address d.receipt z reference (received d)) (sym p.first) in
-    let first : Event A = event.Datagram d.address d.receipt (first_reading p.clock) reference (received d) in
+    let first : Event A = event.Datagram d.address d.receipt (p.clock []) reference (received d) in
     record {
       made = Received d p.clock p.sends a p.noted;
       comes_to = ap (λ z. Answered x a z) p.comes_to ∙ ap (λ z. Answered z a (sending_of a p.sends p.noted)) (sym k.arrival);

@@ -4,11 +4,10 @@ use Rattle.ntp_service.specs.declared.observation.Arrival.{Arrival}
 use Rattle.ntp_port.specs.{declared.port.PortFault.PortFault, declared.queue_event.QueueEvent.QueueEvent}
 use Rattle.ntp_port.specs.{declared.queue_event.QueueEvent.TheVariants.Taken, declared.queue_watch.QueueWatch.QueueWatch}
 use Rattle.ntp_port.specs.{declared.fresh_port.Next.Next, declared.fresh_port.Next.TheVariants.Stale}
-use Rattle.ntp_port.specs.{Freshness.MayBeAnswered, Freshness.IsInOrder, Queue.TellsEvents, Queue.seen_in_drop}
-use Rattle.ntp_port.specs.Passing.{HandsOnTurn}
+use Rattle.ntp_port.specs.{Freshness.MayBeAnswered, Freshness.IsInOrder, Queue.TellsEvents}
 use Rattle.ntp_port.specs.Port.{Told, TellsOn, DropTells}
 use Rattle.ntp_port.specs.Watch.{Watches, Counts, IsWaiting, longest_of}
-use Rattle.ntp_port.specs.Fresh.{Stands, InHand, Swept, AreStale, most_sweeps, counted_on, IsSeenFrom, WasAsked, PassesOn, Kept, PassesOnInTime}
+use Rattle.ntp_port.specs.Fresh.{HandsOnTurn, Stands, InHand, Swept, AreStale, most_sweeps, counted_on, IsSeenFrom, PassesOn, Kept, PassesOnInTime}
 use Rattle.ntp_port.specs.Next.{ComesTo, drops_in, TakesNext, Drops}
 use Rattle.ntp_port.proofs.Seeing.{IsSeenFrom-same, IsSeenFrom-more, seen-in_call}
 use Rattle.ntp_port.proofs.Keeping.{AreStale-append, in_hand-append, counted-append, counts-one, StandsFor-Taken}
@@ -32,7 +31,7 @@ pub Drops-none : (k : Kept) → k.stale ≤ 2 ^ 64 - 1 → k.sweeps ≤ 2 ^ 64 -
 Drops-none k fits below = Drops-still k k.told k.history fits below (TellsOn-same k.told) (IsSeenFrom-same k.reading k.history)
 
 pub Drops-unswept : (k : Kept) (u : Option Told) (r : Option (List QueueEvent)) → k.stale ≤ 2 ^ 64 - 1 → k.sweeps ≤ 2 ^ 64 - 1
-    → DropTells k.told u false → TellsEvents k.history r (seen_in_drop false) → Drops 0 k (record k { told = u; history = r })
+    → DropTells k.told u false → TellsEvents k.history r (λ shown. []) → Drops 0 k (record k { told = u; history = r })
 Drops-unswept k u r fits below drops tells = grind (arith, Drops-still, seen-in_call)
 
 -- these, and then those
@@ -70,11 +69,11 @@ Drops-taken a b s datagram takes swept = record {
   each = λ history stands.
       let x = takes.each history stands in
       record {
-        after = x.after;
-        stands = x.stands;
-        seen = x.seen;
-        dropped = InHand x.comes_to.0 ∷ [];
-        stale = (x.comes_to.1, x.comes_to.2);
+        after = x.0;
+        stands = x.1;
+        seen = x.2;
+        dropped = InHand x.3.0 ∷ [];
+        stale = (x.3.1, x.3.2);
         as_many = refl;
         hands = refl;
       };
@@ -86,7 +85,7 @@ pub Drops-swept : (a : Kept) (after : QueueWatch) (v : ℕ) (u : Option Told) (r
     → ((history : List QueueEvent) (at : ℕ) → Watches a.watch history → Watches after (Taken at ∷ history))
     → ((history : List QueueEvent) (at : ℕ) → Counts a.watch history → Counts after (Taken at ∷ history))
     → ((history : List QueueEvent) → Watches a.watch history → IsInOrder history → MayBeAnswered (longest_of a.watch) history a.reading → ⊥)
-    → DropTells a.told u true → TellsEvents a.history r (seen_in_drop true) → v ≡ counted_on a.stale 1
+    → DropTells a.told u true → TellsEvents a.history r (λ shown. Taken shown ∷ []) → v ≡ counted_on a.stale 1
     → a.sweeps ≤ 2 ^ 64 - 1 → Drops 0 a (record a { watch = after; stale = v; told = u; history = r })
 Drops-swept a after v u r longest waits watches counts not drops tells counted below = record {
   count = 1;
@@ -97,7 +96,7 @@ Drops-swept a after v u r longest waits watches counts not drops tells counted b
   each = λ history stands. record {
     after = Taken a.reading ∷ history;
     stands = StandsFor-Taken a.watch after a.reading a.next_look longest watches counts history stands;
-    seen = seen-in_call a.reading a.history r (seen_in_drop true) (λ shown known. refl) tells history;
+    seen = seen-in_call a.reading a.history r (λ shown. Taken shown ∷ []) (λ shown known. refl) tells history;
     dropped = Swept [] refl a.reading ∷ [];
     stale = ((not history stands.watches stands.ordered, counts-one a.watch history waits stands.counts), refl);
     as_many = refl;
@@ -116,8 +115,7 @@ Drops-more n a b c d s datagram many takes counted swept =
 -- what goes on from a history behind those, and what is passed on there
 abbrev PassesThere : Kept → Kept → ℕ → Option (Result Arrival PortFault) → List QueueEvent → Type 0
 PassesThere b c from_hand result history = (after : List QueueEvent) × Stands c after
-    × IsSeenFrom b.reading c.reading b.history c.history history after × PassesOn (longest_of b.watch) history result after
-    × WasAsked from_hand history result after
+    × IsSeenFrom b.reading c.reading b.history c.history history after × PassesOn (longest_of b.watch) from_hand history result after
 
 -- and then this is passed on
 Passes-there : (n : ℕ) (a b c : Kept) (result : Option (Result Arrival PortFault)) (datagram : List ℕ) → n ≤ most_sweeps → Drops n a b
@@ -140,8 +138,7 @@ Passes-there n a b c result datagram few drops none same hands longest passes = 
             dropped = x.dropped;
             between = x.after;
             stale = x.stale;
-            passed_on = subst (λ w. PassesOn w x.after result y.0) drops.longest y.3;
-            asked = y.4;
+            passed_on = subst (λ w. PassesOn w n x.after result y.0) drops.longest y.3;
             as_many = x.as_many;
             hands = x.hands;
             seen = IsSeenFrom-more a.reading b.reading c.reading a.history b.history c.history history x.after y.0 x.seen y.2;
@@ -155,15 +152,14 @@ Passes-there n a b c result datagram few drops none same hands longest passes = 
 pub Passes-end : (n : ℕ) (a b c : Kept) (next : Next) (result : Option (Result Arrival PortFault)) (datagram : List ℕ) → n ≤ most_sweeps
     → Drops n a b → TakesNext b c next datagram → drops_in next ≡ 0 → HandsOnTurn b.told c.told result datagram
     → ((history after : List QueueEvent) → ComesTo (longest_of b.watch) history next after
-    → PassesOn (longest_of b.watch) history result after × WasAsked n history result after)
+    → PassesOn (longest_of b.watch) n history result after)
     → PassesOnInTime a c result datagram
 Passes-end n a b c next result datagram few drops takes none hands passes =
     Passes-there n a b c result datagram few drops (omega (arith, drops.counted, takes.counted, none)) takes.sweeps hands takes.longest (λ history stands.
-    let y = takes.each history stands in
-    let passed = passes history y.after y.comes_to in (y.after, y.stands, y.seen, passed.0, passed.1))
+    let y = takes.each history stands in (y.0, y.1, y.2, passes history y.0 y.3))
 
 -- or nothing, after the most
 pub Passes-out : (n : ℕ) (a b : Kept) (datagram : List ℕ) → n ≡ most_sweeps → Drops n a b → PassesOnInTime a b None datagram
 Passes-out n a b datagram most drops =
     Passes-there n a b b None datagram (omega (arith, most)) drops refl refl (TellsOn-same b.told) refl (λ history stands.
-    (history, stands, IsSeenFrom-same b.reading b.history history, ([], refl, refl), λ few. absurd (omega (arith, most, few))))
+    (history, stands, IsSeenFrom-same b.reading b.history history, (([], refl, refl), λ few. absurd (omega (arith, most, few)))))

@@ -3,9 +3,9 @@ use Rattle.std.proofs.Common.{◌≡◌, ℕ, ◌+◌, ◌-◌, ◌≤◌, ◌�
 use Rattle.std.specs.Prelude.{All}
 use Rattle.ntp_port.specs.{declared.queue_event.QueueEvent.QueueEvent, declared.queue_watch.QueueWatch.QueueWatch}
 use Rattle.ntp_port.specs.declared.queue_event.QueueEvent.TheVariants.{Held, Looked, Taken, Read}
-use Rattle.ntp_port.specs.Freshness.{takes, moment_of, IsInOrder, AreCounted}
+use Rattle.ntp_port.specs.Freshness.{takes, moment_of, IsInOrder, AreCounted, WasWatched}
 use Rattle.ntp_port.specs.Watch.{Watches, Counts, IsWaiting, longest_of}
-use Rattle.ntp_port.specs.Fresh.{KeepsHistory, LooksAgain, Dropped, InHand, Swept, AreStale, history_dropped, in_hand, counted_on}
+use Rattle.ntp_port.specs.Fresh.{KeepsHistory, Dropped, InHand, Swept, AreStale, history_dropped, in_hand, counted_on}
 use Rattle.ntp_port.proofs.Watching.{watched-more}
 
 All-cons : {X : Type 0} (P : X → Type 0) (x : X) (xs : List X) → P x → All P xs → All P (x ∷ xs)
@@ -13,7 +13,7 @@ All-cons P x xs e f = grind arith
 
 -- when it may be looked again stays in time
 LooksAgain-more : (longest next : ℕ) (event : QueueEvent) (history : List QueueEvent) → IsInOrder (event ∷ history)
-    → LooksAgain longest history next → LooksAgain longest (event ∷ history) next
+    → (next ≡ 0) ⊎ WasWatched longest history next → (next ≡ 0) ⊎ WasWatched longest (event ∷ history) next
 LooksAgain-more longest next event history ordered h = grind (arith, inl, inr, watched-more)
 
 -- an event that is no take leaves what was counted
@@ -73,7 +73,8 @@ StandsFor-Read watch reading now next history later stands = StandsFor-event wat
     stands stands.watches (Counts-quiet watch (Read now) history (λ since. refl) stands.counts)
 
 -- it may be looked again at another moment
-pub StandsFor-next : (watch : QueueWatch) (reading next later : ℕ) (history : List QueueEvent) → LooksAgain (longest_of watch) history later
+pub StandsFor-next : (watch : QueueWatch) (reading next later : ℕ) (history : List QueueEvent)
+    → (later ≡ 0) ⊎ WasWatched (longest_of watch) history later
     → KeepsHistory watch reading next history → KeepsHistory watch reading later history
 StandsFor-next watch reading next later history looks stands = grind arith
 

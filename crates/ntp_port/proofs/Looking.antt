@@ -1,12 +1,12 @@
 -- Looks at a queue.
-use Rattle.std.proofs.Common.{◌≡◌, ℕ, ◌+◌, ◌/◌, ◌<◌, ◌≤◌, ◌⊎◌, inr, List, [], ◌∷◌, ◌++◌, Option, Some, false, refl, sym, subst, ◌∙◌, arith, append_assoc}
+use Rattle.std.proofs.Common.{◌≡◌, ℕ, ◌+◌, ◌/◌, ◌<◌, ◌≤◌, ◌⊎◌, inr, List, [], ◌∷◌, ◌++◌, Option, Some, refl, sym, subst, ◌∙◌, arith, append_assoc}
 use Rattle.ntp_port.specs.{Port.Told, declared.queue_event.QueueEvent.QueueEvent}
 use Rattle.ntp_port.specs.declared.queue_event.QueueEvent.TheVariants.{Held, Looked}
-use Rattle.ntp_port.specs.{declared.queue_watch.QueueWatch.QueueWatch, Next.Unsaid, Next.LooksAtQueue}
+use Rattle.ntp_port.specs.{declared.queue_watch.QueueWatch.QueueWatch, Next.LooksAtQueue}
 use Rattle.ntp_port.specs.Freshness.{takes, WasLookedAt, WasWatched}
-use Rattle.ntp_port.specs.Queue.{TellsEvents, seen_in_count, seen_in_look}
+use Rattle.ntp_port.specs.Queue.{TellsEvents}
 use Rattle.ntp_port.specs.Watch.{Watches, Counts, IsWaiting, IsCounted, longest_of}
-use Rattle.ntp_port.specs.Fresh.{KeepsHistory, LooksAgain, Stands, IsSeenFrom, Kept}
+use Rattle.ntp_port.specs.Fresh.{KeepsHistory, Stands, IsSeenFrom, Kept}
 use Rattle.ntp_port.proofs.Seeing.{IsSeenFrom-same, IsSeenFrom-more, seen-in_call}
 use Rattle.ntp_port.proofs.Watching.{looked-later, looked-by, kept-looked, kept-watched, watched-by}
 use Rattle.ntp_port.proofs.Keeping.{StandsFor-Held, StandsFor-Looked, StandsFor-next}
@@ -35,8 +35,8 @@ Looks-same : (k : Kept) (Said : List QueueEvent → ℕ → Type 0) → ((histor
     → LooksAtQueue k k Said
 Looks-same k Said looked = grind (arith, Looks-saw, IsSeenFrom-same)
 
-pub Looks-none : (k : Kept) → LooksAtQueue k k Unsaid
-Looks-none k = Looks-same k Unsaid (λ history stands. tt)
+pub Looks-none : (k : Kept) → LooksAtQueue k k (λ history now. Unit {0})
+Looks-none k = Looks-same k (λ history now. Unit {0}) (λ history stands. tt)
 
 -- none, where what is known is new enough
 pub Looks-known : (k : Kept) (before : ℕ) → (at : ℕ) × (k.watch.known ≡ Some at) × (k.reading < at + before) → LooksAtQueue k k (WasLookedAt before)
@@ -44,7 +44,8 @@ Looks-known k before known =
     Looks-same k (WasLookedAt before) (λ history stands. kept-looked k.watch history k.reading before stands.watches stands.ordered known)
 
 -- one, and perhaps another one
-pub Looks-more : (a b c : Kept) (before : ℕ) → LooksAtQueue a b (WasLookedAt before) → LooksAtQueue b c Unsaid → LooksAtQueue a c (WasLookedAt before)
+pub Looks-more : (a b c : Kept) (before : ℕ) → LooksAtQueue a b (WasLookedAt before) → LooksAtQueue b c (λ history now. Unit {0})
+    → LooksAtQueue a c (WasLookedAt before)
 Looks-more a b c before first second = record {
   reading = second.reading ∙ first.reading;
   stale = second.stale ∙ first.stale;
@@ -73,8 +74,8 @@ Looks-as : (a b : Kept) (More Said : List QueueEvent → ℕ → Type 0) → ((h
 Looks-as a b More Said tells looks = grind arith
 
 -- a look need not be told of
-pub Looks-some : (a b : Kept) (before : ℕ) → LooksAtQueue a b (WasLookedAt before) → LooksAtQueue a b Unsaid
-Looks-some a b before looks = Looks-as a b (WasLookedAt before) Unsaid (λ history looked. tt) looks
+pub Looks-some : (a b : Kept) (before : ℕ) → LooksAtQueue a b (WasLookedAt before) → LooksAtQueue a b (λ history now. Unit {0})
+Looks-some a b before looks = Looks-as a b (WasLookedAt before) (λ history now. Unit {0}) (λ history looked. tt) looks
 
 -- it may be older
 pub Looks-older : (a b : Kept) (less before : ℕ) → less ≤ before → LooksAtQueue a b (WasLookedAt less) → LooksAtQueue a b (WasLookedAt before)
@@ -85,25 +86,26 @@ pub Looks-count : (a : Kept) (after : QueueWatch) (u : Option Told) (r : Option 
     → longest_of after ≡ longest_of a.watch → (count ≡ 0) ⊎ (IsWaiting a.watch → ⊥)
     → ((history : List QueueEvent) → (count ≡ 0) ⊎ (IsWaiting a.watch → ⊥) → Watches a.watch history
     → Watches after (Held count a.reading ∷ history))
-    → ((history : List QueueEvent) → Counts after (Held count a.reading ∷ history)) → TellsEvents a.history r (seen_in_count count)
+    → ((history : List QueueEvent) → Counts after (Held count a.reading ∷ history)) → TellsEvents a.history r (λ shown. Held count shown ∷ [])
     → LooksAtQueue a (record a { watch = after; told = u; history = r }) (WasLookedAt 0)
 Looks-count a after u r count told longest alone watches counts tells =
     Looks-saw a after u r (Held count a.reading ∷ []) (WasLookedAt 0) told longest refl
-    (seen-in_call a.reading a.history r (seen_in_count count) (λ shown known. refl) tells)
+    (seen-in_call a.reading a.history r (λ shown. Held count shown ∷ []) (λ shown known. refl) tells)
     (λ history stands. (StandsFor-Held a.watch after a.reading a.next_look count longest alone watches counts history stands, omega arith))
 
 -- one that told nothing of it
-pub Looks-unseen : (a : Kept) (u : Option Told) (r : Option (List QueueEvent)) → u ≡ a.told → TellsEvents a.history r (seen_in_look false)
+pub Looks-unseen : (a : Kept) (u : Option Told) (r : Option (List QueueEvent)) → u ≡ a.told → TellsEvents a.history r (λ shown. Looked shown ∷ [])
     → LooksAtQueue a (record a { told = u; history = r }) (WasLookedAt 0)
 Looks-unseen a u r told tells = Looks-saw a a.watch u r (Looked a.reading ∷ []) (WasLookedAt 0) told refl refl
-    (seen-in_call a.reading a.history r (seen_in_look false) (λ shown known. refl) tells)
+    (seen-in_call a.reading a.history r (λ shown. Looked shown ∷ []) (λ shown known. refl) tells)
     (λ history stands. (StandsFor-Looked a.watch a.reading a.next_look history stands, omega arith))
 
 -- none, where it is not time to
 pub Looks-early : (k : Kept) → k.reading < k.next_look → LooksAtQueue k k (WasWatched (longest_of k.watch))
 Looks-early k early = Looks-same k (WasWatched (longest_of k.watch)) (λ history stands. by history stands.looks_again)
   where
-    by : (history : List QueueEvent) → LooksAgain (longest_of k.watch) history k.next_look → WasWatched (longest_of k.watch) history k.reading
+    by : (history : List QueueEvent) → (k.next_look ≡ 0) ⊎ WasWatched (longest_of k.watch) history k.next_look
+        → WasWatched (longest_of k.watch) history k.reading
     by history e = grind (arith, watched-by)
 
 -- one where it was time to, and when it may be looked again

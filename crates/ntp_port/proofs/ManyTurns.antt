@@ -1,13 +1,13 @@
 -- One turn after another.
 use Rattle.std.proofs.Common.{◌≡◌, ℕ, ◌+◌, ◌≤◌, Bool, Option, None, Some, List, [], ◌∷◌, ◌++◌, length, filter, sym, ap, subst, ◌∙◌, append_assoc, append-nil, length-append, arith}
-use Rattle.std.specs.Prelude.{flat_map, Result, is_err, option_map, if◌then◌else◌}
+use Rattle.std.specs.Prelude.{flat_map, Result, is_err, is_none, option_map, if◌then◌else◌}
 use Rattle.std.specs.Result.{result_ok}
 use Rattle.std.proofs.{lemmas.List.map-append, lemmas.List.drop-drop, lemmas.List.Elements.filter-append}
 use Rattle.std.proofs.lemmas.Grind.{flat_map-append}
 use Rattle.ntp_port.specs.{declared.sent.Sent.Sent, declared.port.PortCounts.PortCounts, declared.port.PortFault.PortFault}
 use Rattle.ntp_service.specs.declared.observation.Arrival.{Arrival}
 use Rattle.ntp_port.specs.Port.{Told, TurnValue, failed_calls, counted_send, CountsReceive}
-use Rattle.ntp_port.specs.Made.{Made, turn_of, sent_in, arrival_of, is_missed, is_unsent}
+use Rattle.ntp_port.specs.Made.{Made, turn_of, sent_in, arrival_of, is_unsent}
 use Rattle.ntp_port.specs.Serving.{FollowsList, Follows, PassesOver, AreBegun, Makes, begun_in, made_of, dropped_in}
 use Rattle.ntp_port.proofs.{Sequences.firsts-add, Dropping.CountsMore-nil, Dropping.CountsMore-append}
 
@@ -72,6 +72,9 @@ Makes-nil may a t = grind (arith, AreBegun-nil)
 pub Makes-append : (may : Bool) (xs ys : List Made) (a b c : PortCounts) (t u v : Option Told) → Makes may xs a b t u → Makes may ys b c u v
     → Makes may (xs ++ ys) a c t v
 Makes-append may xs ys a b c t u v p k = grind (arith, AreBegun-append, count-append)
+
+abbrev is_missed : Made → Bool
+is_missed m = is_none (turn_of m).arrival
 
 -- one call of a turn fails at most
 few-fail : (made : List Made) → count_of is_missed made + count_of is_unsent made ≤ length made

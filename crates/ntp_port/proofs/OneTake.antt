@@ -27,12 +27,11 @@ takes-next a b d s v shows received given next datagram looks is waited latest r
   each = λ history stood.
       let look = looks.each history stood in
       let before = look.events ++ history in
-      let known = seen_in_wait given b.reading ++ before in
-      record {
-        after = Read d.reading ∷ known;
-        stands = StandsFor-Read d.watch b.reading d.reading d.next_look known (omega (arith, latest)) (stands before look.stands);
-        seen = seen-in_take a.reading b.reading d.reading shows a.history b.history s d.history received given history before look.seen is waited
-            latest read;
-        comes_to = comes history look;
-      };
+      let known = seen_in_wait given b.reading ++ before in (
+        Read d.reading ∷ known,
+        StandsFor-Read d.watch b.reading d.reading d.next_look known (omega (arith, latest)) (stands before look.stands),
+        seen-in_take a.reading b.reading d.reading shows a.history b.history s d.history received given history before look.seen is waited
+            latest read,
+        comes history look,
+      );
 }

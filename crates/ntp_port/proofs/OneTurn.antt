@@ -5,15 +5,15 @@ use Rattle.ntp_packet.specs.{declared.moment.Moment.Moment, declared.stamp.Stamp
 use Rattle.ntp_mac.specs.Mac.{most_reply_octets}
 use Rattle.ntp_service.specs.{declared.address.Address.Address, Registry.Registry, declared.observation.Sending.Sending}
 use Rattle.ntp_service.specs.{declared.event.Event.Event, Model.departure_outcome}
-use Rattle.ntp_reply.specs.declared.answers.Answer.{Answer}
+use Rattle.ntp_reply.specs.{Verdict.reply_in, declared.answers.Answer.Answer}
 use Rattle.ntp_service.specs.declared.observation.Sending.TheVariants.{NoReply, NotSent, Sent as WasSent, Noted, NotNoted}
 use Rattle.ntp_service.specs.declared.event.Event.TheVariants as event
 use Rattle.ntp_service.specs.Headline.{StandsFor, Tells, TellsOne}
 use Rattle.ntp_service.proofs.PublicLaws.{Tells-nil, Tells-one}
 use Rattle.ntp_port.specs.{declared.sent.Sent.Sent, declared.port.PortCounts.PortCounts, declared.port.PortFault.PortFault}
 use Rattle.ntp_port.specs.{declared.port.PortFault.TheVariants.Send, Serving.FollowsList, Serving.Follows}
-use Rattle.ntp_port.specs.Port.{IncomingValue, ReadClock, TriedSend, Readings, behind, first_reading, departure_reading, TurnValue, Told, counted_send, NowTells, SendTells}
-use Rattle.ntp_port.specs.Made.{Made, Received, turn_of, reply_in, departing, sent_in, sending_of, is_unsent}
+use Rattle.ntp_port.specs.Port.{IncomingValue, ReadClock, TriedSend, Readings, behind, TurnValue, Told, counted_send, NowTells, SendTells}
+use Rattle.ntp_port.specs.Made.{Made, Received, turn_of, departing, sent_in, sending_of, is_unsent}
 use Rattle.ntp_port.specs.Sending.{saved_in, turn_with, HasBegun, IsInTurn, SendingMakes}
 
 -- one turn, at any port
@@ -67,7 +67,7 @@ if_sent good sent from reply = if good then sent ++ sent_back from (Some reply) 
 -- a datagram and the first reading of the clock
 module _ (from : IncomingValue) (transmit : Moment) where
   pub record HasTriedOne (good : Bool) (reply : List ℕ) (old new : Told) (clock : Readings) (rest : List TurnValue) : Type 0 where
-    pub first : first_reading clock ≡ transmit
+    pub first : clock [] ≡ transmit
     pub coming : old.coming ≡ turn_with from clock good ∷ rest
     pub after : new ≡ tried_in rest (turn_with from clock good) (if_sent good old.sent from reply)
 
@@ -116,13 +116,13 @@ module _ (from : IncomingValue) (transmit : Moment) where
 
     -- a turn was made, whose clock showed this at first
     abbrev HasMade : Bool → Bool → Option Told → Option Told → Type 0
-    HasMade sends noted t u = (clock : Readings) × (first_reading clock ≡ transmit) × FollowsOne (made_of clock sends noted) t u
+    HasMade sends noted t u = (clock : Readings) × (clock [] ≡ transmit) × FollowsOne (made_of clock sends noted) t u
 
     -- what became of its reply
     makes-sending : (A : Type 0) (sends noted : Bool) (t u : Option Told) (k l : PortCounts) (s r : Registry) (sending : Sending)
         (made : HasMade sends noted t u) → sending ≡ sending_of a sends noted → l ≡ counted_send (is_unsent (made_of made.0 sends noted)) k
         → ((history : List (Event A)) → StandsFor s history
-        → Tells history (map (λ saved. (event.Departed from.address saved (departure_reading made.0), departure_outcome noted)) (departing sends a)) r)
+        → Tells history (map (λ saved. (event.Departed from.address saved (made.0 (ReadClock ∷ TriedSend ∷ [])), departure_outcome noted)) (departing sends a)) r)
         → SendingMakes A a from transmit t u k l s r sending
     makes-sending A sends noted t u k l s r sending made comes_to count tells = record {
       clock = made.0;
@@ -185,12 +185,12 @@ module _ (from : IncomingValue) (transmit : Moment) where
       departing_at moment (call ∷ calls) = moment
 
       follows-departed : (noted : Bool) (t w z : Option Told) (moment : Moment) → HasTried true reply t w → NowTells w z moment
-          → (made : HasMade true noted t z) × (departure_reading made.0 ≡ moment)
+          → (made : HasMade true noted t z) × (made.0 (ReadClock ∷ TriedSend ∷ []) ≡ moment)
       follows-departed noted None w z moment p k = ((departing_at moment, refl, tt), refl)
       follows-departed noted (Some old) None z moment p k = absurd p
       follows-departed noted (Some old) (Some mid) None moment p k = absurd k
       follows-departed noted (Some old) (Some mid) (Some new) moment p k =
-          let shown : moment ≡ departure_reading p.0 = k.0 ∙ ap (λ (x : Told). x.clock []) p.2.after in
+          let shown : moment ≡ p.0 (ReadClock ∷ TriedSend ∷ []) = k.0 ∙ ap (λ (x : Told). x.clock []) p.2.after in
           let after = k.1 ∙ ap (λ (x : Told). record x { clock = behind ReadClock x.clock }) p.2.after in
           let port = follows-one (made_of p.0 true noted) p.1 old new p.2.coming (ap (λ (x : Told). x.coming) after)
           (ap (λ (x : Told). x.sent) after ∙ tried-sent old.sent true noted p.0) in
@@ -223,7 +223,7 @@ module _ (from : IncomingValue) (transmit : Moment) where
             let q = follows-departed noted t w z moment (has-tried false good) reads in
             makes-sending A true noted t z k m s r (if noted then Noted else NotNoted) q.0 (sending-time a noted saved was)
             (same ∙ count ∙ ap (λ b. counted_send b k) good) (λ history stands.
-            rw (departing-time a saved was) (Tells-one history (event.Departed from.address saved (departure_reading q.0.0)) (departure_outcome noted) r
+            rw (departing-time a saved was) (Tells-one history (event.Departed from.address saved (q.0.0 (ReadClock ∷ TriedSend ∷ []))) (departure_outcome noted) r
             (subst (λ m. TellsOne history (event.Departed from.address saved m) (departure_outcome noted) r) (sym q.1)
             (subst (λ x. TellsOne history (event.Departed x saved moment) (departure_outcome noted) r) (sym e)
             (subst (λ b. TellsOne history (event.Departed address saved moment) (departure_outcome b) r) gave (departs history stands))))))

@@ -3,15 +3,15 @@ use Rattle.std.proofs.Common.{◌≡◌, ℕ, ◌≤◌, max, List, [], ◌∷�
 use Rattle.ntp_service.specs.declared.observation.Arrival.{Arrival}
 use Rattle.ntp_port.specs.{declared.port.PortFault.PortFault, declared.queue_event.QueueEvent.QueueEvent}
 use Rattle.ntp_port.specs.{declared.queue_event.QueueEvent.TheVariants.Read, Fresh.IsSeenFrom}
-use Rattle.ntp_port.specs.Queue.{last_reading, SeesMore, ReadsClock, TellsEvents, seen_in_wait}
+use Rattle.ntp_port.specs.Queue.{last_reading, ReadsClock, TellsEvents, seen_in_wait}
 
 -- nothing was seen
-SeesMore-none : (q : Option (List QueueEvent)) → SeesMore q q []
+SeesMore-none : (q : Option (List QueueEvent)) → TellsEvents q q (λ shown. [])
 SeesMore-none q = grind arith
 
 -- these, and then those
-SeesMore-append : (q r s : Option (List QueueEvent)) (first second : List QueueEvent) → SeesMore q r first → SeesMore r s second
-    → SeesMore q s (second ++ first)
+SeesMore-append : (q r s : Option (List QueueEvent)) (first second : List QueueEvent) → TellsEvents q r (λ shown. first)
+    → TellsEvents r s (λ shown. second) → TellsEvents q s (λ shown. second ++ first)
 SeesMore-append q r s first second e f = grind (arith, append_assoc)
 
 pub IsSeenFrom-same : (reading : ℕ) (q : Option (List QueueEvent)) (history : List QueueEvent) → IsSeenFrom reading reading q q history history
@@ -19,7 +19,10 @@ IsSeenFrom-same reading q history shown = (shown, [], refl, SeesMore-none q)
 
 pub IsSeenFrom-more : (a b c : ℕ) (q r s : Option (List QueueEvent)) (h k m : List QueueEvent) → IsSeenFrom a b q r h k → IsSeenFrom b c r s k m
     → IsSeenFrom a c q s h m
-IsSeenFrom-more a b c q r s h k m first second shown = grind (arith, append_assoc, SeesMore-append)
+IsSeenFrom-more a b c q r s h k m first second shown =
+    let x = first shown in
+    let y = second x.0 in
+    (y.0, y.1 ++ x.1, y.2 ∙ ap (λ xs. y.1 ++ xs) x.2 ∙ sym (append_assoc y.1 x.1 h), SeesMore-append q r s x.1 y.1 x.3 y.3)
 
 -- a call that reads no clock saw this
 pub seen-in_call : (reading : ℕ) (q r : Option (List QueueEvent)) (seen : ℕ → List QueueEvent)

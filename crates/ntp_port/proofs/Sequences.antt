@@ -1,6 +1,6 @@
 -- Lists that go on for ever with one value.
 use Rattle.std.proofs.Common.{◌≡◌, ℕ, zero, suc, ◌+◌, List, [], ◌∷◌, ◌++◌, drop, refl, ap, ◌∙◌, arith}
-use Rattle.ntp_port.specs.Sequence.{firsts}
+use Rattle.ntp_port.specs.Serving.{firsts}
 
 -- what comes behind the end is one value, however much was left out before
 firsts-drop-nil : {X : Type 0} (behind : X) (n m : ℕ) → firsts behind m (drop n []) ≡ firsts behind m []

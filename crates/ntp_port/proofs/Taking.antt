@@ -1,14 +1,15 @@
 -- A turn behind those whose datagrams were dropped.
-use Rattle.std.proofs.Common.{inl, inr, ◌⊎◌, ◌≡◌, ℕ, zero, suc, Bool, true, false, Option, None, Some, Result, Ok, List, [], ◌∷◌, ◌++◌, length, get_or, refl, sym, ap, subst, ◌∙◌, append-nil, length-append, arith}
+use Rattle.std.proofs.Common.{inl, inr, ◌⊎◌, ◌≡◌, ℕ, zero, suc, Bool, true, false, Option, None, Some, Result, Ok, Err, List, [], ◌∷◌, ◌++◌, length, get_or, refl, sym, ap, subst, ◌∙◌, append-nil, length-append, arith}
 use Rattle.std.specs.Prelude.{IfErr, is_err, flat_map, option_map}
 use Rattle.std.specs.Result.{result_ok}
 use Rattle.std.proofs.lemmas.Grind.{flat_map-append}
 use Rattle.ntp_service.specs.{Registry.Registry, declared.observation.Arrival.Arrival}
 use Rattle.ntp_service.specs.declared.observation.TurnOutcome.{TurnOutcome}
 use Rattle.ntp_reply.specs.Reference.{ReferenceState}
-use Rattle.ntp_port.specs.{declared.port.PortCounts.PortCounts, declared.port.PortFault.PortFault, Sequence.firsts}
+use Rattle.ntp_port.specs.{declared.port.PortCounts.PortCounts, declared.port.PortFault.PortFault, Serving.firsts}
+use Rattle.ntp_port.specs.declared.port.PortFault.TheVariants.{Receive}
 use Rattle.ntp_port.specs.Sending.{turn_with}
-use Rattle.ntp_port.specs.Port.{IncomingValue, Readings, TurnValue, no_turn, Told, Arrives, Begins, ReceiveTells, DropTells, TellsOn, DropsTurns, CountsMore, CountsReceive, Receives, GivesUp}
+use Rattle.ntp_port.specs.Port.{IncomingValue, Readings, TurnValue, no_turn, Told, Arrives, Begins, ReceiveTells, DropTells, TellsOn, DropsTurns, CountsMore, CountsReceive, Receives}
 use Rattle.ntp_port.specs.Made.{Made, Missed, Received, turn_of, arrival_of}
 use Rattle.ntp_port.specs.Serving.{Follows, Step, InTurn, Skipped, GivenUp, begun_in, made_of, dropped_in, PassesOver, AreBegun, Makes, TurnMakes}
 use Rattle.ntp_port.proofs.ManyTurns.{Follows-nil, Follows-append, Makes-one}
@@ -122,7 +123,7 @@ module _ (A : Type 0) (reference : ReferenceState) (r : Result Arrival PortFault
       let turn = turns t p.1 in taken false t turn (p.0, turn.port)
   takes-turn true p idle turns = by_receive p.2
     where
-      by_receive : (ReceiveTells p.0 u r buffer ⊎ GivesUp p.0 u r) → TakesTurn A reference true r buffer t v a b c s q o
+      by_receive : (ReceiveTells p.0 u r buffer ⊎ (r ≡ Err Receive) × TellsOn p.0 u) → TakesTurn A reference true r buffer t v a b c s q o
       by_receive (inl told) =
           let turn = turns p.0 told in
           taken true p.0 turn (passes-over turn.made (InTurn turn.made) p.1.0 a.dropped b.dropped t p.0 v refl refl p.1.1 p.1.2 turn.port)

@@ -4,7 +4,7 @@ use Rattle.ntp_service.specs.declared.observation.Arrival.{Arrival}
 use Rattle.ntp_port.specs.{declared.port.PortFault.PortFault, declared.queue_event.QueueEvent.QueueEvent, Watch.longest_of}
 use Rattle.ntp_port.specs.declared.queue_event.QueueEvent.TheVariants.{Held, Looked, Taken, Read}
 use Rattle.ntp_port.specs.Freshness.{takes, MayBeAnswered, AreCounted, WasWatched}
-use Rattle.ntp_port.specs.Fresh.{Take, history_before, history_after, Dropped, InHand, Swept, history_dropped, IsStale, AreStale, in_hand, WasAsked, PassesOn, Kept, ReceivesFresh, PassesOnFresh}
+use Rattle.ntp_port.specs.Fresh.{Take, history_before, history_after, Dropped, InHand, Swept, history_dropped, IsStale, AreStale, in_hand, PassesOn, Kept, ReceivesFresh, PassesOnFresh}
 use Rattle.ntp_port.proofs.{Seeing.IsSeenFrom-more, Dropping.DropsTurns-on, Dropping.DropsTurns-append}
 use Rattle.ntp_port.proofs.Keeping.{AreStale-append, in_hand-append, counted-append}
 
@@ -62,12 +62,16 @@ in_hand-earlier : (one : Dropped) (dropped : List Dropped) (seen : List QueueEve
 unfolding earlier_dropped
 in_hand-earlier one dropped seen quiet = grind arith
 
--- what is passed on, where more was seen before
+-- what is passed on, and whether the queue was found empty, where more was seen before
 PassesOn-earlier : (longest : ℕ) (seen history after : List QueueEvent) (result : Option (Result Arrival PortFault)) → takes seen ≡ 0
-    → PassesOn longest (seen ++ history) result after → PassesOn longest history result after
+    → PassesOn longest 0 (seen ++ history) result after → PassesOn longest 0 history result after
 unfolding earlier
-PassesOn-earlier longest seen history after None quiet passed =
-    (passed.0 ++ seen, quiet-append passed.0 seen passed.1 quiet, passed.2 ∙ sym (append_assoc passed.0 seen history))
+PassesOn-earlier longest seen history after None quiet (taken, asked) = (
+  (taken.0 ++ seen, quiet-append taken.0 seen taken.1 quiet, taken.2 ∙ sym (append_assoc taken.0 seen history)),
+  λ few.
+      let x = asked few in
+      (x.0, x.1 ++ seen, x.2, x.3 ∙ ap (λ xs. x.0 ++ Held 0 x.2 ∷ xs) (sym (append_assoc x.1 seen history))),
+)
 PassesOn-earlier longest seen history after (Some (Err fault)) quiet passed =
     (passed.0 ++ seen, quiet-append passed.0 seen passed.1 quiet, passed.2 ∙ sym (append_assoc passed.0 seen history))
 PassesOn-earlier longest seen history after (Some (Ok arrival)) quiet passed = (
@@ -76,39 +80,28 @@ PassesOn-earlier longest seen history after (Some (Ok arrival)) quiet passed = (
   passed.2 ∙ sym (history_after-earlier passed.0 seen history quiet),
 )
 
--- whether the queue was found empty, where more was seen before
-WasAsked-earlier : (seen history after : List QueueEvent) (result : Option (Result Arrival PortFault))
-    → WasAsked 0 (seen ++ history) result after → WasAsked 0 history result after
-WasAsked-earlier seen history after (Some received) asked = tt
-WasAsked-earlier seen history after None asked = λ few.
-    let x = asked few in
-    (x.0, x.1 ++ seen, x.2, x.3 ∙ ap (λ xs. x.0 ++ Held 0 x.2 ∷ xs) (sym (append_assoc x.1 seen history)))
-
 -- what is dropped, and then passed on, where more was seen before
 record Goes (longest : ℕ) (history after : List QueueEvent) (count from_hand : ℕ) (result : Option (Result Arrival PortFault)) : Type 0 where
   dropped : List Dropped
   between : List QueueEvent
   stale : AreStale longest history dropped between
-  passed_on : PassesOn longest between result after
-  asked : WasAsked from_hand between result after
+  passed_on : PassesOn longest from_hand between result after
   as_many : length dropped ≡ count
   hands : in_hand dropped ≡ from_hand
 
 Goes-earlier : (longest : ℕ) (seen history between after : List QueueEvent) (dropped : List Dropped)
     (result : Option (Result Arrival PortFault)) → takes seen ≡ 0 → AreStale longest (seen ++ history) dropped between
-    → PassesOn longest between result after → WasAsked (in_hand dropped) between result after
-    → Goes longest history after (length dropped) (in_hand dropped) result
+    → PassesOn longest (in_hand dropped) between result after → Goes longest history after (length dropped) (in_hand dropped) result
 unfolding earlier
-Goes-earlier longest seen history between after [] result quiet stale passed asked = record {
+Goes-earlier longest seen history between after [] result quiet stale passed = record {
   dropped = [];
   between = history;
   stale = refl;
-  passed_on = PassesOn-earlier longest seen history after result quiet (subst (λ xs. PassesOn longest xs result after) stale passed);
-  asked = WasAsked-earlier seen history after result (subst (λ xs. WasAsked 0 xs result after) stale asked);
+  passed_on = PassesOn-earlier longest seen history after result quiet (subst (λ xs. PassesOn longest 0 xs result after) stale passed);
   as_many = refl;
   hands = refl;
 }
-Goes-earlier longest seen history between after (one ∷ dropped) result quiet stale passed asked = record {
+Goes-earlier longest seen history between after (one ∷ dropped) result quiet stale passed = record {
   dropped = earlier_dropped one seen quiet ∷ dropped;
   between = between;
   stale = (
@@ -116,33 +109,32 @@ Goes-earlier longest seen history between after (one ∷ dropped) result quiet s
     subst (λ xs. AreStale longest xs dropped between) (sym (history_dropped-earlier one seen history quiet)) stale.1,
   );
   passed_on = passed;
-  asked = asked;
   as_many = refl;
   hands = in_hand-earlier one dropped seen quiet;
 }
 
-WasAsked-more : (m n : ℕ) (history after : List QueueEvent) (result : Option (Result Arrival PortFault)) → WasAsked n history result after
-    → WasAsked (m + n) history result after
-WasAsked-more m n history after result asked = grind arith
+PassesOn-more : (longest m n : ℕ) (history after : List QueueEvent) (result : Option (Result Arrival PortFault))
+    → PassesOn longest n history result after → PassesOn longest (m + n) history result after
+PassesOn-more longest m n history after result passed = grind arith
 
 -- nothing was passed on, and then this
 ReceivesFresh-more : (a b c : Kept) (m n i j : ℕ) (h k l : List QueueEvent) (result : Option (Result Arrival PortFault))
     → longest_of b.watch ≡ longest_of a.watch → ReceivesFresh a b m i h k None → ReceivesFresh b c n j k l result
     → ReceivesFresh a c (m + n) (i + j) h l result
 ReceivesFresh-more a b c m n i j h k l result longest first second =
-    let nothing = first.passed_on in
+    let nothing = first.passed_on.0 in
     let stale : AreStale (longest_of a.watch) (nothing.0 ++ first.between) second.dropped second.between =
     subst (λ xs. AreStale (longest_of a.watch) xs second.dropped second.between) nothing.2
     (subst (λ w. AreStale w k second.dropped second.between) longest second.stale) in
     let goes = Goes-earlier (longest_of a.watch) nothing.0 first.between second.between l second.dropped result nothing.1 stale
-    (subst (λ w. PassesOn w second.between result l) longest second.passed_on)
-    (subst (λ n. WasAsked n second.between result l) (sym second.hands) second.asked) in
+    (subst (λ n. PassesOn (longest_of a.watch) n second.between result l) (sym second.hands)
+    (subst (λ w. PassesOn w j second.between result l) longest second.passed_on)) in
     record {
       dropped = first.dropped ++ goes.dropped;
       between = goes.between;
       stale = AreStale-append (longest_of a.watch) h first.between goes.between first.dropped goes.dropped first.stale goes.stale;
-      passed_on = goes.passed_on;
-      asked = WasAsked-more i j goes.between l result (subst (λ x. WasAsked x goes.between result l) second.hands goes.asked);
+      passed_on = PassesOn-more (longest_of a.watch) i j goes.between l result
+          (subst (λ n. PassesOn (longest_of a.watch) n goes.between result l) second.hands goes.passed_on);
       as_many = omega (arith, length-append first.dropped goes.dropped, first.as_many, goes.as_many, second.as_many);
       hands = omega (arith, in_hand-append first.dropped goes.dropped, first.hands, goes.hands, second.hands);
       seen = IsSeenFrom-more a.reading b.reading c.reading a.history b.history c.history h k l first.seen second.seen;

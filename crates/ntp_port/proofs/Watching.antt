@@ -1,11 +1,11 @@
 -- What is kept of a history tells after which moment what comes next came.
-use Rattle.std.proofs.Common.{◌≡◌, ℕ, suc, ◌+◌, ◌/◌, ◌<◌, ◌≤◌, inl, inr, Bool, true, false, List, [], ◌∷◌, ◌++◌, Some, refl, sym, ap, subst, ◌∙◌, arith}
+use Rattle.std.proofs.Common.{◌≡◌, ℕ, suc, ◌+◌, ◌*◌, ◌/◌, ◌<◌, ◌≤◌, inl, inr, Bool, true, false, List, [], ◌∷◌, ◌++◌, Some, refl, sym, ap, subst, ◌∙◌, arith}
 use Rattle.std.specs.Prelude.{nat_le, ◌&&◌, if◌then◌else◌, All, Contains}
 use Rattle.std.proofs.lemmas.Bool.{le-leb, lt-leb, leb-true}
 use Rattle.std.proofs.lemmas.List.Elements.{All-contains, Contains-append_right}
 use Rattle.ntp_port.specs.{declared.queue_event.QueueEvent.QueueEvent, declared.queue_watch.QueueWatch.QueueWatch}
 use Rattle.ntp_port.specs.declared.queue_event.QueueEvent.TheVariants.{Held, Looked, Taken, Read}
-use Rattle.ntp_port.specs.Freshness.{takes, moment_of, IsInOrder, MayBeAnswered, WasLookedAt, WasCounted, oldest_look, oldest_count, WasWatched}
+use Rattle.ntp_port.specs.Freshness.{takes, moment_of, IsInOrder, MayBeAnswered, WasLookedAt, WasCounted, WasWatched}
 use Rattle.ntp_port.specs.Watch.{Watches, Counts, IsCounted, longest_of, known_after, kept_after}
 
 -- what is taken next, after `more` more takes, came after this moment
@@ -169,7 +169,7 @@ looked-newest c before (Read at) history ordered looked = looked-within at c bef
 -- what is kept tells that it was, where that had to be known
 kept-counted : (watch : QueueWatch) (history : List QueueEvent) (now next : ℕ) → Watches watch history → Counts watch history → IsInOrder history
     → WasLookedAt (longest_of watch / 10) history now → IsCounted watch now → next ≤ now + 100000
-    → WasCounted (oldest_count (longest_of watch)) history next
+    → WasCounted (longest_of watch / 10 * 3 + 100000) history next
 unfolding CameAfterMore
 kept-counted watch [] now next watches counts ordered looked counted soon = absurd looked
 kept-counted watch (e ∷ history) now next watches counts ordered looked (inl waits) soon =
@@ -189,7 +189,7 @@ pub watched-more : (longest c : ℕ) (e : QueueEvent) (history : List QueueEvent
     → WasWatched longest (e ∷ history) c
 watched-more longest c e history ordered watched =
     let x = watched.1 in
-    (looked-more c (oldest_look longest) e history ordered watched.0, (e ∷ x.0, x.1, x.2, ap (λ xs. e ∷ xs) x.3, x.4, x.5))
+    (looked-more c (longest / 10 + 100000) e history ordered watched.0, (e ∷ x.0, x.1, x.2, ap (λ xs. e ∷ xs) x.3, x.4, x.5))
 
 -- and so it was at an earlier moment
 pub watched-by : (longest c d : ℕ) (history : List QueueEvent) → d ≤ c → WasWatched longest history c → WasWatched longest history d

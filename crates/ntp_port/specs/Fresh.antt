@@ -1,9 +1,10 @@
 -- What a port does that passes on only what may be answered.
 use Rattle.std.specs.Prelude.{◌≡◌, ℕ, suc, ◌+◌, ◌-◌, ◌^◌, ◌<◌, ◌≤◌, ◌⊎◌, min, Option, None, Some, Result, Ok, Err, List, [], ◌∷◌, ◌++◌, length, All}
 use Rattle.ntp_service.specs.declared.observation.Arrival.{Arrival}
-use Rattle.ntp_port.specs.{declared.port.PortFault.PortFault, Port.Told, declared.queue_event.QueueEvent.QueueEvent}
+use Rattle.ntp_port.specs.{declared.port.PortFault.PortFault, declared.queue_event.QueueEvent.QueueEvent}
+use Rattle.ntp_port.specs.Port.{Told, ReceiveTells, TellsOn, DropsTurns}
 use Rattle.ntp_port.specs.{declared.queue_watch.QueueWatch.QueueWatch, declared.fresh_port.FreshPort.FreshPort}
-use Rattle.ntp_port.specs.{Queue.last_reading, Queue.SeesMore, Passing.PassesTurns}
+use Rattle.ntp_port.specs.Queue.{last_reading, TellsEvents}
 use Rattle.ntp_port.specs.declared.queue_event.QueueEvent.TheVariants.{Held, Taken, Read}
 use Rattle.ntp_port.specs.declared.queued_port.QueuedPort as queued
 use Rattle.ntp_port.specs.declared.port.TimedPort as timed
@@ -11,16 +12,12 @@ use Rattle.ntp_port.specs.declared.port.Port as port
 use Rattle.ntp_port.specs.Freshness.{takes, moment_of, IsInOrder, MayBeAnswered, AreCounted, WasWatched}
 use Rattle.ntp_port.specs.Watch.{Watches, Counts, longest_of}
 
--- when the queue may be looked at again: at once (0), or while the last look and the last count are in time
-abbrev pub LooksAgain : ℕ → List QueueEvent → ℕ → Type 0
-LooksAgain longest history next = (next ≡ 0) ⊎ WasWatched longest history next
-
--- what is kept, with the last reading of the clock and with when the queue may be looked at again, is that of a history whose events are
--- in order and no later than that reading
+-- what is kept, with the last reading of the clock and with when the queue may be looked at again, is that of a history whose events
+-- are in order and no later than that reading. It may be looked at at once (0), or while the last look and the last count are in time
 pub record KeepsHistory (watch : QueueWatch) (reading next_look : ℕ) (history : List QueueEvent) : Type 0 where
   pub watches : Watches watch history
   pub counts : Counts watch history
-  pub looks_again : LooksAgain (longest_of watch) history next_look
+  pub looks_again : (next_look ≡ 0) ⊎ WasWatched (longest_of watch) history next_look
   pub ordered : IsInOrder history
   pub past : All (λ event. moment_of event ≤ reading) history
 
@@ -82,17 +79,13 @@ abbrev pub FoundEmpty : List QueueEvent → List QueueEvent → Type 0
 FoundEmpty history after =
     (since : List QueueEvent) × (seen : List QueueEvent) × (at : ℕ) × (after ≡ since ++ Held 0 at ∷ (seen ++ history))
 
--- where nothing is passed on and fewer than four were dropped from hand, the queue was found empty
-abbrev pub WasAsked : ℕ → List QueueEvent → Option (Result Arrival PortFault) → List QueueEvent → Type 0
-WasAsked from_hand history None after = from_hand < most_sweeps → FoundEmpty history after
-WasAsked from_hand history (Some received) after = Unit {0}
-
--- what is passed on: a datagram that may be answered, or nothing that was taken
-abbrev pub PassesOn : ℕ → List QueueEvent → Option (Result Arrival PortFault) → List QueueEvent → Type 0
-PassesOn longest history (Some (Ok arrival)) after =
+-- what is passed on: a datagram that may be answered, or nothing that was taken; and where nothing is passed on and fewer than four
+-- were dropped from hand, the queue was found empty
+abbrev pub PassesOn : ℕ → ℕ → List QueueEvent → Option (Result Arrival PortFault) → List QueueEvent → Type 0
+PassesOn longest from_hand history (Some (Ok arrival)) after =
     (take : Take) × MayBeAnswered longest (history_before take history) take.now × (after ≡ history_after take history)
-PassesOn longest history (Some (Err fault)) after = NothingTaken history after
-PassesOn longest history None after = NothingTaken history after
+PassesOn longest from_hand history (Some (Err fault)) after = NothingTaken history after
+PassesOn longest from_hand history None after = NothingTaken history after × (from_hand < most_sweeps → FoundEmpty history after)
 
 -- `count` plus `more`, up to the most that a count can be
 abbrev pub counted_on : ℕ → ℕ → ℕ
@@ -106,7 +99,12 @@ IsShown reading (Some told) = last_reading told ≡ reading
 -- given that `reading` is the last one that a port told, `now` is it afterwards, and the port saw just what the history has more
 abbrev pub IsSeenFrom : ℕ → ℕ → Option (List QueueEvent) → Option (List QueueEvent) → List QueueEvent → List QueueEvent → Type 0
 IsSeenFrom reading now old new history after = IsShown reading old → IsShown now new
-    × (more : List QueueEvent) × (after ≡ more ++ history) × SeesMore old new more
+    × (more : List QueueEvent) × (after ≡ more ++ history) × TellsEvents old new (λ shown. more)
+
+-- what is handed on is what a receive gave, by the turn that it began; where nothing is handed on, no turn began
+abbrev pub HandsOnTurn : Option Told → Option Told → Option (Result Arrival PortFault) → List ℕ → Type 0
+HandsOnTurn old new None datagram = TellsOn old new
+HandsOnTurn old new (Some received) datagram = ReceiveTells old new received datagram
 
 -- what a port keeps that passes on only what may be answered, and what the port below it tells
 pub record Kept : Type 0 where
@@ -141,8 +139,7 @@ pub record ReceivesFresh (old new : Kept) (count from_hand : ℕ) (history after
   pub dropped : List Dropped
   pub between : List QueueEvent
   pub stale : AreStale (longest_of old.watch) history dropped between
-  pub passed_on : PassesOn (longest_of old.watch) between result after
-  pub asked : WasAsked from_hand between result after
+  pub passed_on : PassesOn (longest_of old.watch) from_hand between result after
   pub as_many : length dropped ≡ count
   pub hands : in_hand dropped ≡ from_hand
   pub seen : IsSeenFrom old.reading new.reading old.history new.history history after
@@ -154,7 +151,7 @@ pub record PassesOnFresh (old new : Kept) (result : Option (Result Arrival PortF
   pub counted : new.stale ≡ counted_on old.stale dropped
   pub from_hand : ℕ
   pub swept : new.sweeps ≡ counted_on old.sweeps from_hand
-  pub turns : PassesTurns dropped old.told new.told result datagram
+  pub turns : (between : Option Told) × DropsTurns dropped old.told between × HandsOnTurn between new.told result datagram
   pub longest : longest_of new.watch ≡ longest_of old.watch
   pub fresh : (history : List QueueEvent) → Stands old history
       → (after : List QueueEvent) × Stands new after × ReceivesFresh old new dropped from_hand history after result

@@ -48,17 +48,11 @@ abbrev pub WasCounted : ℕ → List QueueEvent → ℕ → Type 0
 WasCounted before history now = (newer : List QueueEvent) × (event : QueueEvent) × (older : List QueueEvent)
     × (history ≡ newer ++ event ∷ older) × (now ≤ moment_of event + before) × AreCounted 0 (event ∷ older)
 
--- how old the last look may be where a datagram is taken that is dropped from hand, in nanoseconds: a tenth of the longest wait, and a
--- ten-thousandth of a second; and the last count: three tenths
-abbrev pub oldest_look : ℕ → ℕ
-oldest_look longest = longest / 10 + 100000
-
-abbrev pub oldest_count : ℕ → ℕ
-oldest_count longest = longest / 10 * 3 + 100000
-
--- the queue was looked at and counted in time before `now`
+-- the queue was looked at and counted in time before `now`, when a datagram is taken that is dropped from hand: the last look is no
+-- older than a tenth of the longest wait, and the last count no older than three tenths, each in nanoseconds and with 100,000 more
 abbrev pub WasWatched : ℕ → List QueueEvent → ℕ → Type 0
-WasWatched longest history now = WasLookedAt (oldest_look longest) history now × WasCounted (oldest_count longest) history now
+WasWatched longest history now =
+    WasLookedAt (longest / 10 + 100000) history now × WasCounted (longest / 10 * 3 + 100000) history now
 
 -- no event of the history is later than a newer one
 abbrev pub IsInOrder : List QueueEvent → Type 0

@@ -1,4 +1,3 @@
-pub mod Sequence
 pub mod Port
 pub mod Made
 pub mod Serving
@@ -6,7 +5,6 @@ pub mod Sending
 pub mod Freshness
 pub mod Queue
 pub mod Watch
-pub mod Passing
 pub mod Fresh
 pub mod Next
 pub mod Pacing

@@ -1,7 +1,7 @@
 -- A turn that a server made, and what it gives.
-use Rattle.std.specs.Prelude.{ℕ, Bool, true, false, Option, None, Some, is_some, is_none, option_to_list, List, [], ◌∷◌, length, map, if◌then◌else◌}
+use Rattle.std.specs.Prelude.{Bool, true, false, None, Some, is_some, option_to_list, List, [], ◌∷◌, length, map, if◌then◌else◌}
 use Rattle.ntp_packet.specs.declared.stamp.Stamp.{Stamp}
-use Rattle.ntp_reply.specs.{Reference.ReferenceState, declared.answers.Answer.Answer}
+use Rattle.ntp_reply.specs.{Reference.ReferenceState, Verdict.reply_in, declared.answers.Answer.Answer}
 use Rattle.ntp_reply.specs.declared.answers.Answer.TheVariants as answer
 use Rattle.ntp_service.specs.{declared.observation.Arrival.Arrival, declared.observation.Sending.Sending}
 use Rattle.ntp_service.specs.declared.observation.TurnOutcome.{TurnOutcome}
@@ -11,7 +11,7 @@ use Rattle.ntp_service.specs.declared.observation.Sending.TheVariants.{NoReply, 
 use Rattle.ntp_service.specs.declared.event.Event.TheVariants as event
 use Rattle.ntp_service.specs.declared.outcome.Outcome.TheVariants as outcome
 use Rattle.ntp_port.specs.declared.sent.Sent.{Sent}
-use Rattle.ntp_port.specs.Port.{IncomingValue, Readings, first_reading, departure_reading, TurnValue, received}
+use Rattle.ntp_port.specs.Port.{IncomingValue, ReadClock, TriedSend, Readings, TurnValue, received}
 
 -- a turn in which nothing was received; and one with its datagram, its answer, and whether the departure is noted of the reply, if it is
 -- time and is sent. Each has what the clock shows in it, and whether a reply can be sent
@@ -24,14 +24,6 @@ abbrev pub turn_of : Made → TurnValue
 turn_of (Missed clock sends) = record { arrival = None; clock = clock; sends = sends }
 turn_of (Received d clock sends a noted) = record { arrival = Some d; clock = clock; sends = sends }
 
--- the reply of an answer
-abbrev pub reply_in : Answer → Option (List ℕ)
-reply_in (answer.Time reply saved) = Some reply
-reply_in (answer.Rate reply) = Some reply
-reply_in (answer.Deny reply) = Some reply
-reply_in (answer.Nak reply) = Some reply
-reply_in (answer.Silent why) = None
-
 -- the receive stamp of a time reply, if it is sent: its departure is reported
 abbrev pub departing : Bool → Answer → List Stamp
 departing true (answer.Time reply saved) = saved ∷ []
@@ -42,8 +34,9 @@ departing sends other = []
 abbrev pub happened_in_turn : {A : Type 0} → ReferenceState → Made → List (Event A × Outcome)
 happened_in_turn reference (Missed clock sends) = []
 happened_in_turn reference (Received d clock sends a noted) =
-    (event.Datagram d.address d.receipt (first_reading clock) reference (received d), outcome.Datagram a)
-    ∷ map (λ saved. (event.Departed d.address saved (departure_reading clock), departure_outcome noted)) (departing sends a)
+    (event.Datagram d.address d.receipt (clock []) reference (received d), outcome.Datagram a)
+    ∷ map (λ saved. (event.Departed d.address saved (clock (ReadClock ∷ TriedSend ∷ [])), departure_outcome noted))
+    (departing sends a)
 
 -- what a turn sends: the reply, if any, to where the datagram came from
 abbrev pub sent_in : Made → List Sent
@@ -58,10 +51,6 @@ has_arrived m = is_some (turn_of m).arrival
 abbrev pub has_departed : Made → Bool
 has_departed (Received d clock true (answer.Time reply saved) true) = true
 has_departed other = false
-
--- whether nothing could be received in it
-abbrev pub is_missed : Made → Bool
-is_missed m = is_none (turn_of m).arrival
 
 -- whether it has a reply that could not be sent
 abbrev pub is_unsent : Made → Bool

@@ -36,24 +36,15 @@ abbrev pub drops_in : Next → ℕ
 drops_in Stale = 1
 drops_in other = 0
 
--- a history goes on with what one take comes to
-pub record TakesOn (old new : Kept) (history : List QueueEvent) (next : Next) : Type 0 where
-  pub after : List QueueEvent
-  pub stands : Stands new after
-  pub seen : IsSeenFrom old.reading new.reading old.history new.history history after
-  pub comes_to : ComesTo (longest_of old.watch) history next after
-
--- one take came to this
+-- one take came to this, and a history goes on with what it comes to
 pub record TakesNext (old new : Kept) (next : Next) (datagram : List ℕ) : Type 0 where
   pub counted : new.stale ≡ counted_on old.stale (drops_in next)
   pub sweeps : new.sweeps ≡ old.sweeps
   pub turns : NextTells old.told new.told next datagram
   pub longest : longest_of new.watch ≡ longest_of old.watch
-  pub each : (history : List QueueEvent) → Stands old history → TakesOn old new history next
-
--- what is said of a history and of a moment where nothing is
-abbrev pub Unsaid : List QueueEvent → ℕ → Type 0
-Unsaid history now = Unit {0}
+  pub each : (history : List QueueEvent) → Stands old history → (after : List QueueEvent) × Stands new after
+      × IsSeenFrom old.reading new.reading old.history new.history history after
+      × ComesTo (longest_of old.watch) history next after
 
 -- a history goes on with what a look sees, and this is said of it then
 pub record LooksOn (old new : Kept) (Said : List QueueEvent → ℕ → Type 0) (history : List QueueEvent) : Type 0 where

@@ -30,13 +30,6 @@ Readings = List TurnCall → Moment
 abbrev pub behind : TurnCall → Readings → Readings
 behind call clock = λ calls. clock (call ∷ calls)
 
--- the first reading of a turn, and that behind it and a send
-abbrev pub first_reading : Readings → Moment
-first_reading clock = clock []
-
-abbrev pub departure_reading : Readings → Moment
-departure_reading clock = clock (ReadClock ∷ TriedSend ∷ [])
-
 -- one turn of a port: its datagram, if any, what the clock shows, and whether a reply can be sent; the code's `Turn`, whose datagram is
 -- in memory of an allocator, has a clock of two moments only
 pub record TurnValue : Type 0 where
@@ -98,14 +91,12 @@ SendTells t u address port reply r = IfSome t (λ old. IsSomeAnd u (λ new. (r �
 abbrev pub TellsOn : Option Told → Option Told → Type 0
 TellsOn old new = IfSome old (λ told. new ≡ Some told)
 
--- where a datagram was dropped, its turn began, as by a receive whose datagram nobody sees
-abbrev pub BeginsDropped : Told → Option Told → Bool → Type 0
-BeginsDropped old new true = (arrival : Arrival) × (datagram : List ℕ) × ReceiveTells (Some old) new (Ok arrival) datagram
-BeginsDropped old new false = new ≡ Some old
-
--- what a call tells that drops the next datagram, or could not
+-- what a call tells that drops the next datagram, or could not: where it was dropped, its turn began, as by a receive whose
+-- datagram nobody sees
 abbrev pub DropTells : Option Told → Option Told → Bool → Type 0
-DropTells old new dropped = IfSome old (λ told. BeginsDropped told new dropped)
+DropTells None new dropped = Unit {0}
+DropTells (Some old) new true = (arrival : Arrival) × (datagram : List ℕ) × ReceiveTells (Some old) new (Ok arrival) datagram
+DropTells (Some old) new false = new ≡ Some old
 
 -- `n` turns began, one after another, and their datagrams were dropped
 abbrev pub DropsTurns : ℕ → Option Told → Option Told → Type 0
@@ -138,13 +129,9 @@ abbrev pub DropsAny : Bool → ℕ → ℕ → Option Told → Option Told → T
 DropsAny false count after old new = (after ≡ count) × (new ≡ old)
 DropsAny true count after old new = (dropped : ℕ) × CountsMore count after dropped × DropsTurns dropped old new
 
--- no turn began, and nothing could be received
-abbrev pub GivesUp : Option Told → Option Told → Result Arrival PortFault → Type 0
-GivesUp old new r = (r ≡ Err Receive) × TellsOn old new
-
 -- what is received is that of the next turn; and of a port that may drop, that of the next one behind those that it drops and counts, or
--- it gives up
+-- it gives up: nothing could be received, and no turn began
 abbrev pub Receives : Bool → ℕ → ℕ → Option Told → Option Told → Result Arrival PortFault → List ℕ → Type 0
 Receives false count after old new r buffer = (after ≡ count) × ReceiveTells old new r buffer
 Receives true count after old new r buffer = (between : Option Told) × DropsAny true count after old between
-    × (ReceiveTells between new r buffer ⊎ GivesUp between new r)
+    × (ReceiveTells between new r buffer ⊎ (r ≡ Err Receive) × TellsOn between new)

@@ -10,7 +10,7 @@ use Rattle.ntp_reply.specs.declared.answers.Answer.{Answer}
 use Rattle.ntp_reply.specs.declared.answers.Answer.TheVariants as answer
 use Rattle.ntp_service.specs.declared.event.Event.TheVariants as event
 use Rattle.ntp_port.specs.{declared.port.PortCounts.PortCounts, declared.serving.Served.Served, Serving.Follows}
-use Rattle.ntp_port.specs.Port.{IncomingValue, Readings, ReadClock, behind, first_reading, departure_reading, TurnValue, Told, counted_send}
+use Rattle.ntp_port.specs.Port.{IncomingValue, Readings, ReadClock, TriedSend, behind, TurnValue, Told, counted_send}
 use Rattle.ntp_port.specs.Made.{Received, departing, sending_of, is_unsent}
 
 -- the receive stamp of a time reply
@@ -24,7 +24,7 @@ turn_with from clock sends = record { arrival = Some from; clock = clock; sends 
 
 -- what a port tells that has begun this turn, whose clock was read, and at which nothing was tried to be sent
 pub record HasBegun (old new : Told) (from : IncomingValue) (transmit : Moment) (clock : Readings) (sends : Bool) (rest : List TurnValue) : Type 0 where
-  pub first : first_reading clock ≡ transmit
+  pub first : clock [] ≡ transmit
   pub coming : old.coming ≡ turn_with from clock sends ∷ rest
   pub after : new ≡ record {
     coming = rest;
@@ -44,14 +44,15 @@ IsInTurn t u from transmit = IfSome t (λ old. IsSomeAnd u (λ new. (clock : Rea
 pub record SendingMakes (A : Type 0) (answer : Answer) (from : IncomingValue) (transmit : Moment) (t u : Option Told) (a b : PortCounts)
     (service after : Registry) (sending : Sending) : Type 0 where
   pub clock : Readings
-  pub first : first_reading clock ≡ transmit
+  pub first : clock [] ≡ transmit
   pub sends : Bool
   pub noted : Bool
   pub comes_to : sending ≡ sending_of answer sends noted
   pub port : Follows (turn_with from clock sends ∷ []) (Received from clock sends answer noted ∷ []) t u
   pub counts : b ≡ counted_send (is_unsent (Received from clock sends answer noted)) a
   pub tells : (history : List (Event A)) → StandsFor service history
-      → Tells history (map (λ saved. (event.Departed from.address saved (departure_reading clock), departure_outcome noted)) (departing sends answer)) after
+      → let departure = clock (ReadClock ∷ TriedSend ∷ []) in
+      Tells history (map (λ saved. (event.Departed from.address saved departure, departure_outcome noted)) (departing sends answer)) after
 
 -- the counts after a turn
 abbrev pub counted : TurnOutcome → Served → Served

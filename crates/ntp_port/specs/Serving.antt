@@ -1,14 +1,19 @@
 -- What a server does at a port.
-use Rattle.std.specs.Prelude.{◌≡◌, ℕ, ◌+◌, Bool, false, true, Option, Some, IfSome, IsSomeAnd, option_map, Result, List, [], ◌∷◌, ◌++◌, length, take, drop, map, filter, flat_map}
+use Rattle.std.specs.Prelude.{◌≡◌, ℕ, zero, suc, ◌+◌, Bool, false, true, Option, Some, IfSome, IsSomeAnd, is_none, option_map, Result, List, [], ◌∷◌, ◌++◌, length, take, drop, map, filter, flat_map}
 use Rattle.std.specs.Result.{result_ok}
 use Rattle.ntp_service.specs.{Registry.Registry, declared.observation.Arrival.Arrival}
 use Rattle.ntp_service.specs.{declared.observation.TurnOutcome.TurnOutcome, declared.event.Event.Event}
 use Rattle.ntp_service.specs.Headline.{StandsFor, Tells}
 use Rattle.ntp_reply.specs.Reference.{ReferenceState}
 use Rattle.ntp_port.specs.{declared.port.PortCounts.PortCounts, declared.port.PortFault.PortFault, declared.serving.Served.Served}
-use Rattle.ntp_port.specs.Sequence.{firsts}
 use Rattle.ntp_port.specs.Port.{IncomingValue, Readings, TurnValue, no_turn, Told, received, CountsMore, counted_send}
-use Rattle.ntp_port.specs.Made.{Made, Missed, turn_of, happened_in_turn, sent_in, has_arrived, has_departed, is_missed, is_unsent, arrival_of, turn_outcome}
+use Rattle.ntp_port.specs.Made.{Made, Missed, turn_of, happened_in_turn, sent_in, has_arrived, has_departed, is_unsent, arrival_of, turn_outcome}
+
+-- the first `n` of a list, which goes on for ever with `behind`
+abbrev pub firsts : {X : Type 0} → X → ℕ → List X → List X
+firsts behind zero xs = []
+firsts behind (suc n) [] = behind ∷ firsts behind n []
+firsts behind (suc n) (x ∷ xs) = x ∷ firsts behind n xs
 
 -- what a port that tells its turns told before it began these and tells afterwards: they were those of its list, while it lasted, and
 -- what the turns sent that a server made was sent
@@ -61,7 +66,7 @@ AreBegun true made count after t u = PassesOver made count after t u
 -- those whose reply could not be sent, and no others
 pub record Makes (may_drop : Bool) (made : List Made) (a b : PortCounts) (t u : Option Told) : Type 0 where
   pub turns : AreBegun may_drop made a.dropped b.dropped t u
-  pub failed_receives : b.failed_receives ≡ a.failed_receives + length (filter is_missed made)
+  pub failed_receives : b.failed_receives ≡ a.failed_receives + length (filter (λ m. is_none (turn_of m).arrival) made)
   pub failed_sends : b.failed_sends ≡ a.failed_sends + length (filter is_unsent made)
 
 -- a server made `turns` turns, at a port that may drop or not: whatever history the service stood for, it tells what happened in the

@@ -12,14 +12,10 @@ longest_of watch = watch.longest
 abbrev pub IsWaiting : QueueWatch → Type 0
 IsWaiting watch = 0 < watch.waiting
 
--- the next datagram is known to have come at most `longest` before `now`
-abbrev pub IsKnownWithin : ℕ → QueueWatch → ℕ → Type 0
-IsKnownWithin longest watch now = (at : ℕ) × (watch.known ≡ Some at) × (now ≤ at + longest)
-
 -- the queue was counted where that had to be known: datagrams that were seen in it may still be in it, or the next one is known to have
 -- come not long before `now`
 abbrev pub IsCounted : QueueWatch → ℕ → Type 0
-IsCounted watch now = IsWaiting watch ⊎ IsKnownWithin (longest_of watch / 10 * 3) watch now
+IsCounted watch now = IsWaiting watch ⊎ (at : ℕ) × (watch.known ≡ Some at) × (now ≤ at + longest_of watch / 10 * 3)
 
 -- after `more` takes, the latest moment that the next datagram is known to postdate
 abbrev pub known_after : ℕ → List QueueEvent → Option ℕ

@@ -59,7 +59,7 @@ enum Next {
 
 impl<P: QueuedPort> FreshPort<P> {
     ghost use Rattle.ntp_port.specs.Fresh.{KeepsHistory, IsShown, counted_on, kept_by, PassesOnInTime};
-    ghost use Rattle.ntp_port.specs.Next.{TakesNext, Unsaid, LooksAtQueue, Drops, CountsNext};
+    ghost use Rattle.ntp_port.specs.Next.{TakesNext, LooksAtQueue, Drops, CountsNext};
 
     /// A port that passes on what may be answered of what comes at `port`, by what `watch` was told and will be. It has dropped
     /// nothing, and calls of `port` that failed before are counted as receives. `watch` may know the queue already, by the port's
@@ -269,7 +269,7 @@ impl<P: QueuedPort> FreshPort<P> {
     // Looks how many datagrams are in the queue, where no earlier look is waited for and what is known is old: that costs more.
     fn look_how_many(&mut self)
         ensures counts { self.new.counts ≡ self.old.counts }
-        ensures looks { LooksAtQueue (kept_by self.old) (kept_by self.new) Unsaid }
+        ensures looks { LooksAtQueue (kept_by self.old) (kept_by self.new) (λ history now. Unit {0}) }
         ensures counted { IsCounted self.new.watch self.old.reading }
     {
         if !self.watch.is_waiting() && self.watch.is_old(self.reading) {

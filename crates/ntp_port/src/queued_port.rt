@@ -1,8 +1,8 @@
 //! What a port tells of the queue of its datagrams.
-ghost use Rattle.std.specs.Prelude.{◌≡◌, ◌-◌, ◌≤◌, ◌<◌, ◌^◌, Option, None, List, IfOk, IfErr, IfSome, IfNone, false};
+ghost use Rattle.std.specs.Prelude.{◌≡◌, ◌-◌, ◌≤◌, ◌<◌, ◌^◌, Option, None, List, [], ◌∷◌, IfOk, IfErr, IfSome, IfNone, false, if◌then◌else◌};
 ghost use Rattle.ntp_port.specs.Port.{most_received_octets, failed_calls, CountsWait, ReceiveTells, DropTells};
 ghost use Rattle.ntp_port.specs.declared.queue_event.QueueEvent.{QueueEvent};
-ghost use Rattle.ntp_port.specs.Queue.{ReadsClock, TellsEvents, seen_in_count, seen_in_look, seen_in_wait, seen_in_drop};
+ghost use Rattle.ntp_port.specs.Queue.{ReadsClock, TellsEvents, seen_in_wait};
 
 use crate::{Arrival, DatagramRoom, PortFault, TimedPort};
 
@@ -25,13 +25,14 @@ pub trait QueuedPort: TimedPort {
     fn most_held(&mut self) -> u64
         ensures counts { Self.counts self.new ≡ Self.counts self.old }
         ensures turns { Self.told self.new ≡ Self.told self.old }
-        ensures history { TellsEvents (history self.old) (history self.new) (seen_in_count result) };
+        ensures history { TellsEvents (history self.old) (history self.new) (λ shown. QueueEvent.Held result shown ∷ []) };
 
     /// Looks, without waiting, whether the queue is empty; `false` also where it cannot be told.
     fn is_empty(&mut self) -> bool
         ensures counts { Self.counts self.new ≡ Self.counts self.old }
         ensures turns { Self.told self.new ≡ Self.told self.old }
-        ensures history { TellsEvents (history self.old) (history self.new) (seen_in_look result) };
+        ensures history { TellsEvents (history self.old) (history self.new)
+            (λ shown. (if result then QueueEvent.Held 0 shown else QueueEvent.Looked shown) ∷ []) };
 
     /// Takes a datagram out of the queue, as `receive_in_time` does. Where it gives nothing, the queue was empty at some
     /// moment of the call.
@@ -49,5 +50,6 @@ pub trait QueuedPort: TimedPort {
     fn drop_next(&mut self) -> bool
         ensures counts { Self.counts self.new ≡ Self.counts self.old }
         ensures turns { DropTells (Self.told self.old) (Self.told self.new) result }
-        ensures history { TellsEvents (history self.old) (history self.new) (seen_in_drop result) };
+        ensures history { TellsEvents (history self.old) (history self.new)
+            (λ shown. if result then QueueEvent.Taken shown ∷ [] else []) };
 }

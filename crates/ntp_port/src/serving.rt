@@ -2,7 +2,8 @@
 ghost use Rattle.std.specs.Prelude.{◌≡◌, ◌+◌, ◌-◌, ◌≤◌, ◌<◌, ◌^◌, Option, option_map, OnOk, IfOk, IfErr};
 ghost use Rattle.ntp_packet.specs.declared.moment.Moment.{Moment};
 ghost use Rattle.ntp_port.specs.Port.{Told, IncomingValue, ReceiveTells, most_received_octets, failed_calls};
-ghost use Rattle.ntp_port.specs.{Made.reply_in, Serving.ServeMakes, Serving.TurnMakes};
+ghost use Rattle.ntp_reply.specs.Verdict.{reply_in};
+ghost use Rattle.ntp_port.specs.Serving.{ServeMakes, TurnMakes};
 ghost use Rattle.ntp_port.specs.Sending.{IsInTurn, SendingMakes, counted, saved_in};
 
 use crate::port::{DatagramRoom, MOST_RECEIVED_OCTETS, Port, PortFault};

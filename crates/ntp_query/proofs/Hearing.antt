@@ -1,11 +1,11 @@
 -- What is heard, one datagram after another.
-use Rattle.std.proofs.Common.{◌≡◌, ℕ, true, false, List, ◌∷◌, Option, Some, None, refl, sym, ap, ◌∙◌}
+use Rattle.std.proofs.Common.{◌≡◌, ℕ, true, false, List, [], ◌∷◌, Option, Some, None, refl, sym, ap, ◌∙◌}
 use Rattle.std.specs.Prelude.{IfSome, unwrap_or, map, if◌then◌else◌}
 use Rattle.std.specs.List.{find}
 use Rattle.ntp_packet.specs.declared.moment.Moment.{Moment}
 use Rattle.ntp_query.specs.{declared.asker.Asker.Asker, declared.outcome.Outcome.Outcome}
 use Rattle.ntp_query.specs.{declared.outcome.Outcome.TheVariants.Silence, Asker.heard_by, Outcome.ends, Outcome.last_or}
-use Rattle.ntp_query.specs.Exchange.{Incoming, Comes, IsOver, outcome_of}
+use Rattle.ntp_query.specs.Exchange.{Incoming, Comes, outcome_of}
 
 -- what outcomes come to behind another one
 among : Outcome → List Outcome → Outcome
@@ -58,7 +58,7 @@ Goes-end c (Some all) (Some left) (Some others) latest o octets at goes comes is
     among-end latest (heard_by c octets at) o (map (λ a. heard_by c a.octets a.at) others) is end
     ∙ sym (goes ∙ ap (outcome_from c latest) comes)
 
-pub Goes-over : (c : Asker) (t u : Option (List Incoming)) (latest : Outcome) → Goes c t u latest → IsOver u
+pub Goes-over : (c : Asker) (t u : Option (List Incoming)) (latest : Outcome) → Goes c t u latest → IfSome u (λ all. all ≡ [])
     → IfSome t (λ all. latest ≡ outcome_of c all)
 unfolding Goes among
 Goes-over c None u latest goes over = tt

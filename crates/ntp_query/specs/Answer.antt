@@ -1,8 +1,17 @@
--- What a reply that gave a sample tells.
-use Rattle.std.specs.Prelude.{Bool, ℤ, pos, ◌+◌, ◌*◌, ◌^◌}
-use Rattle.ntp_packet.specs.Header.{HeaderFields}
+-- What a reply that gave a sample tells, in seconds to the nanosecond.
+use Rattle.std.specs.Prelude.{ℕ, suc, Bool, ℤ, pos, negsuc, neg_ℤ, ◌+◌, ◌*◌, ◌/◌, ◌^◌}
+use Rattle.ntp_packet.specs.{Header.HeaderFields, Unix.second_nanos}
 use Rattle.ntp_client.specs.{declared.sample.Sample.Sample, Sample.offset_twice, Sample.delay}
-use Rattle.ntp_query.specs.{declared.answer.Answer.Answer, Nanos.nanos_of}
+use Rattle.ntp_query.specs.declared.answer.Answer.{Answer}
+
+-- the whole number nearest to a quotient, of two as near the greater
+abbrev pub nearest : ℕ → ℕ → ℕ
+nearest dividend divisor = (2 * dividend + divisor) / (2 * divisor)
+
+-- units in nanoseconds, where a second has `second` units: the nearest, and of two as near the one further from 0
+abbrev pub nanos_of : ℤ → ℕ → ℤ
+nanos_of (pos units) second = pos (nearest (units * second_nanos) second)
+nanos_of (negsuc units) second = neg_ℤ (pos (nearest (suc units * second_nanos) second))
 
 -- a sample, whether the reply was signed, and what its header tells of the server's clock (RFC 5905, 7.3)
 abbrev pub answer_of : Sample → Bool → HeaderFields → Answer

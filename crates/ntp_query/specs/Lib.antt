@@ -1,4 +1,3 @@
-pub mod Nanos
 pub mod Answer
 pub mod Outcome
 pub mod Reference

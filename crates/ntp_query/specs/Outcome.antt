@@ -1,6 +1,6 @@
 -- What comes of a query.
-use Rattle.std.specs.Prelude.{ℕ, List, [], ◌∷◌, unwrap_or, Bool, true, false, Option, Some, None}
-use Rattle.std.specs.{List.find, Option.option_map_or}
+use Rattle.std.specs.Prelude.{ℕ, List, [], ◌∷◌, Bool, true, false, Option, Some, None}
+use Rattle.std.specs.Option.{option_map_or}
 use Rattle.ntp_packet.specs.{declared.moment.Moment.Moment, Header.HeaderFields}
 use Rattle.ntp_client.specs.{declared.taken.Taken.Taken, State.ClientState, Taking.taken_for, Taking.header_taken}
 use Rattle.ntp_client.specs.declared.taken.Taken.TheVariants as taken
@@ -35,11 +35,6 @@ ends other = false
 abbrev pub last_or : Outcome → List Outcome → Outcome
 last_or before [] = before
 last_or before (o ∷ others) = last_or o others
-
--- what a query comes to, of what each arrival comes to: the first that ends it, wherever it stands, or else the last; of no arrival
--- silence
-abbrev pub outcome_among : List Outcome → Outcome
-outcome_among outcomes = unwrap_or (find ends outcomes) (last_or Silence outcomes)
 
 -- what a query comes to where the network said why the server is not reached: that, in the place of silence
 abbrev pub or_unreachable : Outcome → Option Unreached → Outcome

@@ -1,6 +1,6 @@
 //! A query: one request, and what comes of it.
-ghost use Rattle.std.specs.Prelude.{◌≡◌, ◌≤◌, ◌<◌, ℕ, Option, None, List, take, OnOk, IfOk, IfSome, IfNone, OnSome};
-ghost use Rattle.ntp_query.specs.Exchange.{Incoming, Comes, IsOver, Sends, outcome_of, IsQuery};
+ghost use Rattle.std.specs.Prelude.{◌≡◌, ◌≤◌, ◌<◌, ℕ, Option, None, List, [], take, OnOk, IfOk, IfSome, IfNone, OnSome};
+ghost use Rattle.ntp_query.specs.Exchange.{Incoming, Comes, Sends, outcome_of, IsQuery};
 
 use crate::{Asker, Outcome};
 use ntp_packet::{MOST_DATAGRAM_OCTETS, Moment};
@@ -50,7 +50,7 @@ pub trait Link {
     fn receive(&mut self, room: &mut Room) -> Option<Received>
         ensures length { IfSome result (λ received. received.length ≤ 1025) }
         ensures came { IfSome result (λ received. Comes (coming self.old) (coming self.new) (take received.length room.new) received.at) }
-        ensures over { IfNone result (IsOver (coming self.old)) }
+        ensures over { IfNone result (IfSome (coming self.old) (λ old. old ≡ [])) }
         ensures sent { sent self.new ≡ sent self.old }
         ensures fewer { OnSome result (most self.new < most self.old) };
 }

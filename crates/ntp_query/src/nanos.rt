@@ -1,6 +1,6 @@
 //! Times in seconds, to the nanosecond.
 ghost use Rattle.std.specs.Prelude.{◌≡◌, ◌*◌, ◌^◌, ◌<◌, ◌≤◌, pos, unsigned_abs};
-ghost use Rattle.ntp_query.specs.Nanos.{nearest, nanos_of};
+ghost use Rattle.ntp_query.specs.Answer.{nearest, nanos_of};
 
 use std::fmt;
 

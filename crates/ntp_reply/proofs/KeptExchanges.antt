@@ -2,10 +2,10 @@
 use Rattle.std.proofs.Common.{◌≡◌, ℕ, Bool, false, List, [], ◌∷◌, ◌++◌, length, IsSome, IfSome, is_some, refl, sym, ap, ◌∙◌, arith}
 use Rattle.std.specs.Prelude.{if◌then◌else◌}
 use Rattle.ntp_packet.specs.{declared.stamp.Stamp.Stamp, declared.moment.Moment.Moment, Header.HeaderFields}
-use Rattle.ntp_customer.specs.declared.slot.Slot.{Slot}
+use Rattle.ntp_customer.specs.{Tally.tally, declared.slot.Slot.Slot}
 use Rattle.ntp_customer.specs.Exchanges.{recent, with_recent, new_exchange, unused_at, spent, with_departure}
 use Rattle.ntp_customer.proofs.PublicLaws.{recent-all, recent-append, recent-with_recent, recent-departed, length-spent, by_customer, revoked-absent, by_past}
-use Rattle.ntp_customer.specs.Customer.{Enrolment, CustomerState, new_customer, customer_from, enrolment_at, is_enrolled, exchanges_of, with_saved}
+use Rattle.ntp_customer.specs.Customer.{Enrolment, CustomerState, customer_from, enrolment_at, is_enrolled, exchanges_of, with_saved}
 use Rattle.ntp_customer.specs.Past.{Past, with_query, short}
 use Rattle.ntp_reply.specs.{declared.occasion.Occasion.Occasion, declared.occasion.NewStamps.NewStamps, Replies.new_stamps}
 use Rattle.ntp_reply.specs.Life.{recent_of}
@@ -20,8 +20,8 @@ pub recent-nil : recent [] ≡ []
 recent-nil = recent-all [] (omega arith)
 
 -- what is kept of a past that begins
-pub short-new : (e : Enrolment) → new_customer e ≡ short (customer_from [] e)
-short-new e = ap (with_saved (new_customer e)) (sym recent-nil)
+pub short-new : (e : Enrolment) → customer_from (tally []) e ≡ short (customer_from [] e)
+short-new e = ap (with_saved (customer_from (tally []) e)) (sym recent-nil)
 
 -- of the exchanges the recent ones are kept
 saved-recent : (past : Past) → exchanges_of (short past) ≡ recent_of past

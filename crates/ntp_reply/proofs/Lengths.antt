@@ -5,7 +5,6 @@ use Rattle.ntp_packet.specs.Request.{RequestValue, IsReading}
 use Rattle.ntp_packet.specs.declared.digests.Digest.TheVariants as digest
 use Rattle.ntp_packet.proofs.PublicLaws.{length-signed}
 use Rattle.ntp_mac.specs.{Key.SymmetricKey, Digest.digest_length, Digest.hash, Signed.IsSigned, declared.key.Algorithm.Algorithm}
-use Rattle.ntp_mac.specs.declared.key.Algorithm.TheVariants.{Md5, Sha1}
 use Rattle.ntp_reply.specs.{Kind.mac_number, Verdict.request_length}
 
 -- a request has a header

@@ -14,13 +14,10 @@ use Rattle.ntp_packet.specs.Request.{RequestValue, IsReading, IsRequest}
 use Rattle.ntp_mac.specs.{Key.SymmetricKey, Digest.digest_length, Digest.hash, Mac.mac_of, Reading.reading_of}
 use Rattle.ntp_mac.specs.declared.key.Algorithm.{Algorithm}
 use Rattle.ntp_mac.proofs.PublicLaws.{is-signed}
-use Rattle.ntp_reply.specs.declared.kiss.Kiss.TheVariants as kiss
 use Rattle.ntp_reply.specs.{declared.occasion.Occasion.Occasion, declared.occasion.NewStamps.NewStamps}
 use Rattle.ntp_reply.specs.{Replies.time_fields, Replies.sealed, Life.Life, declared.answers.Answer.Answer}
 use Rattle.ntp_reply.specs.Kind.{Kind, PassedOver, RefusedByDeny, RefusedByNak, Signed, mac_number, octets_kind}
 use Rattle.ntp_reply.specs.Verdict.{kind_answer, verdict, reply_length, request_length, most_octets}
-use Rattle.ntp_reply.specs.declared.answers.Answer.TheVariants as answer
-use Rattle.ntp_reply.specs.declared.answers.Reason.TheVariants as reason
 use Rattle.ntp_reply.proofs.Lengths.{signed-long, mac-fits, signed-fits}
 
 -- ---- parts of replies

@@ -12,8 +12,6 @@ use Rattle.ntp_customer.specs.Past.{Past, queries_in, with_refusal, with_query, 
 use Rattle.ntp_reply.specs.{declared.occasion.Occasion.Occasion, Life.recent_of, Exchanged.after_time}
 use Rattle.ntp_reply.specs.Kind.{Kind, PassedOver, RefusedByDeny, RefusedByNak, Signed, octets_kind, kind_of}
 use Rattle.ntp_reply.specs.Verdict.{kind_answer, after_kind, window_at, query_count, refusals_sent}
-use Rattle.ntp_reply.specs.declared.answers.Answer.TheVariants as answer
-use Rattle.ntp_reply.specs.declared.answers.Reason.TheVariants as reason
 use Rattle.ntp_reply.proofs.KeptExchanges.{recent-alike, time-alike}
 
 -- counts that are the same where they are kept fall alike below what is counted

@@ -1,8 +1,8 @@
 -- The life of one address: what its own events leave of it.
-use Rattle.std.specs.Prelude.{ℕ, List, [], Option, None}
+use Rattle.std.specs.Prelude.{List, [], Option, None}
 use Rattle.std.specs.Option.{option_map_or}
 use Rattle.ntp_customer.specs.{declared.slot.Slot.Slot, Exchanges.recent, Past.Past}
-use Rattle.ntp_customer.specs.Customer.{Enrolment, enrolment_at, budget_of, exchanges_of}
+use Rattle.ntp_customer.specs.Customer.{Enrolment, enrolment_at, exchanges_of}
 
 -- the last exchanges of a past, or all where there are fewer than are saved (profile)
 abbrev pub recent_of : Past → List Slot
@@ -15,10 +15,6 @@ Life = Option Past
 -- the enrolment that an address has now, if it has one (profile)
 abbrev pub enrolment_in : Life → Option Enrolment
 enrolment_in life = option_map_or enrolment_at life None
-
--- how many signed queries of a window get the time: none of an address that is not enrolled (profile)
-abbrev pub budget_in : Life → ℕ
-budget_in life = option_map_or budget_of life 0
 
 -- the last exchanges of an address (profile)
 abbrev pub recent_in : Life → List Slot

@@ -1,5 +1,6 @@
 -- What a datagram is answered, and what it leaves of the life of the address from which it came.
-use Rattle.std.specs.Prelude.{ℕ, List, ◌++◌, Some, None, option_map, length, ◌+◌, ◌==◌, nat_lt, if◌then◌else◌}
+use Rattle.std.specs.Prelude.{ℕ, List, ◌++◌, Option, Some, None, option_map, length, ◌+◌, ◌==◌, nat_lt, if◌then◌else◌}
+use Rattle.std.specs.Option.{option_map_or}
 use Rattle.ntp_packet.specs.{Moment.window_of, Header.HeaderFields, Header.header_octets, Tail.tail_octets, Request.RequestValue}
 use Rattle.ntp_customer.specs.{Tally.count_in, declared.slot.Slot.Slot, Customer.budget_of}
 use Rattle.ntp_mac.specs.{Key.SymmetricKey, Mac.nak_octets}
@@ -72,13 +73,17 @@ verdict (Some past) o octets = kind_answer past o (kind_of past octets)
 abbrev pub after_datagram : Life → Occasion → List ℕ → Life
 after_datagram life o octets = option_map (λ past. after_kind past o (kind_of past octets)) life
 
--- how many octets an answer's reply has
+-- the reply of an answer
+abbrev pub reply_in : Answer → Option (List ℕ)
+reply_in (answer.Time reply saved) = Some reply
+reply_in (answer.Rate reply) = Some reply
+reply_in (answer.Deny reply) = Some reply
+reply_in (answer.Nak reply) = Some reply
+reply_in (answer.Silent why) = None
+
+-- how many octets it has
 abbrev pub reply_length : Answer → ℕ
-reply_length (answer.Time reply saved) = length reply
-reply_length (answer.Rate reply) = length reply
-reply_length (answer.Deny reply) = length reply
-reply_length (answer.Nak reply) = length reply
-reply_length (answer.Silent why) = 0
+reply_length a = option_map_or length (reply_in a) 0
 
 -- how many octets a request has
 abbrev pub request_length : RequestValue → ℕ

@@ -12,8 +12,8 @@ use Rattle.ntp_reply.specs.declared.answers.Answer.{Answer}
 use Rattle.ntp_reports.specs.{declared.signing.Signing.Signing, declared.customer_report.KeyUse.KeyUse}
 use Rattle.ntp_reports.specs.declared.customer_report.CustomerReport.{CustomerReport}
 use Rattle.ntp_reports.specs.{declared.customer_counts.CustomerCounts.CustomerCounts, Counted.AreCounts, Signing.signing_in}
-use Rattle.ntp_reports.specs.Customers.{used_by, key_numbered}
-use Rattle.ntp_reports.specs.Reported.{comes_from, told_of, signed_at, report_at, IsTakenInto, TakesTurn, CountsOf, SignsAs}
+use Rattle.ntp_reports.specs.Customers.{used_by, key_numbered, Takes}
+use Rattle.ntp_reports.specs.Reported.{comes_from, told_of, signed_at, report_at, IfThere, TakesTurn, CountsOf, SignsAs}
 
 -- the last signing under a number: the first one from the newest observation back
 abbrev last_signed : ℕ → List Observation → Option Moment
@@ -85,35 +85,35 @@ module _ (number : ℕ) where
   signs-option s key last e f = grind (arith, used-last)
 
   -- a key of a report, after a turn
-  signs-own : (outcome : TurnOutcome) (before after : Option CustomerReport) (own : List Observation) → IsTakenInto outcome before after
+  signs-own : (outcome : TurnOutcome) (before after : Option CustomerReport) (own : List Observation) → IfThere (Takes outcome) before after
       → IfSome (option_and_then (λ report. key_numbered report number) before) (λ key. key.last_signed ≡ last_signed number own)
       → IfSome (option_and_then (λ report. key_numbered report number) after) (λ key. key.last_signed ≡ last_signed number (own ++ Turn outcome ∷ []))
   signs-own outcome None after own none signs =
       subst (λ o. IfSome (option_and_then (λ report. key_numbered report number) o) (λ key. key.last_signed ≡ last_signed number (own ++ Turn outcome ∷ [])))
       (sym none) tt
-  signs-own outcome (Some before) after own (report, is, takes) signs =
+  signs-own outcome (Some before) None own takes signs = absurd takes
+  signs-own outcome (Some before) (Some report) own takes signs =
       let key : key_numbered report number ≡ option_map (used_by (signing_in outcome)) (key_numbered before number) =
       ap (λ f. find named (option_to_list f ++ option_to_list report.second)) takes.first
       ∙ ap (λ s. find named (option_to_list (option_map (used_by (signing_in outcome)) before.first) ++ option_to_list s)) takes.second
       ∙ key-used (signing_in outcome) before.first before.second in
-      subst (λ o. IfSome (option_and_then (λ report. key_numbered report number) o) (λ key. key.last_signed ≡ last_signed number (own ++ Turn outcome ∷ [])))
-      (sym is)
-      (subst (λ last. IfSome (key_numbered report number) (λ key. key.last_signed ≡ last)) (sym (last-more (Turn outcome) own))
+      subst (λ last. IfSome (key_numbered report number) (λ key. key.last_signed ≡ last)) (sym (last-more (Turn outcome) own))
       (subst (λ o. IfSome o (λ key. key.last_signed ≡ option_or (signed_at number (Turn outcome)) (last_signed number own))) (sym key)
       (signs-option (signing_in outcome) (key_numbered before number) (last_signed number own)
-      (found (option_to_list before.first ++ option_to_list before.second)) signs)))
+      (found (option_to_list before.first ++ option_to_list before.second)) signs))
 
 -- ---- counts
 
-counts-own : (outcome : TurnOutcome) (before after : Option CustomerReport) (own : List Observation) → IsTakenInto outcome before after
+counts-own : (outcome : TurnOutcome) (before after : Option CustomerReport) (own : List Observation) → IfThere (Takes outcome) before after
     → IfSome before (λ report. AreCounts report.counts own) → IfSome after (λ report. AreCounts report.counts (own ++ Turn outcome ∷ []))
 counts-own outcome None after own none are = subst (λ o. IfSome o (λ report. AreCounts report.counts (own ++ Turn outcome ∷ []))) (sym none) tt
-counts-own outcome (Some before) after own (report, is, takes) are =
-    subst (λ o. IfSome o (λ report. AreCounts report.counts (own ++ Turn outcome ∷ []))) (sym is) (takes.counts.counted own are)
+counts-own outcome (Some before) None own takes are = absurd takes
+counts-own outcome (Some before) (Some report) own takes are = takes.counts.counted own are
 
-some-own : (outcome : TurnOutcome) (before after : Option CustomerReport) → IsTakenInto outcome before after → is_some after ≡ is_some before
+some-own : (outcome : TurnOutcome) (before after : Option CustomerReport) → IfThere (Takes outcome) before after → is_some after ≡ is_some before
 some-own outcome None after none = ap is_some none
-some-own outcome (Some before) after (report, is, takes) = ap is_some is
+some-own outcome (Some before) None takes = absurd takes
+some-own outcome (Some before) (Some report) takes = refl
 
 -- ---- what was told of an address
 
@@ -153,8 +153,8 @@ module _ {A : Type 0} (old new : CustomerCounts A) where
     abbrev outcome : TurnOutcome
     outcome = Answered arrival a sending
 
-    own : (address : Address) → address_eq arrival.address address ≡ true → IsTakenInto outcome (report_at old address) (report_at new address)
-    own address is = subst (λ q. IsTakenInto outcome (report_at old q) (report_at new q)) (same_address arrival.address address is) takes.own
+    own : (address : Address) → address_eq arrival.address address ≡ true → IfThere (Takes outcome) (report_at old address) (report_at new address)
+    own address is = subst (λ q. IfThere (Takes outcome) (report_at old q) (report_at new q)) (same_address arrival.address address is) takes.own
 
     counts-by : (address : Address) (seen : List Observation) (b : Bool) → address_eq arrival.address address ≡ b
         → CountsOf old address seen → CountsOf new address (seen ++ Turn outcome ∷ [])

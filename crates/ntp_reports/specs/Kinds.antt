@@ -1,7 +1,9 @@
 -- What an observation is counted as.
-use Rattle.std.specs.Prelude.{ℕ, Bool, ◌==◌, List, [], ◌∷◌, if◌then◌else◌}
+use Rattle.std.specs.Prelude.{ℕ, Bool, ◌==◌, ◌&&◌, nat_le, List, [], ◌∷◌, length, take, drop, if◌then◌else◌}
+use Rattle.std.specs.Int.{is_negative}
 use denote.Enum.Declared.{tag_of}
-use Rattle.ntp_packet.specs.declared.malformed.Malformed.{Malformed}
+use Rattle.ntp_packet.specs.{Difference.difference, Header.header_length, declared.malformed.Malformed.Malformed}
+use Rattle.ntp_admin.specs.Words.{stamp_of}
 use Rattle.ntp_packet.specs.declared.malformed.Malformed.TheVariants as malformed
 use Rattle.ntp_service.specs.{declared.refusal.Refusal.Refusal, declared.observation.LineOutcome.LineOutcome}
 use Rattle.ntp_service.specs.{declared.observation.Observation.Observation, declared.observation.Sending.Sending}
@@ -13,7 +15,7 @@ use Rattle.ntp_reply.specs.declared.answers.Reason.TheVariants as reason
 use Rattle.ntp_service.specs.declared.observation.LineOutcome.TheVariants as line
 use Rattle.ntp_service.specs.declared.observation.Observation.TheVariants.{Line, Turn}
 use Rattle.ntp_service.specs.declared.observation.Sending.TheVariants as sending
-use Rattle.ntp_reports.specs.{contracts.kind.Kind.the_type, declared.kind.Kind.Kind, Interleaving.tells_departure}
+use Rattle.ntp_reports.specs.{contracts.kind.Kind.the_type, declared.kind.Kind.Kind}
 use Rattle.ntp_reports.specs.declared.kind.Kind.TheVariants as kind
 
 -- the place of a kind in the order of their declaration, counted from 0: what Rust gives for `kind as usize`
@@ -42,6 +44,12 @@ silence_kind reason.Mode = kind.Mode
 silence_kind reason.Bare = kind.Bare
 silence_kind reason.Muted = kind.Muted
 silence_kind reason.OverBudget = kind.OverBudget
+
+-- whether a time reply tells the departure of an earlier one (RFC 9769, 2): it has the octets of a header, and its transmit stamp,
+-- at octet 40, lies before its receive stamp, at octet 32 (RFC 5905, 7.3)
+abbrev pub tells_departure : List ℕ → Bool
+tells_departure reply = nat_le header_length (length reply)
+    && is_negative (difference (stamp_of (take 8 (drop 40 reply))) (stamp_of (take 8 (drop 32 reply))))
 
 -- an answer, time by which departure it tells
 abbrev pub answer_kind : Answer → Kind

@@ -1,4 +1,3 @@
-pub mod Interleaving
 pub mod Kinds
 pub mod Counted
 pub mod AnswerText

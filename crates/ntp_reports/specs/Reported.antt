@@ -26,10 +26,10 @@ signed_at number (Turn outcome) =
     option_and_then (λ (signing : Signing). if number == signing.number then Some signing.receipt else None) (signing_in outcome)
 signed_at number other = None
 
--- what is reported of an address before a turn of its, and after it; no public clause cites this
-abbrev pub IsTakenInto : TurnOutcome → Option CustomerReport → Option CustomerReport → Type 0
-IsTakenInto outcome None after = after ≡ None
-IsTakenInto outcome (Some before) after = (report : CustomerReport) × (after ≡ Some report) × Takes outcome before report
+-- a part that may be absent: none comes and none goes, and one that is there goes this way
+abbrev pub IfThere : {T : Type 0} → (T → T → Type 0) → Option T → Option T → Type 0
+IfThere goes None new = new ≡ None
+IfThere goes (Some old) new = IsSomeAnd new (goes old)
 
 module _ {A : Type 0} where
   -- what is reported of an address, if anything is
@@ -59,18 +59,16 @@ module _ {A : Type 0} where
   CarriedOut old new command line =
       HasReport old new (address_named command) (report_after (report_at old (address_named command)) command line)
 
-  -- memory was refused for the report of the address that a command names, which had none: all reports are as they were
-  abbrev pub HasMissed : CustomerCounts A → CustomerCounts A → Command → Type 0
-  HasMissed old new command = (report_at old (address_named command) ≡ None) × AreSame old new × (new.has_missed ≡ true)
-
-  -- a line with this number and command was reported: where a command was done, it was carried out, or its report was missed
+  -- a line with this number and command was reported: where a command was done, it was carried out, or memory was refused for the
+  -- report of the address that it names, which had none, and all reports are as they were
   abbrev pub ReportsLine : ℕ → Option Command → LineOutcome → CustomerCounts A → CustomerCounts A → Type 0
-  ReportsLine number (Some command) Done old new = CarriedOut old new command number ⊎ HasMissed old new command
+  ReportsLine number (Some command) Done old new = CarriedOut old new command number
+      ⊎ (report_at old (address_named command) ≡ None) × AreSame old new × (new.has_missed ≡ true)
   ReportsLine number other outcome old new = AreSame old new
 
   -- a turn of an address was taken; no public clause cites this
   pub record TakesTurn (outcome : TurnOutcome) (address : Address) (old new : CustomerCounts A) : Type 0 where
-    pub own : IsTakenInto outcome (report_at old address) (report_at new address)
+    pub own : IfThere (Takes outcome) (report_at old address) (report_at new address)
     pub others : (other : Address) → address_eq address other ≡ false → report_at new other ≡ report_at old other
 
   -- a turn more was reported, in the counts and in when keys signed: whatever these were of, they are of that and this turn
@@ -80,8 +78,3 @@ module _ {A : Type 0} where
         → SignsAs new address number (seen ++ Turn outcome ∷ [])
     pub customers : (address : Address) → is_some (report_at new address) ≡ is_some (report_at old address)
     pub missed : new.has_missed ≡ old.has_missed
-
--- a part that may be absent: none comes and none goes, and one that is there goes this way
-abbrev pub IfThere : {T : Type 0} → (T → T → Type 0) → Option T → Option T → Type 0
-IfThere goes None new = new ≡ None
-IfThere goes (Some old) new = IsSomeAnd new (goes old)

@@ -3,7 +3,7 @@ ghost use Rattle.std.specs.Prelude.{◌≡◌, ◌+◌, ◌≤◌, length, take,
 ghost use Rattle.std.specs.Int.{is_negative};
 ghost use Rattle.ntp_packet.specs.{Difference.difference, Header.header_length};
 ghost use Rattle.ntp_admin.specs.Words.{stamp_of};
-ghost use Rattle.ntp_reports.specs.Interleaving.{tells_departure};
+ghost use Rattle.ntp_reports.specs.Kinds.{tells_departure};
 
 use ntp_mac::Reply;
 use ntp_packet::{HEADER_OCTETS, Stamp, difference};

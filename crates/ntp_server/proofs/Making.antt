@@ -18,7 +18,7 @@ use Rattle.ntp_port.proofs.PublicLaws.{CountsMore-nil, CountsMore-append, TakesT
 use Rattle.ntp_admin.specs.CommandsFile.{most_line_octets, line_observations, happened_at_lines}
 use Rattle.ntp_server.specs.{declared.server.Server.Server, declared.server.Totals.Totals}
 use Rattle.ntp_server.specs.Rounds.{Round, PartsTell, ServesRounds, turns_in, made_in, waits_in, receipt_in, asked_in}
-use Rattle.ntp_server.specs.Steps.{Looks, Orders, Starts, Waits, MakesTurn, arrivals_in, replies_of_turn, departures_in}
+use Rattle.ntp_server.specs.Steps.{Looks, Orders, Starts, Waits, MakesTurn, totals_after}
 use Rattle.ntp_server.proofs.Telling.{Asks-append}
 use Rattle.ntp_server.proofs.Looking.{Orders-append}
 
@@ -84,22 +84,25 @@ Makes-turn t prompt may gave asked shown halfway later p q r s reference receive
     }
 
 -- ---- what a turn comes to, counted
-arrivals-made : (m : Made) → arrivals_in (turn_outcome m) ≡ if_so (has_arrived m)
-arrivals-made m = grind arith
+arrivals-made : (a : Totals) (m : Made) → (totals_after a (turn_outcome m)).arrivals ≡ a.arrivals + if_so (has_arrived m)
+arrivals-made a m = grind arith
 
-replies-made : (m : Made) → replies_of_turn (turn_outcome m) ≡ length (sent_in m)
-replies-made m = grind (arith, sent-one)
+replies-made : (a : Totals) (m : Made) → (totals_after a (turn_outcome m)).sent ≡ a.sent + length (sent_in m)
+replies-made a m = grind (arith, sent-one)
 
-departures-made : (m : Made) → departures_in (turn_outcome m) ≡ if_so (has_departed m)
-departures-made m = grind (arith, if_so, noted-one)
+departures-made : (a : Totals) (m : Made) → (totals_after a (turn_outcome m)).departed ≡ a.departed + if_so (has_departed m)
+departures-made a m = grind (arith, if_so, noted-one)
 
 -- there is at most one reply a turn
 few_sent : (ms : List Made) → length (sent_of ms) ≤ length ms
 few_sent [] = omega arith
 few_sent (m ∷ ms) =
-    omega (arith, few_sent ms, length-append (sent_in m) (sent_of ms), replies-made m, one (turn_outcome m))
+    omega (arith, few_sent ms, length-append (sent_in m) (sent_of ms), replies-made none m, one (turn_outcome m))
   where
-    one : (o : TurnOutcome) → replies_of_turn o ≤ 1
+    none : Totals
+    none = record { arrivals = 0; sent = 0; departed = 0 }
+
+    one : (o : TurnOutcome) → (totals_after none o).sent ≤ 1
     one o = grind (arith, at-most-one)
 
 few_such : (is : Made → Bool) (ms : List Made) → count_of is ms ≤ length ms
@@ -167,10 +170,9 @@ module _ (rounds earlier : List Round) (round : Round) (reference : ReferenceSta
 
 pub Serves-turn : {P C R O A : Type 0} (t : PartsTell P C R O) (prompt may : Bool) (shown halfway later : Option (List (Option Moment))) (n : ℕ)
     (p q r : Server P C R O A) (a b : Totals) (outcome : TurnOutcome) → ServesRounds p q t shown halfway prompt may n a
-    → MakesTurn q r t halfway later prompt may outcome → b.arrivals ≡ a.arrivals + arrivals_in outcome
-    → b.sent ≡ a.sent + replies_of_turn outcome → b.departed ≡ a.departed + departures_in outcome
-    → ServesRounds p r t shown later prompt may (n + 1) b
-Serves-turn t prompt may shown halfway later n p q r a b outcome s m arrivals sent departed =
+    → MakesTurn q r t halfway later prompt may outcome → b ≡ totals_after a outcome → ServesRounds p r t shown later prompt may (n + 1) b
+Serves-turn t prompt may shown halfway later n p q r a b outcome s m counted =
+    let totals : b ≡ totals_after a (turn_outcome m.made) = counted ∙ ap (totals_after a) m.comes_to in
     let more = m.earlier ++ m.round ∷ [] in
     let turns : turns_in (s.rounds ++ more) ≡ turns_in s.rounds ++ (m.reference, m.made) ∷ []
     = turns-more s.rounds m.earlier m.round m.reference m.made m.no_turn m.waiting m.turn in
@@ -204,19 +206,17 @@ Serves-turn t prompt may shown halfway later n p q r a b outcome s m arrivals se
       observed = orders.observed;
       arrivals = omega (
         arith,
-        arrivals,
         s.arrivals,
-        ap arrivals_in m.comes_to,
-        arrivals-made m.made,
+        ap (λ (x : Totals). x.arrivals) totals,
+        arrivals-made a m.made,
         ap (count_of has_arrived) made,
         count-more has_arrived (made_in s.rounds) m.made,
       );
       sent = omega (
         arith,
-        sent,
         s.sent,
-        ap replies_of_turn m.comes_to,
-        replies-made m.made,
+        ap (λ (x : Totals). x.sent) totals,
+        replies-made a m.made,
         ap (λ l. length (sent_of l)) made,
         ap length (flat_map-append sent_in (made_in s.rounds) (m.made ∷ [])),
         ap length (append-nil (sent_in m.made)),
@@ -224,10 +224,9 @@ Serves-turn t prompt may shown halfway later n p q r a b outcome s m arrivals se
       );
       departed = omega (
         arith,
-        departed,
         s.departed,
-        ap departures_in m.comes_to,
-        departures-made m.made,
+        ap (λ (x : Totals). x.departed) totals,
+        departures-made a m.made,
         ap (count_of has_departed) made,
         count-more has_departed (made_in s.rounds) m.made,
       );

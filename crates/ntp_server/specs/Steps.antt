@@ -1,5 +1,5 @@
 -- Not to be believed: for proofs. What a look, the start, a wait and a turn do.
-use Rattle.std.specs.Prelude.{◌≡◌, ◌⊎◌, ℕ, ◌-◌, ◌^◌, Bool, true, is_some, Option, None, Some, List, [], ◌∷◌, ◌++◌, length, map, flat_map, if◌then◌else◌}
+use Rattle.std.specs.Prelude.{◌≡◌, ◌⊎◌, ℕ, ◌+◌, ◌-◌, ◌^◌, Bool, true, is_some, Option, None, Some, List, [], ◌∷◌, ◌++◌, length, map, flat_map, if◌then◌else◌}
 use Rattle.std.specs.Option.{option_map_or}
 use Rattle.ntp_packet.specs.declared.moment.Moment.{Moment}
 use Rattle.ntp_reply.specs.Reference.{ReferenceState}
@@ -8,7 +8,7 @@ use Rattle.ntp_service.specs.declared.observation.TurnOutcome.TheVariants.{Nothi
 use Rattle.ntp_service.specs.{Sees.Sees, Sending.was_sent, Sending.was_noted, Headline.StandsFor, Headline.Tells}
 use Rattle.ntp_port.specs.{Port.CountsMore, Made.Made, Made.turn_outcome, Serving.Makes}
 use Rattle.ntp_admin.specs.CommandsFile.{most_line_octets, count_on, complete_lines, TakenLine, happened_at_lines, line_observations}
-use Rattle.ntp_server.specs.declared.server.Server.{Server}
+use Rattle.ntp_server.specs.{declared.server.Server.Server, declared.server.Totals.Totals}
 use Rattle.ntp_server.specs.Rounds.{Round, PartsTell, AreDueInTurn, LooksInTurn, AsksInTurn, given_in, turns_in, waits_in, asked_in, happened_in_round, round_observations}
 
 -- a look was made, which asked with this, and gave something or not
@@ -70,17 +70,11 @@ pub record MakesTurn {P C R O A : Type 0} (before after : Server P C R O A) (t :
   pub port : Makes may_drop (made ∷ []) (t.counts before.port) (t.counts after.port) (t.port before.port) (t.port after.port)
   pub comes_to : outcome ≡ turn_outcome made
 
--- how many datagrams came in a turn
-abbrev pub arrivals_in : TurnOutcome → ℕ
-arrivals_in NothingReceived = 0
-arrivals_in (Answered arrival answer sending) = 1
-
--- how many replies were sent in it
-abbrev pub replies_of_turn : TurnOutcome → ℕ
-replies_of_turn NothingReceived = 0
-replies_of_turn (Answered arrival answer sending) = if was_sent sending then 1 else 0
-
--- how many departures were noted in it
-abbrev pub departures_in : TurnOutcome → ℕ
-departures_in NothingReceived = 0
-departures_in (Answered arrival answer sending) = if was_noted sending then 1 else 0
+-- the totals after a turn
+abbrev pub totals_after : Totals → TurnOutcome → Totals
+totals_after totals NothingReceived = totals
+totals_after totals (Answered arrival answer sending) = record {
+  arrivals = totals.arrivals + 1;
+  sent = totals.sent + (if was_sent sending then 1 else 0);
+  departed = totals.departed + (if was_noted sending then 1 else 0);
+}

@@ -2,7 +2,7 @@
 ghost use Rattle.std.specs.Prelude.{◌≡◌, ◌+◌, ◌-◌, ◌≤◌, ◌<◌, ◌^◌, None, option_map, IfOk, is_err};
 ghost use Rattle.std.specs.Result.{result_ok};
 ghost use Rattle.ntp_port.specs.Port.{most_received_octets, failed_calls, CountsReceive, Receives};
-ghost use Rattle.ntp_server.specs.Steps.{arrivals_in, replies_of_turn, departures_in};
+ghost use Rattle.ntp_server.specs.Steps.{totals_after};
 
 use crate::reporter::{NoReports, Reporter};
 use ntp_admin::apply_lines;
@@ -191,9 +191,7 @@ impl Totals {
         requires arrivals { self.old.arrivals < 2 ^ 64 - 1 }
         requires sent { self.old.sent < 2 ^ 64 - 1 }
         requires departed { self.old.departed < 2 ^ 64 - 1 }
-        ensures arrivals { self.new.arrivals ≡ self.old.arrivals + arrivals_in outcome.now }
-        ensures sent { self.new.sent ≡ self.old.sent + replies_of_turn outcome.now }
-        ensures departed { self.new.departed ≡ self.old.departed + departures_in outcome.now }
+        ensures { self.new ≡ totals_after self.old outcome.now }
     {
         let TurnOutcome::Answered { sending, .. } = outcome else {
             return;

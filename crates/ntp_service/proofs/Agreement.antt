@@ -9,8 +9,8 @@ use Rattle.ntp_mac.specs.Key.{SymmetricKey}
 use Rattle.ntp_service.specs.{declared.address.Address.Address, Address.address_cmp}
 use Rattle.ntp_service.specs.{declared.refusal.Refusal.TheVariants.NotEnrolled, declared.command.Command.Command}
 use Rattle.ntp_service.specs.Commands.{numbered, refusal_of}
-use Rattle.ntp_customer.specs.declared.numbered_key.NumberedKey.{NumberedKey}
-use Rattle.ntp_customer.specs.Customer.{CustomerState, enrolment_of, enrolment_at, new_customer, revoked, rebudgeted, rolled_over, retired, is_enrolled, numbers_of}
+use Rattle.ntp_customer.specs.{Tally.tally, declared.numbered_key.NumberedKey.NumberedKey}
+use Rattle.ntp_customer.specs.Customer.{CustomerState, enrolment_of, enrolment_at, customer_from, revoked, rebudgeted, rolled_over, retired, is_enrolled, numbers_of}
 use Rattle.ntp_customer.proofs.PublicLaws.{revoked-absent, numbers-rebudgeted}
 use Rattle.ntp_service.specs.declared.command.Command.TheVariants.{Enrol, Revoke, Budget, Rollover, Retire}
 use Rattle.ntp_service.specs.Registry.{Registry, Agrees, empty_registry, customer_at, is_enrolled_at, numbers_at, holder_of, with_customer, with_holder, without_holder, without_holders, after_command, own_refusal, holder_in_way}
@@ -139,7 +139,8 @@ module _ (r : Registry) (address : Address) (w : CustomerState) (agrees : Agrees
 
 -- an enrolment of an address that is not enrolled, with a number that is free, keeps the agreement
 agrees-enrol : (r : Registry) (address : Address) (key : NumberedKey) (budget : ℕ) → is_enrolled_at r address ≡ false
-    → holder_of r key.number ≡ None → Agrees r → Agrees (with_customer (with_holder r key.number address) address (new_customer (enrolment_of key budget)))
+    → holder_of r key.number ≡ None → Agrees r
+    → Agrees (with_customer (with_holder r key.number address) address (customer_from (tally []) (enrolment_of key budget)))
 agrees-enrol r address key budget new free agrees = grind (arith, agrees-taking, unenrolled-numbers)
 
 module _ (r : Registry) (address : Address) (c : CustomerState) (there : customer_at r address ≡ Some c) (agrees : Agrees r) where

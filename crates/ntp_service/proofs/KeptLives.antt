@@ -5,7 +5,7 @@ use Rattle.std.specs.{Option.option_map_or, Int.NonZero.non_zero_u16_get}
 use Rattle.std.proofs.lemmas.Option.{none-some, same_Some}
 use Rattle.ntp_customer.specs.{Tally.most_counted, Tally.tally, Past.Past, Past.short}
 use Rattle.ntp_customer.specs.Customer.{CustomerState, enrolment_of, enrolment_at, budget_of}
-use Rattle.ntp_reply.specs.{Life.Life, Life.budget_in, Replies.occasion_of}
+use Rattle.ntp_reply.specs.{Life.Life, Replies.occasion_of}
 use Rattle.ntp_reply.proofs.PublicLaws.{short-new, departure-alike, datagram-alike}
 use Rattle.ntp_service.specs.{declared.command.Command.Command, declared.command.Command.TheVariants.Enrol}
 use Rattle.ntp_service.specs.{declared.event.Event.Event, declared.outcome.Outcome.Outcome}
@@ -43,7 +43,8 @@ module _ {A : Type 0} where
       let both = sym (kept-command c (Some one)) ∙ ap (λ x. by_customer c (Some x)) same ∙ kept-command c (Some other) in (ap (λ p. p.0) both, ap (λ p. p.1) both)
 
   -- and so in two lives
-  pub tells-all : (one other : Life) (e : Event A) → option_map short one ≡ option_map short other → budget_in one < most_counted
+  pub tells-all : (one other : Life) (e : Event A) → option_map short one ≡ option_map short other
+      → option_map_or budget_of one 0 < most_counted
       → (answer_to one e ≡ answer_to other e) × (option_map short (after one e) ≡ option_map short (after other e))
   tells-all None None e same few = (refl, refl)
   tells-all None (Some other) e same few = absurd (none-some (short other) same)

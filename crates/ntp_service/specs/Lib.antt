@@ -2,8 +2,6 @@ pub mod Address
 pub mod Commands
 pub mod Vocabulary
 pub mod Registry
-pub mod Lends
-pub mod Codes
 pub mod Sees
 pub mod Sending
 pub mod Events

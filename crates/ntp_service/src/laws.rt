@@ -1,13 +1,14 @@
 //! What holds of the definitions, whatever code meets them. Each function is a law: a call of it does
 //! nothing.
 ghost use Rattle.std.specs.Prelude.{◌≡◌, ℕ, ◌<◌, Bool, None, option_map, IfSome, List, map, filter};
-ghost use Rattle.ntp_customer.specs.{Tally.most_counted, Exchanges.AreSaved, Customer.HasKeys, Past.short};
+ghost use Rattle.ntp_customer.specs.{Tally.most_counted, Exchanges.AreSaved, Customer.HasKeys, Customer.budget_of, Past.short};
+ghost use Rattle.std.specs.Option.{option_map_or};
 ghost use Rattle.ntp_packet.specs.Header.{HeaderFields};
 ghost use Rattle.ntp_service.specs.{Registry.Registry, declared.address.Address.Address, declared.event.Event.Event};
 ghost use Rattle.ntp_service.specs.{declared.outcome.Outcome.Outcome, Events.own, Bound.RepliesAreFew, Bound.TellsFew};
 ghost use Rattle.ntp_reply.specs.{declared.occasion.Occasion.Occasion, Exchanged.matched};
 ghost use Rattle.ntp_reply.specs.Replies.{HasDistinctStamps, new_stamps, basic_fields, time_fields};
-ghost use Rattle.ntp_reply.specs.Life.{Life, enrolment_in, budget_in, recent_in};
+ghost use Rattle.ntp_reply.specs.Life.{Life, enrolment_in, recent_in};
 ghost use Rattle.ntp_service.specs.Model.{life_of, answer_to, after, says_after, FollowsModel};
 ghost use Rattle.ntp_service.specs.Headline.{StandsFor, Tells, IsEnrolledWith, happened_to};
 ghost use Rattle.ntp_service.specs.Forgery.{at_genuine, genuine, without_refusals, TellsWithoutForgeries};
@@ -18,7 +19,8 @@ use std::alloc::Allocator;
 /// What is kept of a life tells all of it: two lives with the same kept part answer each event alike, and keep the
 /// same part afterwards. Budgets are below where counting stops, as each command's is.
 pub fn what_is_kept_of_a_life_tells_all<A: Allocator>()
-    ensures { (one other : Life) (e : Event A) → option_map short one ≡ option_map short other → budget_in one < most_counted
+    ensures { (one other : Life) (e : Event A) → option_map short one ≡ option_map short other
+        → option_map_or budget_of one 0 < most_counted
         → (answer_to one e ≡ answer_to other e) × (option_map short (after one e) ≡ option_map short (after other e)) }
 {}
 

@@ -22,11 +22,13 @@ pub struct Service<A: Allocator = Global> {
 }
 
 impl<A: Allocator> Model for Service<A> {
-    ghost use Rattle.ntp_service.specs.{Registry.Registry, Registry.Agrees, Codes.coded_registry};
+    ghost use Rattle.std.specs.Coded.{codes};
+    ghost use Rattle.std.specs.FinMap as map;
+    ghost use Rattle.ntp_service.specs.Registry.{Registry, Agrees};
 
     ghost Value = { Registry };
 
-    ghost coded = { coded_registry };
+    ghost coded = { Prim.hlevel (codes, map.code) };
 
     ghost view = { λ s. s.register };
 

@@ -1,6 +1,6 @@
 //! The two tables of a register: its customers, and the holders of key numbers. Nothing else opens them.
 ghost use Rattle.std.specs.Prelude.{◌≡◌, ◌↔◌, ◌∷◌, None, Contains, IsSome, IfOk, IsOk, OnOk, OnErr, option_copied};
-ghost use Rattle.std.specs.{Option.option_copied_mut, Option.option_to_list, Borrow.sem};
+ghost use Rattle.std.specs.{Option.option_copied_mut, Option.option_to_list, Borrow.LendsIf, Borrow.sem};
 
 use crate::{Address, Customer};
 use indexmap::IndexMap;
@@ -19,12 +19,13 @@ pub struct Register<A: Allocator = Global> {
 }
 
 impl<A: Allocator> Model for Register<A> {
+    ghost use Rattle.std.specs.Coded.{codes};
     ghost use Rattle.std.specs.FinMap as map;
-    ghost use Rattle.ntp_service.specs.{Registry.Registry, Codes.coded_registry};
+    ghost use Rattle.ntp_service.specs.Registry.{Registry};
 
     ghost Value = { Registry };
 
-    ghost coded = { coded_registry };
+    ghost coded = { Prim.hlevel (codes, map.code) };
 
     ghost view = { λ r. record {
       customers = map.from_entries r.customers.entries;
@@ -34,7 +35,8 @@ impl<A: Allocator> Model for Register<A> {
 
 impl<A: Allocator + Copy> Register<A> {
     ghost use Rattle.ntp_service.specs.Registry.{Agrees, empty_registry, customer_at, holder_of, with_customer, with_holder, without_holder, without_holders};
-    ghost use Rattle.ntp_service.specs.{declared.address.Address.Address, Lends.lends_customer};
+    ghost use Rattle.ntp_service.specs.{declared.address.Address.Address, contracts.store.Register.the_row};
+    ghost use Rattle.ntp_customer.specs.contracts.customer.Customer.{the_row as customer_row};
 
     /// An empty register, which will take its memory from `alloc`.
     pub fn new(alloc: A) -> Self
@@ -75,7 +77,8 @@ impl<A: Allocator + Copy> Register<A> {
     /// The customer at an address, to be written to: none exactly where the address was never enrolled.
     /// All other customers and all holders stay as they are.
     pub fn customer_mut(&mut self, address: Address) -> Option<&mut Customer<A>>
-        ensures* writes_back { sem 𝓛 (lends_customer A.row A.Allocator self.entry address result) }
+        ensures* writes_back { sem 𝓛 (LendsIf (the_row A.row A.Allocator) (customer_row A.row A.Allocator) self.entry result
+            (with_customer self.old address) self.old) }
         ensures value { option_copied_mut result ≡ customer_at self.old address }
     {
         self.customers.get_mut(&address)

@@ -8,7 +8,7 @@ use Rattle.test_support.specs.declared.memory_turn.Turn.{Turn}
 use Rattle.ntp_port.specs.{declared.port.PortFault.PortFault, Made.arrival_of}
 use Rattle.test_support.specs.Memory.{turn_told, incoming_told}
 use Rattle.ntp_service.specs.declared.observation.Arrival.{Arrival}
-use Rattle.ntp_port.specs.Port.{TurnValue, no_turn, Told, received, Arrives, Begins, BeginsDropped}
+use Rattle.ntp_port.specs.Port.{TurnValue, no_turn, Told, received, Arrives, Begins, DropTells}
 
 shortest : (xs : List ℕ) (n m : ℕ) → n ≡ min (length xs) m → take n xs ≡ take m xs
 shortest xs n m e = grind (arith, eqb_tells, take_all)
@@ -35,7 +35,7 @@ receives-next A turns i x old r buffer h e told arrives = grind (arith, drop_mor
 -- the turn at i begins, whose datagram is dropped
 pub drops-next : (A : Type 0) (turns : List (Turn A)) (i : ℕ) (x : Turn A) (old : Told) → i < length turns → x ≡ get_or turns i x
     → old.coming ≡ map turn_told (drop i turns) → is_none x.arrival ≡ false
-    → BeginsDropped old (Some (begun (map turn_told (drop (i + 1) turns)) (present (slice_get turns (i + 1 - 1))) old)) true
+    → DropTells (Some old) (Some (begun (map turn_told (drop (i + 1) turns)) (present (slice_get turns (i + 1 - 1))) old)) true
 drops-next A turns i x old h e told some =
     let found = some-of x.arrival some in
     let octets = received (incoming_told found.0) in

@@ -14,11 +14,13 @@ pub struct Agreeing<A: Allocator = Global> {
 }
 
 impl<A: Allocator> Model for Agreeing<A> {
-    ghost use Rattle.ntp_service.specs.{Registry.Registry, Registry.Agrees, Codes.coded_registry};
+    ghost use Rattle.std.specs.Coded.{codes};
+    ghost use Rattle.std.specs.FinMap as map;
+    ghost use Rattle.ntp_service.specs.Registry.{Registry, Agrees};
 
     ghost Value = { Registry };
 
-    ghost coded = { coded_registry };
+    ghost coded = { Prim.hlevel (codes, map.code) };
 
     ghost view = { λ a. a.register };
 

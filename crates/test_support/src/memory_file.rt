@@ -31,7 +31,7 @@ impl<A: Allocator> AppendedFile for MemoryFile<A> {
 
     ghost states = { λ file. Some (drop file.asked file.states.items) };
 
-    fn state(&mut self) -> io::Result<FileState> {
+    fn state(&mut self, _at_path: bool) -> io::Result<FileState> {
         let at = self.asked;
         if at >= self.states.len() {
             return Err(io::Error::from(ErrorKind::NotFound));
@@ -41,10 +41,6 @@ impl<A: Allocator> AppendedFile for MemoryFile<A> {
             Some(state) => Ok(state),
             None => Err(io::Error::from(ErrorKind::NotFound)),
         }
-    }
-
-    fn state_at_path(&mut self) -> io::Result<FileState> {
-        self.state()
     }
 
     fn read_behind(&mut self, from: u64, room: &mut [u8]) -> io::Result<()> {

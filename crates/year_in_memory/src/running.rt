@@ -22,7 +22,7 @@ use ntp_reports::{AnswerLines, Counts, CustomerCounts};
 use std::alloc::Global;
 use std::cell::Cell;
 use std::fs::Files;
-use std::io::{LineWriter, Write};
+use std::io::{self, LineWriter, Write};
 use std::net::{Ipv4Addr, SocketAddrV4};
 use std::test::Fail;
 use std::time::Clock;
@@ -177,10 +177,19 @@ fn known_at_start() -> StartupFacts {
 fn commands_at<'a, 'd>(
     host: &Host<'a, MemoryHost<'d>>,
 ) -> Result<CommandsFile<'a, HostFile<'a, MemoryHost<'d>>>, Fail> {
-    match CommandsFile::open(host.rt, host.configuration.commands.as_str(), host.clocks) {
+    match commands_in(host.rt, host.configuration.commands.as_str(), host.clocks) {
         Ok(commands) => Ok(commands),
         Err(_) => Err(Fail::new("the commands file cannot be opened")),
     }
+}
+
+// The commands file at a path of a host.
+fn commands_in<'a, R: Files>(
+    files: &'a R,
+    path: &'a str,
+    clocks: &'a HostClocks,
+) -> io::Result<CommandsFile<'a, HostFile<'a, R>>> {
+    CommandsFile::over(HostFile::open(files, path)?, clocks)
 }
 
 // Who is told what the daemon does.

@@ -391,8 +391,9 @@ fn a_rate_slows_the_questions_for_an_hour(rt: HostRuntime) -> Result<(), Fail> {
 #[test]
 fn a_clock_that_was_not_read_is_unsynchronised(rt: HostRuntime) -> Result<(), Fail> {
     let state = state_of_chronyd(3)?;
-    assert!(rt; reference_where_read(moment(0), state) == reference_unsynchronised());
-    assert!(rt; reference_where_read(moment(1), state) == state);
+    assert!(rt; reference_where_read(Some(moment(0)), state) == reference_unsynchronised());
+    assert!(rt; reference_where_read(Some(moment(1)), state) == state);
+    assert!(rt; reference_where_read(None, state) == state);
     Ok(())
 }
 

@@ -123,7 +123,7 @@ fn a_port_over_a_wire_tells_the_middle_of_two_readings_as_a_departure(
     let third = reply_over_a_wire();
     assert!(rt;
         are_sent(
-            port.wire().sent(),
+            port.wire.sent(),
             &[(5001, first), (5002, second), (5003, third)]
         )
     );

@@ -70,7 +70,7 @@ pub fn show_calls(rt: &HostRuntime) -> io::Result<()> {
     let files = Counting::new(rt, &calls);
     fs::write(rt, PATH, "one\n")?;
     let clocks = HostClocks::new();
-    let mut file = CommandsFile::open(&files, PATH, &clocks)?;
+    let mut file = CommandsFile::over(HostFile::open(&files, PATH)?, &clocks)?;
     show_looks(rt, &mut file, &calls, "a file", &[None])?;
     // Its metadata alone: it was not read to its end before.
     show_looks(rt, &mut file, &calls, "unchanged", &[receipt(SECOND)])?;

@@ -1,12 +1,7 @@
-use Rattle.std.proofs.Common.{◌+◌, ◌∙◌, length, arith, refl}
+use Rattle.std.proofs.Common.{◌+◌, ◌∙◌, length, refl}
 use Rattle.std.proofs.lemmas.List.{take-replicate}
-use Rattle.ntp_packet.proofs.Padding.{length-padded_field, IsField-padded, put-field}
+use Rattle.ntp_packet.proofs.Padding.{put-field}
 use Rattle.ntp_packet.proofs.field_writing.write_field.Goals as goal
-
-pub returns-then-length-remaining_capacity-clause-fits : goal.returns-then-length-remaining_capacity-clause-fits
-returns-then-length-remaining_capacity-clause-fits c =
-    let len = length-padded_field c.args.kind c.args.value.now in
-    (λ e. absurd cc, λ fits. absurd (omega arith))
 
 pub returns-clause-written : goal.returns-clause-written
 returns-clause-written c =
@@ -15,11 +10,3 @@ returns-clause-written c =
     (rw c.padding_of-padding.ensures.value refl)
     (take-replicate c.padding_of-padding.result 12 0 c.padding_of-padding.ensures.few ∙ rw c.padding_of-padding.ensures.value refl)
     (rw c.to_be_bytes.ensures at c.append.ensures) (rw c.to_be_bytes-2.ensures at c.append-2.ensures) c.append-3.ensures c.append-4.ensures
-
-pub returns-clause-field : goal.returns-clause-field
-returns-clause-field c = IsField-padded c.args.kind c.args.value.now (omega arith) (omega arith)
-
-pub returns-clause-fits : goal.returns-clause-fits
-returns-clause-fits c =
-    let len = length-padded_field c.args.kind c.args.value.now in
-    (λ e. omega arith, λ fits. refl)

@@ -1,10 +1,10 @@
-use Rattle.std.proofs.Common.{rules, ◌≡◌, ◌≤◌, length, drop, arith, refl, ap, ◌∙◌, Ok, Err, inl, inr}
-use Rattle.std.proofs.{lemmas.Bool.cases_lt, lemmas.List.take_rest, lemmas.List.length-drop, lemmas.Result.err_from_is_err_and}
+use Rattle.std.proofs.Common.{◌≡◌, ◌≤◌, length, drop, arith, refl, ap, ◌∙◌, Ok, Err, inl, inr}
+use Rattle.std.proofs.{lemmas.Bool.cases_lt, lemmas.List.take_rest, lemmas.List.length-drop}
 use Rattle.ntp_packet.specs.{Request.IsRequest, Tail.tail_value, Faults.Fails}
 use Rattle.ntp_packet.specs.declared.malformed.Malformed.TheVariants.{Short, Rest}
 use Rattle.ntp_packet.proofs.{RestFaults.IsNoTail, Places.Stands-first, Places.fails_at}
 use Rattle.ntp_packet.proofs.splitting.read_request.Goals.{After-new-fields, In_default-read_tail}
-use Rattle.ntp_packet.proofs.Found.{place-behind, fields-behind, is-request}
+use Rattle.ntp_packet.proofs.Found.{fields-behind, is-request}
 use Rattle.ntp_packet.proofs.Unique.{one-reading, one-fault, no-fault}
 use Rattle.ntp_packet.proofs.splitting.read_request.Goals as goal
 
@@ -16,14 +16,6 @@ tail_place-requires-clause-header c =
     let long : 48 ≤ length c.args.octets.now =
     elim (cases_lt (length c.args.octets.now) 48) [ inl lt ↦ let found = c.in-Some.ensures.none.1 lt in absurd cc | inr le ↦ le ] in
     Stands-first c.args.octets.now c.in-Some.header c.in-Some.ensures.fields c.in-Some.ensures.found long
-
-pub returns-in_err-at-clause-only : goal.returns-in_err-at-clause-only
-returns-in_err-at-clause-only c = λ r is. absurd (no-fault c.args.octets.now r _ is c.in_err-at.ensures.fault)
-
-pub returns-in_err-at-clause-exact : goal.returns-in_err-at-clause-exact
-returns-in_err-at-clause-exact c = λ fault f.
-    let p = err_from_is_err_and c.from_residual.result c.from_residual.ensures.1 in
-    rw (p.1, p.2) (ap Err (one-fault c.args.octets.now _ fault c.in_err-at.ensures.fault f))
 
 rest_fails : (c : In_default-read_tail) → Fails c.args.octets.now (Rest c.in_ok-at.at)
 rest_fails c =
@@ -39,18 +31,6 @@ returns-in_default-read_tail-clause-only c = λ r is. absurd (no-fault c.args.oc
 
 pub returns-in_default-read_tail-clause-exact : goal.returns-in_default-read_tail-clause-exact
 returns-in_default-read_tail-clause-exact c = λ fault f. ap Err (one-fault c.args.octets.now (Rest c.in_ok-at.at) fault (rest_fails c) f)
-
-pub slice_bounds-new-count : goal.slice_bounds-new-count
-slice_bounds-new-count c =
-    let octets = c.args.octets.now in
-    let behind = place-behind octets _ _ c.in_ok-at.ensures.found in
-    omega (arith, c.split_at.ensures.front_len)
-
-pub slice_bounds-new-start : goal.slice_bounds-new-start
-slice_bounds-new-start c =
-    let behind = place-behind c.args.octets.now _ _ c.in_ok-at.ensures.found in
-    let room : 48 ≤ length c.split_at.result.0.now = omega (arith, c.split_at.ensures.front_len) in
-    search rules
 
 pub new-fields-requires : goal.new-fields-requires
 new-fields-requires c =

@@ -1,7 +1,7 @@
 use Rattle.std.proofs.Common.{w64, ◌∙◌, ap, arith}
 use Rattle.std.specs.Prelude.{pos}
 use Rattle.std.proofs.lemmas.Int.{to_z_pos}
-use Rattle.ntp_query.specs.Nanos.{nearest}
+use Rattle.ntp_query.specs.Answer.{nearest}
 use Rattle.ntp_query.proofs.Rounding.{nearest-small}
 use Rattle.ntp_query.proofs.nanos.nearest.Goals as goal
 

@@ -1,11 +1,10 @@
-use Rattle.std.proofs.Common.{◌≡◌, sym, ap, ◌∙◌, subst, arith}
+use Rattle.std.proofs.Common.{◌≡◌, refl, sym, ap, ◌∙◌, subst, arith}
 use Rattle.ntp_packet.proofs.PublicLaws.{AreOctets}
-use Rattle.std.specs.Prelude.{is_some, option_map, option_and_then}
+use Rattle.std.specs.Prelude.{is_some}
 use Rattle.ntp_client.specs.declared.taken.Taken.TheVariants as taken
 use Rattle.ntp_client.specs.declared.taken.Distrust.TheVariants as distrust
 use Rattle.ntp_client.proofs.{Samples.sample-read, AuthenticAnswers.unsynchronised-signed}
-use Rattle.ntp_client.specs.Learning.{learned_of, learned_after, told_after}
-use Rattle.ntp_client.specs.{Taking.header_taken, Sample.IsTimeReply}
+use Rattle.ntp_client.specs.Sample.{IsTimeReply}
 use Rattle.ntp_client.proofs.follower.Follower.take_seen.Goals as goal
 
 -- a sample has a header
@@ -15,26 +14,16 @@ unwrap-requires c =
     (λ i. omega (arith, c.type_inv.octets i)) (sym c.take_packet-taken.ensures.first ∙ c.in-Sample.is) in
     ap is_some (c.take_packet-taken.ensures.header ∙ is.header)
 
--- the client judged that header
-pub returns-in-Sample-clause-told : goal.returns-in-Sample-clause-told
-returns-in-Sample-clause-told c =
-    let found = sym c.take_packet-taken.ensures.header ∙ c.unwrap.ensures in
-    rw (← c.self.view_is) (c.learn.ensures.told
-    ∙ ap (option_map (λ h. h.clock.reference)) (sym found)
-    ∙ ap (told_after c.self.inside.watch.told (header_taken c.self.inside.client c.args.octets.now)) (sym c.in-Sample.is))
-
--- and it is that of the reply which gave the sample
-pub returns-in-Sample-clause-learned : goal.returns-in-Sample-clause-learned
-returns-in-Sample-clause-learned c =
+-- by the header that the client judged, which is that of the reply
+pub returns-in-Sample-clause-took : goal.returns-in-Sample-clause-took
+returns-in-Sample-clause-took c =
     let is = sample-read c.self.inside.client c.args.octets.now c.args.now.clock c.in-Sample.sample
     (λ i. omega (arith, c.type_inv.octets i)) (sym c.take_packet-taken.ensures.first ∙ c.in-Sample.is) in
     let found = sym c.take_packet-taken.ensures.header ∙ c.unwrap.ensures in
     let some = sym is.header ∙ found in
     let same : is.given.reply.header ≡ c.unwrap.result = cc some in
-    let watch = c.self.inside.watch in let learned = c.self.inside.learned in
-    rw (← c.self.view_is) (c.learn.ensures.learned (subst IsTimeReply same is.given.time)
-    ∙ ap (option_and_then (λ h. learned_of watch learned h c.in-Sample.sample)) (sym found)
-    ∙ ap (learned_after watch learned (header_taken c.self.inside.client c.args.octets.now)) (sym c.in-Sample.is))
+    c.learn.ensures (subst IsTimeReply same is.given.time)
+    ∙ rw (← c.self.view_is, c.take_packet-taken.ensures.after, c.in-Sample.is, found) refl
 
 -- that reply is signed
 pub returns-in-Sample-clause-forged : goal.returns-in-Sample-clause-forged

@@ -1,21 +1,16 @@
 use Rattle.std.proofs.Common.{◌≡◌, ℕ, Bool, Option, Some, true, List, sym, ap, ◌∙◌}
-use Rattle.std.specs.Prelude.{find, position, slice_get}
+use Rattle.std.specs.Prelude.{position, slice_get}
 use Rattle.std.specs.Option.{option_copied_mut}
 use Rattle.ntp_customer.specs.declared.slot.Slot.{Slot}
 use Rattle.ntp_customer.specs.Exchanges.{AreSaved, is_unused_at, spent}
-use Rattle.ntp_customer.proofs.Changes.{find-at_position, find-from_no_position, written-at_place, unchanged-from_none}
-use Rattle.ntp_customer.proofs.{Places.lent-at_place, Saved.AreSaved-spent}
+use Rattle.ntp_customer.proofs.Changes.{written-at_place}
+use Rattle.ntp_customer.proofs.{Saved.AreSaved-spent}
 use Rattle.ntp_customer.proofs.slots.Slots.spend_unused.Goals as goal
 
 -- the place that is given is that of the first unused exchange of what is seen as the saved ones
 at-place : (p : Slot → Bool) {xs seen : List Slot} {given : Option ℕ} {i : ℕ} → xs ≡ seen → given ≡ position p seen → given ≡ Some i
     → position p xs ≡ Some i
 at-place p view place was = ap (position p) view ∙ sym place ∙ was
-
-pub unwrap-exchange-requires : goal.unwrap-exchange-requires
-unwrap-exchange-requires g c =
-    lent-at_place (is_unused_at c.args.receive) c.self.inside.exchanges.items c.in_ok-place.place (λ m. m.now) c.get_mut.result
-    (at-place (is_unused_at c.args.receive) c.self.view_is c.unused_place.ensures c.in_ok-place.was) c.get_mut.follows
 
 pub returns-clause-spent : goal.returns-clause-spent
 unfolding spent
@@ -35,23 +30,3 @@ invariant_of-self g c =
 
 pub returns-clause-saved : goal.returns-clause-saved
 returns-clause-saved g c = (invariant_of-self g c).1
-
-pub returns-clause-found : goal.returns-clause-found
-returns-clause-found g c =
-    let xs : List Slot = c.self.inside.exchanges.items in
-    let at = at-place (is_unused_at c.args.receive) c.self.view_is c.unused_place.ensures c.in_ok-place.was in
-    let there : slice_get xs c.in_ok-place.place ≡ Some c.unwrap-exchange.result.now =
-    sym c.get_mut.follows ∙ ap option_copied_mut c.unwrap-exchange.ensures in
-    sym (ap (find (is_unused_at c.args.receive)) (sym c.self.view_is)
-    ∙ find-at_position (is_unused_at c.args.receive) xs c.in_ok-place.place c.unwrap-exchange.result.now at there)
-
-pub returns-in_err-place-clause-found : goal.returns-in_err-place-clause-found
-returns-in_err-place-clause-found g c =
-    c.from_residual.ensures
-    ∙ sym (find-from_no_position (is_unused_at c.args.receive) c.args.self.now (sym c.unused_place.ensures ∙ c.in_err-place.was))
-
-pub returns-in_err-place-clause-spent : goal.returns-in_err-place-clause-spent
-unfolding spent
-returns-in_err-place-clause-spent g c =
-    sym (unchanged-from_none c.args.receive (λ x. record x { used = true }) c.args.self.now
-    (find-from_no_position (is_unused_at c.args.receive) c.args.self.now (sym c.unused_place.ensures ∙ c.in_err-place.was)))

@@ -1,34 +1,57 @@
-use Rattle.std.proofs.Common.{◌≡◌, ap, sym, subst, ◌∙◌, take, length, arith}
+use Rattle.std.proofs.Common.{◌≡◌, ◌<◌, ◌≤◌, ◌+◌, ◌-◌, ◌++◌, ◌∷◌, [], min, ap, sym, subst, ◌∙◌, length, take, arith}
 use Rattle.std.specs.Prelude.{IfSome}
-use Rattle.ntp_host.specs.{declared.commands_file.CommandsFile.CommandsFile, Progress.Knows, Progress.GivesPart}
-use Rattle.ntp_host.proofs.FileParts.{filled, cut_to, gives}
+use Rattle.ntp_host.specs.Looking.{StandsAt, HasNoEnd, GivesPart, GivesEach, next_from}
+use Rattle.ntp_host.proofs.FileParts.{filled, told_so, cut_of, stands_so}
 use Rattle.ntp_host.proofs.commands_file.CommandsFile.lines.Goals as goal
-use Rattle.ntp_host.proofs.commands_file.CommandsFile.lines.Goals.{else-given-eq0-via-then-given-eq0+else-next_count-eq0, else-given-eq0-via-else-given-eq0}
 
-pub invariant_of-self-2 : goal.invariant_of-self-2
-invariant_of-self-2 g c =
-    let read = c.deref_mut-2.ensures.value ∙ filled _ _ _ (omega (arith, c.read_behind.auto.room, c.deref_mut.ensures.len)) in
-    let both = gives (g.F.AppendedFile.octets c.args.self.now.file) c.args.self.now.progress c.take-given.new.self _ _ _ _ _ c.next_from.ensures read c.args.self.now.knows
-    c.in_ok-read_behind.ensures.read c.take-given.ensures.given in
-    record { knows = subst (λ told. IfSome told (λ file. Knows file c.take-given.new.self)) (sym c.read_behind.ensures.octets) both.0 }
+pub invariant_of-self-then-given-gt-MOST_PIECE_OCTETS : goal.invariant_of-self-then-given-gt-MOST_PIECE_OCTETS
+invariant_of-self-then-given-gt-MOST_PIECE_OCTETS g c =
+    let told = g.F.AppendedFile.octets c.args.self.now.file in
+    let read = c.deref.ensures.value ∙ filled _ _ _ (omega (arith, c.read_behind.auto.room, c.deref_mut.ensures.len)) in
+    let stands = stands_so told _ _ _ _ c.next_from.ensures read c.in_ok-read_behind.ensures.read in
+    let q = c.behind-next.result in
+    record {
+      knows = subst (λ o. IfSome o (λ file. HasNoEnd file q.given q.searched))
+          (sym (c.read_behind-then-given-gt-MOST_PIECE_OCTETS.ensures.octets ∙ c.read_behind.ensures.octets))
+          (told_so told _ _ _ c.args.self.now.knows stands c.behind-next.ensures.knows);
+    }
 
-pub returns-then-next_count-eq0-clause-given : goal.returns-then-next_count-eq0-clause-given
-returns-then-next_count-eq0-clause-given g c =
-    let read = c.deref_mut-2.ensures.value ∙ filled _ _ _ (omega (arith, c.read_behind.auto.room, c.deref_mut.ensures.len)) in
-    let both = gives (g.F.AppendedFile.octets c.args.self.now.file) c.args.self.now.progress c.take-given.new.self _ _ _ _ _ c.next_from.ensures read c.args.self.now.knows
-    c.in_ok-read_behind.ensures.read c.take-given.ensures.given in
-    subst (λ n. IfSome (g.F.AppendedFile.octets c.args.self.now.file) (λ file. GivesPart file c.args.self.now.progress.given
-    c.take-given.new.self.given (take n c.take-given.new.octets))) c.if-given-eq0.true both.1
+pub returns-then-given-gt-MOST_PIECE_OCTETS-clause-given : goal.returns-then-given-gt-MOST_PIECE_OCTETS-clause-given
+returns-then-given-gt-MOST_PIECE_OCTETS-clause-given g c =
+    let told = g.F.AppendedFile.octets c.args.self.now.file in
+    let read = c.deref.ensures.value ∙ filled _ _ _ (omega (arith, c.read_behind.auto.room, c.deref_mut.ensures.len)) in
+    let stands = stands_so told _ _ _ _ c.next_from.ensures read c.in_ok-read_behind.ensures.read in
+    let more : c.args.self.now.progress.given + 65536 < c.behind-next.result.given = omega (arith, c.if-given-gt-MOST_PIECE_OCTETS.true) in
+    let line = told_so told _ _ _ c.args.self.now.knows stands (c.behind-next.ensures.long more) in
+    let again = subst (λ o. IfSome o (λ file. StandsAt file c.args.self.now.progress.given c.read_behind-then-given-gt-MOST_PIECE_OCTETS.new.room))
+    c.read_behind.ensures.octets c.in_ok-read_behind-2.ensures.read in
+    let long : length c.read_behind-then-given-gt-MOST_PIECE_OCTETS.new.room ≡ 4097 = omega (
+      arith,
+      c.read_behind-then-given-gt-MOST_PIECE_OCTETS.auto.room,
+      c.deref_mut-then-given-gt-MOST_PIECE_OCTETS.ensures.len,
+      c.in_ok-resize.ensures.len,
+    ) in
+    let cut = c.in_ok-push.ensures.items ∙ ap (λ o. o ++ 10 ∷ []) (filled _ _ _ (omega (arith, long, c.in_ok-resize.ensures.len))) in
+    told_so told _ _ _ again line (λ file there. cut_of file _ _ _ _ there long cut more)
 
 pub returns-clause-given : goal.returns-clause-given
 returns-clause-given g c =
-    let read = c.deref_mut-2.ensures.value ∙ filled _ _ _ (omega (arith, c.read_behind.auto.room, c.deref_mut.ensures.len)) in
-    let both = gives (g.F.AppendedFile.octets c.args.self.now.file) c.args.self.now.progress c.take-given.new.self _ _ _ _ _ c.next_from.ensures read c.args.self.now.knows
-    c.in_ok-read_behind.ensures.read c.take-given.ensures.given in
-    let same : c.else-given-eq0.self.progress ≡ c.take-given.new.self = elim c.else-given-eq0.branch [
-      | else-given-eq0-via-then-given-eq0+else-next_count-eq0 w ↦ ap (λ (s : CommandsFile g.row.F.Denot g.F.AppendedFile). s.progress) w.self-is
-      | else-given-eq0-via-else-given-eq0 w ↦ ap (λ (s : CommandsFile g.row.F.Denot g.F.AppendedFile). s.progress) w.self-is
-    ] in
-    let cut = c.truncate.ensures.items ∙ cut_to _ _ _ _ c.take-given.ensures.within
-    (omega (arith, c.take-given.auto.octets, ap length read, c.read_behind.auto.room, c.deref_mut.ensures.len)) in
-    rw (same, cut) both.1
+    let told = g.F.AppendedFile.octets c.args.self.now.file in
+    let read = c.deref.ensures.value ∙ filled _ _ _ (omega (arith, c.read_behind.auto.room, c.deref_mut.ensures.len)) in
+    let stands = stands_so told _ _ _ _ c.next_from.ensures read c.in_ok-read_behind.ensures.read in
+    let p = c.args.self.now.progress in
+    let q = c.behind-next.result in
+    let cut = c.truncate.ensures.items ∙ ap (take (q.given - p.given)) (sym c.deref.ensures.value) in
+    let within : q.given ≤ p.given + 65536 = omega (arith, c.if-given-gt-MOST_PIECE_OCTETS.false) in
+    told_so told _ _ _ stands stands (λ file there again. subst (GivesPart file p.given q.given) (sym cut) (c.behind-next.ensures.short within file there))
+
+pub returns-clause-each : goal.returns-clause-each
+returns-clause-each g c =
+    let told = g.F.AppendedFile.octets c.args.self.now.file in
+    let read = c.deref.ensures.value ∙ filled _ _ _ (omega (arith, c.read_behind.auto.room, c.deref_mut.ensures.len)) in
+    let stands = stands_so told _ _ _ _ c.next_from.ensures read c.in_ok-read_behind.ensures.read in
+    let long : length c.deref.result.now ≡ c.args.count =
+    omega (arith, ap length read, c.read_behind.auto.room, c.deref_mut.ensures.len, c.in_ok-octets.ensures.len) in
+    let p = c.args.self.now.progress in
+    told_so told _ _ _ c.args.self.now.knows stands (λ file known there end. subst
+    (λ n. 0 < n → n ≡ min (end - next_from p) 65536 → GivesEach file end p c.behind-next.result) long (c.behind-next.ensures.each file end known there))

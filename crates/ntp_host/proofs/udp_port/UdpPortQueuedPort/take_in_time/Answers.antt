@@ -8,7 +8,7 @@ returns-then-wait-clause-turns g c =
     (waits-none c.args.self.now.shown c.args.self.now.has_tried_send (g.W.Wire.turns c.args.self.now.wire) (g.W.Wire.turns c.wait.new.self)
     c.args.datagram.now c.if-wait.ensures.turns)
 
-pub returns-then-is_none-clause-nothing : goal.returns-then-is_none-clause-nothing
-returns-then-is_none-clause-nothing g c =
-    stays _ c.take-received.result _ _ _ _ c.take-received.ensures.nothing c.count_idle.ensures.turns
+pub returns-clause-nothing : goal.returns-clause-nothing
+returns-clause-nothing g c =
+    stays _ _ c.receive_in_time.result _ _ _ c.receive_in_time.ensures.nothing
     (ap (over c.args.self.now.shown c.args.self.now.has_tried_send) c.if-wait.ensures.turns)

@@ -19,11 +19,11 @@ returns-in-Nothing-clause-fresh g c = Passes-end _ _ _ _ Nothing None _ (omega a
 
 pub returns-in-Fault-clause-fresh : goal.returns-in-Fault-clause-fresh
 returns-in-Fault-clause-fresh g c = Passes-end _ _ _ _ (Fault c.in-Fault.fault) (Some (Err c.in-Fault.fault)) _ (omega arith) c.loop-sweep.invariant.drops
-    c.in-Fault.ensures.next refl c.in-Fault.ensures.next.turns (λ history after comes. (comes, tt))
+    c.in-Fault.ensures.next refl c.in-Fault.ensures.next.turns (λ history after comes. comes)
 
 pub returns-in-Fresh-clause-fresh : goal.returns-in-Fresh-clause-fresh
 returns-in-Fresh-clause-fresh g c = Passes-end _ _ _ _ (Fresh c.in-Fresh.arrival) (Some (Ok c.in-Fresh.arrival)) _ (omega arith) c.loop-sweep.invariant.drops
-    c.in-Fresh.ensures.next refl c.in-Fresh.ensures.next.turns (λ history after comes. (comes, tt))
+    c.in-Fresh.ensures.next refl c.in-Fresh.ensures.next.turns (λ history after comes. comes)
 
 pub returns-clause-fresh : goal.returns-clause-fresh
 returns-clause-fresh g c = Passes-out _ _ _ _ (omega arith) c.loop-sweep.invariant.drops

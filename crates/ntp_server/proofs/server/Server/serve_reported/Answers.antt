@@ -27,7 +27,6 @@ count-requires-clause-departed g c =
 
 pub loop-turn-preserved : goal.loop-turn-preserved
 loop-turn-preserved g c = record {
-  rounds = Serves-turn _ _ _ _ _ _ _ _ _ _ _ _ _ c.loop-turn.invariant.rounds c.turn-outcome.ensures.made
-      c.count.ensures.arrivals c.count.ensures.sent c.count.ensures.departed;
+  rounds = Serves-turn _ _ _ _ _ _ _ _ _ _ _ _ _ c.loop-turn.invariant.rounds c.turn-outcome.ensures.made c.count.ensures;
   known = λ some. c.turn-outcome.ensures.known;
 }

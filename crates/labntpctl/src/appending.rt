@@ -1,11 +1,10 @@
 //! Appends lines to the commands file, waits for the answers of labntpd to them, and follows what comes of them.
 
-use crate::commands_file::{HeldFile, Loaded};
-use crate::desk::{Clerk, Desk, MOST_REPORTED_OCTETS, Stop};
+use crate::commands_file::{HeldFile, Loaded, is_at};
+use crate::desk::{Clerk, Desk, MOST_REPORTED_OCTETS, RECORD_FORM, Stop};
 use ntp_admin::{Command, Escaped, Status};
 use ntp_clerk::{command_line, command_shown, record_line};
-use ntp_host::{not_regular, pause};
-use std::alloc::{AllocError, Global};
+use ntp_host::{open_shared_file, pause};
 use std::fmt::{self, Display};
 use std::fs;
 use std::io::{self, ErrorKind, Read, Seek, SeekFrom, Write};
@@ -13,9 +12,11 @@ use std::io::{self, ErrorKind, Read, Seek, SeekFrom, Write};
 /// The milliseconds between two looks at the answers.
 const LOOKED_EACH: u64 = 20;
 
-/// Which answers are waited for, and how long.
+/// How lines are appended, which answers are waited for, and how long.
 #[derive(Clone, Copy)]
-pub struct Patience<'a> {
+pub struct Manner<'a> {
+    /// Whether they are only shown.
+    pub dry_run: bool,
     /// The paths of the answers files, with commas between them; else that of the configuration.
     pub answers: Option<&'a str>,
     pub millis: u64,
@@ -66,7 +67,7 @@ impl Addition {
         let (desk, alloc) = (clerk.desk, clerk.desk.alloc());
         let (names, count) = (name_lines.lines().count(), commands.len());
         let before = loaded.lines.saturating_add(1).saturating_add(names as u64);
-        let (time, user) = (desk.time("%Y-%m-%dT%H:%M:%SZ")?, desk.user()?);
+        let (time, user) = (desk.time(RECORD_FORM)?, desk.user()?);
         let mut text = record_line(alloc, time.as_str(), user.as_str())?;
         text.push_str(name_lines.as_str())?;
         for command in commands.iter() {
@@ -82,7 +83,7 @@ impl Addition {
             },
             shown: match commands.as_slice() {
                 [] => format!(in alloc; "names: {names}")?,
-                [command] => shown(alloc, command)?,
+                [command] => command_shown(alloc, command)?,
                 _ => format!(in alloc; "{count} commands")?,
             },
             commands,
@@ -102,131 +103,10 @@ impl Display for Addition {
     }
 }
 
-// Prints what comes of an addition. Output that fails changes nothing of that, and a reader who goes away misses nothing.
-#[derive(Drop)]
-struct Teller<'a> {
-    desk: Desk<'a>,
-    has_failed: bool,
-}
-
-impl<'a> Teller<'a> {
-    fn tell<D: Display + Drop>(&mut self, text: D) {
-        if let Err(error) = writeln!(self.desk.rt.stdout(), "{text}") {
-            self.has_failed = self.has_failed || error.kind() != ErrorKind::BrokenPipe;
-        }
-    }
-}
-
-// Returns a command as it is shown, without a key and without a line feed.
-fn shown(alloc: Global, command: &Command) -> Result<String, AllocError> {
-    let line = command_shown(alloc, command)?;
-    String::from_str(alloc, line.as_str().trim_end())
-}
-
-/// Appends lines, and prints them and their answers. Removes the customer's new file where its command is not done.
-pub fn append(
-    clerk: &Clerk<'_>,
-    mut held: HeldFile<'_>,
-    addition: &Addition,
-    answers: &Answers<'_>,
-) -> Result<(), Stop> {
-    let desk = clerk.desk;
-    if let Err(error) = held.append(addition.text.as_str()) {
-        let _ = take_back(desk, &addition.given);
-        return desk.at(clerk.commands(), Err(error));
-    }
-    let is_alone = held.has_grown_by(addition.text.len());
-    let is_sure = is_alone && held.is_at_its_path();
-    let stored = held.store();
-    // Others may append while the answers are waited for.
-    drop(held);
-    let mut teller = Teller {
-        desk,
-        has_failed: false,
-    };
-    if is_sure || addition.commands.is_empty() {
-        teller.tell(addition);
-    }
-    if let Some(path) = &addition.given {
-        teller.tell(format_args!("for the customer: {path}"));
-    }
-    let followed = if is_sure {
-        follow(&mut teller, addition, answers)
-    } else {
-        Err(lost(clerk, addition.shown.as_str(), is_alone))
-    };
-    desk.at(clerk.commands(), stored)?;
-    followed?;
-    if teller.has_failed {
-        let _ = writeln!(desk.faults(), "write: {addition}: it stands there");
-        return Err(Stop::Printed(Status::IoFailed));
-    }
-    Ok(())
-}
-
-// Waits for the answers to lines that were appended, and prints them.
-fn follow(teller: &mut Teller<'_>, addition: &Addition, answers: &Answers<'_>) -> Result<(), Stop> {
-    let (desk, numbers, count) = (teller.desk, addition.numbers, addition.commands.len());
-    if count == 0 {
-        return Ok(());
-    }
-    let Some(bad) = answers.wait()? else {
-        let lines = if count == 1 { "line" } else { "lines" };
-        let _ = writeln!(
-            desk.faults(),
-            "{numbers}: no answer; where labntpd does not run, it carries the {lines} out at its next start"
-        );
-        return Err(Stop::Printed(Status::IoFailed));
-    };
-    if bad.is_empty() {
-        teller.tell(format_args!("{numbers}: done"));
-        return Ok(());
-    }
-    for (number, answer) in bad.iter() {
-        let answer = Escaped(answer.as_str());
-        let place = number.saturating_sub(numbers.first) as usize;
-        match addition.commands.get(place) {
-            // A command alone was printed before.
-            Some(command) if count > 1 => {
-                let shown = shown(desk.alloc(), command)?;
-                teller.tell(format_args!("line {number}: {shown}: {answer}"));
-            }
-            _ => teller.tell(format_args!("line {number}: {answer}")),
-        }
-    }
-    take_back(desk, &addition.given)?;
-    Err(Stop::Printed(Status::TextFaulty))
-}
-
-// Reports that lines were appended at numbers that are not known, or to a file that labntpd may never read.
-fn lost(clerk: &Clerk<'_>, shown: &str, is_alone: bool) -> Stop {
-    let (why, what) = if is_alone {
-        ("another file took its place", "appended to the old one")
-    } else {
-        (
-            "somebody else wrote to the file",
-            "appended at a line that is not known; look at the answers",
-        )
-    };
-    let why = format_args!("{why} at the same time: {shown}: {what}");
-    clerk.desk.failure_at(clerk.commands(), why)
-}
-
-// Removes the customer's new file, if there is one, or reports why it stays.
-fn take_back(desk: Desk<'_>, path: &Option<String>) -> Result<(), Stop> {
-    let Some(path) = path else {
-        return Ok(());
-    };
-    match fs::remove_file(desk.rt, path.as_str()) {
-        Err(error) if error.kind() == ErrorKind::NotFound => Ok(()),
-        removed => desk.at(path.as_str(), removed),
-    }
-}
-
 /// The answers to lines that are not written yet, in the files of all processes that serve.
 #[derive(Drop)]
 pub struct Answers<'a> {
-    desk: Desk<'a>,
+    clerk: &'a Clerk<'a>,
     numbers: LineNumbers,
     // The paths of the files, and how many octets of old answers each has.
     files: Vec<(&'a str, u64)>,
@@ -248,20 +128,19 @@ struct Answered {
 impl<'a> Answers<'a> {
     /// Reads the answers files before the lines with these numbers are written. A file that is not there has no answer yet; one with
     /// answers to these or to later lines shows that the commands file is not the one that was read.
-    pub fn new(
-        clerk: &'a Clerk<'_>,
-        patience: Patience<'a>,
+    pub fn to(
+        clerk: &'a Clerk<'a>,
+        manner: Manner<'a>,
         numbers: LineNumbers,
     ) -> Result<Answers<'a>, Stop> {
-        let desk = clerk.desk;
         let configured = clerk.configuration.answers.as_ref();
-        let paths = patience.answers.or(configured.map(|path| path.as_str()));
+        let paths = manner.answers.or(configured.map(|path| path.as_str()));
         let last = u64::MAX;
         let mut answers = Answers {
-            desk,
+            clerk,
             numbers: LineNumbers { last, ..numbers },
-            files: Vec::new(desk.alloc()),
-            millis: patience.millis,
+            files: Vec::new(clerk.desk.alloc()),
+            millis: manner.millis,
         };
         for path in paths.into_iter().flat_map(|paths| paths.split(',')) {
             let answered = answers.answered(path, 0)?;
@@ -273,6 +152,75 @@ impl<'a> Answers<'a> {
         }
         answers.numbers = numbers;
         Ok(answers)
+    }
+
+    /// Appends lines, and prints them and their answers. Removes the customer's new file where its command is not done.
+    pub fn append(&self, held: &mut HeldFile, addition: &Addition) -> Result<(), Stop> {
+        let (clerk, desk) = (self.clerk, self.clerk.desk);
+        if let Err(error) = held.append(addition.text.as_str()) {
+            let _ = take_back(desk, &addition.given);
+            return desk.at(clerk.commands(), Err(error));
+        }
+        let is_alone = held.has_grown_by(addition.text.len());
+        let is_sure = is_alone && is_at(desk.rt, &held.file, clerk.commands()).unwrap_or(false);
+        let stored = held.file.sync_all();
+        // Others may append while the answers are waited for.
+        let _ = held.file.unlock();
+        let mut has_failed = false;
+        if is_sure || addition.commands.is_empty() {
+            tell(desk, &mut has_failed, addition);
+        }
+        if let Some(path) = &addition.given {
+            let what = format_args!("for the customer: {path}");
+            tell(desk, &mut has_failed, what);
+        }
+        let followed = if is_sure {
+            self.follow(&mut has_failed, addition)
+        } else {
+            Err(lost(clerk, addition.shown.as_str(), is_alone))
+        };
+        desk.at(clerk.commands(), stored)?;
+        followed?;
+        if has_failed {
+            let _ = writeln!(desk.faults(), "write: {addition}: it stands there");
+            return Err(Stop::Printed(Status::IoFailed));
+        }
+        Ok(())
+    }
+
+    // Waits for the answers to lines that were appended, and prints them.
+    fn follow(&self, has_failed: &mut bool, addition: &Addition) -> Result<(), Stop> {
+        let (desk, numbers, count) = (self.clerk.desk, addition.numbers, addition.commands.len());
+        if count == 0 {
+            return Ok(());
+        }
+        let Some(bad) = self.wait()? else {
+            let lines = if count == 1 { "line" } else { "lines" };
+            let _ = writeln!(
+                desk.faults(),
+                "{numbers}: no answer; where labntpd does not run, it carries the {lines} out at its next start"
+            );
+            return Err(Stop::Printed(Status::IoFailed));
+        };
+        if bad.is_empty() {
+            tell(desk, has_failed, format_args!("{numbers}: done"));
+            return Ok(());
+        }
+        for (number, answer) in bad.iter() {
+            let answer = Escaped(answer.as_str());
+            let place = number.saturating_sub(numbers.first) as usize;
+            match addition.commands.get(place) {
+                // A command alone was printed before.
+                Some(command) if count > 1 => {
+                    let shown = command_shown(desk.alloc(), command)?;
+                    let what = format_args!("line {number}: {shown}: {answer}");
+                    tell(desk, has_failed, what);
+                }
+                _ => tell(desk, has_failed, format_args!("line {number}: {answer}")),
+            }
+        }
+        take_back(desk, &addition.given)?;
+        Err(Stop::Printed(Status::TextFaulty))
     }
 
     // Waits until each file answers each line, and returns what is not `done`; nothing where that takes too long.
@@ -292,7 +240,7 @@ impl<'a> Answers<'a> {
 
     // Returns what is not `done`, if each file answers each line now.
     fn bad_of_all(&self) -> Result<Option<Vec<(u64, String)>>, Stop> {
-        let mut all: Vec<(u64, String)> = Vec::new(self.desk.alloc());
+        let mut all: Vec<(u64, String)> = Vec::new(self.clerk.desk.alloc());
         for (path, old) in self.files.iter() {
             let Answered { count, mut bad, .. } = self.answered(path, *old)?;
             if count <= self.numbers.last.saturating_sub(self.numbers.first) {
@@ -309,7 +257,7 @@ impl<'a> Answers<'a> {
 
     // Reads what a file answers behind `old` octets of old answers.
     fn answered(&self, path: &str, old: u64) -> Result<Answered, Stop> {
-        let desk = self.desk;
+        let desk = self.clerk.desk;
         let mut answered = Answered {
             count: 0,
             bad: Vec::new(desk.alloc()),
@@ -345,15 +293,42 @@ impl<'a> Answers<'a> {
 
 // Reads the octets of an answers file behind its old ones; all where it has fewer, since it was emptied.
 fn octets_behind(desk: Desk<'_>, path: &str, old: u64) -> io::Result<Vec<u8>> {
-    let metadata = fs::metadata(desk.rt, path)?;
-    if !metadata.is_file() {
-        return Err(not_regular());
-    }
-    let is_emptied = metadata.len() < old;
-    let mut opened = fs::open(desk.rt, path)?;
+    let mut opened = open_shared_file(desk.rt, path)?;
+    let is_emptied = opened.metadata()?.len() < old;
     opened.seek(SeekFrom::Start(if is_emptied { 0 } else { old }))?;
     let mut octets = Vec::new(desk.alloc());
     let most = u64::from(MOST_REPORTED_OCTETS);
     opened.take(most).read_to_end(&mut octets)?;
     Ok(octets)
+}
+
+// Reports that lines were appended at numbers that are not known, or to a file that labntpd may never read.
+fn lost(clerk: &Clerk<'_>, shown: &str, is_alone: bool) -> Stop {
+    let (why, what) = match is_alone {
+        true => ("another file took its place", "appended to the old one"),
+        false => (
+            "somebody else wrote to the file",
+            "appended at a line that is not known; look at the answers",
+        ),
+    };
+    let why = format_args!("{why} at the same time: {shown}: {what}");
+    clerk.desk.failure_at(clerk.commands(), why)
+}
+
+// Prints what comes of an addition. Output that fails changes nothing of that, and a reader who goes away misses nothing.
+fn tell<D: Display + Drop>(desk: Desk<'_>, has_failed: &mut bool, text: D) {
+    if let Err(error) = writeln!(desk.rt.stdout(), "{text}") {
+        *has_failed = *has_failed || error.kind() != ErrorKind::BrokenPipe;
+    }
+}
+
+// Removes the customer's new file, if there is one, or reports why it stays.
+fn take_back(desk: Desk<'_>, path: &Option<String>) -> Result<(), Stop> {
+    let Some(path) = path else {
+        return Ok(());
+    };
+    match fs::remove_file(desk.rt, path.as_str()) {
+        Err(error) if error.kind() == ErrorKind::NotFound => Ok(()),
+        removed => desk.at(path.as_str(), removed),
+    }
 }

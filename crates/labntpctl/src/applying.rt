@@ -1,24 +1,28 @@
-//! Changes the customers into those of a file, and writes such a file.
+//! Changes the customers into those of a file, writes such a file, and writes the commands file anew in fewer lines.
 
-use crate::appending::{Addition, Answers, Patience, append};
-use crate::commands_file::{ByAddress, HeldFile, Loaded};
-use crate::desk::{Clerk, Desk, Stop};
-use crate::differing::judge_daemon;
-use crate::replacing::write_new;
-use crate::shown::FoundAt;
+use crate::appending::{Addition, Answers, Manner};
+use crate::commands_file::{HeldFile, Loaded};
+use crate::customers::judge_daemon;
+use crate::desk::{Clerk, Desk, FoundAt, Stop};
+use crate::replacing::{put_in_place, store_name, write_new};
 use indexmap::IndexMap;
-use labntpd_files::{
-    KeyLines, Text, WantedCustomer, WantedFault, WantedKey, read_wanted, write_wanted,
-};
-use ntp_admin::{Command, Status};
+use labntpd_files::{KeyLines, Text, WantedCustomer, WantedKey, read_wanted, write_wanted};
+use ntp_admin::{Command, Escaped, Status};
 use ntp_clerk::{
-    Dotted, GivenKey, Keys, LeadFault, Terms, Wanted, commands_to, customers_of, ends_many,
-    have_same_keys, name_line, seen_terms,
+    ByAddress, Dotted, GivenKey, Keys, LeadFault, Terms, Wanted, command_line, commands_to,
+    customers_of, ends_many, fold, have_same_keys, name_line, seen_terms,
 };
 use ntp_host::MOST_COMMANDS_OCTETS;
+use ntp_mac::{Algorithm, Key};
+use ntp_service::Address;
 use std::alloc::{AllocError, Global};
 use std::fmt::Write as _;
+use std::fs;
 use std::io::Write as _;
+
+/// What labntpd does after a fold.
+const RESTART: &str =
+    "labntpd reads the new file at its next start, and carries out no further line before: restart labntpd\n";
 
 /// How a file of customers is applied.
 #[derive(Clone, Copy)]
@@ -28,71 +32,131 @@ pub struct Application<'a> {
     pub asks: bool,
     /// Whether more than a quarter of the enrolments may end.
     pub ends_many: bool,
-    /// Whether the changes are only shown.
-    pub dry_run: bool,
-    pub patience: Patience<'a>,
+    pub manner: Manner<'a>,
 }
 
 /// Changes the customers into those of a file, and prints what came of it.
 pub fn apply(clerk: &Clerk<'_>, application: &Application<'_>) -> Result<(), Stop> {
-    let desk = clerk.desk;
-    let wanted = wanted_at(desk, application.path)?;
-    if application.dry_run {
-        let changes = show_changes(clerk, &clerk.load()?, &wanted)?;
-        return judge_ending(desk, application, changes.ending, changes.enrolled);
-    }
-    let (held, mut loaded) = HeldFile::hold(desk, clerk.commands())?;
-    let Some(addition) = addition_for(clerk, application, &mut loaded, &wanted)? else {
-        return Ok(());
+    let wanted = wanted_at(clerk.desk, application.path)?;
+    let work = Work {
+        clerk,
+        application,
+        wanted: &wanted,
     };
-    let answers = Answers::new(clerk, application.patience, addition.numbers)?;
-    if application.asks {
-        let (commands, names) = (addition.commands.len(), addition.names);
-        desk.ask(format_args!("apply {commands} commands and {names} names? [y/N] "))?;
+    if application.manner.dry_run {
+        return work.judge_ending(&work.changes(&clerk.load()?)?);
     }
-    append(clerk, held, &addition, &answers)
+    work.append(&mut HeldFile::hold(clerk)?)
 }
 
-// Returns the lines that make the customers the wanted ones, and shows what they change; nothing where nothing changes.
-fn addition_for(
-    clerk: &Clerk<'_>,
-    application: &Application<'_>,
-    loaded: &mut Loaded,
-    wanted: &[WantedCustomer],
-) -> Result<Option<Addition>, Stop> {
-    let desk = clerk.desk;
-    let changes = show_changes(clerk, loaded, wanted)?;
-    if changes.shown.is_empty() {
-        return Ok(None);
-    }
-    judge_ending(desk, application, changes.ending, changes.enrolled)?;
-    judge_daemon(clerk, loaded)?;
-    let commands = commands_for(desk, loaded, wanted)?;
-    Ok(Some(Addition::new(clerk, loaded, changes.names, commands)?))
+// What is applied.
+#[derive(Clone, Copy)]
+struct Work<'a> {
+    clerk: &'a Clerk<'a>,
+    application: &'a Application<'a>,
+    wanted: &'a [WantedCustomer],
 }
 
-// Refuses to end many enrolments where the clerk did not allow it.
-fn judge_ending(
-    desk: Desk<'_>,
-    application: &Application<'_>,
-    ending: usize,
-    enrolled: usize,
-) -> Result<(), Stop> {
-    if ends_many(ending, enrolled) && !application.ends_many {
-        return Err(desk.refusal(format_args!(
-            "{ending} of {enrolled} enrolments would end: --end-many is wanted"
-        )));
+impl<'a> Work<'a> {
+    // Appends the lines that make the customers of the file that is held the wanted ones, once the clerk is asked.
+    fn append(&self, held: &mut HeldFile) -> Result<(), Stop> {
+        let Some(addition) = self.addition(&mut held.loaded)? else {
+            return Ok(());
+        };
+        let (clerk, application) = (self.clerk, self.application);
+        let answers = Answers::to(clerk, application.manner, addition.numbers)?;
+        if application.asks {
+            let (commands, names) = (addition.commands.len(), addition.names);
+            let what = format_args!("apply {commands} commands and {names} names? [y/N] ");
+            clerk.desk.ask(what)?;
+        }
+        answers.append(held, &addition)
     }
-    Ok(())
+
+    // Returns these lines, and shows what they change; nothing where nothing changes.
+    fn addition(&self, loaded: &mut Loaded) -> Result<Option<Addition>, Stop> {
+        let changes = self.changes(loaded)?;
+        if changes.shown.is_empty() {
+            return Ok(None);
+        }
+        self.judge_ending(&changes)?;
+        judge_daemon(self.clerk, loaded)?;
+        let commands = self.commands(loaded)?;
+        Ok(Some(Addition::new(self.clerk, loaded, changes.names, commands)?))
+    }
+
+    // Finds and prints the changes.
+    fn changes(&self, loaded: &Loaded) -> Result<Changes, Stop> {
+        loaded.judge_room(self.clerk, 0)?;
+        let changes = self.found_in(loaded)?;
+        match changes.shown.as_str() {
+            "" => self.clerk.desk.print("nothing to change\n")?,
+            shown => self.clerk.desk.print(shown)?,
+        }
+        Ok(changes)
+    }
+
+    // Finds the changes: of wanted customers in their order, then the enrolments that end.
+    fn found_in(&self, loaded: &Loaded) -> Result<Changes, AllocError> {
+        let alloc = self.clerk.desk.alloc();
+        let mut there: ByAddress<Terms> = IndexMap::new(alloc);
+        for customer in customers_of(alloc, &loaded.service)?.iter() {
+            there.insert(customer.address, customer.terms)?;
+        }
+        let mut changes = Changes {
+            shown: String::new(alloc),
+            names: String::new(alloc),
+            enrolled: there.len(),
+            ending: 0,
+        };
+        for customer in self.wanted {
+            let old_name = loaded.name(customer.address);
+            let name = customer.name.as_ref();
+            let name = name.map_or(old_name, |name| name.as_str());
+            let before = there.swap_remove(&customer.address);
+            changes.add(customer, before, old_name, name)?;
+            if name != old_name {
+                let line = name_line(alloc, customer.address, name)?;
+                changes.names.push_str(line.as_str())?;
+            }
+        }
+        changes.ending = there.len();
+        for address in there.keys() {
+            writeln!(changes.shown, "- {}", Dotted(*address))?;
+        }
+        Ok(changes)
+    }
+
+    // Refuses to end many enrolments where the clerk did not allow it.
+    fn judge_ending(&self, changes: &Changes) -> Result<(), Stop> {
+        let (desk, ending, enrolled) = (self.clerk.desk, changes.ending, changes.enrolled);
+        if ends_many(ending, enrolled) && !self.application.ends_many {
+            return Err(desk.refusal(format_args!(
+                "{ending} of {enrolled} enrolments would end: --end-many is wanted"
+            )));
+        }
+        Ok(())
+    }
+
+    // Returns the commands that make the customers the wanted ones, and gives them to the service.
+    fn commands(&self, loaded: &mut Loaded) -> Result<Vec<Command>, Stop> {
+        let desk = self.clerk.desk;
+        let mut targets = Vec::new(desk.alloc());
+        for customer in self.wanted {
+            let (address, terms) = (customer.address, terms_for(customer));
+            targets.push(Wanted { address, terms })?;
+        }
+        let commands = commands_to(desk.alloc(), &mut loaded.service, &targets);
+        commands.map_err(|fault| unled(desk, fault))
+    }
 }
 
 // Reads the customers of a file, or reports each fault in it.
 fn wanted_at(desk: Desk<'_>, path: &str) -> Result<Vec<WantedCustomer>, Stop> {
     let text = desk.text(path, MOST_COMMANDS_OCTETS as u32)?;
-    match read_wanted(desk.alloc(), text.as_str()) {
+    match read_wanted(desk.alloc(), text.as_str())? {
         Ok(wanted) => Ok(wanted.customers),
-        Err(WantedFault::NoMemory) => Err(Stop::Memory),
-        Err(WantedFault::Faults(found)) => {
+        Err(found) => {
             for fault in found.iter() {
                 let _ = desk.refusal_at(path, FoundAt(fault));
             }
@@ -101,42 +165,12 @@ fn wanted_at(desk: Desk<'_>, path: &str) -> Result<Vec<WantedCustomer>, Stop> {
     }
 }
 
-// Finds and prints the changes.
-fn show_changes(
-    clerk: &Clerk<'_>,
-    loaded: &Loaded,
-    wanted: &[WantedCustomer],
-) -> Result<Changes, Stop> {
-    loaded.judge_room(clerk, 0)?;
-    let changes = changes_for(clerk.desk.alloc(), loaded, wanted)?;
-    match changes.shown.as_str() {
-        "" => clerk.desk.print("nothing to change\n")?,
-        shown => clerk.desk.print(shown)?,
-    }
-    Ok(changes)
-}
-
 /// Reports why no commands lead to wanted customers.
 pub fn unled(desk: Desk<'_>, fault: LeadFault) -> Stop {
     match fault {
         LeadFault::NoMemory => Stop::Memory,
         _ => desk.refusal("no commands lead to these customers: nothing was changed"),
     }
-}
-
-// Returns the commands that make the customers of a commands file the wanted ones, and gives them to its service.
-fn commands_for(
-    desk: Desk<'_>,
-    loaded: &mut Loaded,
-    wanted: &[WantedCustomer],
-) -> Result<Vec<Command>, Stop> {
-    let mut targets = Vec::new(desk.alloc());
-    for customer in wanted {
-        let (address, terms) = (customer.address, terms_for(customer));
-        targets.push(Wanted { address, terms })?;
-    }
-    let commands = commands_to(desk.alloc(), &mut loaded.service, &targets);
-    commands.map_err(|fault| unled(desk, fault))
 }
 
 // Returns what a wanted customer is enrolled with.
@@ -162,74 +196,38 @@ struct Changes {
     ending: usize,
 }
 
-// Finds the changes: of wanted customers in their order, then the enrolments that end.
-fn changes_for(
-    alloc: Global,
-    loaded: &Loaded,
-    wanted: &[WantedCustomer],
-) -> Result<Changes, AllocError> {
-    let mut there: ByAddress<Terms> = IndexMap::new(alloc);
-    for customer in customers_of(alloc, &loaded.service)?.iter() {
-        there.insert(customer.address, customer.terms)?;
-    }
-    let mut changes = Changes {
-        shown: String::new(alloc),
-        names: String::new(alloc),
-        enrolled: there.len(),
-        ending: 0,
-    };
-    for customer in wanted {
-        let before = there.swap_remove(&customer.address);
-        changes.add(alloc, customer, before, loaded.name(customer.address))?;
-    }
-    changes.ending = there.len();
-    for address in there.keys() {
-        writeln!(changes.shown, "- {}", Dotted(*address))?;
-    }
-    Ok(changes)
-}
-
 impl Changes {
-    // Adds the changes of a wanted customer, who has these terms before, if it is enrolled, and keeps this name without another.
+    // Adds the changes of a wanted customer, who had these terms, if it was enrolled, and the old name.
     fn add(
         &mut self,
-        alloc: Global,
         customer: &WantedCustomer,
         before: Option<Terms>,
         old_name: &str,
+        name: &str,
     ) -> Result<(), AllocError> {
         let address = Dotted(customer.address);
-        let name = customer
-            .name
-            .as_ref()
-            .map_or(old_name, |name| name.as_str());
         let after = terms_for(customer);
         let (seen, budget) = (seen_terms(&after), after.budget);
         let keys = Keys(seen);
-        if let Some(before) = before {
-            let (old_seen, old_budget) = (seen_terms(&before), before.budget);
-            let old_keys = Keys(old_seen);
-            if old_budget != budget {
-                writeln!(self.shown, "~ {address} budget {old_budget} -> {budget}")?;
-            }
-            if (before.older, before.newer) != (after.older, after.newer) {
-                let is_shown = !have_same_keys(&old_seen, &seen);
-                let how = if is_shown { "" } else { ", with other octets" };
-                writeln!(self.shown, "~ {address} {old_keys} -> {keys}{how}")?;
-            }
-            if name != old_name {
-                writeln!(self.shown, "~ {address} name \"{old_name}\" -> \"{name}\"")?;
-            }
-        } else {
+        let Some(before) = before else {
             write!(self.shown, "+ {address} {keys}, budget {budget}")?;
             if !name.is_empty() {
                 write!(self.shown, ", name \"{name}\"")?;
             }
-            writeln!(self.shown, "")?;
+            return writeln!(self.shown, "");
+        };
+        let (old_seen, old_budget) = (seen_terms(&before), before.budget);
+        let old_keys = Keys(old_seen);
+        if old_budget != budget {
+            writeln!(self.shown, "~ {address} budget {old_budget} -> {budget}")?;
+        }
+        if (before.older, before.newer) != (after.older, after.newer) {
+            let is_shown = !have_same_keys(&old_seen, &seen);
+            let how = if is_shown { "" } else { ", with other octets" };
+            writeln!(self.shown, "~ {address} {old_keys} -> {keys}{how}")?;
         }
         if name != old_name {
-            let line = name_line(alloc, customer.address, name)?;
-            self.names.push_str(line.as_str())?;
+            writeln!(self.shown, "~ {address} name \"{old_name}\" -> \"{name}\"")?;
         }
         Ok(())
     }
@@ -239,7 +237,8 @@ impl Changes {
 pub fn export(clerk: &Clerk<'_>, path: Option<&str>, keys: KeyLines) -> Result<(), Stop> {
     let (desk, loaded) = (clerk.desk, clerk.load()?);
     let wanted = |GivenKey { number, key }| WantedKey { number, key };
-    let customers = customers_of(desk.alloc(), &loaded.service)?;
+    let mut customers = customers_of(desk.alloc(), &loaded.service)?;
+    customers.sort_by_key(|customer| customer.address)?;
     let mut text = Vec::new(desk.alloc());
     for Wanted { address, terms } in customers.iter() {
         let customer = WantedCustomer {
@@ -259,4 +258,94 @@ pub fn export(clerk: &Clerk<'_>, path: Option<&str>, keys: KeyLines) -> Result<(
     };
     write_new(desk, path, &text)?;
     desk.print(format_args!("{} customers\n", customers.len()))
+}
+
+/// Writes the commands file anew in fewer lines, and keeps the old one beside it; or only prints how long it would be.
+pub fn fold_commands(clerk: &Clerk<'_>, dry_run: bool) -> Result<(), Stop> {
+    judge_no_link(clerk)?;
+    if dry_run {
+        return fold_loaded(clerk, &clerk.load()?, true);
+    }
+    let held = HeldFile::hold(clerk)?;
+    fold_loaded(clerk, &held.loaded, false)
+}
+
+// Does so with what was read of it, and prints where the old one is kept.
+fn fold_loaded(clerk: &Clerk<'_>, loaded: &Loaded, dry_run: bool) -> Result<(), Stop> {
+    let (desk, path) = (clerk.desk, clerk.commands());
+    match folded(clerk, loaded)? {
+        Some(text) if !dry_run => {
+            let kept = put_in_place(desk, path, text.as_str())?;
+            desk.print(format_args!("kept: {kept}\n{RESTART}"))?;
+            desk.at(path, store_name(desk.rt, path))
+        }
+        _ => Ok(()),
+    }
+}
+
+// Checks that the path is no link: a fold would replace the link, and leave the file that it names.
+fn judge_no_link(clerk: &Clerk<'_>) -> Result<(), Stop> {
+    let (desk, path) = (clerk.desk, clerk.commands());
+    let metadata = desk.at(path, fs::symlink_metadata(desk.rt, path))?;
+    if !metadata.is_symlink() {
+        return Ok(());
+    }
+    let file = desk.at(path, fs::canonicalize(desk.rt, path))?;
+    let (file, config) = (Escaped(file.as_str()), Escaped(clerk.config));
+    Err(clerk.refusal(format_args!(
+        "this is a symbolic link: name the file itself, {file}, as `commands` in {config}"
+    )))
+}
+
+// Returns the text of the new file, and prints how long it is; returns nothing where it would not be shorter.
+fn folded(clerk: &Clerk<'_>, loaded: &Loaded) -> Result<Option<String>, Stop> {
+    let desk = clerk.desk;
+    if loaded.octets > MOST_COMMANDS_OCTETS {
+        let path = Escaped(clerk.commands());
+        desk.print(format_args!(
+            "{path}: what stands behind {MOST_COMMANDS_OCTETS} octets is left out: labntpd does not read it\n"
+        ))?;
+    } else {
+        loaded.judge_room(clerk, 0)?;
+    }
+    let spare = desk.random_key(Algorithm::Sha1, false)?;
+    let text = folded_text(desk.alloc(), loaded, spare).map_err(|fault| unled(desk, fault))?;
+    let customers = customers_of(desk.alloc(), &loaded.service)?.len();
+    let (octets, before) = (text.len() as u64, loaded.octets);
+    if octets >= before {
+        desk.print("nothing to fold\n")?;
+        return Ok(None);
+    }
+    desk.print(format_args!(
+        "customers: {customers}\ncommands file: {octets} octets, {before} before\n"
+    ))?;
+    Ok(Some(text))
+}
+
+// Returns the text of a file with these customers, names and records alone. A record stands in front of all to whom it belongs.
+fn folded_text(alloc: Global, loaded: &Loaded, spare: Key) -> Result<String, LeadFault> {
+    let mut revoked = Vec::new(alloc);
+    for address in loaded.service.addresses()?.iter() {
+        let customer = loaded.service.customer(*address);
+        if customer.is_some_and(|customer| !customer.is_enrolled()) {
+            revoked.push(*address).map_err(AllocError::from)?;
+        }
+    }
+    let mut text = String::new(alloc);
+    // Whose comment stands there last.
+    let mut last: Option<Address> = None;
+    for command in fold(alloc, &loaded.service, &revoked, spare)?.iter() {
+        if let Command::Enrol { address, .. } = command {
+            let record = loaded.record(*address);
+            if record != last.map_or("", |last| loaded.record(last)) {
+                writeln!(text, "{record}")?;
+            }
+            last = Some(*address);
+            if let Some(name) = loaded.names.get(address) {
+                text.push_str(name_line(alloc, *address, name.as_str())?.as_str())?;
+            }
+        }
+        text.push_str(command_line(alloc, command)?.as_str())?;
+    }
+    Ok(text)
 }

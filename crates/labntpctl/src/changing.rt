@@ -1,13 +1,13 @@
 //! Changes one customer, and writes the file for one who gets a key.
 
-use crate::appending::{Addition, Answers, Patience, append};
+use crate::appending::{Addition, Answers, Manner};
 use crate::applying::unled;
 use crate::commands_file::{HeldFile, Loaded};
-use crate::customers::customer_lines;
-use crate::desk::{Clerk, Desk, NTP_PORT, Stop};
-use crate::differing::judge_daemon;
+use crate::customers::{customer_lines, judge_daemon};
+use crate::desk::{
+    Clerk, Desk, NTP_PORT, Named, SIGNED_FORM, Stop, date, signed_date, whole_seconds,
+};
 use crate::replacing::write_new;
-use crate::shown::{Called, SIGNED_FORM, date, signed_date, whole_seconds};
 use labntpd_files::refusal_meaning;
 use labntpd_start::SeveralAddresses;
 use ntp_admin::{Command, Escaped, words};
@@ -32,9 +32,7 @@ const MOST_KEY_FILE_OCTETS: u32 = 65_536;
 pub struct ChangeRequest<'a> {
     pub address: Address,
     pub change: Change<'a>,
-    pub patience: Patience<'a>,
-    /// Whether it only shows the line.
-    pub dry_run: bool,
+    pub manner: Manner<'a>,
 }
 
 /// What becomes of a customer.
@@ -83,70 +81,165 @@ pub struct KeyRequest<'a> {
 
 /// Makes a change, and prints what came of it.
 pub fn make_change(clerk: &Clerk<'_>, request: &ChangeRequest<'_>) -> Result<(), Stop> {
-    let desk = clerk.desk;
-    if request.dry_run {
-        let addition = addition_for(clerk, request, &mut clerk.load()?)?;
-        return desk.print(format_args!("{addition}\n"));
+    if request.manner.dry_run {
+        return request.show(clerk, &mut clerk.load()?);
     }
-    let request = confirmed(clerk, request)?;
-    let (held, mut loaded) = HeldFile::hold(desk, clerk.commands())?;
-    judge_daemon(clerk, &loaded)?;
-    let addition = addition_for(clerk, &request, &mut loaded)?;
-    append_given(clerk, held, &request, addition)
+    let request = request.confirmed(clerk)?;
+    request.make(clerk, &mut HeldFile::hold(clerk)?)
 }
 
-// Writes the new file of a customer who gets a key, appends the lines of the change, and prints what came of them.
-fn append_given(
-    clerk: &Clerk<'_>,
-    held: HeldFile<'_>,
-    request: &ChangeRequest<'_>,
-    mut addition: Addition,
-) -> Result<(), Stop> {
-    let answers = Answers::new(clerk, request.patience, addition.numbers)?;
-    if let Some(command) = addition.commands.first() {
-        addition.given = give(clerk, request, command)?;
+impl<'a> ChangeRequest<'a> {
+    // Shows the lines of the change.
+    fn show(&self, clerk: &Clerk<'_>, loaded: &mut Loaded) -> Result<(), Stop> {
+        let addition = self.addition(clerk, loaded)?;
+        clerk.desk.print(format_args!("{addition}\n"))
     }
-    append(clerk, held, &addition, &answers)
-}
 
-// Returns the change once the clerk confirms it. Others may append meanwhile.
-fn confirmed<'a>(
-    clerk: &Clerk<'_>,
-    request: &ChangeRequest<'a>,
-) -> Result<ChangeRequest<'a>, Stop> {
-    let Change::Retire { asks: true, .. } = request.change else {
-        return Ok(*request);
-    };
-    let mut loaded = clerk.load()?;
-    let addition = addition_for(clerk, request, &mut loaded)?;
-    let Some(Command::Retire { number, .. }) = addition.commands.first() else {
-        return Ok(*request);
-    };
-    let customer = Called(request.address, loaded.name(request.address));
-    ask_to_retire(clerk, customer, *number)?;
-    let change = Change::Retire {
-        number: Some(*number),
-        asks: false,
-    };
-    Ok(ChangeRequest { change, ..*request })
+    // Makes the change in the file that is held, once labntpd has what that came to.
+    fn make(&self, clerk: &Clerk<'_>, held: &mut HeldFile) -> Result<(), Stop> {
+        judge_daemon(clerk, &held.loaded)?;
+        let mut addition = self.addition(clerk, &mut held.loaded)?;
+        let answers = Answers::to(clerk, self.manner, addition.numbers)?;
+        addition.given = self.give(clerk, addition.commands.first())?;
+        answers.append(held, &addition)
+    }
+
+    // Returns the change once the clerk confirms it. Others may append meanwhile.
+    fn confirmed(&self, clerk: &Clerk<'_>) -> Result<ChangeRequest<'a>, Stop> {
+        let Change::Retire { asks: true, .. } = self.change else {
+            return Ok(*self);
+        };
+        let mut loaded = clerk.load()?;
+        let addition = self.addition(clerk, &mut loaded)?;
+        let Some(Command::Retire { number, .. }) = addition.commands.first() else {
+            return Ok(*self);
+        };
+        let customer = Named(self.address, loaded.name(self.address));
+        ask_first(clerk, customer, *number)?;
+        let change = Change::Retire {
+            number: Some(*number),
+            asks: false,
+        };
+        Ok(ChangeRequest { change, ..*self })
+    }
+
+    // Returns the lines for a change, once labntpd will do it and the commands file has room. Changes the customers in `loaded`.
+    fn addition(&self, clerk: &Clerk<'_>, loaded: &mut Loaded) -> Result<Addition, Stop> {
+        let alloc = clerk.desk.alloc();
+        loaded.judge_room(clerk, 0)?;
+        let commands = self.commands(clerk.desk, loaded)?;
+        let (named, name) = match self.change {
+            Change::Enrol { name, .. } => (self.address, name.unwrap_or("")),
+            Change::Name(name) => (self.address, name),
+            Change::Move(to) => (to, loaded.name(self.address)),
+            _ => (self.address, ""),
+        };
+        let names = match name {
+            "" => String::new(alloc),
+            name => name_line(alloc, named, name)?,
+        };
+        let mut addition = Addition::new(clerk, loaded, names, commands)?;
+        if let Change::Move(to) = self.change {
+            let (from, to) = (Dotted(self.address), Dotted(to));
+            let what = "its counts and saved exchanges end";
+            addition.shown = format!(in alloc; "{from} becomes {to}: {what}")?;
+        }
+        Ok(addition)
+    }
+
+    // Returns the commands for a change, once the customers in `loaded` are changed by them.
+    fn commands(&self, desk: Desk<'_>, loaded: &mut Loaded) -> Result<Vec<Command>, Stop> {
+        if let Change::Move(to) = self.change {
+            let led = commands_to_move(desk.alloc(), &mut loaded.service, self.address, to);
+            return led.map_err(|fault| match fault {
+                LeadFault::Refused(refusal) => refused(desk, refusal, Seen::Nothing),
+                fault => unled(desk, fault),
+            });
+        }
+        let mut commands = Vec::new(desk.alloc());
+        if let Some(command) = self.command(desk, loaded)? {
+            let done = loaded.service.command(&command);
+            let there = seen_at(&loaded.service, self.address);
+            done.map_err(|refusal| refused(desk, refusal, there))?;
+            commands.push(command)?;
+        }
+        Ok(commands)
+    }
+
+    // Returns the command for a change that is one; nothing for the name of an address that was enrolled.
+    fn command(&self, desk: Desk<'_>, loaded: &Loaded) -> Result<Option<Command>, Stop> {
+        let address = self.address;
+        let customer = loaded.service.customer(address);
+        let stranger = || refused(desk, Refusal::NotEnrolled, Seen::Nothing);
+        Ok(Some(match self.change {
+            Change::Enrol { budget, key, .. } => {
+                let GivenKey { number, key } = key_for(desk, &key, loaded)?;
+                Command::Enrol {
+                    address,
+                    number,
+                    key,
+                    budget,
+                }
+            }
+            Change::Rollover(key) => rollover(address, &key_for(desk, &key, loaded)?),
+            Change::Retire { number, .. } => {
+                let terms = customer.and_then(|customer| terms_of(customer));
+                let number = number_to_retire(&terms, number).ok_or_else(stranger)?;
+                Command::Retire { address, number }
+            }
+            Change::Budget(budget) => Command::Budget { address, budget },
+            Change::Name(_) if customer.is_none() => return Err(stranger()),
+            Change::Name(_) | Change::Move(_) => return Ok(None),
+            Change::Revoke => Command::Revoke { address },
+        }))
+    }
+
+    // Writes the new file for a customer who gets a key by this command, and returns its path.
+    fn give(&self, clerk: &Clerk<'_>, command: Option<&Command>) -> Result<Option<String>, Stop> {
+        let (Change::Enrol { key: wanted, .. } | Change::Rollover(wanted)) = self.change else {
+            return Ok(None);
+        };
+        let given = command.and_then(|it| it.number_wanted().zip(key_named(it)));
+        let Some((number, key)) = given else {
+            return Ok(None);
+        };
+        let (desk, alloc) = (clerk.desk, clerk.desk.alloc());
+        let customer = format!(in alloc; "{}", Dotted(self.address))?;
+        let path = match wanted.output {
+            Some(path) => String::from_str(alloc, path)?,
+            None => format!(in alloc; "{customer}-{number}.keys")?,
+        };
+        let server = wanted.server.or(clerk.server());
+        let several = SeveralAddresses::configured(desk.rt, alloc, clerk.configuration.listen);
+        if let (None, Some(several)) = (server, several) {
+            let config = Escaped(clerk.config);
+            let _ = writeln!(desk.faults(), "warning: {config}: {several}");
+        }
+        let server_word = match server {
+            Some(server) => format!(in alloc; "{}", Dotted(server.address))?,
+            None => String::from_str(alloc, "SERVER")?,
+        };
+        let grant = Grant {
+            customer: customer.as_str(),
+            server: server_word.as_str(),
+            port: server.map_or(NTP_PORT, |server| server.port),
+            number,
+            key,
+        };
+        let text = customer_text(alloc, &grant)?;
+        write_new(desk, path.as_str(), text.as_bytes())?;
+        Ok(Some(path))
+    }
 }
 
 // Asks whether a customer's key is to be retired, once its other key is known to be in use.
-fn ask_to_retire(
-    clerk: &Clerk<'_>,
-    customer: Called<'_>,
-    number: NonZero<u16>,
-) -> Result<(), Stop> {
-    let (said, are_ground) = uses(clerk, customer.0, number)?;
+fn ask_first(clerk: &Clerk<'_>, customer: Named<'_>, number: NonZero<u16>) -> Result<(), Stop> {
+    let (desk, (said, are_ground)) = (clerk.desk, uses(clerk, customer.0, number)?);
     if !are_ground {
-        let why = "no other key was used in a count of a day or more: --yes is wanted";
-        return Err(
-            clerk
-                .desk
-                .refusal(format_args!("{customer}: {said}: {why}")),
-        );
+        let why = "no other key was used, or the count is younger than a day: --yes is wanted";
+        return Err(desk.refusal(format_args!("{customer}: {said}: {why}")));
     }
-    clerk.desk.ask(format_args!("{customer}: {said}; retire key {number}? [y/N] "))
+    desk.ask(format_args!("{customer}: {said}; retire key {number}? [y/N] "))
 }
 
 // Says when each key of an address was last used, and returns whether that is ground to retire this one.
@@ -184,107 +277,17 @@ fn uses(clerk: &Clerk<'_>, address: Address, number: NonZero<u16>) -> Result<(St
     Ok((said, may_retire(number, &used, counted)))
 }
 
-// Returns the lines for a change, once labntpd will do it and the commands file has room. It changes the customers in `loaded`.
-fn addition_for(
-    clerk: &Clerk<'_>,
-    request: &ChangeRequest<'_>,
-    loaded: &mut Loaded,
-) -> Result<Addition, Stop> {
-    let (desk, alloc, address) = (clerk.desk, clerk.desk.alloc(), request.address);
-    loaded.judge_room(clerk, 0)?;
-    let commands = commands_for(desk, request, loaded)?;
-    let names = match (request.change, loaded.names.get(&address)) {
-        (
-            Change::Enrol {
-                name: Some(name),
-                ..
-            }
-            | Change::Name(name),
-            _,
-        ) => { name_line(alloc, address, name)? }
-        (Change::Move(to), Some(name)) => name_line(alloc, to, name.as_str())?,
-        _ => String::new(alloc),
-    };
-    let mut addition = Addition::new(clerk, loaded, names, commands)?;
-    if let Change::Move(to) = request.change {
-        let (from, to) = (Dotted(address), Dotted(to));
-        let what = "its counts and saved exchanges end";
-        addition.shown = format!(in alloc; "{from} becomes {to}: {what}")?;
-    }
-    Ok(addition)
-}
-
-// Returns the commands for a change, once the customers in `loaded` are changed by them.
-fn commands_for(
-    desk: Desk<'_>,
-    request: &ChangeRequest<'_>,
-    loaded: &mut Loaded,
-) -> Result<Vec<Command>, Stop> {
-    if let Change::Move(to) = request.change {
-        let led = commands_to_move(desk.alloc(), &mut loaded.service, request.address, to);
-        return led.map_err(|fault| match fault {
-            LeadFault::Refused(refusal) => refused(desk, refusal),
-            fault => unled(desk, fault),
-        });
-    }
-    let mut commands = Vec::new(desk.alloc());
-    if let Some(command) = command_for(desk, request, loaded)? {
-        let done = loaded.service.command(&command);
-        let there = seen_at(&loaded.service, request.address);
-        done.map_err(|refusal| match (refusal, there) {
-            (Refusal::NotHeld, Seen::Enrolled(terms)) => not_held(desk, Keys(terms)),
-            _ => refused(desk, refusal),
-        })?;
-        commands.push(command)?;
-    }
-    Ok(commands)
-}
-
-// Reports that an address that has these keys has none of a number.
-fn not_held(desk: Desk<'_>, keys: Keys) -> Stop {
-    let (word, meaning) = (Refusal::NotHeld.word(), refusal_meaning(Refusal::NotHeld));
-    desk.refusal(format_args!("refused {word}: {meaning}, but {keys}"))
-}
-
-// Reports why a command is refused.
-fn refused(desk: Desk<'_>, refusal: Refusal) -> Stop {
+// Reports why a command is refused for an address that has this.
+fn refused(desk: Desk<'_>, refusal: Refusal, there: Seen) -> Stop {
     let (word, meaning) = (refusal.word(), refusal_meaning(refusal));
-    match refusal {
-        Refusal::NoMemory => Stop::Memory,
+    match (refusal, there) {
+        (Refusal::NoMemory, _) => Stop::Memory,
+        (Refusal::NotHeld, Seen::Enrolled(terms)) => {
+            let keys = Keys(terms);
+            desk.refusal(format_args!("refused {word}: {meaning}, but {keys}"))
+        }
         _ => desk.refusal(format_args!("refused {word}: {meaning}")),
     }
-}
-
-// Returns the command for a change that is one; nothing for the name of an address that was enrolled.
-fn command_for(
-    desk: Desk<'_>,
-    request: &ChangeRequest<'_>,
-    loaded: &Loaded,
-) -> Result<Option<Command>, Stop> {
-    let address = request.address;
-    let customer = loaded.service.customer(address);
-    Ok(Some(match request.change {
-        Change::Enrol { budget, key, .. } => {
-            let GivenKey { number, key } = key_for(desk, &key, loaded)?;
-            Command::Enrol {
-                address,
-                number,
-                key,
-                budget,
-            }
-        }
-        Change::Rollover(key) => rollover(address, &key_for(desk, &key, loaded)?),
-        Change::Retire { number, .. } => {
-            let terms = customer.and_then(|customer| terms_of(customer));
-            let number = number_to_retire(&terms, number);
-            let number = number.ok_or_else(|| refused(desk, Refusal::NotEnrolled))?;
-            Command::Retire { address, number }
-        }
-        Change::Budget(budget) => Command::Budget { address, budget },
-        Change::Name(_) if customer.is_none() => return Err(refused(desk, Refusal::NotEnrolled)),
-        Change::Name(_) | Change::Move(_) => return Ok(None),
-        Change::Revoke => Command::Revoke { address },
-    }))
 }
 
 // Returns the key that a customer gets, with its number: that of a file, or a random one under the next free number.
@@ -360,44 +363,4 @@ fn free_number(alloc: Global, loaded: &Loaded) -> Result<Option<NonZero<u16>>, A
         }
     }
     Ok(number_for_a_key(&loaded.service, &used))
-}
-
-// Writes the new file for a customer who gets a key by this command, and returns its path.
-fn give(
-    clerk: &Clerk<'_>,
-    request: &ChangeRequest<'_>,
-    command: &Command,
-) -> Result<Option<String>, Stop> {
-    let (Change::Enrol { key: wanted, .. } | Change::Rollover(wanted)) = request.change else {
-        return Ok(None);
-    };
-    let (Some(number), Some(key)) = (command.number_wanted(), key_named(command)) else {
-        return Ok(None);
-    };
-    let (desk, alloc) = (clerk.desk, clerk.desk.alloc());
-    let customer = format!(in alloc; "{}", Dotted(request.address))?;
-    let path = match wanted.output {
-        Some(path) => String::from_str(alloc, path)?,
-        None => format!(in alloc; "{customer}-{number}.keys")?,
-    };
-    let server = wanted.server.or(clerk.server());
-    let several = SeveralAddresses::configured(desk.rt, alloc, clerk.configuration.listen);
-    if let (None, Some(several)) = (server, several) {
-        let config = Escaped(clerk.config);
-        let _ = writeln!(desk.faults(), "warning: {config}: {several}");
-    }
-    let server_word = match server {
-        Some(server) => format!(in alloc; "{}", Dotted(server.address))?,
-        None => String::from_str(alloc, "SERVER")?,
-    };
-    let grant = Grant {
-        customer: customer.as_str(),
-        server: server_word.as_str(),
-        port: server.map_or(NTP_PORT, |server| server.port),
-        number,
-        key,
-    };
-    let text = customer_text(alloc, &grant)?;
-    write_new(desk, path.as_str(), text.as_bytes())?;
-    Ok(Some(path))
 }

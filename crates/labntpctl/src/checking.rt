@@ -1,12 +1,11 @@
 //! Finds every fault of the files that labntpd would serve by, and prints a line for each.
 
 use crate::commands_file::{HeardLine, Loaded, complete_lines};
-use crate::desk::{Desk, Stop};
-use crate::shown::FoundAt;
+use crate::desk::{Desk, FoundAt, Stop};
 use labntpd_files::{
-    ConfigurationFault, ShownWord, WantedFault, address_warning, budget_warning,
-    configuration_faults, fault_meaning, faulty_place, is_fixed, key_in_file, key_warning,
-    key_wrong, path_at, read_configuration, read_wanted, refusal_meaning, word_at,
+    ConfigurationFault, ShownWord, address_warning, budget_warning, configuration_faults,
+    fault_meaning, faulty_place, is_fixed, key_in_file, key_warning, key_wrong, path_at,
+    read_configuration, read_wanted, refusal_meaning, word_at,
 };
 use labntpd_start::{
     KEY_LINE_WANTED, NamedFiles, SeveralAddresses, readers_of, small_text, tell_places,
@@ -16,23 +15,27 @@ use ntp_clerk::{budget_named, customers_of, key_named};
 use ntp_host::{MOST_COMMANDS_OCTETS, is_nearly_full, read_regular_file, write_nearly_full};
 use ntp_mac::Algorithm;
 use ntp_service::LineOutcome;
-use std::fmt::Display;
+use std::fmt::{self, Display};
 use std::io::{BufWriter, Stdout, Write};
 use toml::Table;
 
+/// The paths of the files that are checked.
+#[derive(Clone, Copy)]
+pub struct Checked<'a> {
+    /// A commands file, in the place of the configuration.
+    pub commands: Option<&'a str>,
+    /// A file of wanted customers.
+    pub wanted: Option<&'a str>,
+}
+
 /// Reports every fault of the configuration and its files, or of a commands file in their place, and of wanted customers.
-pub fn check(
-    desk: Desk<'_>,
-    config: &str,
-    commands: Option<&str>,
-    wanted: Option<&str>,
-) -> Result<(), Stop> {
+pub fn check(desk: Desk<'_>, config: &str, checked: Checked<'_>) -> Result<(), Stop> {
     let mut report = Report {
         desk,
         out: desk.buffered_output()?,
         status: Status::Done,
     };
-    let done = report.check_each(config, commands, wanted);
+    let done = report.check_each(config, checked);
     desk.printed(report.out.flush())?;
     done?;
     match report.status {
@@ -57,14 +60,14 @@ impl<'a> Report<'a> {
     }
 
     // Prints a fault of a file.
-    fn fault<D: Display + Drop>(&mut self, path: &str, what: D) {
-        let _ = writeln!(self.out, "{}: {what}", Escaped(path));
+    fn fault<P: Display + Drop, D: Display + Drop>(&mut self, place: P, what: D) {
+        let _ = writeln!(self.out, "{place}: {what}");
         self.take(Status::TextFaulty);
     }
 
     // Prints what is hardly meant in a file.
-    fn warning<D: Display + Drop>(&mut self, path: &str, what: D) {
-        let _ = writeln!(self.out, "warning: {}: {what}", Escaped(path));
+    fn warning<P: Display + Drop, D: Display + Drop>(&mut self, place: P, what: D) {
+        let _ = writeln!(self.out, "warning: {place}: {what}");
     }
 
     // Reads the regular file at a path, which has keys. Warns if others may read it, or reports why it cannot be read.
@@ -80,7 +83,8 @@ impl<'a> Report<'a> {
         };
         self.warn_of_readers(path);
         if octets.len() as u64 > MOST_COMMANDS_OCTETS {
-            self.fault(path, format_args!("at most {most} octets are wanted"));
+            let what = format_args!("at most {most} octets are wanted");
+            self.fault(Escaped(path), what);
         }
         Some(octets)
     }
@@ -99,17 +103,13 @@ impl<'a> Report<'a> {
     // Warns if others may read the file at a path.
     fn warn_of_readers(&mut self, path: &str) {
         if let Some(readers) = readers_of(self.desk.rt, path) {
-            self.warning(path, readers);
+            self.warning(Escaped(path), readers);
         }
     }
 
     // Reports every fault of each file.
-    fn check_each(
-        &mut self,
-        config: &str,
-        commands: Option<&str>,
-        wanted: Option<&str>,
-    ) -> Result<(), Stop> {
+    fn check_each(&mut self, config: &str, checked: Checked<'_>) -> Result<(), Stop> {
+        let Checked { commands, wanted } = checked;
         let configured = match commands {
             Some(_) => None,
             None => self.check_configuration(config)?,
@@ -139,23 +139,22 @@ impl<'a> Report<'a> {
         };
         let Ok(text) = str::from_utf8(&octets) else {
             let line = line_without_text(&octets);
-            self.fault(path, format_args!("line {line}: this is no UTF-8"));
+            self.fault(Line(path, line), "this is no UTF-8");
             return Ok(0);
         };
-        match read_wanted(self.desk.alloc(), text) {
+        match read_wanted(self.desk.alloc(), text)? {
             Ok(wanted) => {
                 for warning in wanted.warnings.iter() {
-                    self.warning(path, FoundAt(warning));
+                    self.warning(Escaped(path), FoundAt(warning));
                 }
                 Ok(wanted.customers.len())
             }
-            Err(WantedFault::Faults(found)) => {
+            Err(found) => {
                 for fault in found.iter() {
-                    self.fault(path, FoundAt(fault));
+                    self.fault(Escaped(path), FoundAt(fault));
                 }
                 Ok(0)
             }
-            Err(WantedFault::NoMemory) => Err(Stop::Memory),
         }
     }
 
@@ -187,14 +186,14 @@ impl<'a> Report<'a> {
             Ok(configuration) => {
                 let several = SeveralAddresses::configured(rt, alloc, configuration.listen);
                 if let (None, Some(several)) = (configuration.served_as, several) {
-                    self.warning(path, several);
+                    self.warning(Escaped(path), several);
                 }
             }
             Err(ConfigurationFault::NoMemory) => return Err(Stop::Memory),
             Err(_) => {
                 self.take(Status::TextFaulty);
                 for fault in configuration_faults(alloc, text)?.iter() {
-                    self.fault(path, FoundAt(fault));
+                    self.fault(Escaped(path), FoundAt(fault));
                 }
             }
         }
@@ -212,14 +211,65 @@ impl<'a> Report<'a> {
             let (line, others) = text.split_once('\n').unwrap_or((text, ""));
             let octets = others.len();
             match key_wrong(line) {
-                Some(wrong) => self.fault(path, format_args!("line 1: {KEY_LINE_WANTED}; {wrong}")),
-                None => self.fault(
-                    path,
-                    format_args!("line 2: {KEY_LINE_WANTED}; {octets} octets stand behind it"),
-                ),
+                Some(wrong) => {
+                    self.fault(Line(path, 1), format_args!("{KEY_LINE_WANTED}; {wrong}"));
+                }
+                None => {
+                    let what = format_args!("{KEY_LINE_WANTED}; {octets} octets stand behind it");
+                    self.fault(Line(path, 2), what);
+                }
             }
         }
         self.warn_of_readers(path);
+    }
+
+    // Reports what became of a line with this text; an empty one where it is not UTF-8.
+    fn check_line(&mut self, place: Line<'_>, heard: &HeardLine, line: &str) {
+        match (heard.outcome, &heard.command) {
+            (LineOutcome::Faulty(fault), _) => self.faulty(place, line, fault),
+            (LineOutcome::Refused(refusal), _) => {
+                let (word, meaning) = (refusal.word(), refusal_meaning(refusal));
+                self.fault(place, format_args!("refused {word}: {meaning}"));
+            }
+            (LineOutcome::Done, Some(command)) => self.warn(place, command),
+            (LineOutcome::Done, None) => {}
+        }
+    }
+
+    // Reports a line that is no command.
+    fn faulty(&mut self, place: Line<'_>, line: &str, fault: LineFault) {
+        let (word, meaning) = (fault.word(), fault_meaning(fault));
+        let first = line.split_once(' ').map_or(line, |(first, _)| first);
+        let placed = faulty_place(first, fault).and_then(|place| word_at(line, place));
+        let at = format_args!("{place}: faulty {word}");
+        if let Some((column, there)) = placed {
+            let at = format_args!("{place}: column {column}: faulty {word}");
+            match key_wrong(there) {
+                Some(why) if fault == LineFault::KeyText => self.fault(
+                    at,
+                    format_args!("{meaning}; {why}"),
+                ),
+                _ => self.fault(at, format_args!("{meaning}; {}", ShownWord(there))),
+            }
+        } else if matches!(fault, LineFault::LineLong | LineFault::NotUtf8) {
+            self.fault(at, meaning);
+        } else {
+            let count = line.split(' ').count();
+            self.fault(at, format_args!("{meaning}; {count} words stand there"));
+        }
+    }
+
+    // Warns of what is hardly meant in a command that was carried out.
+    fn warn(&mut self, place: Line<'_>, command: &Command) {
+        let address = match command {
+            Command::Enrol { address, .. } => address_warning(*address),
+            _ => None,
+        };
+        let key = key_named(command).and_then(|key| key_warning(&key));
+        let budget = budget_named(command).and_then(|budget| budget_warning(budget.get()));
+        for warning in [address, key, budget].into_iter().flatten() {
+            self.warning(place, warning);
+        }
     }
 }
 
@@ -253,90 +303,28 @@ fn check_commands(report: &mut Report<'_>, path: &str) -> Result<usize, Stop> {
     }
     let loaded = Loaded::of(alloc, &octets)?;
     let mut lines = complete_lines(&octets).split(|octet| *octet == b'\n');
-    let mut checker = LineChecker {
-        report,
-        path,
-        number: 0,
-    };
+    let mut last = 0;
     for heard in loaded.heard.lines.iter() {
         // Lines that are passed over are not heard of.
-        let (last, number) = (checker.number, heard.number);
-        let passed_over = number.saturating_sub(last).saturating_sub(1);
+        let passed_over = heard.number.saturating_sub(last).saturating_sub(1);
         let line = lines.nth(passed_over as usize).unwrap_or(&[]);
-        checker.number = number;
-        checker.check(heard, str::from_utf8(line).unwrap_or(""));
+        last = heard.number;
+        report.check_line(Line(path, last), heard, str::from_utf8(line).unwrap_or(""));
     }
     if !loaded.is_ended && count <= MOST_COMMANDS_OCTETS {
-        checker.number = loaded.lines.saturating_add(1);
-        checker.fault("a line feed at its end is wanted");
+        let line = Line(path, loaded.lines.saturating_add(1));
+        report.fault(line, "a line feed at its end is wanted");
     }
     Ok(customers_of(alloc, &loaded.service)?.len())
 }
 
-// Reports what is wrong with a line of commands, and what is hardly meant in it.
-#[derive(Drop)]
-struct LineChecker<'a, 'b, 'p> {
-    report: &'a mut Report<'b>,
-    path: &'p str,
-    number: u64,
-}
+// A line of the file at a path.
+#[derive(Clone, Copy)]
+struct Line<'a>(&'a str, u64);
 
-impl<'a, 'b, 'p> LineChecker<'a, 'b, 'p> {
-    // Reports what became of a line with this text; an empty one where it is not UTF-8.
-    fn check(&mut self, heard: &HeardLine, line: &str) {
-        match (heard.outcome, &heard.command) {
-            (LineOutcome::Faulty(fault), _) => self.faulty(line, fault),
-            (LineOutcome::Refused(refusal), _) => {
-                let (word, meaning) = (refusal.word(), refusal_meaning(refusal));
-                self.fault(format_args!("refused {word}: {meaning}"));
-            }
-            (LineOutcome::Done, Some(command)) => self.warn(command),
-            (LineOutcome::Done, None) => {}
-        }
-    }
-
-    // Reports a line that is no command.
-    fn faulty(&mut self, line: &str, fault: LineFault) {
-        let (word, meaning) = (fault.word(), fault_meaning(fault));
-        let first = line.split_once(' ').map_or(line, |(first, _)| first);
-        let placed = faulty_place(first, fault).and_then(|place| word_at(line, place));
-        if let Some((column, there)) = placed {
-            match key_wrong(there) {
-                Some(wrong) if fault == LineFault::KeyText => self.fault(format_args!(
-                    "column {column}: faulty {word}: {meaning}; {wrong}"
-                )),
-                _ => self.fault(format_args!(
-                    "column {column}: faulty {word}: {meaning}; {}",
-                    ShownWord(there)
-                )),
-            }
-        } else if matches!(fault, LineFault::LineLong | LineFault::NotUtf8) {
-            self.fault(format_args!("faulty {word}: {meaning}"));
-        } else {
-            let count = line.split(' ').count();
-            self.fault(format_args!("faulty {word}: {meaning}; {count} words stand there"));
-        }
-    }
-
-    // Reports a fault of the line.
-    fn fault<D: Display + Drop>(&mut self, what: D) {
-        let number = self.number;
-        self.report
-            .fault(self.path, format_args!("line {number}: {what}"));
-    }
-
-    // Warns of what is hardly meant in a command that was carried out.
-    fn warn(&mut self, command: &Command) {
-        let address = match command {
-            Command::Enrol { address, .. } => address_warning(*address),
-            _ => None,
-        };
-        let key = key_named(command).and_then(|key| key_warning(&key));
-        let budget = budget_named(command).and_then(|budget| budget_warning(budget.get()));
-        let number = self.number;
-        for warning in [address, key, budget].into_iter().flatten() {
-            self.report
-                .warning(self.path, format_args!("line {number}: {warning}"));
-        }
+impl<'a> Display for Line<'a> {
+    fn fmt<W: fmt::Write>(&self, f: &mut fmt::Formatter<W>) -> fmt::Result {
+        let (path, number) = (Escaped(self.0), self.1);
+        write!(f, "{path}: line {number}")
     }
 }

@@ -1,8 +1,9 @@
 //! Reads the words of the command line.
 
-use crate::appending::Patience;
+use crate::appending::Manner;
 use crate::applying::Application;
 use crate::changing::{Change, ChangeRequest, KeyRequest};
+use crate::checking::Checked;
 use crate::customers::Listing;
 use crate::desk::ANY;
 use crate::door::Place;
@@ -10,7 +11,7 @@ use crate::explaining::Explained;
 use clap::builder::ValueParser;
 use clap::error::ErrorKind;
 use clap::parser::ValueSource;
-use clap::{Arg, ArgMatches, Command, Error, arg, value_parser};
+use clap::{Arg, ArgAction, ArgMatches, Command, Error};
 use labntpd_files::command_line::VERSION;
 use labntpd_files::{KeyLines, is_name};
 use ntp_admin::words;
@@ -39,11 +40,8 @@ failed; 4 want of memory.";
 /// The work that a command line asks for.
 #[derive(Clone, Copy)]
 pub enum Task<'a> {
-    /// Finds every fault of the configuration and its files, or of the commands file at a path, and of a file of wanted customers.
-    Check {
-        commands: Option<&'a str>,
-        wanted: Option<&'a str>,
-    },
+    /// Finds every fault of files.
+    Check(Checked<'a>),
     /// Lists customers.
     List(Listing<'a>),
     /// Prints the differences between labntpd's customers and those of the commands file.
@@ -77,10 +75,10 @@ fn asked_in<'a>(matches: &ArgMatches<'a>) -> Result<(&'a str, Task<'a>), &'stati
         return Err("a command is wanted");
     };
     let task = match name {
-        "check" => Task::Check {
+        "check" => Task::Check(Checked {
             commands: matches.get_str("COMMANDS"),
             wanted: matches.get_str("wanted"),
-        },
+        }),
         "customers" if matches.get_flag("compare") => Task::Compare,
         "customers" => Task::List(listing_in(matches)?),
         "explain" => Task::Explain(explained_in(matches)?),
@@ -92,16 +90,14 @@ fn asked_in<'a>(matches: &ArgMatches<'a>) -> Result<(&'a str, Task<'a>), &'stati
             path: matches.get_str("FILE").ok_or("FILE is missing")?,
             asks: !matches.get_flag("yes"),
             ends_many: matches.get_flag("end-many"),
-            dry_run: matches.get_flag("dry-run"),
-            patience: patience_in(matches)?,
+            manner: manner_in(matches)?,
         }),
         "export" => Task::Export(matches.get_str("FILE"), keys_in(matches)?),
         "fold" => Task::Fold(matches.get_flag("dry-run")),
         _ => Task::Change(ChangeRequest {
             address: address_in(matches, "ADDRESS")?,
             change: change_in(name, matches)?,
-            patience: patience_in(matches)?,
-            dry_run: matches.get_flag("dry-run"),
+            manner: manner_in(matches)?,
         }),
     };
     Ok((matches.get_str("config").unwrap_or(USUAL_CONFIG), task))
@@ -219,178 +215,132 @@ fn number_in(matches: &ArgMatches<'_>, name: &str) -> Option<NonZero<u16>> {
     NonZero::<u16>::new(matches.get_one::<u16>(name)?)
 }
 
-// Returns which answers are waited for, and how long.
-fn patience_in<'a>(matches: &ArgMatches<'a>) -> Result<Patience<'a>, &'static str> {
+// Returns how lines are appended.
+fn manner_in<'a>(matches: &ArgMatches<'a>) -> Result<Manner<'a>, &'static str> {
     let seconds = matches.get_one::<f64>("wait").unwrap_or(0.0);
     if !(seconds >= 0.0 && seconds <= 60.0) {
         return Err("--wait S: 0 to 60 seconds are wanted");
     }
-    Ok(Patience {
+    Ok(Manner {
+        dry_run: matches.get_flag("dry-run"),
         answers: matches.get_str("answers"),
         millis: num::saturating_f64_to_u64((seconds * 1_000.0).round()),
     })
 }
 
+// The commands that append lines; all but the last change one customer.
+const APPENDING: &str = "enrol rollover retire revoke move budget name apply";
+
+// Rows of texts.
+macro_rules! rows {
+    ($($($text:expr),+;)*) => { &[$(($($text),+)),*] };
+}
+
+// The commands, and what each does.
+const COMMANDS: &[(&str, &str)] = rows! {
+    "customers", "Lists the customers, and what differs at labntpd";
+    "enrol", "Enrols an address with a key";
+    "rollover", "Gives an address a key beside the one that it has";
+    "retire", "Says when keys were last used, asks, and takes one of two";
+    "revoke", "Ends an enrolment: the address is refused from now on";
+    "move", "Gives a customer another address";
+    "budget", "Gives an address another budget";
+    "name", "Gives an address another name";
+    "apply", "Makes the customers those of a file, once it has asked";
+    "export", "Writes the customers as a file in TOML for `apply`";
+    "fold", "Shortens the commands file, and keeps the old one";
+    "check", "Prints each fault of the files, and what is hardly meant";
+    "explain", "Says what a datagram would get, and why";
+    "door", "Prints rules of nftables for what customers send";
+};
+
+// The arguments: the commands that take it, all where none is named; its usage; and its help.
+const ARGUMENTS: &[(&str, &str, &str)] = rows! {
+    "", "--config FILE", "The configuration file of labntpd";
+    "customers", "[ADDRESS|COMMANDS]", "One customer; or a commands file, for --config";
+    "customers", "--json", "Prints an object of JSON for each customer";
+    "customers", "--compare", "Prints what differs at labntpd and in the file";
+    "check", "[COMMANDS]", "A commands file, in the place of the configuration";
+    "check", "--wanted FILE", "A file for `apply`, which is checked too";
+    "explain", "[DATAGRAM]", "The octets of the UDP payload, in hexadecimal digits";
+    "explain", "--from ADDRESS", "The IPv4 address from which it came";
+    "explain", "--pcap FILE", "A pcap file: each UDP datagram to the port";
+    "door", "--address ADDRESS[:PORT]", "[default: where labntpd listens, or `served_as`]";
+    "door", "--rate N", "A customer's datagrams in a second; at once, twice as many";
+    APPENDING, "--dry-run", "Only shows what would be done, without keys";
+    APPENDING, "--answers FILE[,FILE..]", "The answers files of all processes";
+    APPENDING, "--wait S", "How many seconds answers are waited for, 0 to 60";
+    "apply", "<FILE>", "The file of customers in TOML, as `export` writes it";
+    "apply", "--yes", "Does not ask first";
+    "apply", "--end-many", "Lets more than a quarter of the enrolments end";
+    "enrol rollover retire revoke move budget name", "<ADDRESS>", "The customer's IPv4 address";
+    "enrol rollover", "--algorithm ALGORITHM", "What a random key is for";
+    "enrol rollover", "--text-key", "Makes a key of 20 characters, for devices that take text";
+    "enrol rollover", "--key-file FILE", "Takes the key from a key file of chrony";
+    "enrol rollover", "--number N", "The key's number in that file";
+    "enrol rollover", "--output FILE", "[default: ADDRESS-NUMBER.keys]";
+    "enrol rollover", "--server ADDRESS[:PORT]", "[default: what the configuration says]";
+    "enrol", "--budget N", "Signed queries that get the time in 64 seconds";
+    "enrol", "--name TEXT", "Whose address it is: a comment of the commands file";
+    "retire", "--number N", "The key's number [default: the older one's]";
+    "retire", "--yes", "Does not ask first, nor look whether the other key is in use";
+    "move", "<NEW>", "The IPv4 address in the place of ADDRESS";
+    "budget", "<N>", "Signed queries that get the time in 64 seconds";
+    "name", "<NAME>", "Whose address it is";
+    "fold", "--dry-run", "Prints only how long the new file would be";
+    "export", "[FILE]", "A new file, which its owner alone may read";
+    "export", "--no-keys", "Leaves the keys out; without FILE, prints the rest";
+};
+
 // Builds the command line with its help.
 fn command<'a>(alloc: Global) -> Result<Command<'a>, AllocError> {
-    let rollover = with_key(alloc, "rollover")?;
-    let revoke = with_address(alloc, "revoke")?;
-    Command::new(alloc, "labntpctl")
+    let mut command = Command::new(alloc, "labntpctl")
         .version(VERSION)
         .about("Keeps the customers of labntpd")
         .after_help(AFTER_HELP)
         .subcommand_required(true)
-        .disable_help_subcommand(true)
-        .subcommand(customers(alloc)?)?
-        .subcommand(enrol(alloc)?)?
-        .subcommand(rollover.about("Gives an address a key beside the one that it has"))?
-        .subcommand(retire(alloc)?)?
-        .subcommand(revoke.about("Ends an enrolment: the address is refused from now on"))?
-        .subcommand(address_move(alloc)?)?
-        .subcommand(budget(alloc)?)?
-        .subcommand(name(alloc)?)?
-        .subcommand(apply(alloc)?)?
-        .subcommand(export(alloc)?)?
-        .subcommand(fold(alloc)?)?
-        .subcommand(check(alloc)?)?
-        .subcommand(explain(alloc)?)?
-        .subcommand(door(alloc)?)
+        .disable_help_subcommand(true);
+    for (name, about) in COMMANDS {
+        command = command.subcommand(subcommand(alloc, name, about)?)?;
+    }
+    Ok(command)
 }
 
-fn customers<'a>(alloc: Global) -> Result<Command<'a>, AllocError> {
-    let compare = arg!(in alloc; --compare "Prints what differs at labntpd and in the file");
-    with_config(alloc, "customers")?
-        .about("Lists the customers, and what differs at labntpd")
-        .arg(arg!(in alloc; ["ADDRESS|COMMANDS"] "One customer; or a commands file, for --config"))?
-        .arg(arg!(in alloc; --json "Prints an object of JSON for each customer"))?
-        .arg(
-            compare
-                .conflicts_with("json")?
-                .conflicts_with("ADDRESS|COMMANDS")?,
-        )
+// Builds a command with its arguments.
+fn subcommand<'a>(alloc: Global, name: &'a str, about: &'a str) -> Result<Command<'a>, AllocError> {
+    let mut command = Command::new(alloc, name).about(about);
+    for (commands, usage, help) in ARGUMENTS {
+        if commands.is_empty() || commands.split(' ').any(|it| it == name) {
+            command = command.arg(argument(alloc, usage, help)?)?;
+        }
+    }
+    Ok(command)
 }
 
-fn check<'a>(alloc: Global) -> Result<Command<'a>, AllocError> {
-    let commands = arg!(in alloc; [COMMANDS] "A commands file, in the place of the configuration");
-    with_config(alloc, "check")?
-        .about("Prints each fault of the files, and what is hardly meant")
-        .arg(commands.conflicts_with("config")?)?
-        .arg(arg!(in alloc; --wanted <FILE> "A file for `apply`, which is checked too"))
-}
-
-fn explain<'a>(alloc: Global) -> Result<Command<'a>, AllocError> {
-    with_config(alloc, "explain")?
-        .about("Says what a datagram would get, and why")
-        .arg(arg!(in alloc; [DATAGRAM] "The octets of the UDP payload, in hexadecimal digits"))?
-        .arg(arg!(in alloc; --from <ADDRESS> "The IPv4 address from which it came"))?
-        .arg(arg!(in alloc; --pcap <FILE> "A pcap file: each UDP datagram to the port"))
-}
-
-fn door<'a>(alloc: Global) -> Result<Command<'a>, AllocError> {
-    let rate =
-        arg!(in alloc; --rate <N> "A customer's datagrams in a second; at once, twice as many");
-    with_config(alloc, "door")?
-        .about("Prints rules of nftables for what customers send")
-        .arg(
-            arg!(in alloc; --address <"ADDRESS[:PORT]"> "[default: where labntpd listens, or `served_as`]"),
-        )?
-        .arg(counted(rate).default_value("200"))
-}
-
-fn enrol<'a>(alloc: Global) -> Result<Command<'a>, AllocError> {
-    let budget = arg!(in alloc; --budget <N> "Signed queries that get the time in 64 seconds");
-    with_key(alloc, "enrol")?
-        .about("Enrols an address with a key")
-        .arg(counted(budget).default_value("10"))?
-        .arg(arg!(in alloc; --name <TEXT> "Whose address it is: a comment of the commands file"))
-}
-
-fn retire<'a>(alloc: Global) -> Result<Command<'a>, AllocError> {
-    with_address(alloc, "retire")?
-        .about("Says when keys were last used, asks, and takes one of two")
-        .arg(counted(arg!(in alloc; --number <N> "The key's number [default: the older one's]")))?
-        .arg(arg!(in alloc; --yes "Does not ask first, nor look whether the other key is in use"))
-}
-
-fn address_move<'a>(alloc: Global) -> Result<Command<'a>, AllocError> {
-    with_address(alloc, "move")?
-        .about("Gives a customer another address")
-        .arg(arg!(in alloc; <NEW> "The IPv4 address in the place of ADDRESS"))
-}
-
-fn budget<'a>(alloc: Global) -> Result<Command<'a>, AllocError> {
-    with_address(alloc, "budget")?
-        .about("Gives an address another budget")
-        .arg(counted(arg!(in alloc; <N> "Signed queries that get the time in 64 seconds")))
-}
-
-fn name<'a>(alloc: Global) -> Result<Command<'a>, AllocError> {
-    with_address(alloc, "name")?
-        .about("Gives an address another name")
-        .arg(arg!(in alloc; <NAME> "Whose address it is"))
-}
-
-fn fold<'a>(alloc: Global) -> Result<Command<'a>, AllocError> {
-    with_config(alloc, "fold")?
-        .about("Shortens the commands file, and keeps the old one")
-        .arg(arg!(in alloc; --"dry-run" "Prints only how long the new file would be"))
-}
-
-fn apply<'a>(alloc: Global) -> Result<Command<'a>, AllocError> {
-    with_answers(alloc, "apply")?
-        .about("Makes the customers those of a file, once it has asked")
-        .arg(arg!(in alloc; <FILE> "The file of customers in TOML, as `export` writes it"))?
-        .arg(arg!(in alloc; --yes "Does not ask first"))?
-        .arg(arg!(in alloc; --"end-many" "Lets more than a quarter of the enrolments end"))
-}
-
-fn export<'a>(alloc: Global) -> Result<Command<'a>, AllocError> {
-    with_config(alloc, "export")?
-        .about("Writes the customers as a file in TOML for `apply`")
-        .arg(arg!(in alloc; [FILE] "A new file, which its owner alone may read"))?
-        .arg(arg!(in alloc; --"no-keys" "Leaves the keys out; without FILE, prints the rest"))
-}
-
-// Begins a command that goes by the configuration.
-fn with_config<'a>(alloc: Global, name: &'a str) -> Result<Command<'a>, AllocError> {
-    let config = arg!(in alloc; --config <FILE> "The configuration file of labntpd");
-    Command::new(alloc, name).arg(config.default_value(USUAL_CONFIG))
-}
-
-// Begins a command that appends lines, and waits for the answers.
-fn with_answers<'a>(alloc: Global, name: &'a str) -> Result<Command<'a>, AllocError> {
-    let wait = arg!(in alloc; --wait <S> "How many seconds answers are waited for, 0 to 60");
-    with_config(alloc, name)?
-        .arg(arg!(in alloc; --"dry-run" "Only shows what would be done, without keys"))?
-        .arg(arg!(in alloc; --answers <"FILE[,FILE..]"> "The answers files of all processes"))?
-        .arg(wait.value_parser(ValueParser::Float).default_value("5"))
-}
-
-// Begins a command that changes a customer.
-fn with_address<'a>(alloc: Global, name: &'a str) -> Result<Command<'a>, AllocError> {
-    with_answers(alloc, name)?.arg(arg!(in alloc; <ADDRESS> "The customer's IPv4 address"))
-}
-
-// Begins a command that gives a key.
-fn with_key<'a>(alloc: Global, name: &'a str) -> Result<Command<'a>, AllocError> {
-    let algorithm = arg!(in alloc; --algorithm <ALGORITHM> "What a random key is for");
-    let algorithm = algorithm.value_parser(["md5", "sha1"].as_slice());
-    let file = arg!(in alloc; --"key-file" <FILE> "Takes the key from a key file of chrony");
-    with_address(alloc, name)?
-        .arg(algorithm.default_value("sha1"))?
-        .arg(
-            arg!(in alloc; --"text-key" "Makes a key of 20 characters, for devices that take text"),
-        )?
-        .arg(
-            file.conflicts_with("algorithm")?
-                .conflicts_with("text-key")?,
-        )?
-        .arg(counted(arg!(in alloc; --number <N> "The key's number in that file")))?
-        .arg(arg!(in alloc; --output <FILE> "[default: ADDRESS-NUMBER.keys]"))?
-        .arg(arg!(in alloc; --server <"ADDRESS[:PORT]"> "[default: what the configuration says]"))
-}
-
-// Has an argument be a number from 1 to 65535.
-fn counted<'a>(arg: Arg<'a>) -> Arg<'a> {
-    arg.value_parser(value_parser!(u16).range(1..))
+// Builds an argument with this usage: an option, or a value that is wanted, or one that may be left out.
+fn argument<'a>(alloc: Global, usage: &'a str, help: &'a str) -> Result<Arg<'a>, AllocError> {
+    let (option, value) = usage.split_once(' ').unwrap_or((usage, ""));
+    let name = option.trim_matches(['-', '<', '>', '[', ']']);
+    let arg = Arg::new(alloc, name).help(help);
+    let arg = match (option.starts_with("--"), value) {
+        (true, "") => arg.long(name).action(ArgAction::SetTrue),
+        (true, value) => arg.long(name).value_name(value),
+        (false, _) => arg.value_name(name).required(option.starts_with('<')),
+    };
+    let number = ValueParser::Unsigned(1, 65_535);
+    match name {
+        "config" => Ok(arg.default_value(USUAL_CONFIG)),
+        "compare" => arg.conflicts_with_all(&["json", "ADDRESS|COMMANDS"]),
+        "COMMANDS" => arg.conflicts_with("config"),
+        "key-file" => arg.conflicts_with_all(&["algorithm", "text-key"]),
+        "algorithm" => Ok(
+            arg.value_parser(["md5", "sha1"].as_slice())
+                .default_value("sha1"),
+        ),
+        "wait" => Ok(arg.value_parser(ValueParser::Float).default_value("5")),
+        "rate" => Ok(arg.value_parser(number).default_value("200")),
+        "budget" => Ok(arg.value_parser(number).default_value("10")),
+        "number" | "N" => Ok(arg.value_parser(number)),
+        _ => Ok(arg),
+    }
 }

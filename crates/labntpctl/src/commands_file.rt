@@ -4,13 +4,12 @@ use crate::desk::{Clerk, Desk, Stop};
 use indexmap::IndexMap;
 use labntpd_files::is_name;
 use ntp_admin::{Command, Escaped, apply_lines};
-use ntp_clerk::name_in;
+use ntp_clerk::{ByAddress, name_in};
 use ntp_host::{MOST_COMMANDS_OCTETS, not_regular, pause, read_regular_file};
 use ntp_reports::CustomerCounts;
 use ntp_service::{Address, LineOutcome, Observer, Refusal, Service, TurnOutcome};
 use std::alloc::{AllocError, Global};
 use std::fs::{self, File, OpenOptions, TryLockError};
-use std::hash::{BuildHasherDefault, FoldHasher};
 use std::io::{self, ErrorKind, Read, Write};
 use std::os::unix::fs::MetadataExt;
 
@@ -19,9 +18,6 @@ const MOST_ASKED: u32 = 500;
 
 /// The milliseconds between two times.
 const ASKED_EACH: i32 = 20;
-
-/// Values by the addresses of customers.
-pub type ByAddress<T> = IndexMap<Address, T, BuildHasherDefault<FoldHasher>>;
 
 /// What the complete lines of a commands file have come to.
 #[derive(Drop)]
@@ -94,9 +90,8 @@ impl Loaded {
         }
         if !self.is_ended {
             let line = self.lines.saturating_add(1);
-            return Err(clerk.refusal(format_args!(
-                "line {line}: a line feed at its end is wanted"
-            )));
+            let why = format_args!("line {line}: a line feed at its end is wanted");
+            return Err(clerk.refusal(why));
         }
         Ok(())
     }
@@ -172,20 +167,19 @@ impl Observer for Heard {
     fn turn(&mut self, _outcome: &TurnOutcome) {}
 }
 
-/// The commands file at a path, locked for other clerks.
+/// The commands file, locked for other clerks.
 #[derive(Drop)]
-pub struct HeldFile<'a> {
-    rt: &'a HostRuntime,
-    path: &'a str,
-    // Closing it ends the lock.
-    file: File,
-    // The octets that it had when it was read.
-    octets: u64,
+pub struct HeldFile {
+    /// The file; unlocking or closing it ends the lock.
+    pub file: File,
+    /// What it had when it was read.
+    pub loaded: Loaded,
 }
 
-impl<'a> HeldFile<'a> {
-    /// Waits until nobody else holds the regular file at a path, for ten seconds at most. Then holds and reads it.
-    pub fn hold(desk: Desk<'a>, path: &'a str) -> Result<(HeldFile<'a>, Loaded), Stop> {
+impl HeldFile {
+    /// Waits until nobody else holds the commands file, a regular one, for ten seconds at most. Then holds and reads it.
+    pub fn hold(clerk: &Clerk<'_>) -> Result<HeldFile, Stop> {
+        let (desk, path) = (clerk.desk, clerk.commands());
         let file = match held_file(desk.rt, path) {
             Err(error) if error.kind() == ErrorKind::WouldBlock => {
                 let holder = holder(desk, path);
@@ -198,13 +192,8 @@ impl<'a> HeldFile<'a> {
         let mut octets = Vec::new(desk.alloc());
         let most = MOST_COMMANDS_OCTETS.saturating_add(1);
         desk.at(path, (&file).take(most).read_to_end(&mut octets))?;
-        let held = HeldFile {
-            rt: desk.rt,
-            path,
-            file,
-            octets: octets.len() as u64,
-        };
-        Ok((held, Loaded::of(desk.alloc(), &octets)?))
+        let loaded = Loaded::of(desk.alloc(), &octets)?;
+        Ok(HeldFile { file, loaded })
     }
 
     /// Appends text. Where that fails, leaves the comments with which the text begins, as far as they were written: labntpd reads no
@@ -215,7 +204,10 @@ impl<'a> HeldFile<'a> {
         let done = write_counted(&mut self.file, text.as_bytes(), &mut written);
         if done.is_err() && self.has_grown_by(written) {
             let kept = comment_octets(text.as_bytes().get(..written).unwrap_or(&[])) as u64;
-            let is_cut = self.file.set_len(self.octets.saturating_add(kept)).is_ok();
+            let is_cut = self
+                .file
+                .set_len(self.loaded.octets.saturating_add(kept))
+                .is_ok();
             if is_cut && kept == 0 {
                 let _ = self.file.set_modified(modified);
             }
@@ -225,19 +217,9 @@ impl<'a> HeldFile<'a> {
 
     /// Returns whether the file has this count of octets more than when it was read.
     pub fn has_grown_by(&self, octets: usize) -> bool {
-        let length = self.octets.saturating_add(octets as u64);
+        let length = self.loaded.octets.saturating_add(octets as u64);
         let there = self.file.metadata();
         there.is_ok_and(|there| there.len() == length)
-    }
-
-    /// Has the system store what was appended.
-    pub fn store(&self) -> io::Result<()> {
-        self.file.sync_all()
-    }
-
-    /// Returns whether this is still the file at its path.
-    pub fn is_at_its_path(&self) -> bool {
-        is_at(self.rt, &self.file, self.path).unwrap_or(false)
     }
 }
 
@@ -310,8 +292,8 @@ fn write_counted(file: &mut File, octets: &[u8], written: &mut usize) -> io::Res
     Ok(())
 }
 
-// Returns whether this is the file at a path.
-fn is_at(rt: &HostRuntime, file: &File, path: &str) -> io::Result<bool> {
+/// Returns whether this is the file at a path.
+pub fn is_at(rt: &HostRuntime, file: &File, path: &str) -> io::Result<bool> {
     let (ours, there) = (file.metadata()?, fs::metadata(rt, path)?);
     Ok(ours.dev() == there.dev() && ours.ino() == there.ino())
 }

@@ -1,14 +1,14 @@
-//! Reads the customers that labntpd reports, lists them, and compares them with those of the commands file.
+//! Reads the customers that labntpd reports, lists them, and bars changes where those of the commands file differ.
 
-use crate::commands_file::{ByAddress, Loaded};
-use crate::desk::{Clerk, Desk, Stop};
-use crate::differing::{judge_reading, lasting_differences};
-use crate::shown::signed_date;
+use crate::commands_file::Loaded;
+use crate::desk::{Clerk, Desk, Stop, signed_date};
 use indexmap::IndexMap;
 use ntp_admin::{Escaped, Status, words};
-use ntp_clerk::{Dotted, Seen, SeenKey, SeenTerms};
+use ntp_clerk::{
+    ByAddress, Difference, Dotted, Seen, SeenKey, SeenTerms, differing_at, is_settled,
+};
 use ntp_reports::customer_line;
-use ntp_service::Address;
+use ntp_service::{Address, LineOutcome, Refusal, Service};
 use serde::Deserialize;
 use std::alloc::{AllocError, Global};
 use std::fmt::{Display, Write as _};
@@ -18,7 +18,7 @@ use std::io::Write as _;
 /// The heads of the columns.
 const HEAD: &str = "\
 ADDRESS         STATE    BUDGET LINE    NUMBER KEY      LAST SIGNED                   \
-basic       interleaved rate        nak         over-budget NAME\n";
+basic   interleaved rate    deny    nak     over-budget muted   NAME\n";
 
 /// A customer, as a line of labntpd's customers file has it.
 #[derive(Drop, Deserialize)]
@@ -50,9 +50,11 @@ pub struct AnswerCounts {
     pub basic: u64,
     pub interleaved: u64,
     pub rate: u64,
+    pub deny: u64,
     pub nak: u64,
     #[serde(rename = "over-budget")]
     pub over_budget: u64,
+    pub muted: u64,
 }
 
 impl<'a> CustomerLine<'a> {
@@ -71,6 +73,40 @@ impl<'a> CustomerLine<'a> {
             _ => return None,
         };
         Some((words::address(self.address)?, seen))
+    }
+
+    // Writes a row of the table for each key. A value that is too long shifts the columns behind it.
+    fn write_rows(&self, alloc: Global, table: &mut String, name: &str) -> Result<(), AllocError> {
+        let mut row = String::new(alloc);
+        cell(&mut row, 15, Escaped(self.address))?;
+        cell(&mut row, 8, Escaped(self.state))?;
+        match self.budget {
+            Some(budget) => cell(&mut row, 6, budget)?,
+            None => cell(&mut row, 6, "-")?,
+        }
+        cell(&mut row, 7, self.line)?;
+        write_key(alloc, &mut row, self.keys.first())?;
+        let counts = self.answers;
+        for (width, count) in [
+            (7, counts.basic),
+            (11, counts.interleaved),
+            (7, counts.rate),
+            (7, counts.deny),
+            (7, counts.nak),
+            (11, counts.over_budget),
+            (7, counts.muted),
+        ] {
+            cell(&mut row, width, count)?;
+        }
+        row.push_str(name)?;
+        writeln!(table, "{}", row.as_str().trim_end())?;
+        for key in self.keys.iter().skip(1) {
+            row.clear();
+            cell(&mut row, 39, "")?;
+            write_key(alloc, &mut row, Some(key))?;
+            writeln!(table, "{}", row.as_str().trim_end())?;
+        }
+        Ok(())
     }
 }
 
@@ -102,10 +138,9 @@ fn customer_in<'a>(desk: Desk<'_>, place: usize, line: &'a str) -> Result<Custom
         return Err(no_line(desk, place));
     }
     let read = serde_json::from_str::<CustomerLine<'a>>(desk.alloc(), line);
-    read.map_err(|error| if error.is_memory() {
-        Stop::Memory
-    } else {
-        no_line(desk, place)
+    read.map_err(|error| match error.is_memory() {
+        true => Stop::Memory,
+        false => no_line(desk, place),
     })
 }
 
@@ -220,7 +255,7 @@ fn write(desk: Desk<'_>, text: &str, file: Option<&Loaded>, how: Listing<'_>) ->
                 let name = named.map_or("", |(file, address)| file.name(address));
                 match how.json {
                     true => write_object(desk.alloc(), &mut shown, line, name)?,
-                    false => write_rows(desk.alloc(), &mut shown, &customer, name)?,
+                    false => customer.write_rows(desk.alloc(), &mut shown, name)?,
                 }
             }
         }
@@ -259,68 +294,112 @@ fn lines_of(alloc: Global, loaded: &Loaded) -> Result<String, AllocError> {
     Ok(lines)
 }
 
-// Writes a row of the table for each key of a customer. A value that is too long shifts the columns behind it.
-fn write_rows(
-    alloc: Global,
-    table: &mut String,
-    customer: &CustomerLine<'_>,
-    name: &str,
-) -> Result<(), AllocError> {
-    let mut row = String::new(alloc);
-    write_cell(&mut row, 15, Escaped(customer.address))?;
-    write_cell(&mut row, 8, Escaped(customer.state))?;
-    match customer.budget {
-        Some(budget) => write_cell(&mut row, 6, budget)?,
-        None => write_cell(&mut row, 6, "-")?,
-    }
-    write_cell(&mut row, 7, customer.line)?;
-    write_key(alloc, &mut row, customer.keys.first())?;
-    let counts = customer.answers;
-    for count in [
-        counts.basic,
-        counts.interleaved,
-        counts.rate,
-        counts.nak,
-        counts.over_budget,
-    ] {
-        write_cell(&mut row, 11, count)?;
-    }
-    row.push_str(name)?;
-    writeln!(table, "{}", row.as_str().trim_end())?;
-    for key in customer.keys.iter().skip(1) {
-        row.clear();
-        write_cell(&mut row, 39, "")?;
-        write_key(alloc, &mut row, Some(key))?;
-        writeln!(table, "{}", row.as_str().trim_end())?;
-    }
-    Ok(())
-}
-
 // Writes the cells of a key, if there is one.
 fn write_key(alloc: Global, row: &mut String, key: Option<&KeyLine<'_>>) -> Result<(), AllocError> {
     let Some(key) = key else {
-        write_cell(row, 6, "-")?;
-        write_cell(row, 8, "-")?;
-        return write_cell(row, 29, "-");
+        cell(row, 6, "-")?;
+        cell(row, 8, "-")?;
+        return cell(row, 29, "-");
     };
-    write_cell(row, 6, key.number)?;
-    let (algorithm, octets) = (Escaped(key.algorithm), key.octets);
-    write_cell(row, 8, format_args!("{algorithm} {octets}"))?;
+    cell(row, 6, key.number)?;
+    cell(
+        row,
+        8,
+        format_args!("{} {}", Escaped(key.algorithm), key.octets),
+    )?;
     match key.last_signed {
-        Some(seconds) => write_cell(row, 29, signed_date(alloc, seconds)?),
-        None => write_cell(row, 29, "-"),
+        Some(seconds) => cell(row, 29, signed_date(alloc, seconds)?),
+        None => cell(row, 29, "-"),
     }
 }
 
 // Writes a value, the spaces that its column has left, and one behind it.
-fn write_cell<D: Display + Drop>(
-    row: &mut String,
-    width: usize,
-    value: D,
-) -> Result<(), AllocError> {
+fn cell<D: Display + Drop>(row: &mut String, width: usize, value: D) -> Result<(), AllocError> {
     let start = row.len();
     write!(row, "{value}")?;
-    let written = row.len().saturating_sub(start);
-    let left = width.saturating_sub(written);
+    let left = width.saturating_sub(row.len().saturating_sub(start));
     write!(row, "{:left$} ", "")
+}
+
+// Returns the differences between labntpd's customers and those of the commands file, first at the addresses of the former.
+fn differences(desk: Desk<'_>, text: &str, loaded: &Loaded) -> Result<Vec<Difference>, Stop> {
+    let mut reported = reported_in(desk, text)?;
+    for address in loaded.service.addresses()?.iter() {
+        if reported.get(address).is_none() {
+            reported.insert(*address, Seen::Nothing)?;
+        }
+    }
+    let mut differences = Vec::new(desk.alloc());
+    for (address, daemon) in reported.iter() {
+        differences.extend(differing_at(&loaded.service, *address, *daemon))?;
+    }
+    Ok(differences)
+}
+
+/// Checks that labntpd reads the commands file, and has its customers, but for the last lines, which it may not have read yet.
+pub fn judge_daemon(clerk: &Clerk<'_>, loaded: &Loaded) -> Result<(), Stop> {
+    judge_reading(clerk)?;
+    let differing = lasting_differences(clerk, loaded)?;
+    if differing.is_empty() {
+        return Ok(());
+    }
+    for difference in differing.iter() {
+        let _ = write!(clerk.desk.faults(), "{difference}");
+    }
+    let why = "labntpd has other customers: restart labntpd, or mend this file, and try again";
+    Err(clerk.refusal(why))
+}
+
+/// Reports that labntpd no longer reads the commands file, if its statistics file says so.
+pub fn judge_reading(clerk: &Clerk<'_>) -> Result<(), Stop> {
+    let statistics = clerk.reported(&clerk.configuration.statistics)?;
+    let changed = |line: &str| line == "labntp_commands_changed 1";
+    if statistics.is_some_and(|text| text.as_str().lines().any(changed)) {
+        return Err(clerk.refusal("labntpd does not read this file any more: restart labntpd"));
+    }
+    Ok(())
+}
+
+/// Returns the differences that labntpd's next report will not mend: its last one has what the address had behind no command.
+pub fn lasting_differences(clerk: &Clerk<'_>, loaded: &Loaded) -> Result<Vec<Difference>, Stop> {
+    let alloc = clerk.desk.alloc();
+    // The report that is read below is no older.
+    let has_all_lines = has_all_lines(clerk).unwrap_or(false);
+    let Some(text) = clerk.reported(&clerk.configuration.customers)? else {
+        return Ok(Vec::new(alloc));
+    };
+    let all = differences(clerk.desk, text.as_str(), loaded)?;
+    if has_all_lines {
+        return Ok(all);
+    }
+    let mut service = Service::new(alloc);
+    let mut open: ByAddress<Difference> = IndexMap::new(alloc);
+    for difference in all.iter() {
+        if difference.daemon != Seen::Nothing {
+            open.insert(difference.address, *difference)?;
+        }
+    }
+    for line in loaded.heard.lines.iter() {
+        let (LineOutcome::Done, Some(command)) = (line.outcome, line.command) else {
+            continue;
+        };
+        if service.command(&command) == Err(Refusal::NoMemory) {
+            return Err(Stop::Memory);
+        }
+        let address = command.address();
+        let Some(daemon) = open.get(&address).map(|open| open.daemon) else {
+            continue;
+        };
+        if differing_at(&service, address, daemon).is_none() {
+            open.shift_remove(&address);
+        }
+    }
+    Ok(open.values().copied().collect(alloc)?)
+}
+
+// Returns whether labntpd's report has all lines of the commands file, if both are there.
+fn has_all_lines(clerk: &Clerk<'_>) -> Option<bool> {
+    let desk = clerk.desk;
+    let report = desk.written_at(clerk.configuration.customers.as_ref()?.as_str())?;
+    Some(is_settled(report, desk.written_at(clerk.commands())?))
 }

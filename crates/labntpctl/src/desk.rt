@@ -1,25 +1,25 @@
-//! Gives a clerk the host, the configuration of labntpd, and ways to ask and to print.
+//! Gives a clerk the host, the configuration of labntpd, and ways to ask, to print, and to show names, dates and faults.
 
 use crate::commands_file::Loaded;
 use crate::replacing::new_for_owner;
-use crate::shown::{date, seconds_of};
-use labntpd_files::{Configuration, Endpoint, Listen, Text, is_name};
+use jiff::Timestamp;
+use labntpd_files::{Configuration, Endpoint, Found, Listen, Text, is_name};
 use labntpd_start::{StartLines, configuration_at, start_lines};
 use ntp_admin::{Escaped, Status, failed_status, memory_status, write_status};
-use ntp_clerk::may_be_renewed;
-use ntp_host::{pause, read_regular_file};
+use ntp_clerk::{Dotted, may_be_renewed};
+use ntp_host::{pause, read_regular_file, read_shared_file};
 use ntp_mac::{Algorithm, Key};
 use ntp_query::Server;
 use ntp_service::Address;
 use std::alloc::{AllocError, AllocFailed, Global};
-use std::fmt::Display;
+use std::fmt::{self, Display};
 use std::io::{self, BufRead, BufReader, BufWriter, ErrorKind, Read, Stderr, Stdout, Write};
 use std::os::unix::fs::MetadataExt;
 use std::random::RandomSource;
 use std::time::SystemTime;
 use std::{env, fs};
 
-/// The most octets of a file in which labntpd reports.
+/// The most octets of a file in which labntpd reports, and of a capture file.
 pub const MOST_REPORTED_OCTETS: u32 = 268_435_456;
 
 /// How often it is looked, each hundredth of a second, whether labntpd has written its customers file anew.
@@ -36,6 +36,12 @@ pub const NTP_PORT: u16 = 123;
 
 /// The characters of a key that is text, one for each value of six bits.
 const CHARACTERS: &[u8; 64] = b"ABCDEFGHIJKLMNOPQRSTUVWXYZabcdefghijklmnopqrstuvwxyz0123456789_-";
+
+/// The form of dates in tables.
+pub const SIGNED_FORM: &str = "%a, %d %b %Y %H:%M:%S GMT";
+
+/// The form of the times of records.
+pub const RECORD_FORM: &str = "%Y-%m-%dT%H:%M:%SZ";
 
 /// The reason why the work stops before it is done.
 #[derive(Clone, Copy)]
@@ -113,10 +119,8 @@ impl<'a> Desk<'a> {
                 _ => {}
             }
         }
-        let user = self
-            .at("/proc/self", fs::metadata(self.rt, "/proc/self"))?
-            .uid();
-        Ok(format!(in self.alloc(); "{user}")?)
+        let own = self.at("/proc/self", fs::metadata(self.rt, "/proc/self"))?;
+        Ok(format!(in self.alloc(); "{}", own.uid())?)
     }
 
     /// Returns a key of 20 random octets: 160 random bits, or 120 where each is one of `CHARACTERS`.
@@ -186,7 +190,16 @@ impl<'a> Desk<'a> {
 
     /// Reads the regular file at a path, of at most `most` octets.
     pub fn octets(self, path: &str, most: u32) -> Result<Vec<u8>, Stop> {
-        let octets = self.at(path, read_regular_file(self.rt, self.alloc(), path, most))?;
+        self.judged(
+            path,
+            most,
+            read_regular_file(self.rt, self.alloc(), path, most),
+        )
+    }
+
+    // Returns what was read of the file at a path, once it has at most `most` octets.
+    fn judged(self, path: &str, most: u32, read: io::Result<Vec<u8>>) -> Result<Vec<u8>, Stop> {
+        let octets = self.at(path, read)?;
         if octets.len() > most as usize {
             return Err(self.refusal_at(path, format_args!("at most {most} octets are wanted")));
         }
@@ -195,7 +208,11 @@ impl<'a> Desk<'a> {
 
     /// Reads the text file at a path, of at most `most` octets.
     pub fn text(self, path: &str, most: u32) -> Result<String, Stop> {
-        let octets = self.octets(path, most)?;
+        self.text_of(path, self.octets(path, most)?)
+    }
+
+    // Returns the text that the octets of the file at a path are.
+    fn text_of(self, path: &str, octets: Vec<u8>) -> Result<String, Stop> {
         String::from_utf8(octets).map_err(|_| self.refusal_at(path, "this is no UTF-8"))
     }
 }
@@ -231,8 +248,7 @@ impl<'a> Clerk<'a> {
 
     /// Returns where customers ask, if the configuration says it: at `served_as`, else where labntpd listens.
     pub fn server(&self) -> Option<Server> {
-        let port = self.port();
-        let served = self.configuration.served_as;
+        let (served, port) = (self.configuration.served_as, self.port());
         let named = served.map(|address| Server { address, port });
         named.or(self.listening())
     }
@@ -261,18 +277,40 @@ impl<'a> Clerk<'a> {
         let Some(path) = path else {
             return Ok(None);
         };
-        match fs::metadata(self.desk.rt, path.as_str()) {
+        let (desk, path, most) = (self.desk, path.as_str(), MOST_REPORTED_OCTETS);
+        match read_shared_file(desk.rt, desk.alloc(), path, most) {
             Err(error) if error.kind() == ErrorKind::NotFound => Ok(None),
-            _ => Ok(Some(self.desk.text(path.as_str(), MOST_REPORTED_OCTETS)?)),
+            read => Ok(Some(desk.text_of(path, desk.judged(path, most, read)?)?)),
         }
     }
 
-    /// Has labntpd write its customers file anew, if it serves and a file can be put beside it.
+    /// Has labntpd write its customers file anew, by a file beside it, and waits until that is done. Warns of an old one.
     pub fn renew_customers(&self) -> Result<(), AllocError> {
-        match &self.configuration.customers {
-            Some(path) => renew(self.desk, path.as_str()),
-            None => Ok(()),
+        let (desk, path) = (self.desk, self.configuration.customers.as_ref());
+        let path = path.map_or("", |path| path.as_str());
+        let (Some(written), Some(now)) = (desk.written_at(path), desk.now()) else {
+            return Ok(());
+        };
+        if !may_be_renewed(written, now) {
+            let (path, age) = (Escaped(path), now.saturating_sub(written));
+            let why = "labntpd, where it serves, writes it each minute";
+            let _ = writeln!(desk.faults(), "warning: {path}: {age} seconds old: {why}");
+            return Ok(());
         }
+        let before = node_at(desk, path);
+        let wanted = format!(in desk.alloc(); "{path}.wanted")?;
+        if new_for_owner(desk.rt, wanted.as_str()).is_err() {
+            return Ok(());
+        }
+        for _ in 0..MOST_LOOKS {
+            pause(10);
+            if node_at(desk, path) != before {
+                break;
+            }
+        }
+        // labntpd leaves it where it writes for another reason.
+        let _ = fs::remove_file(desk.rt, wanted.as_str());
+        Ok(())
     }
 
     /// Reports why something is refused at the commands file.
@@ -281,29 +319,60 @@ impl<'a> Clerk<'a> {
     }
 }
 
-// Has labntpd write its customers file at a path anew, by a file beside it, and waits until another one stands there.
-fn renew(desk: Desk<'_>, path: &str) -> Result<(), AllocError> {
-    let before = node_at(desk, path);
-    let is_kept = match (desk.written_at(path), desk.now()) {
-        (Some(written), Some(now)) => may_be_renewed(written, now),
-        _ => false,
-    };
-    let wanted = format!(in desk.alloc(); "{path}.wanted")?;
-    if !is_kept || new_for_owner(desk.rt, wanted.as_str()).is_err() {
-        return Ok(());
-    }
-    for _ in 0..MOST_LOOKS {
-        pause(10);
-        if node_at(desk, path) != before {
-            break;
-        }
-    }
-    // labntpd leaves it where it writes for another reason.
-    let _ = fs::remove_file(desk.rt, wanted.as_str());
-    Ok(())
-}
-
 // Returns which file stands at a path, if one does.
 fn node_at(desk: Desk<'_>, path: &str) -> Option<u64> {
     Some(fs::metadata(desk.rt, path).ok()?.ino())
+}
+
+/// An address with its name, if it has one.
+#[derive(Clone, Copy)]
+pub struct Named<'a>(pub Address, pub &'a str);
+
+impl<'a> Display for Named<'a> {
+    fn fmt<W: fmt::Write>(&self, f: &mut fmt::Formatter<W>) -> fmt::Result {
+        match *self {
+            Named(address, "") => write!(f, "{}", Dotted(address)),
+            Named(address, name) => write!(f, "{} ({name})", Dotted(address)),
+        }
+    }
+}
+
+/// Returns the date of a time in seconds since 1970, with decimals or without; the seconds where they are no date.
+pub fn signed_date(alloc: Global, seconds: &str) -> Result<String, AllocError> {
+    match whole_seconds(seconds).and_then(|whole| date(alloc, whole, SIGNED_FORM)) {
+        Some(date) => Ok(date),
+        None => format!(in alloc; "{}", Escaped(seconds)),
+    }
+}
+
+/// Returns a time in seconds since 1970.
+pub fn seconds_of(time: SystemTime) -> Option<u64> {
+    let since = time.duration_since(SystemTime::UNIX_EPOCH).ok()?;
+    Some(since.as_secs())
+}
+
+/// Returns the whole seconds of a count with decimals or without, if it is one.
+pub fn whole_seconds(seconds: &str) -> Option<u64> {
+    let whole = seconds.split_once('.').map_or(seconds, |(whole, _)| whole);
+    whole.parse::<u64>().ok()
+}
+
+/// Returns the date of a time in seconds since 1970, in a form of strftime(3); nothing where it is no date, or memory runs out.
+pub fn date(alloc: Global, seconds: u64, form: &'static str) -> Option<String> {
+    let time = Timestamp::from_second(i64::try_from(seconds).ok()?).ok()?;
+    time.strftime(alloc, form).ok()
+}
+
+/// What was found in a file, with the number of its line, if it has one.
+#[derive(Clone, Copy)]
+pub struct FoundAt<'a>(pub &'a Found);
+
+impl<'a> Display for FoundAt<'a> {
+    fn fmt<W: fmt::Write>(&self, f: &mut fmt::Formatter<W>) -> fmt::Result {
+        let Found { line, text } = self.0;
+        match line {
+            Some(line) => write!(f, "line {line}: {text}"),
+            None => write!(f, "{text}"),
+        }
+    }
 }

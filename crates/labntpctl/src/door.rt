@@ -1,5 +1,6 @@
 //! Writes the rules by which nftables polices the door.
 
+use crate::commands_file::Loaded;
 use crate::desk::{Clerk, Stop};
 use ntp_clerk::Dotted;
 use ntp_query::Server;
@@ -19,8 +20,7 @@ pub struct Place {
 /// Prints the rules, as `nft -f` takes them: `rate` datagrams of each customer pass in a second, and twice as many at once.
 pub fn print_door(clerk: &Clerk<'_>, place: Option<Place>, rate: NonZero<u16>) -> Result<(), Stop> {
     let (server, loaded) = (server_for(clerk, place)?, clerk.load()?);
-    let customers = loaded.service.addresses()?;
-    let rules = rules_text(clerk.desk.alloc(), server, rate.get(), &customers)?;
+    let rules = rules(clerk.desk.alloc(), server, rate.get(), &loaded)?;
     clerk.desk.print(rules.as_str())
 }
 
@@ -40,12 +40,8 @@ fn server_for(clerk: &Clerk<'_>, place: Option<Place>) -> Result<Server, Stop> {
 }
 
 // Returns the rules for the datagrams to a server. Who was revoked is a customer too, since it gets DENY.
-fn rules_text(
-    alloc: Global,
-    server: Server,
-    rate: u16,
-    customers: &[Address],
-) -> Result<String, AllocError> {
+fn rules(alloc: Global, server: Server, rate: u16, loaded: &Loaded) -> Result<String, AllocError> {
+    let customers = loaded.service.addresses()?;
     let (address, port, burst) = (Dotted(server.address), server.port, 2 * u32::from(rate));
     let table = format!(in alloc; "table inet labntpd-{address}-{port}")?;
     let mut text = format!(in alloc;

@@ -1,12 +1,11 @@
 //! Explains what datagrams would get, and why.
 
 use crate::commands_file::Loaded;
-use crate::desk::{Clerk, Desk, Stop};
-use crate::shown::{Called, date};
+use crate::desk::{Clerk, Desk, MOST_REPORTED_OCTETS, Named, RECORD_FORM, Stop, date};
 use ntp_admin::{Outcome, print_answer};
 use ntp_clerk::{
-    Capture, Datagram, GivenKey, Order, Record, Terms, algorithm_under, algorithm_word, capture_in,
-    datagram_in, next_record, packet_in, terms_of,
+    Capture, Datagram, GivenKey, Terms, algorithm_under, algorithm_word, capture_in, datagram_in,
+    next_record, packet_in, terms_of,
 };
 use ntp_client::reference_unsynchronised;
 use ntp_host::moment_now;
@@ -16,15 +15,6 @@ use ntp_reply::{Answer, Reason};
 use ntp_service::Address;
 use std::alloc::{AllocError, Global};
 use std::io::{self, BufWriter, Stdout, Write};
-
-/// The most octets of a capture file.
-const MOST_CAPTURE_OCTETS: u32 = 268_435_456;
-
-/// The form of the times of records.
-const CAPTURED_FORM: &str = "%Y-%m-%dT%H:%M:%SZ";
-
-/// The mode of a server's reply (RFC 5905, 7.3).
-const SERVER_MODE: u8 = 4;
 
 /// What holds for all datagrams.
 const HEAD: &str =
@@ -81,44 +71,38 @@ impl Explainer {
     // Explains the datagrams of the capture file at a path, as far as it is whole.
     fn file(&mut self, clerk: &Clerk<'_>, path: &str) -> Result<(), Stop> {
         let desk = clerk.desk;
-        let octets = desk.octets(path, MOST_CAPTURE_OCTETS)?;
+        let octets = desk.octets(path, MOST_REPORTED_OCTETS)?;
         let capture = capture_in(&octets).map_err(|fault| desk.refusal_at(path, fault))?;
         let _ = writeln!(self.out, "{HEAD}");
-        let own = clerk.server().map(|server| server.address);
-        let cut = self.capture(capture, own, clerk.port())?;
+        let cut = self.capture(clerk, capture)?;
         desk.printed(self.out.flush())?;
-        match cut {
-            None => Ok(()),
-            Some(record) => Err(desk.refusal_at(
-                path,
-                format_args!("record {record} is cut short"),
-            )),
-        }
+        let Some(record) = cut else {
+            return Ok(());
+        };
+        Err(desk.refusal_at(path, format_args!("record {record} is cut short")))
     }
 
     // Explains the datagrams of a capture file to a port, but for the server's own replies. Returns the number of the record that is
     // cut short, if one is.
-    fn capture(
-        &mut self,
-        capture: Capture<'_>,
-        own: Option<Address>,
-        port: u16,
-    ) -> Result<Option<u64>, AllocError> {
+    fn capture(&mut self, clerk: &Clerk<'_>, file: Capture<'_>) -> Result<Option<u64>, AllocError> {
+        let (own, port) = (clerk.server().map(|server| server.address), clerk.port());
         let mut whole: u64 = 0;
-        let mut rest = capture.records;
-        for _ in 0..capture.records.len() {
-            let Some(Record { frame, behind }) = next_record(capture.order, rest) else {
+        let mut rest = file.records;
+        for _ in 0..file.records.len() {
+            let Some(record) = next_record(file.order, rest) else {
                 break;
             };
             whole = whole.saturating_add(1);
-            let packet = packet_in(capture.link, frame);
+            let packet = packet_in(file.link, record.frame);
             if let Some(datagram) = packet.and_then(|packet| datagram_in(packet, port))
                 && !is_reply_of(own, &datagram)
             {
-                self.write_time(capture.order, rest);
+                if let Some(date) = date(self.alloc, record.seconds, RECORD_FORM) {
+                    let _ = write!(self.out, "{date} ");
+                }
                 self.datagram(Address(datagram.source), datagram.payload)?;
             }
-            rest = behind;
+            rest = record.behind;
         }
         let explained = self.explained;
         let _ = writeln!(
@@ -127,20 +111,6 @@ impl Explainer {
         );
         let is_cut = !rest.is_empty();
         Ok(is_cut.then_some(whole.saturating_add(1)))
-    }
-
-    // Writes when a record was captured: it begins with the seconds since 1970 (pcap-savefile(5)).
-    fn write_time(&mut self, order: Order, record: &[u8]) {
-        let [a, b, c, d, ..] = *record else {
-            return;
-        };
-        let seconds = match order {
-            Order::BigEndian => u32::from_be_bytes([a, b, c, d]),
-            Order::LittleEndian => u32::from_le_bytes([a, b, c, d]),
-        };
-        if let Some(date) = date(self.alloc, u64::from(seconds), CAPTURED_FORM) {
-            let _ = write!(self.out, "{date} ");
-        }
     }
 
     // Explains a datagram, in a line.
@@ -154,7 +124,7 @@ impl Explainer {
             Some((word, _)) if word != "silent" => word,
             _ => line,
         };
-        let (count, from) = (octets.len(), Called(address, self.loaded.name(address)));
+        let (count, from) = (octets.len(), Named(address, self.loaded.name(address)));
         let _ = write!(self.out, "{count} octets from {from}");
         let _ = self.write_fields(octets);
         let _ = write!(self.out, ": {word}: ");
@@ -174,9 +144,8 @@ impl Explainer {
             ..self.now
         };
         let reference = reference_unsynchronised();
-        self.loaded
-            .service
-            .datagram(address, moment, moment, &reference, octets)
+        let service = &mut self.loaded.service;
+        service.datagram(address, moment, moment, &reference, octets)
     }
 
     // Writes what a datagram says: version, mode, key number and the length of its MAC.
@@ -237,15 +206,12 @@ impl Explainer {
         match wanted {
             None => {
                 write!(out, "key number {number} is none of the customer's")?;
-                match u16::try_from(number).map_or(
-                    None,
-                    |number| self.loaded.service.holder(number),
-                ) {
-                    Some(holder) => write!(
-                        out,
-                        ": {} has it",
-                        Called(holder, self.loaded.name(holder))
-                    ),
+                let number = u16::try_from(number).ok();
+                match number.and_then(|number| self.loaded.service.holder(number)) {
+                    Some(holder) => {
+                        let holder = Named(holder, self.loaded.name(holder));
+                        write!(out, ": {holder} has it")
+                    }
                     None => Ok(()),
                 }
             }
@@ -292,8 +258,8 @@ impl Explainer {
     }
 }
 
-// Returns whether a datagram is a reply of the server at this address, if its address is known.
+// Returns whether a datagram is a reply of the server at this address, if it is known: its mode is 4 (RFC 5905, 7.3).
 fn is_reply_of(own: Option<Address>, datagram: &Datagram<'_>) -> bool {
     own == Some(Address(datagram.source))
-        && read_header(datagram.payload).map_or(false, |header| header.mode() == SERVER_MODE)
+        && read_header(datagram.payload).is_some_and(|header| header.mode() == 4)
 }

@@ -9,12 +9,9 @@ mod command_line;
 mod commands_file;
 mod customers;
 mod desk;
-mod differing;
 mod door;
 mod explaining;
-mod folding;
 mod replacing;
-mod shown;
 
 use command_line::{Task, parse};
 use desk::{Clerk, Desk, Stop};
@@ -52,7 +49,7 @@ fn words(rt: &HostRuntime) -> io::Result<Vec<String>> {
 // Does a task by the configuration file at a path.
 fn carry_out(desk: Desk<'_>, config: &str, task: Task<'_>) -> Result<(), Stop> {
     match task {
-        Task::Check { commands, wanted } => checking::check(desk, config, commands, wanted),
+        Task::Check(checked) => checking::check(desk, config, checked),
         Task::List(listing) => customers::list(desk, config, listing),
         Task::Compare => customers::compare(&Clerk::new(desk, config)?),
         Task::Explain(explained) => explaining::explain(&Clerk::new(desk, config)?, explained),
@@ -60,6 +57,6 @@ fn carry_out(desk: Desk<'_>, config: &str, task: Task<'_>) -> Result<(), Stop> {
         Task::Change(request) => changing::make_change(&Clerk::new(desk, config)?, &request),
         Task::Apply(application) => applying::apply(&Clerk::new(desk, config)?, &application),
         Task::Export(path, keys) => applying::export(&Clerk::new(desk, config)?, path, keys),
-        Task::Fold(dry_run) => folding::fold_commands(&Clerk::new(desk, config)?, dry_run),
+        Task::Fold(dry_run) => applying::fold_commands(&Clerk::new(desk, config)?, dry_run),
     }
 }

@@ -1,7 +1,6 @@
 -- Wanted customers read one after another, in file order.
-use Rattle.std.proofs.Common.{◌≡◌, ℕ, ◌+◌, ◌<◌, List, [], ◌∷◌, ◌++◌, length, drop, get_or, Result, Ok, Err, refl, sym, ap, append_assoc, add-one}
+use Rattle.std.proofs.Common.{◌≡◌, ℕ, ◌+◌, ◌<◌, List, [], ◌∷◌, ◌++◌, length, drop, get_or, Some, Result, Ok, Err, refl, sym, ap, append_assoc, add-one}
 use Rattle.toml.specs.{Data.Members, Data.as_table, View.view, View.items_view, declared.value.Value.Value}
-use Rattle.std.proofs.Common.{Some}
 use Rattle.toml.proofs.Views.{items_view-drop}
 use Rattle.ntp_packet.specs.FirstCase.{◌>>=◌}
 use Rattle.labntpd_files.specs.Settings.{Fault}

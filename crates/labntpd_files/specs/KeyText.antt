@@ -1,5 +1,5 @@
 -- The digits of a key, and what is wrong with them.
-use Rattle.std.specs.Prelude.{ℕ, suc, ◌==◌, ◌||◌, ◌%◌, Bool, not, nat_lt, if◌then◌else◌, List, [], ◌∷◌, length, Option, None, Some}
+use Rattle.std.specs.Prelude.{ℕ, suc, ◌==◌, ◌||◌, ◌%◌, not, nat_lt, if◌then◌else◌, List, [], ◌∷◌, length, Option, None, Some}
 use Rattle.std.specs.{Char.is_ascii_hexdigit, List.position_from, Option.option_map}
 use Rattle.ntp_admin.specs.Words.{key_in}
 use Rattle.ntp_mac.specs.{Key.SymmetricKey, declared.key.Algorithm.Algorithm}
@@ -16,14 +16,11 @@ first_line (octet ∷ next ∷ others) = octet ∷ first_line (next ∷ others)
 abbrev pub key_in_file : List ℕ → Algorithm → Option SymmetricKey
 key_in_file text algorithm = option_map (λ octets. record { algorithm = algorithm; octets = octets }) (key_in (first_line text))
 
--- whether `count` digits spell no key: an even number from 2 to 64 spells one
-abbrev pub is_wrong_count : ℕ → Bool
-is_wrong_count count = count == 0 || nat_lt 64 count || count % 2 == 1
-
--- what is wrong where the first octet that is no digit stands at `place`, or where all `count` octets are digits
+-- what is wrong where the first octet that is no digit stands at `place`, or where all `count` octets are digits: an even number from 2 to
+-- 64 spells a key
 abbrev pub wrong_behind : Option ℕ → ℕ → Option KeyWrong
 wrong_behind (Some place) count = Some (wrong.NoDigit (suc place))
-wrong_behind None count = if is_wrong_count count then Some (wrong.Digits count) else None
+wrong_behind None count = if count == 0 || nat_lt 64 count || count % 2 == 1 then Some (wrong.Digits count) else None
 
 -- what is wrong with the word of a key: its first octet that is no digit, else how many there are
 abbrev pub key_wrong : List ℕ → Option KeyWrong

@@ -1,8 +1,8 @@
 -- The keys of a configuration file: which of them a table may have.
 use Rattle.std.specs.Prelude.{ℕ, Bool, false, List, [], ◌∷◌, map, codes, Option, Some, None, if◌then◌else◌}
 use Rattle.std.specs.{List.list_any, Option.option_map_or, Str.bytes_eq}
-use Rattle.toml.specs.Data.{Members, no_members, member, get_member}
-use Rattle.labntpd_files.specs.Values.{says_fixed}
+use Rattle.toml.specs.Data.{Members, no_members, member, get_member, as_str}
+use Rattle.ntp_admin.specs.Words.{◌>>=◌}
 use Rattle.labntpd_files.specs.{declared.setting.Setting.Setting, declared.setting.Kind.Kind}
 
 -- a key, and what is wanted there
@@ -17,7 +17,7 @@ names settings = map (λ setting. setting.0.now) settings
 
 -- whether the source of a clock is fixed
 abbrev pub is_fixed : Members → Bool
-is_fixed clock = option_map_or says_fixed (get_member (codes "source") clock) false
+is_fixed clock = option_map_or (bytes_eq (codes "fixed")) (get_member (codes "source") clock >>= as_str) false
 
 -- the keys of the top level, and those of the table `[clock]`, by its source
 abbrev pub top_keys : List (List ℕ)

@@ -9,8 +9,7 @@ use Rattle.ntp_mac.specs.declared.key.Algorithm.TheVariants.{Sha1}
 use Rattle.labntpd_files.specs.declared.configuration.Clock.{Clock}
 use Rattle.labntpd_files.specs.declared.configuration.Clock.TheVariants.{Fixed, Followed}
 use Rattle.labntpd_files.specs.declared.configuration.ClockDaemon.{ClockDaemon}
-use Rattle.labntpd_files.specs.declared.configuration.Configuration.{Configuration}
-use Rattle.labntpd_files.specs.declared.configuration_reader.Files.{Files}
+use Rattle.labntpd_files.specs.declared.configuration.{Configuration.Configuration, Files.Files}
 use Rattle.labntpd_files.specs.{declared.fault.ConfigurationFault.ConfigurationFault, declared.setting.Kind.Kind}
 use Rattle.labntpd_files.specs.declared.fault.ConfigurationFault.TheVariants as fault
 use Rattle.labntpd_files.specs.declared.setting.Kind.TheVariants as k
@@ -34,15 +33,22 @@ said_by (fault.Missing setting) = missing (row setting)
 said_by (fault.Wanted setting) = wanted (row setting)
 said_by fault.NoMemory = no_memory
 
--- what stands at a key, if it may be left out
-abbrev pub optional : {X : Type 0} → Row → (Data → Option X) → Members → Result (Option X) Fault
-optional r read table = option_map_or (λ value. ok_or (option_map Some (read value)) (wanted r)) (get_member r.0 table) (Ok None)
+-- what was read at a key, if it may be left out, and if it has to stand there
+abbrev pub allowed : {X : Type 0} → Row → Option (Option X) → Result (Option X) Fault
+allowed r None = Ok None
+allowed r (Some read) = ok_or (option_map Some read) (wanted r)
 
--- what stands at a key that has to stand there
+abbrev pub needed : {X : Type 0} → Row → Option (Option X) → Result X Fault
+needed r read = do
+  value ← ok_or read (missing r)
+  ok_or value (wanted r)
+
+-- what stands at a key, read so
+abbrev pub optional : {X : Type 0} → Row → (Data → Option X) → Members → Result (Option X) Fault
+optional r read table = allowed r (option_map read (get_member r.0 table))
+
 abbrev pub required : {X : Type 0} → Row → (Data → Option X) → Members → Result X Fault
-required r read table = do
-  value ← ok_or (get_member r.0 table) (missing r)
-  ok_or (read value) (wanted r)
+required r read table = needed r (option_map read (get_member r.0 table))
 
 -- what the word at a key says that has to stand there
 abbrev pub word : {X : Type 0} → Row → (List ℕ → Option X) → Members → Result X Fault

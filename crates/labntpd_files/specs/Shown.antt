@@ -9,12 +9,8 @@ digit_count octets = length (filter is_ascii_hexdigit octets)
 abbrev pub dot_count : List ℕ → ℕ
 dot_count octets = length (filter (λ octet. octet == 46) octets)
 
--- what an address may be meant by, with a port: three dots and few octets
-abbrev pub is_of_address : List ℕ → Bool
-is_of_address octets = nat_le (length octets) 21 && nat_le 3 (dot_count octets)
-
--- a word that may be shown
+-- a word that may be shown: what an address may be meant by, with a port, since it has three dots and few octets; or few digits
 abbrev pub is_plain : List ℕ → Bool
 is_plain word =
-    is_of_address word
+    (nat_le (length word) 21 && nat_le 3 (dot_count word))
     || (nat_le (length word) 40 && (nat_lt (digit_count word) 6 && (nat_lt (digit_count word) (length word) || list_all is_ascii_digit word)))

@@ -1,7 +1,7 @@
 -- What the values of a configuration file and of a wanted customer say.
-use Rattle.std.specs.Prelude.{ℕ, Bool, false, pos, ◌≤◌, ◌*◌, ◌==◌, ◌&&◌, not, nat_le, nat_lt, if◌then◌else◌, List, length, codes, Option, Some, None}
+use Rattle.std.specs.Prelude.{ℕ, Bool, pos, ◌≤◌, ◌*◌, ◌==◌, ◌&&◌, not, nat_le, nat_lt, if◌then◌else◌, List, length, codes, Option, Some, None}
 use Rattle.std.specs.List.{before_first, after_first, list_any}
-use Rattle.std.specs.{Char.is_control, Option.option_map, Option.option_map_or, Int.w64, Str.bytes_eq, Str.chars}
+use Rattle.std.specs.{Char.is_control, Option.option_map, Int.w64, Str.bytes_eq, Str.chars}
 use Rattle.std.specs.declared.num.NonZeroU16.{NonZeroU16}
 use Rattle.std.specs.Float.Ieee as Ieee
 use Rattle.std.specs.Float.{Float, binary64, float_round, float_to_unsigned}
@@ -24,10 +24,6 @@ endpoint_in text = do
 abbrev pub listen_in : List ℕ → Option Listen
 listen_in text = if bytes_eq text (codes "inherited") then Some Inherited else option_map Bound (endpoint_in text)
 
--- whether a source is fixed
-abbrev pub says_fixed : Data → Bool
-says_fixed value = option_map_or (bytes_eq (codes "fixed")) (as_str value) false
-
 -- a path: a text that is not empty
 abbrev pub path_in : List ℕ → Option (List ℕ)
 path_in text = if nat_lt 0 (length text) then Some text else None
@@ -40,14 +36,10 @@ text_as read value = as_str value >>= read
 abbrev pub in_range : ℕ → ℕ → ℕ → Option ℕ
 in_range least most n = if nat_le least n && nat_le n most then Some n else None
 
--- a whole number from `least` to `most`
-abbrev pub whole_of : ℕ → ℕ → Data → Option ℕ
-whole_of least most (integer (pos n)) = in_range least most n
-whole_of least most other = None
-
--- a key number, which is not 0 (RFC 5905, 7.3)
-abbrev pub number_of : Data → Option NonZeroU16
-number_of value = whole_of 1 65535 value >>= non_zero
+-- a whole number
+abbrev pub whole_of : Data → Option ℕ
+whole_of (integer (pos n)) = Some n
+whole_of other = None
 
 -- the product of a float and a number of units, as IEEE 754 has it, rounded to a whole number; no number gives 0, and the ends
 -- of 64 bits stand for what lies behind them
@@ -56,24 +48,25 @@ rounded units seconds = float_to_unsigned w64 (float_round binary64 (Ieee.mul bi
 
 -- how many units a number of seconds has, where a second has `units` units
 abbrev pub units_of : ℕ → Data → Option ℕ
-units_of units (integer (pos seconds)) = Some (seconds * units)
 units_of units (float seconds) = Some (rounded units seconds)
-units_of units other = None
+units_of units other = option_map (λ seconds. seconds * units) (whole_of other)
 
--- the same, where it is from `least` to `most` units
-abbrev pub seconds_of : ℕ → ℕ → ℕ → Data → Option ℕ
-seconds_of units least most value = units_of units value >>= in_range least most
-
--- the count at a key of a kind: octets, or units of time
+-- the number at a key of a kind, in its range: a key number, which is not 0 (RFC 5905, 7.3), or a budget; octets; units of time
 abbrev pub count_of : Kind → Data → Option ℕ
-count_of k.Octets = whole_of 65536 1073741823
-count_of (k.Seconds units least most) = seconds_of units least most
-count_of other = λ value. None
+count_of k.Number value = whole_of value >>= in_range 1 65535
+count_of k.Octets value = whole_of value >>= in_range 65536 1073741823
+count_of (k.Seconds units least most) value = units_of units value >>= in_range least most
+count_of other value = None
 
 abbrev pub IsWithin : Kind → ℕ → Type 0
+IsWithin k.Number count = (1 ≤ count) × (count ≤ 65535)
 IsWithin k.Octets count = (65536 ≤ count) × (count ≤ 1073741823)
 IsWithin (k.Seconds units least most) count = (least ≤ count) × (count ≤ most)
 IsWithin other count = Unit {0}
+
+-- a key number or a budget
+abbrev pub number_of : Data → Option NonZeroU16
+number_of value = count_of k.Number value >>= non_zero
 
 -- a key for an algorithm
 abbrev pub key_for : Algorithm → List ℕ → Option SymmetricKey

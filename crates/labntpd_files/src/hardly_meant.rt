@@ -5,7 +5,7 @@ ghost use Rattle.labntpd_files.specs.HardlyMeant.{address_warning, key_warning, 
 use HardlyMeant::*;
 use ntp_mac::{Algorithm, Key};
 use ntp_service::Address;
-use std::fmt;
+use thiserror::Error;
 
 /// Fewer octets than a key should have.
 const FEW_OCTETS: usize = 16;
@@ -13,24 +13,24 @@ const FEW_OCTETS: usize = 16;
 /// The greatest budget that the rules of `labntpctl door` let pass: 200 datagrams a second for 64 seconds.
 const DOOR_BUDGET: u16 = 12_800;
 
-/// What is hardly meant at a customer.
-#[derive(Clone, Copy, Debug, PartialEq, Eq)]
+/// What is hardly meant at a customer, in words.
+#[derive(Clone, Copy, Debug, PartialEq, Eq, Drop, Error)]
 pub enum HardlyMeant {
-    /// No host sends from network 0 (RFC 1122, 3.2.1.3).
+    #[error("no host sends from network 0")]
     ThisNetwork,
-    /// None sends from a group (RFC 5771).
+    #[error("no host sends from a multicast address")]
     Multicast,
-    /// None sends from networks 240 to 255 (RFC 1112, 4).
+    #[error("no host sends from network 240/4, which is reserved")]
     Reserved,
-    /// None sends from all hosts of a link (RFC 919, 7).
+    #[error("no host sends from the broadcast address")]
     Broadcast,
-    /// The key has few octets.
+    #[error("the key has fewer than 16 octets: {0}")]
     ShortKey(usize),
-    /// The key is for MD5.
+    #[error("the key is for MD5, the weaker algorithm")]
     Md5,
-    /// Two queries may fall into one window of 64 seconds.
+    #[error("budget 1: of a client that asks each 64 seconds two queries may fall into one window")]
     SmallBudget,
-    /// The kernel's rules let fewer queries pass.
+    #[error("budget {0}: the rules of `labntpctl door` let 12800 queries pass in 64 seconds")]
     LargeBudget(u16),
 }
 
@@ -66,25 +66,5 @@ pub fn budget_warning(budget: u16) -> Option<HardlyMeant>
         0 | 1 => Some(SmallBudget),
         _ if budget > DOOR_BUDGET => Some(LargeBudget(budget)),
         _ => None,
-    }
-}
-
-impl fmt::Display for HardlyMeant {
-    fn fmt<W: fmt::Write>(&self, f: &mut fmt::Formatter<W>) -> fmt::Result {
-        match self {
-            ThisNetwork => f.write_str("no host sends from network 0"),
-            Multicast => f.write_str("no host sends from a multicast address"),
-            Reserved => f.write_str("no host sends from network 240/4, which is reserved"),
-            Broadcast => f.write_str("no host sends from the broadcast address"),
-            ShortKey(count) => write!(f, "the key has fewer than 16 octets: {count}"),
-            Md5 => f.write_str("the key is for MD5, the weaker algorithm"),
-            SmallBudget => f.write_str(
-                "budget 1: of a client that asks each 64 seconds two queries may fall into one window",
-            ),
-            LargeBudget(budget) => write!(
-                f,
-                "budget {budget}: the rules of `labntpctl door` let 12800 queries pass in 64 seconds"
-            ),
-        }
     }
 }

@@ -5,17 +5,19 @@ ghost use Rattle.labntpd_files.specs.KeyText.{key_in_file, key_wrong};
 
 use ntp_admin::words;
 use ntp_mac::{Algorithm, Key};
-use std::fmt;
+use thiserror::Error;
 
 /// How many digits a key has at most.
 const MOST_DIGITS: usize = 64;
 
 /// What is wrong with the digits of a key. It has none of them.
-#[derive(Clone, Copy, Debug, PartialEq, Eq)]
+#[derive(Clone, Copy, Debug, PartialEq, Eq, Drop, Error)]
 pub enum KeyWrong {
     /// The octet in this column, counted from 1, begins no hexadecimal digit.
+    #[error("octet {0} is no digit")]
     NoDigit(u64),
     /// The number of digits, which is none at all, too many, or odd.
+    #[error("{0} digits stand there")]
     Digits(u64),
 }
 
@@ -50,13 +52,4 @@ fn first_other(octets: &[u8]) -> Option<usize>
     ensures within { IfSome result (λ place. place < length octets.now) }
 {
     octets.iter().position(|octet| !octet.is_ascii_hexdigit())
-}
-
-impl fmt::Display for KeyWrong {
-    fn fmt<W: fmt::Write>(&self, f: &mut fmt::Formatter<W>) -> fmt::Result {
-        match self {
-            KeyWrong::NoDigit(column) => write!(f, "octet {column} is no digit"),
-            KeyWrong::Digits(count) => write!(f, "{count} digits stand there"),
-        }
-    }
 }

@@ -5,9 +5,7 @@
 pub mod command_line;
 mod command_words;
 mod configuration;
-mod configuration_reader;
 mod fault;
-mod found;
 mod hardly_meant;
 mod key_text;
 mod setting;
@@ -15,18 +13,16 @@ mod shown;
 mod text;
 mod values;
 mod wanted;
-mod wanted_text;
 
 pub use command_words::{fault_meaning, faulty_place, refusal_meaning, word_at};
-pub use configuration::{Clock, ClockDaemon, Configuration, Endpoint, Listen};
-pub use configuration_reader::{configuration_faults, read_configuration};
-pub use fault::ConfigurationFault;
-pub use found::Found;
+pub use configuration::{
+    Clock, ClockDaemon, Configuration, Endpoint, Listen, configuration_faults, read_configuration,
+};
+pub use fault::{ConfigurationFault, Found};
 pub use hardly_meant::{HardlyMeant, address_warning, budget_warning, key_warning};
 pub use key_text::{KeyWrong, key_in_file, key_wrong};
 pub use setting::{Setting, is_fixed};
 pub use shown::ShownWord;
 pub use text::Text;
 pub use values::{is_name, path_at};
-pub use wanted::{Wanted, WantedCustomer, WantedFault, WantedKey, read_wanted};
-pub use wanted_text::{KeyLines, write_wanted};
+pub use wanted::{KeyLines, Wanted, WantedCustomer, WantedKey, read_wanted, write_wanted};

@@ -156,13 +156,14 @@ pub(crate) fn clock_keys(clock: &Table) -> &'static [Setting]
 pub fn is_fixed(clock: &Table) -> bool
     ensures { result ≡ is_fixed (table_view clock.now) }
 {
-    match value_at(clock, SOURCE.0) {
-        None => false,
-        Some(source) => matches!(source.as_str(), Some("fixed")),
-    }
+    matches!(
+        value_at(clock, SOURCE.0).and_then(|source| source.as_str()),
+        Some("fixed")
+    )
 }
 
 /// The value at a key.
+#[tactic(auto, using(toml::proofs::Views::table_get))]
 pub(crate) fn value_at<'a>(table: &'a Table, key: &str) -> Option<&'a Value>
     ensures { option_map (λ value. view value.now) result ≡ get_member key.now (table_view table.now) }
 {

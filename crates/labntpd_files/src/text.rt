@@ -1,5 +1,5 @@
 //! Texts that are kept.
-ghost use Rattle.std.specs.Prelude.{◌≡◌, IfOk, option_map};
+ghost use Rattle.std.specs.Prelude.{◌≡◌, IfOk};
 
 use std::alloc::{AllocError, Global};
 use std::fmt;
@@ -27,16 +27,6 @@ impl Text {
         Ok(Text {
             string: String::from_str(alloc, text)?,
         })
-    }
-
-    /// A copy of a text, where there is one.
-    pub(crate) fn of_some(alloc: Global, text: Option<&str>) -> Result<Option<Text>, AllocError>
-        ensures { IfOk result (λ copy. copy ≡ option_map (λ path. path.now) text.entry) }
-    {
-        match text {
-            None => Ok(None),
-            Some(text) => Ok(Some(Text::of(alloc, text)?)),
-        }
     }
 
     /// The text itself.

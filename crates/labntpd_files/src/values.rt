@@ -6,37 +6,50 @@ ghost use Rattle.toml.specs.Data.{no_items, get_member, as_bool, as_str, as_tabl
 ghost use Rattle.toml.specs.View.{view, table_view, items_view};
 ghost use Rattle.ntp_admin.specs.Words.{address_in};
 ghost use Rattle.labntpd_files.specs.Keys.{row};
-ghost use Rattle.labntpd_files.specs.Settings.{required, optional, or_default, count_in, path_at, wrong_at, said_by, missing, IsSaid, IsRead};
-ghost use Rattle.labntpd_files.specs.Values.{endpoint_in, listen_in, path_in, text_as, text_of, is_name, whole_of, number_of, units_of, seconds_of, count_of, IsWithin};
+ghost use Rattle.labntpd_files.specs.Settings.{required, optional, or_default, count_in, path_at, wrong_at, said_by, needed, allowed, IsSaid, IsRead, Reads};
+ghost use Rattle.labntpd_files.specs.Values.{endpoint_in, listen_in, path_in, text_as, text_of, is_name, whole_of, number_of, units_of, count_of, IsWithin};
 
 use crate::ConfigurationFault::{Missing, Wanted};
 use crate::fault::Reading;
 use crate::setting::{Kind, is_fixed, value_at};
-use crate::{ConfigurationFault, Endpoint, Listen, Setting};
+use crate::{ConfigurationFault, Endpoint, Listen, Setting, Text};
 use ntp_admin::words;
 use ntp_mac::Algorithm;
 use ntp_service::Address;
+use std::alloc::Global;
 use std::num::{self, NonZero};
 use toml::{Table, Value};
 
 /// How many octets the name of a customer has at most.
 const MOST_NAME_OCTETS: usize = 200;
 
-/// The sizes that a buffer may have, in octets. The kernel doubles what it is asked for, and counts in 31 bits.
-const BUFFERS: [u32; 2] = [65_536, 1_073_741_823];
+/// The greatest size that a buffer may have. The kernel doubles what it is asked for, and counts in 31 bits.
+const MOST_BUFFER_OCTETS: u64 = 1_073_741_823;
 
-// The value of a key that has to stand there.
-fn required(table: &Table, setting: Setting) -> Reading<&Value>
-    ensures { IsSaid (λ value. view value.now) (ok_or (get_member setting.0.now (table_view table.now)) (missing (row setting))) result }
-{
-    value_at(table, setting.0).ok_or(Missing(setting))
+impl Setting {
+    // What was read of the value at this key, if one stood there, has to stand there.
+    fn required<T>(self, read: Option<Option<T>>) -> Reading<T>
+        ensures { IsSaid (λ said. said) (needed (row self) read) result }
+    {
+        read.ok_or(Missing(self))?.ok_or(Wanted(self))
+    }
+
+    // The same, where it may be left out.
+    fn optional<T>(self, read: Option<Option<T>>) -> Reading<Option<T>>
+        ensures { IsSaid (λ said. said) (allowed (row self) read) result }
+    {
+        match read {
+            None => Ok(None),
+            Some(read) => Ok(Some(read.ok_or(Wanted(self))?)),
+        }
+    }
 }
 
 // A text that has to stand there.
 fn text_at(table: &Table, setting: Setting) -> Reading<&str>
     ensures { IsSaid (λ text. text.now) (required (row setting) as_str (table_view table.now)) result }
 {
-    required(table, setting)?.as_str().ok_or(Wanted(setting))
+    setting.required(value_at(table, setting.0).map(|value| value.as_str()))
 }
 
 /// What `read` reads of a text that has to stand there.
@@ -55,73 +68,60 @@ pub(crate) fn word_at<T, F: FnOnce(&str) -> Option<T>>(
 pub(crate) fn table_at(table: &Table, setting: Setting) -> Reading<&Table>
     ensures { IsSaid (λ inner. table_view inner.now) (required (row setting) as_table (table_view table.now)) result }
 {
-    required(table, setting)?.as_table().ok_or(Wanted(setting))
+    setting.required(value_at(table, setting.0).map(|value| value.as_table()))
 }
 
 /// The path of a file, which is not empty and has to stand there.
-pub(crate) fn path_text(table: &Table, setting: Setting) -> Reading<&str>
-    ensures { IsSaid (λ path. path.now) (required (row setting) (text_as path_in) (table_view table.now)) result }
+pub(crate) fn path_text(alloc: Global, table: &Table, setting: Setting) -> Reading<Text>
+    ensures { Reads (required (row setting) (text_as (text_of setting.1)) (table_view table.now)) result }
 {
-    match required(table, setting)?.as_str() {
-        Some(path) if !path.is_empty() => Ok(path),
-        _ => Err(Wanted(setting)),
-    }
+    let path = value_at(table, setting.0).map(|value| text_of(value, setting.1));
+    Ok(Text::of(alloc, setting.required(path)?)?)
 }
 
 /// The path at a key, where one stands there.
 pub fn path_at<'a>(table: &'a Table, key: &str) -> Option<&'a str>
     ensures { option_map (λ path. path.now) result ≡ path_at key.now (table_view table.now) }
 {
-    match value_at(table, key)?.as_str() {
-        Some(path) if !path.is_empty() => Some(path),
-        _ => None,
-    }
+    text_of(value_at(table, key)?, Kind::Path)
 }
 
 /// A customer's name, or else the path of a file, that may be left out.
-pub(crate) fn optional_text(table: &Table, setting: Setting) -> Reading<Option<&str>>
-    ensures { IsSaid (λ found. option_map (λ text. text.now) found) (optional (row setting) (text_as (text_of setting.1)) (table_view table.now)) result }
+pub(crate) fn optional_text(alloc: Global, table: &Table, setting: Setting) -> Reading<Option<Text>>
+    ensures { Reads (optional (row setting) (text_as (text_of setting.1)) (table_view table.now)) result }
 {
-    match value_at(table, setting.0) {
+    let text = value_at(table, setting.0).map(|value| text_of(value, setting.1));
+    match setting.optional(text)? {
         None => Ok(None),
-        Some(value) => match value.as_str() {
-            Some(text) if is_text_of(setting.1, text) => Ok(Some(text)),
-            _ => Err(Wanted(setting)),
-        },
+        Some(text) => Ok(Some(Text::of(alloc, text)?)),
     }
 }
 
-// Whether a text is a customer's name, or else a path.
-fn is_text_of(kind: Kind, text: &str) -> bool
-    ensures { then_some result text.now ≡ text_of kind text.now }
+// The text of a value, if it is a customer's name, or else a path.
+fn text_of(value: &Value, kind: Kind) -> Option<&str>
+    ensures { option_map (λ text. text.now) result ≡ text_as (text_of kind) (view value.now) }
 {
+    let text = value.as_str()?;
     match kind {
         Kind::Name => is_name(text),
         _ => !text.is_empty(),
     }
+    .then_some(text)
 }
 
 /// An address that may be left out.
 pub(crate) fn optional_address(table: &Table, setting: Setting) -> Reading<Option<Address>>
     ensures { IsSaid (λ found. found) (optional (row setting) (text_as address_in) (table_view table.now)) result }
 {
-    match value_at(table, setting.0) {
-        None => Ok(None),
-        Some(value) => match address_of(value) {
-            None => Err(Wanted(setting)),
-            address => Ok(address),
-        },
-    }
+    setting.optional(value_at(table, setting.0).map(|value| words::address(value.as_str()?)))
 }
 
 /// A boolean: false where none stands there.
 pub(crate) fn boolean_at(table: &Table, setting: Setting) -> Reading<bool>
     ensures { IsSaid (λ said. said) (or_default false (optional (row setting) as_bool (table_view table.now))) result }
 {
-    match value_at(table, setting.0) {
-        None => Ok(false),
-        Some(value) => value.as_bool().ok_or(Wanted(setting)),
-    }
+    let said = value_at(table, setting.0).map(|value| value.as_bool());
+    Ok(setting.optional(said)?.unwrap_or(false))
 }
 
 /// A count of octets, or of units of time, that may be left out.
@@ -129,13 +129,7 @@ pub(crate) fn count_at(table: &Table, setting: Setting) -> Reading<Option<u64>>
     ensures value { IsSaid (λ found. found) (count_in (row setting) (table_view table.now)) result }
     ensures range { IfOk result (λ found. IfSome found (IsWithin setting.1)) }
 {
-    match value_at(table, setting.0) {
-        None => Ok(None),
-        Some(value) => match count_of(value, setting.1) {
-            None => Err(Wanted(setting)),
-            count => Ok(count),
-        },
-    }
+    setting.optional(value_at(table, setting.0).map(|value| count_of(value, setting.1)))
 }
 
 /// A count, or what holds where none stands there.
@@ -144,29 +138,23 @@ pub(crate) fn count_or(table: &Table, setting: Setting, default: u64) -> Reading
     ensures value { IsSaid (λ count. count) (or_default default (count_in (row setting) (table_view table.now))) result }
     ensures range { IfOk result (IsWithin setting.1) }
 {
-    match count_at(table, setting)? {
-        None => Ok(default),
-        Some(count) => Ok(count),
-    }
+    Ok(count_at(table, setting)?.unwrap_or(default))
 }
 
 /// A key number or a budget, from 1 to 65,535.
 pub(crate) fn number_at(table: &Table, setting: Setting) -> Reading<NonZero<u16>>
     ensures { IsSaid (λ number. number) (required (row setting) number_of (table_view table.now)) result }
 {
-    number_of(required(table, setting)?).ok_or(Wanted(setting))
+    setting.required(value_at(table, setting.0).map(number_of))
 }
 
 /// The customers of a document, as they stand there.
 pub(crate) fn customers_at(document: &Table, setting: Setting) -> Reading<&[Value]>
     ensures { IsSaid (λ values. items_view values.now) (or_default no_items (optional (row setting) as_array (table_view document.now))) result }
 {
-    match value_at(document, setting.0) {
+    match setting.optional(value_at(document, setting.0).map(|value| value.as_array()))? {
         None => Ok(&[]),
-        Some(value) => match value.as_array() {
-            None => Err(Wanted(setting)),
-            Some(values) => Ok(values.as_slice()),
-        },
+        Some(values) => Ok(values.as_slice()),
     }
 }
 
@@ -174,12 +162,13 @@ pub(crate) fn customers_at(document: &Table, setting: Setting) -> Reading<&[Valu
 pub(crate) fn wrong_at(table: &Table, setting: Setting) -> Option<ConfigurationFault>
     ensures { option_map said_by result ≡ wrong_at (row setting) (table_view table.now) }
 {
+    let text = value_at(table, setting.0).map(|value| text_of(value, setting.1));
     match setting.1 {
         Kind::Listen => word_at(table, setting, listen_in).err(),
         Kind::Source if is_fixed(table) => None,
         Kind::Source => word_at(table, setting, endpoint_in).err(),
-        Kind::Path => path_text(table, setting).err(),
-        Kind::OptionalPath | Kind::Name => optional_text(table, setting).err(),
+        Kind::Path => setting.required(text).err(),
+        Kind::OptionalPath | Kind::Name => setting.optional(text).err(),
         Kind::Octets | Kind::Seconds(..) => count_at(table, setting).err(),
         Kind::Boolean => boolean_at(table, setting).err(),
         Kind::Reference => word_at(table, setting, words::reference).err(),
@@ -229,53 +218,34 @@ fn has_control(text: &str) -> bool
     text.chars().any(|character| character.is_control())
 }
 
-// The address that a value writes.
-fn address_of(value: &Value) -> Option<Address>
-    ensures { result ≡ text_as address_in (view value.now) }
+// A key number or a budget.
+fn number_of(value: &Value) -> Option<NonZero<u16>>
+    ensures { result ≡ number_of (view value.now) }
 {
-    words::address(value.as_str()?)
+    let whole = count_of(value, Kind::Number)?;
+    NonZero::<u16>::new(whole as u16)
 }
 
-// The count at a key of a kind.
+// The number at a key of a kind, where it is in the range.
 fn count_of(value: &Value, kind: Kind) -> Option<u64>
     ensures value { result ≡ count_of kind (view value.now) }
     ensures range { IfSome result (IsWithin kind) }
 {
-    match kind {
-        Kind::Octets => Some(u64::from(whole_of(value, BUFFERS[0], BUFFERS[1])?)),
-        Kind::Seconds(units, least, most) => seconds_of(value, units, least, most),
-        _ => None,
-    }
-}
-
-// A whole number from `least` to `most`.
-fn whole_of(value: &Value, least: u32, most: u32) -> Option<u32>
-    ensures value { result ≡ whole_of least most (view value.now) }
-    ensures range { IfSome result (λ whole. (least ≤ whole) × (whole ≤ most)) }
-{
-    let Value::Integer(whole) = value else {
-        return None;
+    let (count, least, most) = match kind {
+        Kind::Number => (u128::from(whole_of(value)?), 1, 65_535),
+        Kind::Octets => (u128::from(whole_of(value)?), 65_536, MOST_BUFFER_OCTETS),
+        Kind::Seconds(units, least, most) => (units_of(value, units)?, least, most),
+        _ => return None,
     };
-    let whole = u32::try_from(*whole).ok()?;
-    (least <= whole && whole <= most).then_some(whole)
-}
-
-// A whole number from 1 to 65,535.
-fn number_of(value: &Value) -> Option<NonZero<u16>>
-    ensures { result ≡ number_of (view value.now) }
-{
-    let whole = whole_of(value, 1, 65_535)?;
-    NonZero::<u16>::new(whole as u16)
-}
-
-// The units of a number of seconds, from `least` to `most`.
-fn seconds_of(value: &Value, units: u32, least: u64, most: u64) -> Option<u64>
-    ensures value { result ≡ seconds_of units least most (view value.now) }
-    ensures range { IfSome result (λ count. (least ≤ count) × (count ≤ most)) }
-{
-    let count = units_of(value, units)?;
     let count = u64::try_from(count).ok()?;
     (least <= count && count <= most).then_some(count)
+}
+
+// A whole number from 0 on.
+fn whole_of(value: &Value) -> Option<u64>
+    ensures { result ≡ whole_of (view value.now) }
+{
+    u64::try_from(value.as_integer()?).ok()
 }
 
 // The units of a number of seconds. A float is rounded; one that is no number, or is below 0, gives 0, and one above 2^64 - 1 gives that:
@@ -284,14 +254,10 @@ fn units_of(value: &Value, units: u32) -> Option<u128>
     ensures { result ≡ units_of units (view value.now) }
 {
     match value {
-        Value::Integer(seconds) => {
-            let seconds = u64::try_from(*seconds).ok()?;
-            Some(u128::from(seconds) * u128::from(units))
-        }
         Value::Float(seconds) => {
             let count = (*seconds * f64::from(units)).round();
             Some(u128::from(num::saturating_f64_to_u64(count)))
         }
-        _ => None,
+        _ => Some(u128::from(whole_of(value)?) * u128::from(units)),
     }
 }

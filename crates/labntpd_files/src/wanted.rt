@@ -1,20 +1,20 @@
-//! What a file of wanted customers says.
+//! What a file of wanted customers says, and a wanted customer as text.
 ghost use Rattle.std.specs.Prelude.{◌≡◌, Some, Ok, nat_eq, IfOk, IsTrue};
 ghost use Rattle.std.specs.List.{IsDistinct};
 ghost use Rattle.toml.specs.{Parse.parse_document, View.table_view};
 ghost use Rattle.labntpd_files.specs.Settings.{IsSaid, Reads};
 ghost use Rattle.labntpd_files.specs.Wanted.{key_in, newer_in, customer_in, customers_in, key_numbers, wanted_in, AreDistinct};
 
-use crate::fault::Reading;
-use crate::found::{Found, add, add_faults, add_no_toml, key_lines};
+use crate::fault::{Found, Reading, add, add_faults, add_no_toml, key_lines};
 use crate::setting::*;
 use crate::values::{customers_at, number_at, optional_text, table_at, word_at};
 use crate::{ConfigurationFault, Text, address_warning, budget_warning, key_warning};
 use ntp_admin::words;
-use ntp_mac::Key;
+use ntp_mac::{Algorithm, Key};
 use ntp_service::Address;
 use std::alloc::{AllocError, Global};
 use std::collections::BTreeSet;
+use std::io::{self, Write};
 use std::net::Ipv4Addr;
 use std::num::NonZero;
 use toml::Table;
@@ -52,25 +52,11 @@ pub struct Wanted {
     pub warnings: Vec<Found>,
 }
 
-/// Why a file says no wanted customers.
-#[derive(Drop)]
-pub enum WantedFault {
-    /// It has these faults, in the order of the lines; those without a line stand in front.
-    Faults(Vec<Found>),
-    /// Memory ran out.
-    NoMemory,
-}
-
-impl From<AllocError> for WantedFault {
-    fn from(_: AllocError) -> WantedFault {
-        WantedFault::NoMemory
-    }
-}
-
 /// What is wrong with an address, or the number of a key, that an earlier customer has, or an earlier key.
 const TWICE: &str = "it stands in the file twice";
 
-/// What the text of a file of wanted customers says (TOML 1.1), or every fault in it; or want of memory.
+/// What the text of a file of wanted customers says (TOML 1.1), or every fault in it, in the order of the lines; those without a line stand
+/// in front.
 ///
 /// ```toml
 /// [[customer]]
@@ -85,37 +71,37 @@ const TWICE: &str = "it stands in the file twice";
 ///
 /// `name` and `newer` may be left out. Without a customer nobody is wanted. A `reference` at the top level is passed over, so a register
 /// file is read too.
-pub fn read_wanted(alloc: Global, text: &str) -> Result<Wanted, WantedFault>
-    ensures customers { IfOk result (λ wanted. wanted_in (parse_document text.now) ≡ Some wanted.customers.items) }
-    ensures distinct { IfOk result (λ wanted. AreDistinct wanted.customers.items) }
+pub fn read_wanted(alloc: Global, text: &str) -> Result<Result<Wanted, Vec<Found>>, AllocError>
+    ensures customers { IfOk result (λ read. IfOk read (λ wanted. wanted_in (parse_document text.now) ≡ Some wanted.customers.items)) }
+    ensures distinct { IfOk result (λ read. IfOk read (λ wanted. AreDistinct wanted.customers.items)) }
 {
     let mut found = Vec::new(alloc);
     let mut document = match toml::table_from_str(alloc, text) {
         Ok(document) => document,
         Err(error) => {
             add_no_toml(&mut found, text, &error)?;
-            return Err(WantedFault::Faults(found));
+            return Ok(Err(found));
         }
     };
     let customers = customers_in(alloc, &document);
     let _ = document.remove(REFERENCE.0);
     let (keys, lines) = (key_lines(alloc, text, "")?, customer_lines(alloc, text)?);
-    let top_keys = &[CUSTOMER];
-    add_faults(&mut found, "", Some(&keys), None, &document, top_keys)?;
+    add_faults(&mut found, "", Some(&keys), None, &document, &[CUSTOMER])?;
     add_customers(&mut found, &document, &lines)?;
     found.sort_by_key(|found| found.line)?;
     let customers = match customers {
         Ok(customers) => customers,
-        Err(ConfigurationFault::NoMemory) => return Err(WantedFault::NoMemory),
-        Err(_fault) => return Err(WantedFault::Faults(found)),
+        Err(ConfigurationFault::NoMemory) => return Err(AllocError),
+        Err(_fault) => return Ok(Err(found)),
     };
     if !found.is_empty() || !are_distinct(alloc, &customers)? {
-        return Err(WantedFault::Faults(found));
+        return Ok(Err(found));
     }
-    Ok(Wanted {
-        warnings: warnings_of(alloc, &customers, &lines)?,
+    let warnings = warnings_of(alloc, &customers, &lines)?;
+    Ok(Ok(Wanted {
         customers,
-    })
+        warnings,
+    }))
 }
 
 // The lines, counted from 1, that begin with the header of a customer.
@@ -232,7 +218,7 @@ fn customer_in(alloc: Global, table: &Table) -> Reading<WantedCustomer>
         older: key_in(table)?,
         newer: newer_in(table)?,
         budget: number_at(table, budget)?,
-        name: Text::of_some(alloc, optional_text(table, name)?)?,
+        name: optional_text(alloc, table, name)?,
     })
 }
 
@@ -286,10 +272,64 @@ fn no_two_alike(mut numbers: Vec<u32>) -> Result<bool, AllocError>
     ensures { IfOk result (λ are. IsTrue are → IsDistinct nat_eq numbers.items) }
 {
     numbers.sort()?;
-    for place in 1..numbers.len() {
-        if numbers[place - 1] >= numbers[place] {
-            return Ok(false);
+    Ok(numbers.is_sorted_by(|one, next| one < next))
+}
+
+/// Whether keys are written, which are secrets.
+#[derive(Clone, Copy, Debug, PartialEq, Eq)]
+pub enum KeyLines {
+    Written,
+    LeftOut,
+}
+
+/// Writes a customer as `read_wanted` reads it, which wants its keys, and an empty line behind it.
+pub fn write_wanted<W: Write>(
+    out: &mut W,
+    customer: &WantedCustomer,
+    keys: KeyLines,
+) -> io::Result<()> {
+    writeln!(out, "[[customer]]")?;
+    if let Some(name) = &customer.name {
+        write!(out, "name = \"")?;
+        for character in name.as_str().chars() {
+            if matches!(character, '"' | '\\') {
+                write!(out, "\\")?;
+            }
+            write!(out, "{character}")?;
         }
+        writeln!(out, "\"")?;
     }
-    Ok(true)
+    let address = Ipv4Addr::from(customer.address.0);
+    writeln!(out, "address = \"{address}\"")?;
+    write_key(out, &customer.older, keys, "\n")?;
+    writeln!(out, "\nbudget = {}", customer.budget)?;
+    if let Some(newer) = &customer.newer {
+        write!(out, "newer = {{ ")?;
+        write_key(out, newer, keys, ", ")?;
+        writeln!(out, " }}")?;
+    }
+    writeln!(out, "")
+}
+
+// Writes what is said of a key, with this between the parts.
+fn write_key<W: Write>(
+    out: &mut W,
+    wanted: &WantedKey,
+    keys: KeyLines,
+    between: &str,
+) -> io::Result<()> {
+    let WantedKey { number, key } = wanted;
+    let algorithm = match key.algorithm() {
+        Algorithm::Md5 => "md5",
+        Algorithm::Sha1 => "sha1",
+    };
+    write!(out, "number = {number}{between}algorithm = \"{algorithm}\"")?;
+    if keys == KeyLines::LeftOut {
+        return Ok(());
+    }
+    write!(out, "{between}key = \"")?;
+    for octet in key.octets() {
+        write!(out, "{octet:02x}")?;
+    }
+    write!(out, "\"")
 }

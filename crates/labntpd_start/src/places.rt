@@ -170,13 +170,13 @@ pub fn readers_of<R: Files>(files: &R, path: &str) -> Option<Readers> {
     is_theirs.then_some(Readers(metadata.mode()))
 }
 
-// Whether a file that is written may stand where it is to: in a directory, and in the place of a regular file or of none. What is
-// made anew may have the place of anything but a directory.
+// Whether a file that is written may stand where it is to: in a directory, and in the place of a regular file, no link to one, or of none.
+// What is made anew may have the place of anything but a directory.
 fn writable<R: Files>(files: &R, path: &str, usage: Use) -> io::Result<()> {
     if usage == Use::Read {
         return Ok(());
     }
-    match fs::metadata(files, path) {
+    match fs::symlink_metadata(files, path) {
         Ok(metadata) if metadata.is_file() => Ok(()),
         Ok(metadata) if usage == Use::New && !metadata.is_dir() => Ok(()),
         Ok(_) => Err(not_regular()),

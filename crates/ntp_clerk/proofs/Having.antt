@@ -11,7 +11,7 @@ use Rattle.ntp_service.specs.Registry.{Registry, customer_at, terms_at}
 use Rattle.ntp_service.proofs.PublicLaws.{same-address, address_eq_equiv}
 use Rattle.ntp_clerk.specs.{declared.wanted.Terms.Terms, declared.wanted.Wanted.Wanted}
 use Rattle.ntp_clerk.proofs.Stepping.{Contains-cases, Contains-none}
-use Rattle.ntp_clerk.specs.Leading.{enrolment_among, enrolment_with, HasExactly, enrolment_if}
+use Rattle.ntp_clerk.specs.Leading.{enrolment_among, enrolment_with, HasExactly}
 
 -- who is listed is enrolled so, and who is enrolled outside `left` is listed
 pub record Having (service : Registry) (left : List Address) (customers : List Wanted) : Type 0 where
@@ -30,7 +30,7 @@ having-none service addresses all = record {
 }
 
 module _ (service : Registry) (a : Address) (left : List Address) (customers : List Wanted) (having : Having service (a ∷ left) customers) where
-  pub having-one : (terms : Terms) → enrolment_if (Some terms) ≡ terms_at service a
+  pub having-one : (terms : Terms) → option_map enrolment_with (Some terms) ≡ terms_at service a
       → Having service left (customers ++ record { address = a; terms = terms } ∷ [])
   having-one terms is = record {
     each = All-push (λ w. terms_at service w.address ≡ Some (enrolment_with w.terms)) customers (record { address = a; terms = terms }) having.each (sym is);
@@ -40,7 +40,7 @@ module _ (service : Registry) (a : Address) (left : List Address) (customers : L
         (having.listed q enrolled));
   }
 
-  pub having-no : enrolment_if None ≡ terms_at service a → Having service left customers
+  pub having-no : option_map enrolment_with None ≡ terms_at service a → Having service left customers
   having-no is = record {
     each = having.each;
     listed = λ q enrolled. ⊎_elim inl

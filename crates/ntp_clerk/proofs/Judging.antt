@@ -10,7 +10,7 @@ use Rattle.ntp_service.proofs.PublicLaws.{same_or_other_address, address_eq_equi
 use Rattle.ntp_customer.specs.Customer.{Enrolment, numbers_in}
 use Rattle.ntp_customer.proofs.PublicLaws.{Contains-map}
 use Rattle.ntp_clerk.specs.{declared.wanted.GivenKey.GivenKey, declared.wanted.Terms.Terms, declared.wanted.Wanted.Wanted}
-use Rattle.ntp_clerk.specs.Leading.{enrolment_among, enrolment_with, key_given, AreApart, AreTwo, HasNumber, Holds, enrolment_if}
+use Rattle.ntp_clerk.specs.Leading.{enrolment_among, enrolment_with, key_given, AreApart, AreTwo, HasNumber, Holds}
 use Rattle.ntp_clerk.specs.Steps.{Notes, NotesAll, NotesOne, OnlyWanted}
 use Rattle.ntp_clerk.proofs.{Having.found, Having.none-found, Stepping.Contains-cases, Stepping.Contains-none, Stepping.only-holds}
 use Rattle.std.proofs.lemmas.Bool.{cases_eq, cases_lt, false_from_ne_true}
@@ -58,7 +58,7 @@ abbrev own : Wanted → List ℕ
 own w = numbers_in (enrolment_with w.terms)
 
 pub record Judged (taken : List Wanted) (terms : Address → Option Terms) (numbers : ℕ → Bool) : Type 0 where
-  pub among : (q : Address) → enrolment_if (terms q) ≡ enrolment_among taken q
+  pub among : (q : Address) → option_map enrolment_with (terms q) ≡ enrolment_among taken q
   pub apart : AreApart taken
   pub listed : (v : Wanted) → Contains taken v → IsSome (terms v.address)
   pub noted : (v : Wanted) (n : ℕ) → Contains taken v → HasNumber v.terms n → numbers n ≡ true
@@ -67,7 +67,7 @@ pub record Judged (taken : List Wanted) (terms : Address → Option Terms) (numb
 pub judged-none : (terms : Address → Option Terms) (numbers : ℕ → Bool) → ((q : Address) → terms q ≡ None) → ((n : ℕ) → numbers n ≡ false)
     → Judged [] terms numbers
 judged-none terms numbers none nothing = record {
-  among = λ q. ap enrolment_if (none q);
+  among = λ q. ap (option_map enrolment_with) (none q);
   apart = record {
     addresses = λ i j d before inside. absurd (omega (arith, inside));
     numbers = λ i j d before inside. absurd (omega (arith, inside));
@@ -99,21 +99,21 @@ judged-more taken w old new numbers now judged notes =
     are-two : AreTwo w.terms
     are-two = noted-two w.terms.older w.terms.newer numbers now notes.all
 
-    among-here : (q : Address) → q ≡ w.address → enrolment_if (new q) ≡ enrolment_among (taken ++ w ∷ []) q
+    among-here : (q : Address) → q ≡ w.address → option_map enrolment_with (new q) ≡ enrolment_among (taken ++ w ∷ []) q
     among-here q same =
-        let none : None ≡ enrolment_among taken q = ap enrolment_if (sym notes.free ∙ ap old (sym same)) ∙ judged.among q in
+        let none : None ≡ enrolment_among taken q = ap (option_map enrolment_with) (sym notes.free ∙ ap old (sym same)) ∙ judged.among q in
         let here : address_eq q w.address ≡ true = subst (λ a. address_eq q a ≡ true) same (address_eq_equiv.refl q) in
-        ap enrolment_if (ap new same ∙ notes.here)
+        ap (option_map enrolment_with) (ap new same ∙ notes.here)
         ∙ sym (among-more taken w q ∙ ap (λ o. option_or o (if address_eq q w.address then Some (enrolment_with w.terms) else None)) (sym none)
         ∙ ap (λ (b : Bool). if b then Some (enrolment_with w.terms) else None) here)
 
-    among-there : (q : Address) → q ≢ w.address → enrolment_if (new q) ≡ enrolment_among (taken ++ w ∷ []) q
+    among-there : (q : Address) → q ≢ w.address → option_map enrolment_with (new q) ≡ enrolment_among (taken ++ w ∷ []) q
     among-there q ne =
-        ap enrolment_if (notes.others q ne) ∙ judged.among q ∙ sym (among-more taken w q
+        ap (option_map enrolment_with) (notes.others q ne) ∙ judged.among q ∙ sym (among-more taken w q
         ∙ ap (λ (b : Bool). option_or (enrolment_among taken q) (if b then Some (enrolment_with w.terms) else None)) (other-address q w.address ne)
         ∙ or-none (enrolment_among taken q))
 
-    among : (q : Address) → enrolment_if (new q) ≡ enrolment_among (taken ++ w ∷ []) q
+    among : (q : Address) → option_map enrolment_with (new q) ≡ enrolment_among (taken ++ w ∷ []) q
     among q = ⊎_elim (among-here q) (among-there q) (same_or_other_address q w.address)
 
     apart : AreApart (taken ++ w ∷ [])
@@ -210,7 +210,7 @@ module _ (customers : List Wanted) (i : ℕ) (w : Wanted) (inside : i < length c
         by-terms None none = none
         by-terms (Some t) some =
             let has : Holds (enrolment_among (take i customers) w.address) (key_given t.older).number =
-            subst (λ o. Holds o (key_given t.older).number) (sym (ap enrolment_if some) ∙ judged.among w.address) (0, omega arith, refl) in
+            subst (λ o. Holds o (key_given t.older).number) (sym (ap (option_map enrolment_with) some) ∙ judged.among w.address) (0, omega arith, refl) in
             let before = one-among (take i customers) w.address (key_given t.older).number has in
             absurd (earlier (λ one other. one.address ≢ other.address) apart.addresses before.0 before.1 (sym before.2))
 

@@ -4,7 +4,7 @@ use Rattle.std.specs.Prelude.{Contains, IfNone, IfSome, IsSome, MatchOption, is_
 use Rattle.std.specs.{Option.option_or, List.list_any, Int.NonZero.non_zero_u16_get, declared.num.NonZeroU16.NonZeroU16}
 use Rattle.std.proofs.lemmas.List.Folds.{Any-from_list_any, list_any-from_Any}
 use Rattle.ntp_service.specs.Registry.{Registry, holder_of}
-use Rattle.ntp_clerk.specs.Numbers.{IsLowest, IsNew, IsNextFree, IsUnheld}
+use Rattle.ntp_clerk.specs.Confirming.{IsLowest, IsNew, IsNextFree, IsUnheld}
 
 -- no number below this has a property
 abbrev pub NoneBelow : (ℕ → Type 0) → ℕ → Type 0

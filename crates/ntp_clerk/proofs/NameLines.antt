@@ -7,8 +7,7 @@ use Rattle.std.proofs.Math.Seq.{take-append_seam, drop-append-add}
 use Rattle.ntp_service.specs.declared.address.Address.{Address}
 use Rattle.ntp_admin.specs.Spells.{is_passed_over}
 use Rattle.ntp_admin.specs.Words.{address_in, address_text, parts}
-use Rattle.ntp_clerk.specs.CommandText.{IsAddress}
-use Rattle.ntp_clerk.specs.Names.{name_behind, name_in, IsName}
+use Rattle.ntp_clerk.specs.CommandText.{name_behind, name_in, IsAddress, IsName}
 use Rattle.ntp_clerk.proofs.Joined.{lacks, lacks-both, parts-first-line}
 use Rattle.ntp_clerk.proofs.Spelled.{reads-address, lacks-address}
 

@@ -9,12 +9,12 @@ use Rattle.ntp_service.specs.Registry.{Registry, customer_at, terms_at}
 use Rattle.ntp_clerk.specs.Leading.{HasExactly, LeadsTo, Makes, NobodyIsForgotten}
 use Rattle.ntp_clerk.specs.declared.wanted.Wanted.{Wanted}
 use Rattle.ntp_service.proofs.PublicLaws.{same_or_other_address}
-use Rattle.ntp_clerk.specs.Steps.{AreDone, NobodyIsEnrolled, Revokes}
+use Rattle.ntp_clerk.specs.Steps.{AreDone, Revokes}
 use Rattle.ntp_clerk.proofs.Doing.{leads-none, leads-append, done-append}
 use Rattle.ntp_clerk.proofs.Having.{enrolled-known}
 
 pub record Folded (from : Registry) (addresses : List Address) (commands : List Command) (now : Registry) : Type 0 where
-  pub nobody : NobodyIsEnrolled now
+  pub nobody : (other : Address) → terms_at now other ≡ None
   pub leads : LeadsTo from commands now
   pub known : All (λ a. IsSome (customer_at now a)) addresses
 
@@ -36,7 +36,7 @@ folded-more from r s addresses i d old new inside folded revokes = record {
 
 -- one address is revoked
 pub revoked : (r mid s : Registry) (a : Address) (one other : Command) (old noted new : List Command) → AreDone r a (one ∷ []) mid → AreDone mid a (other ∷ []) s
-    → noted ≡ old ++ one ∷ [] → new ≡ noted ++ other ∷ [] → NobodyIsEnrolled r → IsSome (terms_at mid a) → terms_at s a ≡ None → Revokes r a old new s
+    → noted ≡ old ++ one ∷ [] → new ≡ noted ++ other ∷ [] → ((q : Address) → terms_at r q ≡ None) → IsSome (terms_at mid a) → terms_at s a ≡ None → Revokes r a old new s
 revoked r mid s a one other old noted new first next had has nobody enrolled gone =
     let both = done-append r mid s a (one ∷ []) (other ∷ []) first next in
     record {

@@ -12,7 +12,7 @@ use Rattle.ntp_service.specs.Commands.{address_named, number_wanted, refusal_of}
 use Rattle.ntp_service.specs.declared.command.Command.TheVariants as command
 use Rattle.ntp_clerk.specs.{declared.wanted.GivenKey.GivenKey, declared.wanted.Terms.Terms}
 use Rattle.ntp_clerk.specs.Leading.{Holds, ends, enrolment_with, key_given, AreTwo, IsNeededAt, KeepsNoKey}
-use Rattle.ntp_clerk.specs.Steps.{done_in, rebudgeting, terms_after, AreDone, AsksOf, Frees, Goes, IsFree, Moves, OnlyWanted}
+use Rattle.ntp_clerk.specs.Steps.{done_in, rebudgeting, terms_after, AreDone, Frees, Goes, IsFree, Moves, OnlyWanted}
 
 -- ---- members
 
@@ -38,6 +38,10 @@ second-of keys k l all = All-head (Contains keys) l [] (All-tail (Contains keys)
 
 abbrev enrolled : List NumberedKey → ℕ → Option Enrolment
 enrolled keys budget = Some (record { keys = keys; budget = budget })
+
+-- the number that a command asks for, if it asks for one, is in an enrolment
+abbrev AsksOf : Option Enrolment → Command → Type 0
+AsksOf wanted c = IfSome (number_wanted c) (Holds wanted)
 
 goes-enrol : {a : Address} {cs : List Command} {new : Option Enrolment} → (g : GivenKey) (budget : NonZeroU16) → Holds new (key_given g).number
     → Goes (enrolled (key_given g ∷ []) budget.value) cs new → Goes None (command.Enrol a g.number g.key budget ∷ cs) new

@@ -1,5 +1,5 @@
 -- The UDP datagrams over IPv4 of a capture file in pcap form (pcap-savefile(5)).
-use Rattle.std.specs.Prelude.{◌≡◌, ◌≤◌, ◌+◌, ◌*◌, ◌%◌, ℕ, ◌==◌, if◌then◌else◌, List, [], ◌++◌, length, drop, slice_index, Option, None, Some}
+use Rattle.std.specs.Prelude.{◌≡◌, ◌≤◌, ◌+◌, ◌*◌, ◌%◌, ℕ, ◌==◌, ◌||◌, if◌then◌else◌, List, [], ◌++◌, length, drop, slice_index, Option, None, Some}
 use Rattle.std.specs.List.{slice_range}
 use Rattle.ntp_clerk.specs.declared.capture.{Order.Order, Link.Link}
 use Rattle.ntp_clerk.specs.declared.capture.Order.TheVariants.{BigEndian, LittleEndian}
@@ -16,19 +16,15 @@ link_of number =
     if type == 1 then Some Ethernet
     else if type == 113 then Some Cooked
     else if type == 276 then Some CookedSecond
-    else if type == 12 then Some Packet
-    else if type == 101 then Some Packet
-    else if type == 228 then Some Packet
+    else if (type == 12) || (type == 101) || (type == 228) then Some Packet
     else None
 
 -- the order of the octets in a file's numbers, by its first four: a1b2c3d4, or a1b23c4d where stamps are in nanoseconds
 -- (pcap-savefile(5))
 abbrev pub order_of : ℕ → Option Order
 order_of magic =
-    if magic == 2712847316 then Some BigEndian
-    else if magic == 2712812621 then Some BigEndian
-    else if magic == 3569595041 then Some LittleEndian
-    else if magic == 1295823521 then Some LittleEndian
+    if (magic == 2712847316) || (magic == 2712812621) then Some BigEndian
+    else if (magic == 3569595041) || (magic == 1295823521) then Some LittleEndian
     else None
 
 -- the number of four octets from a place on

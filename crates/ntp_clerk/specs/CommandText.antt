@@ -1,12 +1,13 @@
--- How a command is written.
-use Rattle.std.specs.Prelude.{◌≡◌, ◌<◌, ◌≤◌, ◌^◌, ℕ, List, [], ◌∷◌, ◌++◌, codes, length, Option, None, Some, IfSome, Ok}
+-- How a command is written, and the name of a customer.
+use Rattle.std.specs.Prelude.{◌≡◌, ◌==◌, ◌<◌, ◌≤◌, ◌^◌, ℕ, nat_eq, true, not, if◌then◌else◌, List, [], ◌∷◌, ◌++◌, codes, drop, length, Option, None, Some, option_map, IfSome, Ok}
+use Rattle.std.specs.List.{starts_with, before_first, after_first, list_all}
 use Rattle.std.specs.{Option.option_map_or, Int.NonZero.non_zero_u16_get, declared.num.NonZeroU16.NonZeroU16}
 use Rattle.hex.specs.Hex.{IsBytes, encode_lower}
 use Rattle.ntp_mac.specs.{Key.SymmetricKey, Key.most_key_octets, declared.key.Algorithm.Algorithm}
 use Rattle.ntp_mac.specs.declared.key.Algorithm.TheVariants.{Md5, Sha1}
 use Rattle.ntp_service.specs.{declared.address.Address.Address, Commands.address_named, Commands.number_named}
 use Rattle.ntp_service.specs.{Vocabulary.command_word, declared.command.Command.Command}
-use Rattle.ntp_admin.specs.Words.{parts, words, address_text, number_behind}
+use Rattle.ntp_admin.specs.Words.{parts, words, address_in, address_text, number_behind}
 use Rattle.ntp_admin.specs.Spells.{command_in}
 use Rattle.ntp_service.specs.declared.command.Command.TheVariants as command
 
@@ -56,3 +57,17 @@ key_digits c = option_map_or (λ key. encode_lower key.octets) (key_named c) []
 -- a text is one line with its line feed, and the line says a command
 abbrev pub WritesCommand : List ℕ → Command → Type 0
 WritesCommand text c = (line : List ℕ) × (parts 10 text ≡ line ∷ [] ∷ []) × (command_in (words line) ≡ Ok c)
+
+-- an address as a word, a space, and a name
+abbrev pub name_behind : List ℕ → Option (Address × List ℕ)
+name_behind said =
+    let name = after_first (λ c. c == 32) said in
+    if length name == 0 then None else option_map (λ address. (address, name)) (address_in (before_first (λ c. c == 32) said))
+
+-- the name in a line, and its address, if it is such a line
+abbrev pub name_in : List ℕ → Option (Address × List ℕ)
+name_in line = if starts_with nat_eq line (codes "# name ") then name_behind (drop 7 line) else None
+
+-- a name is not empty, and of one line
+abbrev pub IsName : List ℕ → Type 0
+IsName name = (1 ≤ length name) × (list_all (λ c. not (c == 10)) name ≡ true)

@@ -36,11 +36,8 @@ chrony_key number key =
 unfoldable pub ntpsec_key : NonZeroU16 → SymmetricKey → List ℕ
 ntpsec_key number key = join_with_byte 32 (number_text number ∷ algorithm_text key.algorithm ∷ key_word [] [] key.octets ∷ [])
 
--- where a port is named: at all but that of NTP (chrony.conf(5))
-abbrev pub port_words : ℕ → List (List ℕ)
-port_words port = if port == 123 then [] else codes "port" ∷ decimal port ∷ []
-
--- a server in chrony's configuration, which asks under a key (chrony.conf(5))
+-- a server in chrony's configuration, which asks under a key; any port but that of NTP is named (chrony.conf(5))
 unfoldable pub chrony_server : List ℕ → ℕ → NonZeroU16 → List ℕ
 chrony_server server port number =
-    join_with_byte 32 (codes "server" ∷ server ∷ (port_words port ++ codes "key" ∷ number_text number ∷ codes "iburst" ∷ codes "xleave" ∷ []))
+    join_with_byte 32 (codes "server" ∷ server ∷ ((if port == 123 then [] else codes "port" ∷ decimal port ∷ [])
+    ++ codes "key" ∷ number_text number ∷ codes "iburst" ∷ codes "xleave" ∷ []))

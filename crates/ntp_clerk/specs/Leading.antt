@@ -1,5 +1,5 @@
 -- Customers that are wanted, and the commands that lead to them.
-use Rattle.std.specs.Prelude.{◌≡◌, ◌≢◌, ℕ, Bool, true, false, Option, Some, option_map, option_to_list, IfSome, IsSome, List, [], ◌∷◌, All, map, find, Contains, AllPairs}
+use Rattle.std.specs.Prelude.{◌≡◌, ◌≢◌, ℕ, Bool, true, false, Option, None, Some, option_map, option_to_list, IfSome, IsSome, List, [], ◌∷◌, All, map, find, Contains, AllPairs}
 use Rattle.std.specs.{declared.alloc.Global.Global, Option.option_map_or, Int.NonZero.non_zero_u16_get}
 use Rattle.ntp_customer.specs.{declared.numbered_key.NumberedKey.NumberedKey, Customer.Enrolment, Customer.numbers_in}
 use Rattle.ntp_service.specs.{declared.address.Address.Address, Address.address_eq, Commands.address_named, Commands.numbered}
@@ -20,10 +20,6 @@ enrolment_with terms = record {
   keys = key_given terms.older ∷ option_to_list (option_map key_given terms.newer);
   budget = non_zero_u16_get terms.budget;
 }
-
--- the enrolment with terms, where there are any
-abbrev pub enrolment_if : Option Terms → Option Enrolment
-enrolment_if terms = option_map enrolment_with terms
 
 -- the enrolment that customers have at an address, if one of them has this address
 abbrev pub enrolment_among : List Wanted → Address → Option Enrolment
@@ -78,6 +74,13 @@ LeadsTo service commands new =
 -- who was ever enrolled is still known: as a customer, or as one that is revoked
 abbrev pub NobodyIsForgotten : Registry → Registry → Type 0
 NobodyIsForgotten old new = (address : Address) → IsSome (customer_at old address) → IsSome (customer_at new address)
+
+-- the new address has what the old one had, which has nothing; all others have what they had, and nobody is forgotten
+pub record HasMoved (old : Registry) (from to : Address) (new : Registry) : Type 0 where
+  pub there : terms_at new to ≡ terms_at old from
+  pub here : terms_at new from ≡ None
+  pub known : NobodyIsForgotten old new
+  pub others : (q : Address) → q ≢ from → q ≢ to → terms_at new q ≡ terms_at old q
 
 -- commands that are carried out from nothing leave the customers of a service, and these addresses are known
 pub record Makes (commands : List Command) (addresses : List Address) (service : Registry) : Type 0 where

@@ -1,10 +1,7 @@
-pub mod Numbers
 pub mod CommandText
 pub mod Grants
 pub mod Leading
 pub mod Steps
-pub mod Names
 pub mod Capture
 pub mod Seen
 pub mod Confirming
-pub mod Moving

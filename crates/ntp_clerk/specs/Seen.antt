@@ -23,7 +23,3 @@ IsSeen None seen = seen ≡ Nothing
 IsSeen (Some c) Nothing = ⊥
 IsSeen (Some c) Revoked = enrolment_at c ≡ None
 IsSeen (Some c) (Enrolled seen) = (terms : Terms) × (enrolment_at c ≡ Some (enrolment_with terms)) × (seen ≡ seen_terms terms)
-
--- the keys of terms are seen alike
-abbrev pub HaveSameKeys : SeenTerms → SeenTerms → Type 0
-HaveSameKeys one other = (one.older ≡ other.older) × (one.newer ≡ other.newer)

@@ -2,7 +2,7 @@
 use Rattle.std.specs.Prelude.{ℕ, ◌≡◌, ◌≢◌, ◌==◌, if◌then◌else◌, ◌++◌, [], ◌∷◌, Bool, true, false, Option, None, Some, option_map, option_and_then, List, All, IfSome, IsSome, Contains, fold, filter_map}
 use Rattle.std.specs.Int.NonZero.{non_zero_u16_get}
 use Rattle.ntp_customer.specs.Tally.{tally}
-use Rattle.ntp_customer.specs.Customer.{Enrolment, enrolment_at, new_customer, numbers_in}
+use Rattle.ntp_customer.specs.Customer.{Enrolment, enrolment_at, customer_from, numbers_in}
 use Rattle.ntp_service.specs.{declared.address.Address.Address, declared.command.Command.Command}
 use Rattle.ntp_service.specs.declared.command.Command.TheVariants.{Budget}
 use Rattle.ntp_service.specs.Commands.{address_named, number_wanted, once_done, refusal_of}
@@ -34,7 +34,7 @@ pub record Notes (address : Address) (terms : Terms) (old new : Address → Opti
 
 -- what an address is enrolled with after its command is done
 abbrev pub terms_after : Option Enrolment → Command → Option Enrolment
-terms_after held c = option_and_then enrolment_at (once_done (tally []) (option_map new_customer held) c)
+terms_after held c = option_and_then enrolment_at (once_done (tally []) (option_map (customer_from (tally [])) held) c)
 
 -- the command that gives an address the wanted budget, where it has another
 abbrev pub rebudgeting : Address → Terms → Terms → Option Command
@@ -45,10 +45,6 @@ rebudgeting address held wanted =
 abbrev pub RefusesNone : Option Enrolment → List Command → Type 0
 RefusesNone held [] = Unit {0}
 RefusesNone held (c ∷ cs) = (refusal_of held c ≡ None) × RefusesNone (terms_after held c) cs
-
--- the number that a command asks for, if it asks for one, is in an enrolment
-abbrev pub AsksOf : Option Enrolment → Command → Type 0
-AsksOf wanted c = IfSome (number_wanted c) (Holds wanted)
 
 -- no other address has the number that a command asks for
 abbrev pub IsFree : Registry → Command → Type 0
@@ -69,7 +65,7 @@ pub record CanDoAll (r : Registry) (address : Address) (cs : List Command) : Typ
 pub record Goes (held : Option Enrolment) (cs : List Command) (new : Option Enrolment) : Type 0 where
   pub leads : fold terms_after held cs ≡ new
   pub refused : RefusesNone held cs
-  pub asks : All (AsksOf new) cs
+  pub asks : All (λ c. IfSome (number_wanted c) (Holds new)) cs
 
 -- commands for an address are done: they change what it is enrolled with, and no other
 pub record AreDone (r : Registry) (address : Address) (cs : List Command) (s : Registry) : Type 0 where
@@ -105,15 +101,11 @@ pub record Moves (r : Registry) (address : Address) (wanted : Option Enrolment) 
   pub needed : All (IsNeededAt address (terms_at r address) wanted) more
   pub kept : Kept (terms_at r address) wanted (terms_at s address)
 
--- no address is enrolled
-abbrev pub NobodyIsEnrolled : Registry → Type 0
-NobodyIsEnrolled r = (address : Address) → terms_at r address ≡ None
-
 -- two commands make an address a revoked one; nobody is enrolled then, and nobody is forgotten
 pub record Revokes (r : Registry) (address : Address) (old new : List Command) (s : Registry) : Type 0 where
   pub more : List Command
   pub noted : new ≡ old ++ more
   pub leads : LeadsTo r more s
   pub is_known : IsSome (customer_at s address)
-  pub nobody : NobodyIsEnrolled s
+  pub nobody : (other : Address) → terms_at s other ≡ None
   pub known : NobodyIsForgotten r s

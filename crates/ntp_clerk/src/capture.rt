@@ -44,6 +44,8 @@ pub struct Capture<'a> {
 /// A record of a capture file, and what stands behind it.
 #[derive(Clone, Copy)]
 pub struct Record<'a> {
+    /// When it was captured, in seconds since 1970.
+    pub seconds: u64,
     /// What was captured.
     pub frame: &'a [u8],
     pub behind: &'a [u8],
@@ -131,12 +133,17 @@ fn number_at(order: Order, octets: &[u8], at: usize) -> u64
 /// The first of the records that these octets are; none where it is cut short, or there is none.
 pub fn next_record(order: Order, octets: &[u8]) -> Option<Record<'_>>
     ensures whole { IfSome result (λ found. IsRecord order octets.now found.frame.now found.behind.now) }
+    ensures seconds { IfSome result (λ found. found.seconds ≡ number_at order octets.now 0) }
     ensures none { IfNone result ((frame : List ℕ) (behind : List ℕ) → IsRecord order octets.now frame behind → ⊥) }
 {
     let (_head, rest) = split(octets, RECORD_HEAD_OCTETS)?;
-    let captured = number_at(order, octets, 8);
+    let (seconds, captured) = (number_at(order, octets, 0), number_at(order, octets, 8));
     let (frame, behind) = split(rest, captured as usize)?;
-    Some(Record { frame, behind })
+    Some(Record {
+        seconds,
+        frame,
+        behind,
+    })
 }
 
 /// What the frames of a capture file begin with (pcap-linktype(7)).
@@ -206,7 +213,7 @@ pub fn datagram_in(packet: &[u8], port: u16) -> Option<Datagram<'_>>
     let octets = payload_octets(udp, port)?;
     let (payload, _padding) = split(behind, octets)?;
     Some(Datagram {
-        source: source_in(ip),
+        source: [ip[12], ip[13], ip[14], ip[15]],
         payload,
     })
 }
@@ -232,14 +239,6 @@ fn payload_octets(udp: &[u8], port: u16) -> Option<usize>
 {
     let octets = (two_octets(udp, 4) as usize).checked_sub(UDP_HEAD_OCTETS)?;
     (two_octets(udp, 2) == u64::from(port)).then_some(octets)
-}
-
-// The source of a header of IPv4.
-fn source_in(ip: &[u8]) -> [u8; 4]
-    requires { 20 ≤ length ip.now }
-    ensures { result ≡ slice_range ip.now 12 16 }
-{
-    [ip[12], ip[13], ip[14], ip[15]]
 }
 
 // The number of two octets from a place on, the most significant first.

@@ -1,9 +1,10 @@
-//! How commands are written.
-ghost use Rattle.std.specs.Prelude.{◌≡◌, ◌++◌, IfOk, IfSome, codes, string_bytes};
+//! How the lines of a commands file are written: commands, names of customers, and records of orders.
+ghost use Rattle.std.specs.Prelude.{◌≡◌, ◌++◌, ◌∷◌, [], List, ℕ, Some, IfOk, IfSome, codes, option_map, string_bytes, true};
 ghost use Rattle.hex.specs.Hex.{encode_lower, IsBytes};
-ghost use Rattle.ntp_admin.specs.{Words.address_text, Words.number_behind, Answers.line_feed};
-ghost use Rattle.ntp_clerk.specs.CommandText.{algorithm_text, budget_named, command_text, key_behind, key_digits, key_named, AreKeyOctets, IsAddress, IsCommand, IsNumber, WritesCommand};
+ghost use Rattle.ntp_admin.specs.{Answers.line_feed, Spells.is_passed_over, Words.address_text, Words.number_behind, Words.parts};
+ghost use Rattle.ntp_clerk.specs.CommandText.{algorithm_text, budget_named, command_text, key_behind, key_digits, key_named, name_in, AreKeyOctets, IsAddress, IsCommand, IsName, IsNumber, WritesCommand};
 
+use ntp_admin::words;
 use ntp_mac::{Algorithm, Key};
 use ntp_service::{Address, Command};
 use std::alloc::{AllocError, Global};
@@ -13,19 +14,10 @@ use std::num::NonZero;
 pub fn command_line(alloc: Global, command: &Command) -> Result<String, AllocError>
     ensures { IfOk result (λ text. WritesCommand (string_bytes text) command.now) }
 {
-    let text = line_text(alloc, command)?;
-    Ok(text)
-}
-
-// The text of this line.
-fn line_text(alloc: Global, command: &Command) -> Result<String, AllocError>
-    ensures text { IfOk result (λ text. string_bytes text ≡ command_text (key_digits command.now) command.now ++ line_feed) }
-    ensures command { IfOk result (λ _. IsCommand command.now) }
-    ensures octets { IfOk result (λ _. IfSome (key_named command.now) (λ key. AreKeyOctets key.octets)) }
-{
     let digits = key_digits(alloc, command)?;
     let text = text_of(alloc, command, digits.as_str())?;
-    format!(in alloc; "{text}\n")
+    let line = format!(in alloc; "{text}\n")?;
+    Ok(line)
 }
 
 // The octets of the key that a command names, in hexadecimal digits; nothing where it names none.
@@ -47,12 +39,11 @@ pub(crate) fn octet_digits(alloc: Global, octets: &[u8]) -> Result<String, Alloc
     hex::encode(alloc, octets)
 }
 
-/// The line of a command as anybody may see it: `KEY` stands in the place of the key. The memory for it is taken from `alloc`.
+/// A command as anybody may see it: `KEY` stands in the place of the key. The memory for it is taken from `alloc`.
 pub fn command_shown(alloc: Global, command: &Command) -> Result<String, AllocError>
-    ensures { IfOk result (λ text. string_bytes text ≡ command_text (codes "KEY") command.now ++ line_feed) }
+    ensures { IfOk result (λ text. string_bytes text ≡ command_text (codes "KEY") command.now) }
 {
-    let text = text_of(alloc, command, "KEY")?;
-    format!(in alloc; "{text}\n")
+    text_of(alloc, command, "KEY")
 }
 
 // The text of a command, with this word for its key.
@@ -131,4 +122,36 @@ pub fn algorithm_word(algorithm: Algorithm) -> &'static str
         Algorithm::Md5 => "md5",
         Algorithm::Sha1 => "sha1",
     }
+}
+
+/// The line that says a name, with its line feed: what is read from it is a name of one line, and its address.
+pub fn name_line(alloc: Global, address: Address, name: &str) -> Result<String, AllocError>
+    ensures { IsName name.now → IfOk result (λ text. (line : List ℕ) × (parts 10 (string_bytes text) ≡ line ∷ [] ∷ [])
+        × (name_in line ≡ Some (address, name.now))) }
+{
+    let word = address_word(alloc, address)?;
+    let line = format!(in alloc; "# name {word} {name}\n")?;
+    Ok(line)
+}
+
+/// The name that a line without its line feed says, behind the address that it names.
+pub fn name_in(line: &str) -> Option<(Address, &str)>
+    ensures { option_map (λ said. (said.0, said.1.now)) result ≡ name_in line.now }
+{
+    let (word, name) = line.strip_prefix("# name ")?.split_once(' ')?;
+    if name.is_empty() {
+        return None;
+    }
+    let address = words::address(word)?;
+    Some((address, name))
+}
+
+/// The line in front of those of an order, with its line feed: when it was given, and by whom. The daemon passes it over.
+pub fn record_line(alloc: Global, time: &str, user: &str) -> Result<String, AllocError>
+    ensures text { IfOk result (λ text. string_bytes text ≡ codes "# " ++ (time.now ++ (codes " " ++ (user.now ++ line_feed)))) }
+    ensures line { IsName time.now → IsName user.now → IfOk result (λ text. (line : List ℕ)
+        × (parts 10 (string_bytes text) ≡ line ∷ [] ∷ []) × (is_passed_over line ≡ true)) }
+{
+    let line = format!(in alloc; "# {time} {user}\n")?;
+    Ok(line)
 }

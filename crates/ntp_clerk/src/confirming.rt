@@ -1,8 +1,10 @@
-//! Which change needs a second word, and what the ages of reports say.
-ghost use Rattle.std.specs.Prelude.{◌≡◌, ◌↔◌, ◌≤◌, ◌<◌, ◌+◌, ◌*◌, IsTrue};
-ghost use Rattle.ntp_clerk.specs.Confirming.{number_to_retire, IsGround};
+//! Which number a key gets, which change needs a second word, and what the ages of reports say.
+ghost use Rattle.std.specs.Prelude.{◌≡◌, ◌≢◌, ◌↔◌, ◌≤◌, ◌<◌, ◌+◌, ◌*◌, ℕ, Contains, IfSome, IfNone, IsSome, IsTrue};
+ghost use Rattle.ntp_service.specs.Registry.{holder_of};
+ghost use Rattle.ntp_clerk.specs.Confirming.{number_to_retire, IsNextFree};
 
 use crate::wanted::Terms;
+use ntp_service::Service;
 use std::num::NonZero;
 
 /// The seconds for which uses are counted before they say which key is in use: a day.
@@ -13,6 +15,24 @@ const SETTLED_SECONDS: u64 = 2;
 
 /// The seconds after which labntpd, if it serves, has written a report anew: it does so each minute, and ten seconds after a failure.
 const RENEWED_SECONDS: u64 = 75;
+
+/// The lowest key number that was never used and that nobody holds; where there is none, the lowest that nobody holds. Nothing where
+/// each is held.
+pub fn number_for_a_key(service: &Service, used: &[u16]) -> Option<NonZero<u16>>
+    ensures next { IfSome result (λ number. IsNextFree used.now service.now number.value) }
+    ensures none { IfNone result ((number : ℕ) → 1 ≤ number → number ≤ 65535 → IsSome (holder_of service.now number)) }
+{
+    let mut lowest = None;
+    for number in 1..=u16::MAX {
+        if service.holder(number).is_none() {
+            if !used.contains(&number) {
+                return NonZero::<u16>::new(number);
+            }
+            lowest = lowest.or(NonZero::<u16>::new(number));
+        }
+    }
+    lowest
+}
 
 /// The number of the key that is retired: the one that is named, else that of the older key.
 pub fn number_to_retire(terms: &Option<Terms>, named: Option<NonZero<u16>>) -> Option<NonZero<u16>>
@@ -27,7 +47,7 @@ pub fn number_to_retire(terms: &Option<Terms>, named: Option<NonZero<u16>>) -> O
 
 /// Whether another key than the one that is retired was used, in a count of a day or more: `used` are the numbers of those that were.
 pub fn may_retire(retired: NonZero<u16>, used: &[u16], counted_seconds: u64) -> bool
-    ensures { IsTrue result ↔ IsGround retired.value used.now counted_seconds }
+    ensures { IsTrue result ↔ ((86400 ≤ counted_seconds) × ((number : ℕ) × Contains used.now number × (number ≢ retired.value))) }
 {
     counted_seconds >= GROUND_SECONDS && used.iter().any(|number| *number != retired.get())
 }

@@ -32,15 +32,8 @@ pub fn customer_text(alloc: Global, grant: &Grant<'_>) -> Result<String, AllocEr
 {
     let key = chrony_key(alloc, grant.number, &grant.key)?;
     let notes = notes(alloc, grant)?;
-    let text = with_notes(alloc, key.as_str(), notes.as_str())?;
+    let text = format!(in alloc; "{key}\n{notes}")?;
     Ok(text)
-}
-
-// A line, and what stands behind it.
-fn with_notes(alloc: Global, line: &str, notes: &str) -> Result<String, AllocError>
-    ensures { IfOk result (λ text. string_bytes text ≡ line.now ++ (10 ∷ notes.now)) }
-{
-    format!(in alloc; "{line}\n{notes}")
 }
 
 // What stands behind the key.
@@ -58,7 +51,7 @@ fn notes(alloc: Global, grant: &Grant<'_>) -> Result<String, AllocError> {
     };
     format!(in alloc;
         "\
-# The line above is the key of {customer}, in the form of chrony's key file. Whoever reads it can ask in your name.
+# The line above is the key of {customer}, in the form of chrony's key file. Who has it can sign false time to you.
 #
 # chrony.conf:
 #   keyfile /etc/chrony/chrony.keys

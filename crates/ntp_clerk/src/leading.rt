@@ -1,23 +1,25 @@
 //! The commands that lead from the customers of a service to others.
-ghost use Rattle.std.specs.Prelude.{◌≡◌, ◌≢◌, ◌↔◌, ℕ, ◌++◌, [], ◌∷◌, false, All, Contains, None, Some, IfErr, IfOk, IfSome, IsTrue, OnOk, nat_eq, option_map};
+ghost use Rattle.std.specs.Prelude.{◌≡◌, ◌≢◌, ◌↔◌, ℕ, ◌++◌, [], ◌∷◌, false, All, Contains, None, Some, Err, IfErr, IfOk, IfSome, IsSome, IsTrue, OnOk, nat_eq, option_map};
 ghost use Rattle.indexmap.specs.{IndexMap.get, IndexSet.contains};
 ghost use Rattle.ntp_service.specs.{Address.address_eq, Commands.address_named, Registry.terms_at, Registry.after_command, Registry.Agrees};
 ghost use Rattle.ntp_service.specs.declared.address.Address.{Address};
 ghost use Rattle.ntp_service.specs.declared.command.Command.TheVariants as command;
-ghost use Rattle.ntp_clerk.specs.Leading.{ends, enrolment_among, enrolment_if, enrolment_with, key_given, AreApart, AreTwo, HasExactly, HasNumber, Holds, IsNeeded, IsNeededAt, LeadsTo, NobodyIsForgotten};
-ghost use Rattle.ntp_clerk.specs.Steps.{done_in, rebudgeting, AreDone, CanDo, CanDoAll, Frees, Goes, Notes, NotesOne, Moves, OnlyWanted};
+ghost use Rattle.ntp_clerk.specs.Leading.{ends, enrolment_among, enrolment_with, key_given, AreApart, AreTwo, HasExactly, HasMoved, HasNumber, Holds, IsNeeded, IsNeededAt, LeadsTo, Makes, NobodyIsForgotten};
+ghost use Rattle.ntp_clerk.specs.Steps.{done_in, rebudgeting, AreDone, CanDo, CanDoAll, Frees, Goes, Notes, NotesOne, Moves, OnlyWanted, Revokes};
 
-use crate::wanted::{GivenKey, Terms, Wanted, are_same_key, terms_at};
+use crate::wanted::{GivenKey, Terms, Wanted, are_same_key, customers_of, terms_at};
 use indexmap::{IndexMap, IndexSet};
+use ntp_mac::Key;
 use ntp_service::{Address, Command, Refusal, Service};
 use std::alloc::{AllocError, Global};
 use std::hash::{BuildHasherDefault, FoldHasher};
+use std::num::NonZero;
 
 // How addresses and numbers are hashed, as the register's are.
 type Hashing = BuildHasherDefault<FoldHasher>;
 
-// What is wanted of each address.
-type ByAddress = IndexMap<Address, Terms, Hashing>;
+/// Values by the addresses of customers.
+pub type ByAddress<T> = IndexMap<Address, T, Hashing>;
 
 // The numbers of keys that are wanted.
 type Numbers = IndexSet<u16, Hashing>;
@@ -72,9 +74,79 @@ pub fn commands_to(
     Ok(commands)
 }
 
+/// The commands that give a customer another address, with its keys and its budget. The service does each. Where the customer is
+/// enrolled and the other address is not, nothing but want of memory stops it, and leaves the service half changed.
+pub fn commands_to_move(
+    alloc: Global,
+    service: &mut Service,
+    from: Address,
+    to: Address,
+) -> Result<Vec<Command>, LeadFault>
+    ensures leads { IfOk result (λ commands. LeadsTo service.old commands.items service.new) }
+    ensures moves { OnOk result (HasMoved service.old from to service.new) }
+    ensures taken { IsSome (terms_at service.old to) → result ≡ Err (LeadFault.Refused Refusal.AlreadyEnrolled) }
+    ensures stranger { terms_at service.old to ≡ None → terms_at service.old from ≡ None → result ≡ Err (LeadFault.Refused Refusal.NotEnrolled) }
+    ensures fault { terms_at service.old to ≡ None → IsSome (terms_at service.old from) → IfErr result (λ fault. fault ≡ LeadFault.NoMemory) }
+{
+    if terms_at(service, to).is_some() {
+        return Err(LeadFault::Refused(Refusal::AlreadyEnrolled));
+    }
+    let Some(terms) = terms_at(service, from) else {
+        return Err(LeadFault::Refused(Refusal::NotEnrolled));
+    };
+    let mut commands = Vec::new(alloc);
+    carry_out(service, &mut commands, Command::Revoke { address: from })?;
+    give(service, &mut commands, to, &terms)?;
+    Ok(commands)
+}
+
+/// Few commands that make the customers of a service out of none. First each of these addresses is enrolled with a spare key, and
+/// revoked.
+pub fn fold(
+    alloc: Global,
+    service: &Service,
+    revoked: &[Address],
+    spare: Key,
+) -> Result<Vec<Command>, LeadFault>
+    ensures { IfOk result (λ commands. Makes commands.items revoked.now service.now) }
+{
+    let customers = customers_of(alloc, service)?;
+    let mut made = Service::new(alloc);
+    let mut commands = Vec::new(alloc);
+    for address in revoked {
+        revoke(&mut made, &mut commands, *address, spare)?;
+    }
+    let more = commands_to(alloc, &mut made, &customers)?;
+    commands.extend_from_slice(&more)?;
+    Ok(commands)
+}
+
+// Makes an address a revoked one, where nobody is enrolled, and so nobody holds number 1.
+fn revoke(
+    service: &mut Service,
+    commands: &mut Vec<Command>,
+    address: Address,
+    spare: Key,
+) -> Result<(), AllocError>
+    requires { (other : Address) → terms_at service.old other ≡ None }
+    ensures { OnOk result (Revokes service.old address commands.old.items commands.new.items service.new) }
+{
+    let enrol = Command::Enrol {
+        address,
+        number: NonZero::<u16>::MIN,
+        key: spare,
+        // `labntpctl check` warns of 1.
+        budget: NonZero::<u16>::new(10).unwrap(),
+    };
+    carry_out(service, commands, enrol)?;
+    carry_out(service, commands, Command::Revoke { address })?;
+    Ok(())
+}
+
 // What is wanted of each address, where no address and no number is wanted twice.
-fn judged(alloc: Global, wanted: &[Wanted]) -> Result<ByAddress, LeadFault>
-    ensures terms { IfOk result (λ terms. (address : Address) → enrolment_if (get address_eq terms address) ≡ enrolment_among wanted.now address) }
+fn judged(alloc: Global, wanted: &[Wanted]) -> Result<ByAddress<Terms>, LeadFault>
+    ensures terms { IfOk result (λ terms. (address : Address)
+        → option_map enrolment_with (get address_eq terms address) ≡ enrolment_among wanted.now address) }
     ensures apart { OnOk result (AreApart wanted.now) }
     ensures fault { AreApart wanted.now → IfErr result (λ fault. fault ≡ LeadFault.NoMemory) }
 {
@@ -87,7 +159,11 @@ fn judged(alloc: Global, wanted: &[Wanted]) -> Result<ByAddress, LeadFault>
 }
 
 // Notes what is wanted of an address, and its numbers, where none of them was noted.
-fn note(terms: &mut ByAddress, numbers: &mut Numbers, customer: &Wanted) -> Result<(), LeadFault>
+fn note(
+    terms: &mut ByAddress<Terms>,
+    numbers: &mut Numbers,
+    customer: &Wanted,
+) -> Result<(), LeadFault>
     ensures notes { OnOk result (Notes customer.now.address customer.now.terms
         (λ q. get address_eq terms.old q) (λ q. get address_eq terms.new q)
         (λ n. contains nat_eq numbers.old n) (λ n. contains nat_eq numbers.new n)) }
@@ -131,8 +207,8 @@ fn free(
     wanted: &Option<Terms>,
 ) -> Result<(), AllocError>
     ensures moves { OnOk result
-        (Moves service.old address (enrolment_if wanted.now) commands.old.items commands.new.items service.new) }
-    ensures only { OnOk result (OnlyWanted (terms_at service.new address) (enrolment_if wanted.now)) }
+        (Moves service.old address (option_map enrolment_with wanted.now) commands.old.items commands.new.items service.new) }
+    ensures only { OnOk result (OnlyWanted (terms_at service.new address) (option_map enrolment_with wanted.now)) }
 {
     let held = terms_at(service, address);
     let step = freeing(address, &held, wanted);
@@ -141,7 +217,7 @@ fn free(
 }
 
 // Gives an address what is wanted of it, where it has nothing else, and no other address has a number of it.
-pub(crate) fn give(
+fn give(
     service: &mut Service,
     commands: &mut Vec<Command>,
     address: Address,
@@ -181,7 +257,7 @@ fn order(
 }
 
 // Gives a service a command, which nothing but want of memory refuses, and notes it.
-pub(crate) fn carry_out(
+fn carry_out(
     service: &mut Service,
     commands: &mut Vec<Command>,
     command: Command,
@@ -203,7 +279,7 @@ pub(crate) fn carry_out(
 // What takes from an address what is not wanted of it.
 fn freeing(address: Address, held: &Option<Terms>, wanted: &Option<Terms>) -> Option<Command>
     requires { IfSome held.now AreTwo }
-    ensures { Frees address (enrolment_if held.now) (enrolment_if wanted.now) (done_in (result ∷ [])) }
+    ensures { Frees address (option_map enrolment_with held.now) (option_map enrolment_with wanted.now) (done_in (result ∷ [])) }
 {
     match (held, wanted) {
         (None, _) => None,
@@ -235,10 +311,10 @@ fn freeing_keys(address: Address, held: &Terms, wanted: &Terms) -> Option<Comman
 
 // What gives an address what is wanted of it, where it has nothing else.
 fn giving(address: Address, held: &Option<Terms>, wanted: &Terms) -> [Option<Command>; 4]
-    requires only { OnlyWanted (enrolment_if held.now) (Some (enrolment_with wanted.now)) }
+    requires only { OnlyWanted (option_map enrolment_with held.now) (Some (enrolment_with wanted.now)) }
     requires two { IfSome held.now AreTwo × AreTwo wanted.now }
-    ensures needed { All (IsNeededAt address (enrolment_if held.now) (Some (enrolment_with wanted.now))) (done_in result) }
-    ensures goes { Goes (enrolment_if held.now) (done_in result) (Some (enrolment_with wanted.now)) }
+    ensures needed { All (IsNeededAt address (option_map enrolment_with held.now) (Some (enrolment_with wanted.now))) (done_in result) }
+    ensures goes { Goes (option_map enrolment_with held.now) (done_in result) (Some (enrolment_with wanted.now)) }
 {
     match held {
         Some(held) => arranging(address, held, wanted),

@@ -3,7 +3,7 @@ ghost use Rattle.std.specs.Prelude.{◌≡◌, ◌↔◌, ◌<◌, IfOk, IfSome,
 ghost use Rattle.std.specs.{Int.NonZero.non_zero_u16_get, List.Sorted.IsNonDecreasingBy};
 ghost use Rattle.ntp_customer.specs.{Customer.enrolment_at, Customer.held_in, declared.numbered_key.NumberedKey.NumberedKey};
 ghost use Rattle.ntp_service.specs.Registry.{terms_at};
-ghost use Rattle.ntp_clerk.specs.Leading.{enrolment_if, enrolment_with, key_given, AreTwo, HasExactly};
+ghost use Rattle.ntp_clerk.specs.Leading.{enrolment_with, key_given, AreTwo, HasExactly};
 
 use ntp_mac::{Algorithm, Key};
 use ntp_service::{Address, Customer, NumberedKey, Service};
@@ -57,7 +57,7 @@ pub fn customers_of(alloc: Global, service: &Service) -> Result<Vec<Wanted>, All
 
 // What an address is enrolled with, if it is.
 pub(crate) fn terms_at(service: &Service, address: Address) -> Option<Terms>
-    ensures terms { enrolment_if result ≡ terms_at service.now address }
+    ensures terms { option_map enrolment_with result ≡ terms_at service.now address }
     ensures two { IfSome result AreTwo }
 {
     let customer = service.customer(address)?;
@@ -66,7 +66,7 @@ pub(crate) fn terms_at(service: &Service, address: Address) -> Option<Terms>
 
 /// What a customer is enrolled with; nothing where it is revoked.
 pub fn terms_of(customer: &Customer) -> Option<Terms>
-    ensures terms { enrolment_if result ≡ enrolment_at customer.now }
+    ensures terms { option_map enrolment_with result ≡ enrolment_at customer.now }
     ensures two { IfSome result AreTwo }
 {
     if !customer.is_enrolled() {

@@ -1,8 +1,8 @@
 use Rattle.std.proofs.Common.{List, ap, ◌∙◌, sym, subst, arith}
-use Rattle.std.specs.Prelude.{Contains}
+use Rattle.std.specs.Prelude.{Contains, option_map}
 use Rattle.std.proofs.lemmas.List.{drop_all, drop_more}
 use Rattle.ntp_service.specs.declared.address.Address.{Address}
-use Rattle.ntp_clerk.specs.{declared.wanted.Wanted.Wanted, Leading.enrolment_if, Leading.AreTwo}
+use Rattle.ntp_clerk.specs.{declared.wanted.Wanted.Wanted, Leading.enrolment_with, Leading.AreTwo}
 use Rattle.ntp_clerk.proofs.Judging.{has-own, others-lack}
 use Rattle.ntp_clerk.proofs.Leads.{freeing-none, freeing-more, giving-none, giving-more, have-exactly}
 use Rattle.ntp_clerk.proofs.leading.commands_to.Goals as goal
@@ -14,7 +14,7 @@ loop-address-init c = rw c.new-commands.ensures.items (freeing-none c.args.servi
 pub loop-address-preserved : goal.loop-address-preserved
 loop-address-preserved c =
     let left = drop_more c.deref-address-items.result.now c.loop-address.address-index _ c.loop-address-test.true in
-    let own = ap enrolment_if (c.copied-terms.ensures ∙ c.get.ensures.value) ∙ c.in_ok-terms.ensures.terms _ in
+    let own = ap (option_map enrolment_with) (c.copied-terms.ensures ∙ c.get.ensures.value) ∙ c.in_ok-terms.ensures.terms _ in
     freeing-more c.args.service.now c.loop-address.service c.free.new.service c.args.wanted.now _ c.loop-address.commands.items c.free.new.commands.items
     (rw own at c.in_ok-free.ensures.moves) _ (rw own at c.in_ok-free.ensures.only) (rw left at c.loop-address.invariant)
 

@@ -1,12 +1,13 @@
-use Rattle.ntp_clerk.specs.Leading.{enrolment_if, enrolment_with}
+use Rattle.ntp_clerk.specs.Leading.{enrolment_with}
 use Rattle.std.proofs.Common.{Some, sym}
+use Rattle.std.specs.Prelude.{option_map}
 use Rattle.ntp_clerk.proofs.Stepping.{moves-given, free-to-give}
 use Rattle.ntp_clerk.proofs.leading.give.Goals as goal
 
 pub returns : goal.returns
 returns c =
     let given = moves-given c.args.service.now c.order.new.service c.args.address _ c.args.commands.now.items c.order.new.commands.items _
-    c.in_ok-order.ensures.noted c.in_ok-order.ensures.done (enrolment_if c.terms_at-held.result) c.terms_at-held.ensures.terms
+    c.in_ok-order.ensures.noted c.in_ok-order.ensures.done (option_map enrolment_with c.terms_at-held.result) c.terms_at-held.ensures.terms
     c.giving-steps.ensures.needed c.giving-steps.ensures.goes in
     record { moves = given.0; has = given.1 }
 

@@ -2,7 +2,7 @@ use Rattle.std.proofs.Common.{[], ◌∷◌, subst}
 use Rattle.ntp_service.specs.declared.command.Command.TheVariants.{Revoke}
 use Rattle.ntp_clerk.specs.Leading.{Holds}
 use Rattle.ntp_clerk.proofs.Doing.{leads-append, revoked-free}
-use Rattle.ntp_clerk.proofs.moving.commands_to_move.Goals as goal
+use Rattle.ntp_clerk.proofs.leading.commands_to_move.Goals as goal
 
 pub give-requires-clause-free : goal.give-requires-clause-free
 give-requires-clause-free c = λ other n ne has.

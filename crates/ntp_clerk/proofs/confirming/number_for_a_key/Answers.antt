@@ -1,7 +1,7 @@
 use Rattle.std.proofs.Common.{◌≡◌, ◌+◌, ◌∙◌, sym, subst, arith}
 use Rattle.ntp_clerk.proofs.Lowest.{all-held, new-next, passed-all, passed-held, passed-used, Passed}
-use Rattle.ntp_clerk.proofs.numbers.number_for_a_key.Goals.{then-is_none+else-not-contains, else-is_none}
-use Rattle.ntp_clerk.proofs.numbers.number_for_a_key.Goals as goal
+use Rattle.ntp_clerk.proofs.confirming.number_for_a_key.Goals.{then-is_none+else-not-contains, else-is_none}
+use Rattle.ntp_clerk.proofs.confirming.number_for_a_key.Goals as goal
 
 pub loop-number-preserved : goal.loop-number-preserved
 loop-number-preserved c =

@@ -3,7 +3,7 @@ use Rattle.std.specs.Prelude.{is_some}
 use Rattle.ntp_service.specs.declared.command.Command.TheVariants as command
 use Rattle.ntp_clerk.specs.Steps.{terms_after}
 use Rattle.ntp_clerk.proofs.Revoking.{revoked}
-use Rattle.ntp_clerk.proofs.folding.revoke.Goals as goal
+use Rattle.ntp_clerk.proofs.leading.revoke.Goals as goal
 
 pub returns : goal.returns
 returns c =

@@ -3,7 +3,7 @@ use Rattle.std.proofs.lemmas.List.{take_all}
 use Rattle.ntp_service.specs.declared.address.Address.{Address}
 use Rattle.ntp_clerk.specs.Leading.{HasExactly}
 use Rattle.ntp_clerk.proofs.Revoking.{folded-none, folded-more, makes, Folded}
-use Rattle.ntp_clerk.proofs.folding.fold.Goals as goal
+use Rattle.ntp_clerk.proofs.leading.fold.Goals as goal
 
 pub loop-address-init : goal.loop-address-init
 loop-address-init c = rw c.new-commands.ensures.items (folded-none c.new-made.result c.new-made.ensures)

@@ -11,7 +11,8 @@
    by two compilers. The programs get their records (tools/records.py).
 3. `tests/run`: the programs, as they were built, from outside. It waits for most of its time.
 4. Beside it, giving way to it, `tools/wrong_bodies`: those of wrong-bodies/, many in one check. All with `--whole`; else those of the crates
-   that changed since the last whole run, and a tenth of the others, another one each day.
+   that changed since the last whole run, and a tenth of the others, another one each day, as far as they are tried in 140 minutes from the
+   start: the others are skipped, and counted.
 
 Where `rt ci` says nothing for ten seconds, a line tells what it is at. At the end a table tells what took how long. The last line is
 `N passed, M failed`, or `N passed, M failed, K skipped`. Status 0 only where nothing failed. An interrupt ends all that was started; the
@@ -31,19 +32,20 @@ import threading
 import time
 import traceback
 
-# Nothing is written beside the sources.
 sys.dont_write_bytecode = True
 TOP = os.path.dirname(os.path.dirname(os.path.realpath(__file__)))
 sys.path.insert(0, f"{TOP}/tools")
 import records
 from building import ENDS_AT_ONCE
-from processes import Table, end_all, take_orphans
+from processes import Table, ended_by_signals
 from rooms import Ticker, crates_of
 
 # What compares pages and edits with the sources.
 COMPARED = ("tools/belief", "tools/crates", "tools/wrong_bodies", "tests/pages")
 # After how many seconds without a line one tells how far it is.
 SILENCE = 10
+# After how many minutes no other wrong body is tried, if not all are asked for: a slow machine ends within three hours too.
+LONGEST = 140
 COUNTS = re.compile(r"(\d+) passed, (\d+) failed(?:, (\d+) skipped)?")
 # What prctl takes: a process is ended with the one that started it.
 PR_SET_PDEATHSIG = 1
@@ -166,7 +168,9 @@ def gate(is_whole):
         if is_proved:
             for name in filter(lambda it: os.access(records.built_at(it), os.X_OK), sources):
                 records.write(name, sources[name])
-            some = ["--write-digests"] if is_whole else ["--tenth", str(datetime.date.today().timetuple().tm_yday % 10)]
+            left = max(0, LONGEST - (time.monotonic() - it.begun) / 60)
+            some = ["--tenth", str(datetime.date.today().timetuple().tm_yday % 10), "--minutes", str(left)]
+            some = ["--write-digests"] if is_whole else some
             with concurrent.futures.ThreadPoolExecutor() as beside:
                 words = ["nice", "-n", "19", f"{TOP}/tools/wrong_bodies", "--behind-ci", *some]
                 tried = beside.submit(it.part, "tools/wrong_bodies", words, is_beside=True)
@@ -202,27 +206,17 @@ def main(words):
         print(__doc__)
         return 0 if words in (["-h"], ["--help"]) else 2
     os.chdir(TOP)
-    take_orphans()
     room = tempfile.mkdtemp(prefix="gate-")
     # What is run as nobody lies below.
     os.chmod(room, 0o711)
-    ends = (signal.SIGINT, signal.SIGTERM, signal.SIGHUP)
-
-    def interrupted(number, _):
-        for it in ends:
-            signal.signal(it, signal.SIG_IGN)
-        raise SystemExit(128 + number)
-
     try:
-        for it in ends:
-            signal.signal(it, interrupted)
-        started = os.fork()
-        if not started:
-            beneath(room, bool(words))
-        ended = os.waitstatus_to_exitcode(os.waitpid(started, 0)[1])
-        return ended if ended >= 0 else 128 - ended
+        with ended_by_signals():
+            started = os.fork()
+            if not started:
+                beneath(room, bool(words))
+            ended = os.waitstatus_to_exitcode(os.waitpid(started, 0)[1])
+            return ended if ended >= 0 else 128 - ended
     finally:
-        end_all()
         shutil.rmtree(room, ignore_errors=True)
 
 

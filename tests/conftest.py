@@ -4,7 +4,6 @@ that one that fails is made again; and the lines that tell how far it is and wha
 import fcntl
 import os
 import pathlib
-import sys
 import tempfile
 import textwrap
 import time
@@ -13,8 +12,6 @@ import hypothesis
 import pytest
 from _pytest.runner import runtestprotocol
 
-TOP = os.path.dirname(os.path.dirname(os.path.realpath(__file__)))
-sys.path.append(f"{TOP}/tools")
 import judging
 import probe
 from judging import PROGRAMS, TESTS, UNPROVED, Odd, until
@@ -103,7 +100,6 @@ def room(request):
 
 @pytest.fixture(autouse=True)
 def ended():
-    """What a case has started and left is ended behind it."""
     yield
     judging.end_all()
 

@@ -55,7 +55,6 @@ def spoilt(line, edits, filled):
 
 
 def octets_of(lines):
-    """The octets of such lines: one in three is spoilt, and few are long."""
     edit = any_of([(0, 0, b"")] * 4 * len(EDITS) + EDITS)
     return st.builds(spoilt, lines, st.tuples(edit, edit), any_of([(0, b" ")] * 30 * len(LENGTHS) + LENGTHS))
 

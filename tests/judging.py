@@ -13,16 +13,16 @@ import time
 import unittest
 
 TOP = os.path.dirname(os.path.dirname(os.path.realpath(__file__)))
+sys.path.append(f"{TOP}/tools")
+from processes import ended_by_signals
+
 # What the environment has where programs were compiled without proof, by tests/run. Their checks make them slow.
 UNPROVED = "UNPROVED_PROGRAMS"
 # How long a step that must come is waited for, in seconds.
 WAIT = 60 if UNPROVED in os.environ else 10
 SECOND = 1_000_000_000
-# A clock that is synchronised.
 REFERENCE = "0001ec00000000000000104e495354ec00000000000000"
-# A customer whom commands enrol.
 FIVE = "127.0.0.5/5/md5/6b6579"
-
 # Why only proved ones pass some cases.
 SLOW, LARGE = "unproved, with checks, the program is too slow", "unproved, with checks, the programs are too large"
 
@@ -45,7 +45,6 @@ TESTS = {
 }
 # The programs, from the one that is compiled in the shortest time.
 PROGRAMS = ("labntp", "labntp_query", "labntpd", "labntpctl")
-
 # What was seen in place of what is wanted.
 Odd = AssertionError
 # The program that is judged, the folder of a case's files, and what was started and has not been ended yet.
@@ -56,12 +55,7 @@ class PassedOver(unittest.SkipTest):
     """Why a case cannot be made here."""
 
 
-class Ended(KeyboardInterrupt):
-    """A signal that asks for the end: no case takes it for a fault."""
-
-
 def needs(*programs, root=False):
-    """Passes over what cannot be made here."""
     path = f"{os.environ.get('PATH', os.defpath)}:/usr/local/sbin:/usr/sbin:/sbin"
     if missing := ["leave of root"] * (root and os.geteuid() != 0) + [it for it in programs if not shutil.which(it, path=path)]:
         raise PassedOver(f"there is no {missing[0]}")
@@ -178,7 +172,6 @@ def register_of(customers):
 
 
 def enrolments(customers):
-    """The lines of a commands file that enrol them."""
     return "".join(f"enrol {' '.join(map(str, it))}\n" for it in customers)
 
 
@@ -190,22 +183,6 @@ def end_all():
 def built(*names):
     """Where these programs stand: where tests/run was told, or else once they are built."""
     return [os.environ.get(f"PROGRAM_{it}", f"{TOP}/crates/{it}/out/{it}") for it in names]
-
-
-@contextlib.contextmanager
-def ended_by_signals():
-    """A signal that asks for the end ends what was started here, and the test with the status that a shell gives."""
-
-    def interrupted(number, _):
-        raise Ended(number)
-
-    for number in (signal.SIGINT, signal.SIGTERM, signal.SIGHUP):
-        signal.signal(number, interrupted)
-    try:
-        yield
-    except Ended as ended:
-        end_all()
-        sys.exit(128 + ended.args[0])
 
 
 @contextlib.contextmanager

@@ -5,6 +5,7 @@ import subprocess
 import judging
 import probe
 from judging import WAIT, Odd, end, file_of, register_of, same, start, until
+from labntpd_server import read, room
 
 CUSTOMERS = [
     ("127.0.0.1", 1, "md5", "6b6579", 65535),
@@ -20,32 +21,27 @@ def serving(port, turns=1):
 
 
 class Server:
-    """The serving program, from its first line on. Its commands file has these lines; where they are None, there is no such file."""
+    """The serving program, from its first line on. Its commands file has these lines; where they are None, there is no such file. `told` is
+    all that it tells on standard error."""
 
     def __init__(self, turns=1000, commands="", register=None, port=None):
-        self.commands = file_of("commands", commands or "")
+        self.commands, self.told = file_of("commands", commands or ""), ""
         if commands is None:
             os.remove(self.commands)
         file_of("register.toml", register or register_of(CUSTOMERS))
         self.port = port or probe.free_port()
-        with open(f"{judging.ROOM}/out", "wb") as out, open(f"{judging.ROOM}/err", "wb") as err:
+        with open(room("out"), "wb") as out, open(room("err"), "wb") as err:
             self.process = start(serving(self.port, turns), stdout=out, stderr=err)
 
     def __enter__(self):
-        until("it serves", lambda: self.out().endswith("\n") or self.process.poll() is not None)
-        same("standard output at the start", f"serving 127.0.0.1:{self.port}\n", self.out())
+        until("it serves", lambda: read("out").endswith("\n") or self.process.poll() is not None)
+        same("standard output at the start", f"serving 127.0.0.1:{self.port}\n", read("out"))
         return self
 
-    def __exit__(self, *_):
+    def __exit__(self, kind, *_):
         end(self.process)
-
-    def out(self):
-        with open(f"{judging.ROOM}/out", errors="replace") as it:
-            return it.read()
-
-    def err(self):
-        with open(f"{judging.ROOM}/err", errors="replace") as it:
-            return it.read()
+        if kind is None:
+            same("standard error", self.told, read("err"))
 
     def ask(self, wanted, customer, form="plain"):
         """What comes is as wanted. Silence lasts until another customer, who asks next, has an answer."""
@@ -66,4 +62,4 @@ class Server:
             same("status", status, self.process.wait(WAIT))
         except subprocess.TimeoutExpired:
             raise Odd(f"it had not ended {WAIT} seconds after its last turn")
-        same("standard output", f"serving 127.0.0.1:{self.port}\n{last}", self.out())
+        same("standard output", f"serving 127.0.0.1:{self.port}\n{last}", read("out"))

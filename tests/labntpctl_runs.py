@@ -11,26 +11,22 @@ import struct
 import subprocess
 
 import judging
+import labntpd_server
 import model
 import probe
-from judging import REFERENCE, PassedOver, enrolments, file_of, same, until
+from judging import PassedOver, enrolments, file_of, same, until
+from labntpd_server import begin, room
 
 KEY = "c40b7a1d93e65f2288bb01d4e7f3a69c5d20e8f1"
 CUSTOMERS = [("192.0.2.1", 1, "sha1", KEY, 4), ("192.0.2.2", 3, "md5", "6b6579", 9), ("127.0.0.1", 4, "sha1", KEY[::-1], 65535)]
-# Most octets of a commands file.
 FILE_LIMIT = 67_108_864
 # Of prctl(2), and of ptrace(2).
 PR_SET_SECCOMP, PR_SET_NO_NEW_PRIVS, SECCOMP_MODE_FILTER = 22, 38, 2
 PTRACE_TRACEME, PTRACE_SYSCALL = 0, 24
-# The daemon that serves where one does.
 (LABNTPD,) = judging.built("labntpd")
 # By whom orders are given, and what stands in front of their lines: when they were given, and by whom.
 CLERK = os.environ["SUDO_USER"] = "clerk"
 RECORD = re.compile(r"# (\d{4}-\d\d-\d\dT\d\d:\d\d:\d\dZ) (.+)")
-
-
-def room(name):
-    return f"{judging.ROOM}/{name}"
 
 
 def read(name):
@@ -66,7 +62,6 @@ def run(words, wanted=None, **how):
 
 
 def fresh():
-    """The room, with nothing in it."""
     for name in os.listdir(judging.ROOM):
         if os.path.isdir(room(name)):
             shutil.rmtree(room(name))
@@ -79,15 +74,11 @@ def configured(port=20123, customers=CUSTOMERS, commands="", **named):
     and these behind them. A file of `named` is named there."""
     fresh()
     file_of("commands", enrolments(customers) + commands)
-    names = {"answers": "answers", "customers": "customers", **named}
-    lines = [f'listen = "127.0.0.1:{port}"', f'commands = "{room("commands")}"']
-    lines += [f'{key} = "{room(name)}"' for key, name in names.items() if name]
-    file_of("labntpd.toml", "\n".join([*lines, "longest_wait = 10", "[clock]", 'source = "fixed"', f'reference = "{REFERENCE}"', ""]))
-    return ["--config", room("labntpd.toml")]
+    files = {key: name and room(name) for key, name in {"statistics": None, **named}.items()}
+    return labntpd_server.configured(labntpd_server.configuration(listen=f"127.0.0.1:{port}", **files))
 
 
 def next_line():
-    """The number of the line that is appended next."""
     return read("commands").count("\n") + 1
 
 
@@ -101,7 +92,6 @@ def patient():
         judging.WAIT = usual
 
 
-# The numbers of calls, by machine.
 CALLS = {"x86_64": {"fsync": 74, "rename": 82}, "aarch64": {"fsync": 82, "rename": 38}}
 
 
@@ -147,9 +137,7 @@ def killed_at(words, most):
 
 @contextlib.contextmanager
 def begun(words, **how):
-    """Another program, which is ended."""
-    process = subprocess.Popen(words, cwd=judging.ROOM, **{"stdin": subprocess.DEVNULL, "stdout": subprocess.DEVNULL, "stderr": subprocess.DEVNULL, **how})
-    judging.started.append(process)
+    process = begin(words, **how)
     try:
         yield process
     finally:
@@ -210,7 +198,6 @@ def customers_now():
 
 
 def names_by(commands):
-    """The last name of each address that has one."""
     return dict(re.findall(r"(?m)^# name (\S+) (.+)$", commands))
 
 
@@ -231,7 +218,6 @@ def enrolled(customers):
 
 
 def wanted_text(customers, names={}):
-    """A file of these customers for `apply`."""
     text = ""
     for address, (keys, budget) in enrolled(customers).items():
         (number, (algorithm, key)), *newer = keys

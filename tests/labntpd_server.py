@@ -28,32 +28,25 @@ CUSTOMERS = [
     ("127.0.0.3", 3, "md5", "a7e0d1b4925c3f6e", 2),
 ]
 ONE, TWO, THREE = ("/".join(map(str, it[:4])) for it in CUSTOMERS)
-
 # The customers of a load, with the most queries that one may ask in a window.
 CROWD = [(f"127.0.1.{i}", i, "md5", "6b6579", 65535) for i in range(1, 33)]
-
 # The longest that a datagram may have waited in the socket's queue and be answered, in seconds: where that is tried, and elsewhere,
 # so that a busy host has none dropped.
 LONGEST_WAIT = 1.0
 LONG_WAIT = 10
-
 # How often the daemon asks its clock, and writes its statistics, in seconds.
 ASKS_EACH = 1.0
 WRITES_EACH = 10
-
 # What a busy host adds to a moment at which something is due, in seconds.
 SLACK = 1.5
-
 # Within how many seconds it is told what the clock says: an answer that a busy host held up tells of a long way, and the next one comes a
 # second later. The clock's last answer counts for longer.
 TOLD_WITHIN = 8 * ASKS_EACH
-
 # How many seconds longer than it should an exchange with the clock may take: what is told of one that took longer is not judged.
 HELD_UP = 0.05
 
 
 def room(name):
-    """The path of a file of the case."""
     return f"{judging.ROOM}/{name}"
 
 
@@ -68,7 +61,6 @@ def read(name):
     return ""
 
 
-# Where it writes: its standard streams and its files.
 TOLD = ("out", "err", "journal", "answers", "statistics", "statistics.new", "customers", "customers.new")
 
 
@@ -142,6 +134,11 @@ def tells_no_key(texts):
                 raise Odd(f"a key, {key.hex()}, stands in {name}")
 
 
+def udp_sockets():
+    """The kernel's list of UDP sockets: of each its words, the local address and port, the remote ones, and the queues behind the first."""
+    return [line.split() for line in pathlib.Path("/proc/net/udp").read_text().splitlines()[1:]]
+
+
 def scheduled(process):
     """For how many seconds a process has had a processor, and for how many it was ready to go on and had none."""
     had, waited, _ = pathlib.Path(f"/proc/{process.pid}/schedstat").read_text().split()
@@ -155,6 +152,21 @@ def share_of_a_processor(process, seconds):
     return (scheduled(process)[0] - before) / (time.monotonic() - begun)
 
 
+def handing_down(s, **environment):
+    """How a program is handed a socket as its descriptor 3, as a manager of services does it, with these words of its environment; PID
+    stands for its own number."""
+    def prepare():
+        os.dup2(s.fileno(), 3)
+        for name, word in environment.items():
+            os.putenv(name, word.replace("PID", str(os.getpid())))
+
+    return {"close_fds": False, "preexec_fn": prepare}
+
+
+# The words with which a socket is handed down to the program itself.
+OURS = {"LISTEN_PID": "PID", "LISTEN_FDS": "1"}
+
+
 class Daemon:
     """The daemon, from its first line on. Where `inherited` is a socket, that is handed down to it; else `prepare` is run in the new process.
     Its configuration file is made of the keys, or has this text, where PORT stands for its port. At the head of its commands file
@@ -163,7 +175,7 @@ class Daemon:
     def __init__(self, clock=FIXED, enrolled=CUSTOMERS, commands="", inherited=None, host=probe.HOST, stderr=None, text="", key=CLOCK_KEY,
                  on=None, prepare=None, program=None, **keys):
         self.host, self.inherited, self.stderr, self.on, self.program = host, inherited, stderr, on, program
-        self.prepare = self.hand_down if inherited else prepare
+        self.how = handing_down(inherited, **OURS) if inherited else {"preexec_fn": prepare}
         self.port = inherited.getsockname()[1] if inherited else probe.free_port()
         self.head = enrolments(enrolled).encode()
         self.commands = file_of("commands", self.head + (commands if isinstance(commands, bytes) else commands.encode()))
@@ -176,17 +188,10 @@ class Daemon:
         self.start()
 
     def start(self):
-        how = {"close_fds": not self.inherited, "preexec_fn": self.prepare}
         environment = self.on.environment() if self.on else None
         with open(room("out"), "wb") as out, open(room("err"), "wb") as err:
             stderr = err if self.stderr is None else self.stderr
-            self.process = start(self.words, self.program, stdout=out, stderr=stderr, env=environment, **how)
-
-    def hand_down(self):
-        """Run in the new process: the socket is its descriptor 3, as a manager of services does it."""
-        os.dup2(self.inherited.fileno(), 3)
-        os.putenv("LISTEN_FDS", "1")
-        os.putenv("LISTEN_PID", str(os.getpid()))
+            self.process = start(self.words, self.program, stdout=out, stderr=stderr, env=environment, **self.how)
 
     def __enter__(self):
         self.serves()
@@ -212,15 +217,10 @@ class Daemon:
         self.open = self.descriptors()
 
     def waits(self):
-        """It sleeps."""
-        with open(f"/proc/{self.process.pid}/stat") as it:
-            return it.read().rpartition(")")[2].split()[0] == "S"
+        return pathlib.Path(f"/proc/{self.process.pid}/stat").read_text().rpartition(")")[2].split()[0] == "S"
 
     def has_swept(self):
-        """Nothing stands in the queue of its socket any longer."""
-        with open("/proc/net/udp") as it:
-            here = [words[4] for words in map(str.split, it) if words[1].endswith(f":{self.port:04X}")]
-        return all(int(it.partition(":")[2], 16) == 0 for it in here)
+        return all(int(words[4].partition(":")[2], 16) == 0 for words in udp_sockets() if words[1].endswith(f":{self.port:04X}"))
 
     def descriptors(self):
         """What it has open. What stood at the path of its commands file counts as that file."""
@@ -235,23 +235,15 @@ class Daemon:
         return found
 
     def is_quiet(self):
-        """What is looked at after each case while it serves."""
-        self.leaves_no_descriptor()
-        if not self.spins:
-            self.rests()
-
-    def leaves_no_descriptor(self):
-        """It has no more open than when it began to serve, but for what it opens for a moment."""
+        """What is looked at after each case while it serves: it has no more open than when it began to, but for what it opens for a moment.
+        While nobody asks it takes less than 2 in 100 of a processor, once it has ended what it had begun."""
         give_up = time.monotonic() + 2
         while more := self.descriptors() - self.open:
             if time.monotonic() > give_up:
                 raise Odd(f"it has more open than at the start: {', '.join(f'{many} of {name}' for name, many in more.items())}")
             time.sleep(0.02)
-
-    def rests(self):
-        """While nobody asks it takes less than 2 in 100 of a processor, once it has ended what it had begun."""
         give_up = time.monotonic() + 5
-        while (taken := share_of_a_processor(self.process, 0.3)) >= 0.02:
+        while not self.spins and (taken := share_of_a_processor(self.process, 0.3)) >= 0.02:
             assert time.monotonic() <= give_up, f"it takes {taken:.1%} of a processor while nobody asks"
 
     def again(self):
@@ -266,9 +258,12 @@ class Daemon:
 
     def append(self, *lines):
         """New lines of the commands file, which are in force for a query that comes some milliseconds later."""
-        with open(self.commands, "a") as it:
-            it.write("".join(f"{line}\n" for line in lines))
+        self.append_octets("".join(f"{line}\n" for line in lines).encode())
         time.sleep(0.01)
+
+    def append_octets(self, octets):
+        with open(self.commands, "ab") as it:
+            it.write(octets)
 
     def line(self, number):
         """The number in its commands file of such a line behind the head."""
@@ -281,9 +276,8 @@ class Daemon:
 
     def told(self, customer=ONE):
         """The reference state that a reply tells now."""
-        customer = probe.Customer(customer)
-        with customer.socket(self.port) as s:
-            return state_in(signed_reply(customer, s))
+        with probe.Customer(customer).socket(self.port) as s:
+            return state_in(signed_reply(probe.Customer(customer), s))
 
     def tells(self, what, is_so, seconds):
         """Within so many seconds it tells a state that is so; the state and how many seconds it took."""
@@ -308,7 +302,6 @@ def signed_reply(customer, s):
 
 
 def state_in(reply):
-    """The reference state that a reply tells."""
     first, stratum, _, precision, delay, dispersion, identifier, stamp = struct.unpack(">BBBBII4sQ", reply[:24])
     return State(first >> 6, stratum, precision, delay, dispersion, identifier, stamp)
 
@@ -333,9 +326,8 @@ def counted(wanted, of=("labntp_answers_total",)):
         return {name: int(number) for name, number in statistics().items() if number and name.partition("{")[0] in of}
 
     wanted = {name: number for name, number in wanted.items() if number}
-    give_up = time.monotonic() + WRITES_EACH + WAIT
-    while seen() != wanted and time.monotonic() < give_up:
-        time.sleep(0.05)
+    with contextlib.suppress(Odd):
+        until("they do", lambda: seen() == wanted, WRITES_EACH + WAIT)
     odd = {name: (wanted.get(name, 0), seen().get(name, 0)) for name in wanted | seen() if wanted.get(name) != seen().get(name)}
     assert not odd, "statistics: " + "; ".join(f"{name}: wanted {first}, saw {second}" for name, (first, second) in odd.items())
 
@@ -393,8 +385,7 @@ def kernel_dropped(s):
     """How many datagrams the kernel dropped at this socket for want of room."""
     address, port = s.getsockname()
     local = f"{int.from_bytes(socket.inet_aton(address), sys.byteorder):08X}:{port:04X}"
-    with open("/proc/net/udp") as it:
-        return next(int(words[-1]) for words in map(str.split, it) if words[1] == local)
+    return next(int(words[-1]) for words in udp_sockets() if words[1] == local)
 
 
 def unanswered(asked):
@@ -581,9 +572,9 @@ def chronyd(*words):
     return [copy if os.path.exists(copy) else shutil.copy(found, copy), "-U", "-u", pwd.getpwuid(os.geteuid()).pw_name, *words]
 
 
-def chronyd_at(port, name, *lines, keys=f"1 SHA1 HEX:{CLOCK_KEY}\n"):
-    """The words that start chronyd, which sets no clock and serves this host at this port under these keys."""
-    lines = [*lines, f"port {port}", "bindaddress 127.0.0.1", "allow 127.0.0.0/8", "cmdport 0", "bindcmdaddress /"]
+def chronyd_at(port, name, *lines, keys=f"1 SHA1 HEX:{CLOCK_KEY}\n", address="127.0.0.1", allowed=("127.0.0.0/8",)):
+    """The words that start chronyd, which sets no clock and serves these networks there under these keys."""
+    lines = [*lines, f"port {port}", f"bindaddress {address}", *(f"allow {it}" for it in allowed), "cmdport 0", "bindcmdaddress /"]
     lines += [f"keyfile {file_of('chrony.keys', keys)}", f"pidfile {room(name)}.pid"]
     return chronyd("-d", "-x", "-f", file_of(f"{name}.conf", "\n".join(lines)))
 
@@ -601,12 +592,9 @@ def ntpsec_with(keys, *lines):
     return [*WITHOUT_CLOCK, found, "-n", "-c", file_of("ntp.conf", "".join(f"{it}\n" for it in lines))]
 
 
-def begin(words, environment=None):
+def begin(words, **how):
     """Another program, which is ended as the daemon is."""
-    quiet = {name: subprocess.DEVNULL for name in ("stdin", "stdout", "stderr")}
-    process = subprocess.Popen(words, env=environment, cwd=judging.ROOM, **quiet)
-    judging.started.append(process)
-    return process
+    return start(words[1:], words[0], **{"stdout": subprocess.DEVNULL, "stderr": subprocess.DEVNULL, **how})
 
 
 @contextlib.contextmanager

@@ -194,7 +194,6 @@ class Model:
         del self.holders[number]
 
     def datagram(self, address, octets, window):
-        """The answer to a datagram with its receipt in this window."""
         if address not in self.enrolments:
             return Answer("silent", "unregistered")
         at, why = tail_of(octets)

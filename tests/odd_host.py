@@ -24,6 +24,7 @@ HEAD = r"""
 #include <string.h>
 #include <sys/mman.h>
 #include <sys/socket.h>
+#include <sys/stat.h>
 #include <sys/syscall.h>
 #include <sys/un.h>
 #include <time.h>
@@ -63,6 +64,18 @@ ssize_t read(int file, void *octets, size_t count) {
 OTHER_LIST = r"""
 int opened(const char *path, int flags, mode_t mode) {
     return syscall(SYS_openat, AT_FDCWD, strcmp(path, "/proc/net/udp") ? path : "%s", flags, mode);
+}
+"""
+
+# One on which a pipe takes the place of the file of a name just before it is opened.
+PIPE_IN_TIME = r"""
+int opened(const char *path, int flags, mode_t mode) {
+    const char *name = strrchr(path, '/');
+    if (name && strcmp(name, "/%s") == 0) {
+        unlink(path);
+        syscall(SYS_mknodat, AT_FDCWD, path, S_IFIFO | 0600, 0);
+    }
+    return syscall(SYS_openat, AT_FDCWD, path, flags, mode);
 }
 """
 

@@ -8,8 +8,6 @@ import shutil
 import subprocess
 import sys
 
-TOP = os.path.dirname(os.path.dirname(os.path.realpath(__file__)))
-sys.path.insert(0, f"{TOP}/tools")
 import judging
 from judging import Odd, PassedOver
 from processes import give_way
@@ -68,9 +66,28 @@ def preferred(processors=ALLOWED):
         os.sched_setaffinity(0, ALLOWED)
 
 
+# Has the socket that it makes at an address and a port be descriptor 3 of the program that it becomes.
+HANDS_DOWN = """
+import os, socket, sys
+s = socket.socket(socket.AF_INET, socket.SOCK_DGRAM)
+s.bind((sys.argv[1], int(sys.argv[2])))
+os.dup2(s.fileno(), 3)
+os.set_inheritable(3, True)
+os.environ.update(LISTEN_FDS="1", LISTEN_PID=str(os.getpid()))
+os.execvp(sys.argv[3], sys.argv[3:])
+"""
+
+
+def on_a_host(addresses, port, *bound):
+    """What begins a program on a host with these addresses; where an address is said, with a socket that is bound there."""
+    judging.needs("ip", "unshare", root=True)
+    lines = ["ip link set lo up", *[f"ip addr add {it}/32 dev lo" for it in addresses], 'exec "$@"']
+    handed = [sys.executable, "-c", HANDS_DOWN, *bound, str(port)] if bound else []
+    return ["unshare", "--net", "sh", "-ec", "; ".join(lines), "sh", *handed]
+
+
 # ---- nftables
 
-# A table that any nft can load.
 TRIVIAL = "table inet labntpd_trial\ndelete table inet labntpd_trial\n"
 
 
@@ -165,7 +182,6 @@ int main(int count, char **words) {
 
 
 def compiled(source, name):
-    """Makes a program of this name of a source in C."""
     subprocess.run(["gcc", "-O2", "-x", "c", "-o", f"{judging.ROOM}/{name}", "-"], input=f"{HEAD}{source}".encode(), check=True)
 
 

@@ -24,9 +24,7 @@ from judging import Odd, PassedOver
 SYSTEMD = "/usr/lib/systemd/systemd"
 PROGRAMS = (SYSTEMD, "systemctl", "journalctl", "mount", "unshare", "nsenter", "setpriv", "pivot_root", "ip", "ss")
 PATH = "/usr/local/sbin:/usr/local/bin:/usr/sbin:/usr/bin:/sbin:/bin"
-
 NAMESPACES = ("unshare", "--fork", "--pid", "--kill-child=KILL", "--mount", "--propagation", "private", "--net", "--uts", "--ipc", "--cgroup")
-
 # Where the unit files are that are installed, and the folder that is handed to it.
 UNITS, GIVEN = "/etc/systemd/system", "/given"
 
@@ -93,10 +91,13 @@ def remove(folder):
 
 
 @contextlib.contextmanager
-def entered(module, copies):
+def entered(module, copies, *programs):
     """While systemd runs: what makes a function of this file of tests there, by its name. `copies` has files and folders to be handed over, by
-    their new names."""
-    own = group()
+    their new names; nftables is, where tests/run has fetched it."""
+    if why := missing(*programs):
+        raise PassedOver(why)
+    own, peers = group(), f"{os.environ.get('PEERS', '')}/nftables"
+    copies |= {"nftables": peers} if os.path.isdir(peers) else {}
 
     def join():
         pathlib.Path(f"{own}/cgroup.procs").write_text(str(os.getpid()))
@@ -193,7 +194,6 @@ def run(commands, wanted=0):
 
 
 def shown(unit, *names):
-    """What systemd tells of a unit."""
     told = dict(line.split("=", 1) for line in run(f"systemctl show {unit}").splitlines())
     return [told[it] for it in names]
 

@@ -16,7 +16,6 @@ PACKAGES = {"chrony": "chrony", "prometheus": "prometheus", "ntpsec-ntpdig": "nt
 PACKAGES |= {"ntpsec": "ntpsec", "openntpd": "openntpd", "apparmor": "apparmor"}
 PACKAGES |= {it: "nftables" for it in ("nftables", "libnftables1", "libnftnl11", "libmnl0", "libjansson4", "libxtables12", "libedit2", "libbsd0", "libmd0", "libgmp10")}
 FETCH_LIMIT = 120
-# What runs the tests, for a Python that has no pytest with these plugins.
 PYTEST = "pytest pytest-xdist pytest-timeout pluggy iniconfig packaging execnet apipkg attr hypothesis sortedcontainers".split()
 IMPORTS_PYTEST = [sys.executable, "-c", "import hypothesis, pytest, pytest_timeout, xdist"]
 
@@ -44,7 +43,6 @@ def apt_get(folder, seconds, *words):
 
 
 def cache():
-    """The folder of this project in the user's cache."""
     return f"{os.environ.get('XDG_CACHE_HOME') or os.path.expanduser('~/.cache')}/labntp"
 
 
@@ -143,13 +141,11 @@ def ntpdig(port, *words):
 
 
 def promtool(*words, given=""):
-    """promtool finds nothing amiss in what these words name, or in what it is given."""
     program, _ = tool("prometheus", "promtool")
     ran = subprocess.run([program, *words], input=given, stdout=subprocess.PIPE, stderr=subprocess.STDOUT, text=True, timeout=60)
     assert not ran.returncode, ran.stdout.strip()
 
 
 def version(server):
-    """The version of chrony or of NTPsec."""
     words = {"chrony": ("chrony", "chronyd", "version "), "NTPsec": ("ntpsec", "ntpd", "ntpsec-")}[server]
     return re.search(rf"{words[-1]}([^\s(]+)", tool(*words)[1])[1]

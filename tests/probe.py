@@ -7,7 +7,9 @@ A customer is written ADDRESS/NUMBER/ALGORITHM/KEY, the key in hexadecimal; an a
     probe.py relay PORT LOG                   prints its own port, passes datagrams on and notes them in LOG
     probe.py dig PORT NTPDIG WORDS..          runs the program ntpdig, which knows no port but 123
 """
+import collections
 import hashlib
+import itertools
 import random
 import re
 import select
@@ -26,7 +28,6 @@ FIELD_KIND = 0xF0FF
 
 
 def now():
-    """The stamp of the clock."""
     seconds, nanos = divmod(time.time_ns(), 1_000_000_000)
     return (seconds + SINCE_1900 << 32 | (nanos << 32) // 1_000_000_000) & 0xFFFF_FFFF_FFFF_FFFF
 
@@ -63,7 +64,6 @@ def first_octet(form):
 
 
 def query(customer, form="plain", origin=0, receive=0):
-    """The octets of a query, and its transmit stamp."""
     header = struct.pack(">B3x20xQQQ", first_octet(form), origin, receive, 0 if form == "unsent" else now())
     if form == "empty":
         return b""
@@ -104,10 +104,12 @@ def nanos(stamp):
 
 
 def kind(customer, request, reply, clock=None):
-    """What a reply is.  `clock` has the stamps before the query was sent and after the reply came."""
+    """What a reply is, or nothing.  `clock` has the stamps before the query was sent and after the reply came."""
     def odd(what):
         return f"{what} in {reply.hex()}"
 
+    if reply is None:
+        return "nothing"
     if len(reply) < 48:
         return odd("too few octets")
     if len(reply) > len(request):
@@ -148,14 +150,21 @@ def answer(s, wait=WAIT):
         return None
 
 
+def exchange(customer, s, *asked, wait=WAIT):
+    """Sends a query, of which `query` takes the form and the stamps: the kind of what comes in so many seconds, that, and when it came."""
+    packet = query(customer, *asked)
+    s.send(packet)
+    reply, came = answer(s, wait), now()
+    return kind(customer, packet, reply), reply, came
+
+
 def ask(port, form, text):
     """Sends one query. Gives what came: time, rate, deny, nak, nothing in WAIT seconds, or what was wrong with it."""
     customer = Customer(text)
     with customer.socket(port) as s:
         before, packet = now(), query(customer, form)
         s.send(packet)
-        reply = answer(s)
-        return "nothing" if reply is None else kind(customer, packet, reply, (before, now()))
+        return kind(customer, packet, answer(s), (before, now()))
 
 
 def silence(port, marker, form, text):
@@ -164,13 +173,8 @@ def silence(port, marker, form, text):
     with customer.socket(port) as s, marker.socket(port) as m:
         packet = query(customer, form)
         s.send(packet)
-        marked = query(marker)
-        m.send(marked)
-        reply = answer(m)
-        if reply is None:
-            return "nothing, and the marker got none either"
-        if kind(marker, marked, reply) != "time":
-            return f"the marker got {kind(marker, marked, reply)}"
+        if (word := exchange(marker, m)[0]) != "time":
+            return f"the marker got {word}"
         reply = answer(s, 0)
         return "silence" if reply is None else kind(customer, packet, reply)
 
@@ -179,25 +183,21 @@ def interleave(port, text):
     """A basic exchange, one that asks when its reply left, the same question again, and one about the second."""
     customer = Customer(text)
     with customer.socket(port) as s:
-        def exchange(origin, receive, wanted):
-            packet = query(customer, "plain", origin, receive)
-            s.send(packet)
-            reply = answer(s)
-            arrival = now()
-            found = "nothing" if reply is None else kind(customer, packet, reply)
+        def is_told(origin, receive, wanted):
+            found, reply, arrival = exchange(customer, s, "plain", origin, receive)
             if found != wanted:
                 raise ValueError(f"{wanted} was due, {found} came")
             return (*stamps(reply), arrival)
 
         try:
-            _, received, sent, arrival = exchange(0, 0, "time")
-            origin, second_received, departed, second_arrival = exchange(received, arrival, "interleaved")
+            _, received, sent, arrival = is_told(0, 0, "time")
+            origin, second_received, departed, second_arrival = is_told(received, arrival, "interleaved")
             if origin != arrival:
                 raise ValueError("the origin is not the receive stamp of the query")
             if not sent < departed < second_received:
                 raise ValueError(f"left at {departed:016x}, made at {sent:016x}, next query {second_received:016x}")
-            exchange(received, arrival, "time")
-            exchange(second_received, second_arrival, "interleaved")
+            is_told(received, arrival, "time")
+            is_told(second_received, second_arrival, "interleaved")
         except ValueError as e:
             return str(e)
     return "interleaved"
@@ -205,32 +205,33 @@ def interleave(port, text):
 
 def queries(port, count, form, text):
     """Sends so many queries, each once the one before was answered; where the form is `interleaved`, each asks about the reply before."""
-    customer, found, received, arrival = Customer(text), {}, 0, 0
+    customer, found, received, arrival = Customer(text), [], 0, 0
     with customer.socket(port) as s:
         for _ in range(int(count)):
-            packet = query(customer, "plain", received, arrival)
-            s.send(packet)
-            reply = answer(s)
-            word = "nothing" if reply is None else kind(customer, packet, reply)
-            found[word] = found.get(word, 0) + 1
+            word, reply, came = exchange(customer, s, "plain", received, arrival)
+            found.append(word)
             if form == "interleaved" and reply is not None:
-                received, arrival = stamps(reply)[1], now()
-    return " ".join(f"{word} {many}" for word, many in found.items())
+                received, arrival = stamps(reply)[1], came
+    return counts(found)
+
+
+def counts(words):
+    """How many there are of each, as `time 3 rate 1`."""
+    return " ".join(f"{word} {count}" for word, count in collections.Counter(words).items())
 
 
 def roll(port, commands, address, number):
     """A hundred new keys, each by two lines in one write, and a query with each. They are enrolled with a budget of one, so that each enrolment
     has to begin with nothing counted. Gives `time 100`, or at which query it ended."""
-    seen = {}
+    seen = []
     for i in range(100):
         key = f"{i:040x}"
         with open(commands, "a") as f:
             f.write(f"revoke {address}\nenrol {address} {number} sha1 {key} 1\n")
-        word = ask(port, "plain", f"{address}/{number}/sha1/{key}")
-        seen[word] = seen.get(word, 0) + 1
-        if word != "time":
+        seen.append(ask(port, "plain", f"{address}/{number}/sha1/{key}"))
+        if seen[-1] != "time":
             break
-    return " ".join(f"{word} {count}" for word, count in seen.items())
+    return counts(seen)
 
 
 def forgeries(customer):
@@ -251,9 +252,8 @@ def flood(port, count, text):
     """Sends so many datagrams in the customer's name that are no signed queries, and asks after each 63 of them. Each signed query asks about
     the reply before, so each reply but the first is to be interleaved, as it is without a flood; the refusals of the forgeries go to a port
     of their own."""
-    customer, refused, asked, count = Customer(text), {}, 0, int(count)
-    some = forgeries(customer)
-    ready = [next(some) for _ in range(5000)]
+    customer, refused, asked = Customer(text), collections.Counter(), 0
+    ready = [*itertools.islice(forgeries(customer), 5000)]
     received, arrival = 0, 0
     begun = time.monotonic()
     with customer.socket(port) as s, customer.socket(port) as forger:
@@ -261,11 +261,7 @@ def flood(port, count, text):
             forger.send(ready[i % len(ready)])
             if i % 63 == 62 or i == count - 1:
                 asked += 1
-                packet = query(customer, "plain", received, arrival)
-                s.send(packet)
-                reply = answer(s)
-                came = now()
-                found = "nothing" if reply is None else kind(customer, packet, reply)
+                found, reply, came = exchange(customer, s, "plain", received, arrival)
                 wanted = "interleaved" if asked > 1 else "time"
                 if found != wanted:
                     return f"query {asked} behind {i + 1} forgeries: {wanted} was due, {found} came"
@@ -274,12 +270,11 @@ def flood(port, count, text):
                     return f"query {asked}: the reply before came at {received:016x}, left at {sent:016x}"
                 received, arrival = next_received, came
                 while (reply := answer(forger, 0)) is not None:
-                    word = {48: "deny", 52: "nak"}.get(len(reply), f"{len(reply)} octets")
-                    refused[word] = refused.get(word, 0) + 1
+                    refused[{48: "deny", 52: "nak"}.get(len(reply), f"{len(reply)} octets")] += 1
     seconds = time.monotonic() - begun
     windows = int(seconds / 64) + 2
-    if sum(refused.values()) > 4 * windows or not set(refused) <= {"deny", "nak"}:
-        return f"refusals {refused} in {seconds:.1f} s"
+    if refused.total() > 4 * windows or not {*refused} <= {"deny", "nak"}:
+        return f"refusals {dict(refused)} in {seconds:.1f} s"
     return f"asked {asked} interleaved {asked - 1}"
 
 
@@ -307,7 +302,7 @@ def relay(port, log):
 def wire(log, text):
     """What a relay saw, as `asked 4 time 2 interleaved 2`. A reply belongs to the newest request that it fits: on a busy host the client asks
     again before it has come."""
-    customer, requests, seen = Customer(text), [], {"asked": 0}
+    customer, requests, seen = Customer(text), [], []
     with open(log) as notes:
         for line in notes:
             way, packet = line[0], bytes.fromhex(line[2:])
@@ -316,8 +311,8 @@ def wire(log, text):
             else:
                 words = [kind(customer, request, packet) for request in requests]
                 word = next((it for it in words if it.isalpha()), words[0])
-            seen[word] = seen.get(word, 0) + 1
-    return " ".join(f"{word} {count}" for word, count in seen.items())
+            seen.append(word)
+    return counts(seen)
 
 
 def dig(port, *words):
@@ -333,13 +328,9 @@ def free_port():
         return s.getsockname()[1]
 
 
-def main(word, *words):
+if __name__ == "__main__":
+    word, *words = sys.argv[1:]
     numbered = [int(w) if i == 0 and w.isdecimal() else w for i, w in enumerate(words)]
-    calls = {"port": free_port, "queries": queries, "relay": relay, "dig": dig}
-    found = calls[word](*numbered)
+    found = {"port": free_port, "queries": queries, "relay": relay, "dig": dig}[word](*numbered)
     if found is not None:
         print(found)
-
-
-if __name__ == "__main__":
-    main(*sys.argv[1:])

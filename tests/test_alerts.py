@@ -1,6 +1,4 @@
-"""Judges examples/labntpd.rules.yml and examples/labntpd.dashboard.json: labntpd prints each of its metrics that these name. And by Prometheus'
-own program the rules are well formed, and over made-up statistics each alarm fires where it should, and none fires where all is well; and each
-query of the dashboard finds something. Its panels stand beside one another.
+"""Judges examples/labntpd.rules.yml and examples/labntpd.dashboard.json, by Prometheus' own program over made-up statistics.
 
 promtool is looked for on the path, and below $PEERS as tests/run unpacks Debian's package `prometheus` there; where it is not found, its
 cases are passed over.
@@ -97,13 +95,11 @@ FIRES_TOO = {
 # What the dashboard shows besides, where all is well.
 SHOWN = {it: "0+0x60" for it in ("labntp_send_would_wait_total", "labntp_queue_wait_seconds", "labntp_commands_changed")}
 SHOWN |= {'labntp_answers_total{answer="rate"}': "0+0x60", 'labntp_clock_believed{why="believed"}': "1+0x60", "labntp_clock_stratum": "2+0x60"}
-
 # When it is looked, in minutes.
 BEFORE, AFTER = 20, 42
 
 
 def test_each_metric_is_printed():
-    """labntpd prints each of its metrics that the rules, the dashboard or the made-up statistics name."""
     with open(RULES) as rules, open(DASHBOARD) as dashboard, open(STATISTICS) as source:
         named = re.findall(r"\blabntp_\w+", " ".join([rules.read(), dashboard.read(), *WELL, *SHOWN]))
         same("unknown names", [], sorted({*named} - {*re.findall(r'"(labntp_\w+)"', source.read())}))

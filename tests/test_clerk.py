@@ -1,12 +1,5 @@
 """Judges labntpctl from outside by what a clerk does with the commands file as a whole: it is folded, lost and had back, and given many
-customers at once.
-
-- Folds: what is told, which files there are, their modes; faults, after which all is as it was; a file that is full.
-- Folds of some hundreds of random histories: tests/model.py makes the same customers of the new file, each key with its octets.
-- A fold and an application of a file are killed at each of their system calls: the customers are those of before or of after, a labntpd that
-  starts then has them, and the next try is as good.
-- A clerk's day, beside a labntpd of its own: at each step it has the customers of tests/model.py.
-- That no key is shown, in any run.
+customers at once. Of the customers that a file comes to, tests/model.py is the judge. No key is shown, in any run.
 """
 import os
 import re
@@ -17,13 +10,12 @@ from hypothesis import given, settings
 
 import judging
 import probe
-from drawn import histories
+from drawn import histories, text_of
 from judging import SLOW, enrolments, file_of, limited_to, same, until
 from labntpctl_runs import CLERK, CUSTOMERS, FILE_LIMIT, KEY, RECORD, append_text, as_told, configured, customers_by, customers_now, enrolled, killed_at
 from labntpctl_runs import lines_in, names_by, patient, read, room, run, served, told, wanted_text, without
 from odd_host import RENAMES, in_front
 
-# How many histories are folded.
 HISTORIES = 300
 KEPT = re.compile(r"commands\.\d{8}T\d{6}Z")
 RESTART = "labntpd reads the new file at its next start, and carries out no further line before: restart labntpd"
@@ -31,23 +23,15 @@ LINES = [f"enrol 192.0.2.9 2 sha1 {KEY} 7", "revoke 192.0.2.1", f"rollover 192.0
          "# name 192.0.2.10 ", "#" * 5000]
 
 
-def text_of(lines):
-    return "".join(f"{it}\n" for it in lines)
-
-
 def files():
     return {it: read(it) for it in os.listdir(judging.ROOM) if os.path.isfile(room(it))}
 
 
 def kept():
-    """What is kept of older commands files, by name."""
     return {it: text for it, text in files().items() if KEPT.fullmatch(it)}
 
 
-# ---- Folds
-
 def test_fold_writes_the_same_customers_in_the_fewest_lines():
-    """The new file makes the same customers and names in the fewest lines, and the old one is kept."""
     config = configured(commands=text_of(LINES))
     os.chmod(room("commands"), 0o640)
     if not os.geteuid():
@@ -66,6 +50,7 @@ def test_fold_writes_the_same_customers_in_the_fewest_lines():
     verbs = [" ".join(it.split()[:2]) for it in lines_in("commands") if it[:1] not in ("", "#")]
     same("its lines", sorted(["enrol 192.0.2.1", "revoke 192.0.2.1", "enrol 192.0.2.9", "revoke 192.0.2.9", "enrol 192.0.2.2", "rollover 192.0.2.2", "enrol 127.0.0.1", "enrol 192.0.2.10"]), sorted(verbs))
     same("a name, and to whom a comment belongs", ["# a comment", "", "# name 192.0.2.2 B"], [it for it in lines_in("commands") if it[:1] in ("", "#")])
+    same("no budget that is hardly meant", False, "budget 1:" in run(["check", *config])[1])
     again = files()
     for words in ([], ["--dry-run"]):
         same("folded again", (0, "nothing to fold\n", ""), run(["fold", *words, *config]))
@@ -84,7 +69,6 @@ def test_fold_keeps_when_and_by_whom():
 
 @pytest.mark.proved_alone(SLOW)
 def test_fold_of_long_files():
-    """A file of thousands of customers, and one with more octets than labntpd reads."""
     lines = [f"{word} 11.{it >> 8}.{it & 255}.1 {rest}" for it in range(1, 8001) for word, rest in (("enrol", f"{it} md5 00 1"), ("budget", "2"))]
     config = configured(customers=[], commands=text_of([*lines, "enrol 192.0.2.1 8001 md5 00 1", "revoke 192.0.2.1"]))
     before = customers_now()
@@ -133,8 +117,7 @@ def test_fold_leaves_all_at_a_fault_in_each_step():
     same("the next try", (0, before, False), (run(["fold", *config])[0], customers_now(), os.path.exists(room("commands.new"))))
     # It is put in place, and the system tells an error of that: the old one is kept, which has no other name.
     config = configured(commands=text_of(LINES))
-    odd = os.environ | in_front(RENAMES)
-    same("a fault that is none", (3, f"{path}: {BROKEN}\n"), run(["fold", *config], env=odd)[::2])
+    same("a fault that is none", (3, f"{path}: {BROKEN}\n"), run(["fold", *config], env=os.environ | in_front(RENAMES))[::2])
     same("what is kept", ([old["commands"]], True, before), ([*kept().values()], read("commands") != old["commands"], customers_now()))
 
 
@@ -157,7 +140,6 @@ def test_fold_tells_a_directory_that_is_not_stored():
 
 
 def test_fold_at_random_is_the_models():
-    """The customers before are the customers after, and no line more than they want."""
     kinds = {"revoked": 0, "two keys": 0, "nobody": 0, "nothing to fold": 0}
 
     @settings(max_examples=HISTORIES)
@@ -182,10 +164,7 @@ def test_fold_at_random_is_the_models():
     assert min(kinds.values()) >= 5, f"few kinds of histories: {kinds}"
 
 
-# ---- Kills
-
 def are_there(config, what):
-    """labntpd has the customers of the commands file."""
     until(f"{what}: labntpd has the model's customers", lambda: os.path.exists(room("customers")) and told(*config) == as_told(customers_now()))
     same(f"{what}: the file and labntpd", (0, "", ""), run(["customers", "--compare", *config]))
 
@@ -233,11 +212,8 @@ def test_fold_and_apply_survive_kills_at_each_call():
     killed(["apply", path, "--yes", "--end-many", "--wait", "0", *config], commands, 3)
 
 
-# ---- A day
-
 def test_clerks_day_is_the_models():
-    """Changes, an editor's too; a file of customers; a lost file, which is had back of an export; a fold. At each step labntpd has the
-    customers of the model."""
+    """At each step labntpd has the customers of the model."""
     config = configured(probe.free_port(), customers=[], statistics="statistics")
 
     def change(*words):

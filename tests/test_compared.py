@@ -17,7 +17,6 @@ are passed over. No server may set the clock. It takes some seconds.
 import collections
 import contextlib
 import itertools
-import os
 import re
 import struct
 import sys
@@ -29,11 +28,11 @@ import labntpd_server
 import own_network
 import peers
 import probe
-from judging import TOP, Odd, PassedOver, file_of
-from texts import lines_of, renewed
+from drawn import text_of as lines
+from judging import Odd, PassedOver, file_of
+from texts import renewed, text_of as text_of_page, write
 
 PAGE, BEGIN, END = "docs/COMPARED.md", "<!-- tests/run compared --write writes from here -->", "<!-- to here -->"
-# How often the second customer asks.
 TRIES = 3
 # How many queries a burst has, and the budget of whom labntpd is to answer fewer.
 BURST, BUDGET = 60, 10
@@ -43,7 +42,6 @@ NOBODYS, CMACS = 9999, 300
 CMAC_KEY = b"key-of-16-octets"
 # A query of 48 octets, whose transmit stamp is ec000010.80000000, and its MAC by AES-CMAC (RFC 4493) under that key, as OpenSSL gives it.
 CMAC_QUERY = bytes.fromhex(f"23{'00' * 39}ec00001080000000{CMACS:08x}5ab4760dc1695c1476622f5f5f7c5425")
-# The codes of kisses.
 CODES = (b"RATE", b"DENY", b"RSTR")
 # What stands between two kinds that have a row together.
 BETWEEN = "; "
@@ -56,7 +54,6 @@ Kind = collections.namedtuple("Kind", "name ask algorithm budget", defaults=("md
 
 
 def sends(form, is_signed=True):
-    """One datagram of this form."""
     return lambda asker: asker.hears([probe.query(asker.signed if is_signed else asker.unsigned, form)])
 
 
@@ -72,15 +69,6 @@ def as_another(number=None, algorithm=None, key=None):
     return ask
 
 
-def as_neighbour(asker):
-    """A query under the number and the key that the second customer holds."""
-    return as_another(number=asker.other.number)(asker)
-
-
-def by_cmac(asker):
-    return asker.hears([CMAC_QUERY])
-
-
 def twice(asker):
     """The second of two copies."""
     packet = probe.query(asker.signed)
@@ -93,15 +81,13 @@ def asked_about(customer, port):
     receive = arrival = 0
     with customer.socket(port) as s:
         for _ in range(3):
-            s.send(probe.query(customer, "plain", receive, arrival))
-            reply = probe.answer(s)
+            _, reply, came = probe.exchange(customer, s, "plain", receive, arrival)
             if reply:
-                receive, arrival = probe.stamps(reply)[1], probe.now()
+                receive, arrival = probe.stamps(reply)[1], came
     return receive
 
 
 def interleaved(whose):
-    """A query that asks about the reply before, to this customer or to the second one."""
     return lambda asker: asker.hears([probe.query(asker.signed, "plain", asked_about(getattr(asker, whose), asker.port), probe.now())])
 
 
@@ -111,7 +97,6 @@ def burst(asker):
 
 
 def beside_a_burst(asker):
-    """What the second customer hears right behind one."""
     burst(asker)
     return asker.others
 
@@ -128,22 +113,19 @@ STRANGER, SHUT_OUT = "an address that is no customer's", "a customer who was shu
 KINDS = [
     Kind("**Unsigned, of a customer:**", None),
     Kind("version 4", sends("plain", False)),
-    Kind("version 3", sends("version-3", False)),
-    Kind("version 2", sends("version-2", False)),
-    Kind("version 1", sends("version-1", False)),
+    *(Kind(f"version {it}", sends(f"version-{it}", False)) for it in (3, 2, 1)),
     Kind("version 1, mode 0", sends("version-1-mode-0", False)),
     Kind("version 5", sends("version-5", False)),
     Kind("**Signed:**", None),
     Kind("MD5", sends("plain")),
     Kind("SHA-1", sends("plain"), "sha1"),
     Kind("SHA-256, cut to 20 octets", sends("plain"), "sha256"),
-    Kind("AES-CMAC", by_cmac, "cmac"),
-    Kind("MD5, version 3", sends("version-3")),
-    Kind("MD5, version 2", sends("version-2")),
+    Kind("AES-CMAC", lambda asker: asker.hears([CMAC_QUERY]), "cmac"),
+    *(Kind(f"MD5, version {it}", sends(f"version-{it}")) for it in (3, 2)),
     Kind("transmit stamp 0", sends("unsent")),
     Kind("a wrong digest", sends("wrong")),
     Kind("nobody's key number", as_another(number=NOBODYS)),
-    Kind("another customer's number and key", as_neighbour),
+    Kind("another customer's number and key", lambda asker: as_another(number=asker.other.number)(asker)),
     Kind("its own number, by another algorithm", as_another(algorithm="sha1", key=KEYS["md5"])),
     Kind("the second of two copies", twice),
     Kind("about the reply before", interleaved("signed")),
@@ -165,16 +147,11 @@ KINDS = [
     Kind("**Extension fields:**", None),
     Kind("one of 16 octets, signed", sends("field-84")),
     Kind("one of 28, unsigned", sends("field-76", False)),
-    Kind("length 26", sends("claims-26")),
-    Kind("length 12", sends("claims-12")),
-    Kind("length 0", sends("claims-0")),
-    Kind("length 2,000", sends("claims-2000")),
+    *(Kind(f"length {it:,}", sends(f"claims-{it}")) for it in (26, 12, 0, 2000)),
     Kind("**Modes:**", None),
     Kind("mode 1, unsigned", sends("mode-1", False)),
     Kind("mode 1, signed", sends("mode-1")),
-    Kind("mode 2", sends("mode-2")),
-    Kind("mode 4", sends("mode-4")),
-    Kind("mode 5", sends("mode-5")),
+    *(Kind(f"mode {it}", sends(f"mode-{it}")) for it in (2, 4, 5)),
     Kind("mode 6", sends("control")),
     Kind("mode 7", sends("private")),
     Kind("**Signed, of others:**", None),
@@ -183,22 +160,17 @@ KINDS = [
 ]
 
 
-def number_of(kind):
-    return CMACS if kind.algorithm == "cmac" else KINDS.index(kind) + 1
-
-
 def address_of(kind):
     return f"127.{9 if kind.name == STRANGER else 1}.{KINDS.index(kind)}.1"
 
 
 def customer_of(kind, algorithms=KEYS):
     """The customer of a kind, with a key of its algorithm, or of MD5 where it is none of these."""
-    algorithm = kind.algorithm if kind.algorithm in algorithms else "md5"
-    return address_of(kind), number_of(kind), algorithm, KEYS[algorithm].hex()
+    algorithm, number = kind.algorithm if kind.algorithm in algorithms else "md5", KINDS.index(kind) + 1
+    return address_of(kind), CMACS if kind.algorithm == "cmac" else number, algorithm, KEYS[algorithm].hex()
 
 
 def other_of(kind):
-    """The second customer of a kind."""
     return f"127.2.{KINDS.index(kind)}.1", 1000 + KINDS.index(kind), "md5", KEYS["md5"].hex()
 
 
@@ -233,7 +205,6 @@ class Asker:
         return in_short([came.get(packet, "silence") for packet in packets])
 
     def hear_other(self):
-        """The second customer asks for the time until it is answered."""
         for _ in range(TRIES):
             with self.other.socket(self.port) as s:
                 packet = probe.query(self.other)
@@ -246,7 +217,6 @@ class Asker:
 
 
 def belongs(reply, request):
-    """Whether a reply is one to this request, by its origin stamp."""
     return len(reply) >= 48 and len(request) >= 48 and probe.stamps(reply)[0] in probe.stamps(request)[1:]
 
 
@@ -257,7 +227,6 @@ def in_short(words):
 
 
 def word_of(customer, request, reply):
-    """What a reply to this request is."""
     mode = reply[0] & 7
     if len(reply) < 48:
         return f"{len(reply)} octets of mode {mode}"
@@ -301,17 +270,14 @@ def needs_namespaces():
         raise PassedOver("it needs root, and namespaces")
 
 
-def has_answer(port):
-    customer = probe.Customer(text_of(HERALD))
-    with customer.socket(port) as s, contextlib.suppress(ConnectionRefusedError):
-        s.send(probe.query(customer))
-        return probe.answer(s, 0.2) is not None
-    return False
-
-
 def running(words, port):
-    """While a server runs, from its first answer on."""
-    return labntpd_server.running(words, lambda: has_answer(port))
+    customer = probe.Customer(text_of(HERALD))
+
+    def answers():
+        with customer.socket(port) as s, contextlib.suppress(ConnectionRefusedError):
+            return probe.exchange(customer, s, wait=0.2)[1] is not None
+
+    return labntpd_server.running(words, answers)
 
 
 @contextlib.contextmanager
@@ -322,26 +288,18 @@ def labntpd():
         yield it.port
 
 
-def lines_for_chrony(port):
-    spelt = {"md5": "MD5", "sha1": "SHA1", "sha256": "SHA256"}
-    keys = [f"{number} {spelt[algorithm]} HEX:{key}" for _, number, algorithm, key in CUSTOMERS] + [f"{CMACS} AES128 HEX:{CMAC_KEY.hex()}"]
-    yield from ("local stratum 1", f"port {port}", "bindaddress 127.0.0.1", "cmdport 0", "bindcmdaddress /", "ratelimit")
-    yield from ("allow 127.1.0.0/16", "allow 127.2.0.0/16", f"deny {OUT}")
-    yield from (f"keyfile {file_of('chrony.keys', lines(keys))}", f"pidfile {labntpd_server.room('chrony.pid')}")
-
-
 @contextlib.contextmanager
 def chrony():
-    port = probe.free_port()
-    with running(labntpd_server.chronyd("-d", "-x", "-f", file_of("chrony.conf", lines(lines_for_chrony(port)))), port):
+    keys = [f"{number} {algorithm.upper()} HEX:{key}" for _, number, algorithm, key in CUSTOMERS] + [f"{CMACS} AES128 HEX:{CMAC_KEY.hex()}"]
+    port, how = probe.free_port(), {"keys": lines(keys), "allowed": ("127.1.0.0/16", "127.2.0.0/16")}
+    with running(labntpd_server.chronyd_at(port, "chrony", "local stratum 1", "ratelimit", f"deny {OUT}", **how), port):
         yield port
 
 
 @contextlib.contextmanager
 def ntpsec():
     needs_namespaces()
-    spelt = {"md5": "MD5", "sha1": "SHA1", "sha256": "SHA256"}
-    keys = [f"{number} {spelt[algorithm]} {key}" for _, number, algorithm, key in CUSTOMERS] + [f"{CMACS} AES-128 {CMAC_KEY.hex()}"]
+    keys = [f"{number} {algorithm.upper()} {key}" for _, number, algorithm, key in CUSTOMERS] + [f"{CMACS} AES-128 {CMAC_KEY.hex()}"]
     allowed = [f"restrict 127.{it}.0.0/16 kod nomodify nopeer noquery limited notrust" for it in (1, 2)]
     with running(labntpd_server.ntpsec_with(lines(keys), "restrict default ignore", f"restrict {OUT} ignore", *allowed), 123):
         yield 123
@@ -371,17 +329,12 @@ def openntpd():
         yield 123
 
 
-def lines(them):
-    return "".join(f"{it}\n" for it in them)
-
-
 # How each server is started, and which tell their versions.
 SERVERS = {"labntpd": labntpd, "chrony": chrony, "NTPsec": ntpsec, "OpenNTPD": openntpd}
 TELL_VERSIONS = ("chrony", "NTPsec")
 
 
 def column(server):
-    """What a server answers to each kind, by the kind's name."""
     with SERVERS[server]() as port:
         return {kind.name: Asker(kind, port).word() for kind in ASKED}
 
@@ -399,7 +352,7 @@ def cells(line):
 
 def noted():
     """What the page has: for each server its heading and its column."""
-    inside = "\n".join(lines_of(PAGE)).partition(BEGIN)[2].partition(END)[0]
+    inside = text_of_page(PAGE).partition(BEGIN)[2].partition(END)[0]
     rows = [cells(it) for it in inside.splitlines() if it.startswith("|")]
     found = {}
     for at, shown in enumerate(rows[0][1:], 1) if rows else ():
@@ -423,7 +376,7 @@ def table(columns):
 
 def all_columns():
     """Those of the servers that are found; of the others what the page has."""
-    before = noted() if os.path.exists(f"{TOP}/{PAGE}") else {}
+    before = noted()
     for name in SERVERS:
         try:
             yield name, (heading(name), column(name))
@@ -433,15 +386,8 @@ def all_columns():
                 yield name, before[name]
 
 
-def write(columns):
-    text = "\n".join(lines_of(PAGE)) + "\n"
-    with open(f"{TOP}/{PAGE}", "w", encoding="utf-8") as it:
-        it.write(renewed(PAGE, text, BEGIN, END, table(columns)))
-
-
 @pytest.mark.parametrize("name", SERVERS)
 def test_server_answers_as_the_page_has_it(name):
-    """Whether a server answers as the page has it."""
     shown, wanted = noted().get(name, ("no column", {}))
     here = heading(name)
     if wanted and name in TELL_VERSIONS and here != shown:
@@ -457,6 +403,6 @@ def test_table(request):
     """Prints the table, or writes it into the page."""
     columns = dict(all_columns())
     if request.config.option.write:
-        write(columns)
+        write(PAGE, renewed(PAGE, text_of_page(PAGE), BEGIN, END, table(columns)))
     else:
         print("", *table(columns), sep="\n")

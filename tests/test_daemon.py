@@ -1,22 +1,13 @@
-"""Judges the built daemon from outside, by datagrams, files, pipes, signals and its exit status: what no contract and no test of a
-crate sees.
+"""Judges the built daemon from outside, by datagrams, files, pipes, signals and its exit status: what no contract and no test of a crate
+sees.
 
-- Words, statuses, the line of each fault of the configuration file, and the file of examples/.
-- Replies with a fixed clock, and with the state that a clock daemon tells: one of its own that lies as it is told to, and chronyd.
-- The same where the host's clock is set by 0.3 seconds to an hour while it serves, or cannot be read.
-- Late datagrams, bursts, replies that nobody takes, a standard error that takes nothing, a socket that outlives the program or fails, what a
-  service manager hears, memory over half a million queries.
-- The statistics and the log against what was sent and seen.
-- The commands file: lines of any octets, other files in its place, as many customers as there may be.
-- Many queries, with commands between and a clock that is set, and commands files at random, against a model (tests/model.py). With `--long`
-  these are ten times as many, and replies beside a clock that was set are judged for ten seconds.
-- A host that does otherwise than hosts do (tests/odd_host.py): clocks that step, a `poll` that fails, a send that takes long.
-- After each case: that the daemon told no key, has no more descriptors than it began with, and takes hardly any of a processor.
+After each case: that the daemon told no key, has no more descriptors than it began with, and takes hardly any of a processor. With `--long`
+ten times as much is drawn at random, and replies beside a clock that was set are judged for ten seconds.
 
-It tries no want of memory. It needs Python 3 on Linux; with chronyd (on the path, or below $PEERS as tests/peers.py says), with root, with the
-programs `ip` and `unshare` and with gcc or clang it makes more cases. It takes free ports of 127.0.0.1, the addresses 127.0.0.1 to 127.0.0.9,
-127.0.1.1 to 127.0.1.32 and 127.2.3.4, a directory of its own, and for three cases network namespaces of its own, with the addresses
-198.51.100.1, 198.51.100.2, 198.51.100.9 and 192.0.2.7. No wait is without a limit.
+It tries no want of memory. With chronyd (on the path, or below $PEERS as tests/peers.py says), with root, with the programs `ip` and
+`unshare` and with gcc or clang it makes more cases. It takes free ports of 127.0.0.1, the addresses 127.0.0.1 to 127.0.0.9, 127.0.1.1 to
+127.0.1.32 and 127.2.3.4, and for three cases network namespaces of its own, with the addresses 198.51.100.1, 198.51.100.2, 198.51.100.9 and
+192.0.2.7. No wait is without a limit.
 """
 import collections
 import contextlib
@@ -33,8 +24,8 @@ import socket
 import stat
 import struct
 import subprocess
-import sys
 import time
+from unittest import mock
 
 import pytest
 from hypothesis import given, settings, strategies as st
@@ -44,24 +35,21 @@ import probe
 from drawn import any_of, commands, many, octets_of
 from judging import FIVE, REFERENCE, SECOND, SLOW, TOP, WAIT, Odd, PassedOver
 from judging import bound_by_modes, end, enrolments, file_of, limited_to, outputs_that_take_nothing, same, until
-from labntpd_server import ASKS_EACH, CLOCK_KEY, CROWD, CUSTOMERS, FIXED, HELD_UP, LONGEST_WAIT, ONE, SLACK, TAKEN
-from labntpd_server import THREE, TOLD_WITHIN, TWO, UNSYNCHRONISED, WRITES_EACH
-from labntpd_server import Asker, Daemon, FakeClock, State
-from labntpd_server import answers, begin, chronyd, chronyd_at, configuration, configured, counted, crowd, following, halted
-from labntpd_server import hear_all, is_grown, is_unsynchronised, kernel_dropped, keys, of_file, paced, read, room
-from labntpd_server import run, scheduled, send_all, share_of_a_processor, short, signed_reply, state_in, statistics
-from labntpd_server import synchronised, tells_no_key, toml, unanswered, window
+from labntpd_server import ASKS_EACH, CLOCK_KEY, CROWD, CUSTOMERS, FIXED, HELD_UP, LONGEST_WAIT, ONE, OURS, SLACK, TAKEN, THREE
+from labntpd_server import TOLD_WITHIN, TWO, UNSYNCHRONISED, WRITES_EACH, Asker, Daemon, FakeClock, State, answers, begin, chronyd
+from labntpd_server import chronyd_at, configuration, configured, counted, crowd, following, halted, handing_down, hear_all, is_grown
+from labntpd_server import is_unsynchronised, kernel_dropped, keys, of_file, paced, read, room, run, scheduled, send_all
+from labntpd_server import share_of_a_processor, short, signed_reply, state_in, statistics, synchronised, tells_no_key, toml, udp_sockets
+from labntpd_server import unanswered, window
 from model import WINDOW, Model
 from odd_host import BREAKS, LONG_LIST, NO_BUFFERS, OTHER_LIST, OddHost, in_front
+from own_network import on_a_host
 from peers import promtool
 from probe import nanos
 
-# How many queries are judged by the model, and how many commands files.
 QUERIES, MANY_QUERIES = 100_000, 1_000_000
 RANDOM_FILES, MANY_RANDOM_FILES = 1_000, 10_000
 
-
-# ---- Words
 
 def test_words_have_their_statuses():
     good = configured(configuration())
@@ -88,7 +76,6 @@ def test_words_help_and_version_to_an_output_that_takes_nothing():
         outputs_that_take_nothing([word])
 
 
-# What is wanted at each key, in words.
 WANTED = {
     "listen": 'an IPv4 address with a port, as "192.0.2.1:123", or "inherited" is wanted',
     "served_as": 'an IPv4 address, as "192.0.2.1", is wanted',
@@ -108,18 +95,9 @@ WANTED = {
 }
 
 
-def missing(key):
-    return f"{key}: this key is missing: {WANTED[key]}"
-
-
-def wanted(key):
-    return f"{key}: {WANTED[key]}"
-
-
-def unknown(key):
-    return f"{key}: there is no such key in version 0.2.0"
-
-
+missing = lambda key: f"{key}: this key is missing: {WANTED[key]}"
+wanted = lambda key: f"{key}: {WANTED[key]}"
+unknown = lambda key: f"{key}: there is no such key in version 0.2.0"
 # Values that are not wanted, by their keys; None: the key is left out. Seconds are rounded to the unit in which they are counted.
 TOP_FAULTS = {
     "commands": [None, 1, ""],
@@ -143,9 +121,7 @@ CLOCK_FAULTS = {
     "most_step": [0, 0.0, 0.0000000004, 3600.0000000006, 3600.001, 3601, -0.5, "0.5"],
     "keyfile": ["x"],
 }
-# Of a fixed clock.
 REFERENCE_FAULTS = [None, 1, "", "00", REFERENCE[:-2], f"{REFERENCE}00", f"03{REFERENCE[2:]}", REFERENCE.replace("4e", "4g")]
-# Texts with the first fault of each.
 FILES = 'listen = "inherited"\ncommands = "c"\n'
 FIRST_FAULTS = [
     ("", missing("listen")),
@@ -176,7 +152,6 @@ def faulty(table, key, value):
 
 
 def configuration_texts():
-    """Each faulty text, and what is told of it."""
     yield from FIRST_FAULTS
     for key, values in TOP_FAULTS.items():
         for value in values:
@@ -207,7 +182,6 @@ def test_configuration_has_each_fault_named():
 
 
 def test_configuration_has_its_bounds_and_what_may_be_left_out():
-    """The least and the most of each number, what may be left out, and another order."""
     file_of("commands", "")
     file_of("clock.key", CLOCK_KEY)
     optional = "served_as answers statistics customers receive_buffer send_buffer longest_wait spin".split()
@@ -254,13 +228,11 @@ def test_configuration_of_the_example_is_served_by():
 
 
 def test_configuration_has_the_octets_of_an_address_in_order():
-    """The octets of an address stand in their order."""
     with Daemon(host="127.2.3.4"):
         pass
 
 
 def test_start_tells_what_is_faulty_missing_or_taken():
-    """What the configuration names is faulty, missing or taken. Of files --check says so too."""
     def fails(what, status, word, clock=FIXED, checks=([], ["--check"]), **keys):
         for check in checks:
             ran = run([*check, *configured(configuration(clock, **{"listen": f"127.0.0.1:{port}", **keys}))])
@@ -274,8 +246,7 @@ def test_start_tells_what_is_faulty_missing_or_taken():
         path = file_of("clock.key", text)
         fails(f"a key file {text!r}", 1, f"{path}: one line of 2 to 64 hexadecimal digits is wanted\n", following(11123))
     fails("an address of another host", 3, "", FIXED, [[]], listen="192.0.2.77:20123")
-    with socket.socket(socket.AF_INET, socket.SOCK_DGRAM) as taken:
-        taken.bind((probe.HOST, 0))
+    with probe.bound() as taken:
         fails("a port that is taken", 3, "", FIXED, [[]], listen=f"127.0.0.1:{taken.getsockname()[1]}")
     outputs_that_take_nothing(configured(configuration(listen=f"127.0.0.1:{port}")))
     outputs_that_take_nothing(["--check", *configured(configuration())])
@@ -283,7 +254,6 @@ def test_start_tells_what_is_faulty_missing_or_taken():
 
 @contextlib.contextmanager
 def in_the_place_of(name, make, clear):
-    """Something else stands in the place of a file of the case."""
     pathlib.Path(room(name)).unlink(missing_ok=True)
     make(room(name))
     yield
@@ -306,8 +276,6 @@ ANOTHER, SHORTER, ANEW = (
 )
 # How many octets of a commands file are read, and how many seconds one may be modified before it is longer.
 MOST_OCTETS, LONGEST_WRITE = 67_108_864, 5
-
-# The files that it writes.
 WRITTEN = ("answers", "statistics", "customers")
 
 
@@ -361,7 +329,6 @@ def comment_up_to(octets):
 
 @pytest.mark.proved_alone(SLOW)
 def test_commands_file_that_is_nearly_full():
-    """From 80 in 100 of the most octets on it is told, when that is reached and at --check."""
     many = -(-MOST_OCTETS * 80 // 100)
     with Daemon(commands=comment_up_to(many - 1)) as daemon:
         until("it is read", lambda: "commands: 4 lines read" in read("err"), 6 * WAIT)
@@ -377,8 +344,7 @@ def test_commands_file_that_is_nearly_full():
 
 @pytest.mark.proved_alone(SLOW)
 def test_commands_file_with_more_octets_than_are_read():
-    """At a start with the most octets their last line is carried out, and that it is nearly full is told. None behind them is carried
-    out, nor at a start."""
+    """At a start with the most octets their last line is carried out; none behind them is, nor at a start."""
     last, told = "revoke 127.0.0.2\n", of_file("commands", f"has more than {MOST_OCTETS} {NO_FURTHER}")
     with Daemon(commands=comment_up_to(MOST_OCTETS - len(last)) + last) as daemon:
         until("it is told", lambda: told_of("commands file") == [of_file("commands", nearly_full(MOST_OCTETS))], 6 * WAIT)
@@ -398,8 +364,9 @@ def test_files_wait_for_nobody_who_reads_them():
     file_of("commands", "")
     port = probe.free_port()
     words = configured(configuration(listen=f"127.0.0.1:{port}"))
+    link = lambda path: os.symlink(file_of("victim", "kept"), path), os.remove
     for name in WRITTEN:
-        for what, (make, clear) in PLACES.items():
+        for what, (make, clear) in (PLACES | {"a link": link}).items():
             with in_the_place_of(name, make, clear):
                 for check in ([], ["--check"]):
                     same(f"{what} {check}", (1, "", f"{words[1]}: {name}: {room(name)}: {IRREGULAR}\n"), run([*check, *words]))
@@ -430,14 +397,10 @@ def test_files_wait_for_nobody_who_reads_them():
 
 
 def test_files_get_an_answer_in_one_write():
-    """Each answer is one write: `strace` counts them."""
     judging.needs("strace")
     with Daemon() as daemon:
         trace = begin(["strace", "-f", "-e", "trace=write", "-o", room("trace"), "-p", str(daemon.process.pid)])
-
-        def is_traced():
-            return "TracerPid:\t0\n" not in pathlib.Path(f"/proc/{daemon.process.pid}/status").read_text()
-
+        is_traced = lambda: "TracerPid:\t0\n" not in pathlib.Path(f"/proc/{daemon.process.pid}/status").read_text()
         until("it is traced", lambda: is_traced() or trace.poll() is not None)
         if trace.poll() is not None:
             raise PassedOver("it may not be traced here")
@@ -451,7 +414,6 @@ def test_files_get_an_answer_in_one_write():
 
 
 def test_start_tells_two_files_in_one_place_or_none_to_write_in():
-    """Two names for one file, by text, by a link or by a name that is not there yet; a directory that is not there."""
     commands, key = file_of("commands", enrolments(CUSTOMERS)), file_of("clock.key", CLOCK_KEY)
     for name in (*WRITTEN, "statistics.new", "customers.new", "linked"):
         pathlib.Path(room(name)).unlink(missing_ok=True)
@@ -511,8 +473,7 @@ def test_start_tells_a_path_with_any_character_in_one_line():
     lines = [f"{told}: it has keys, and others than its owner and group may use it (mode 644)"]
     lines += [f"{told}: {nearly_full(MOST_OCTETS)}"]
     text = configuration(listen="127.0.0.1:PORT", commands=path)
-    ran = run(["--check", *configured(text.replace("PORT", str(port)))])
-    same("warnings", (0, "ok\n", "".join(f"{it}\n" for it in lines)), ran)
+    same("warnings", (0, "ok\n", "".join(f"{it}\n" for it in lines)), run(["--check", *configured(text.replace("PORT", str(port)))]))
     file_of(odd, "# one\n")
     with Daemon(text=text):
         os.rename(file_of("new", ""), path)
@@ -520,7 +481,6 @@ def test_start_tells_a_path_with_any_character_in_one_line():
 
 
 def test_start_tells_keys_that_others_may_read():
-    """It is told, at the start and at --check, and hinders nothing."""
     names = ("commands", "clock.key")
     with FakeClock() as clock, Daemon(following(clock.port)) as daemon:
         same("--check", (0, "ok\n", ""), run(["--check", *daemon.words]))
@@ -537,7 +497,6 @@ def test_start_tells_keys_that_others_may_read():
 
 
 def test_signals_end_it():
-    """It never ends by itself, and a signal ends it at once; so does one for a file that exceeds a limit."""
     with Daemon() as daemon:
         for number in (signal.SIGTERM, signal.SIGINT, signal.SIGHUP):
             daemon.ask("time", ONE)
@@ -548,8 +507,6 @@ def test_signals_end_it():
     cut = Daemon(prepare=lambda: resource.setrlimit(resource.RLIMIT_FSIZE, (3, 3)))
     same("status at SIGXFSZ", -signal.SIGXFSZ, cut.process.wait(WAIT))
 
-
-# ---- A fixed clock
 
 def test_fixed_clock_has_replies_tell_the_reference():
     octets = bytes.fromhex(REFERENCE)
@@ -619,8 +576,7 @@ def test_commands_are_answered_while_nobody_asks():
 def test_commands_are_in_force_while_the_clock_cannot_be_read():
     """Where the clock cannot be read, as before 1970, lines are carried out too while datagrams come without a pause."""
     host = OddHost()
-    with Daemon(on=host) as daemon, socket.socket(socket.AF_INET, socket.SOCK_DGRAM) as s:
-        s.connect((probe.HOST, daemon.port))
+    with Daemon(on=host) as daemon, probe.Customer(probe.HOST).socket(daemon.port) as s:
         host.unread = 1
         end_of_it, line = time.monotonic() + 2, 500
         while time.monotonic() < end_of_it and not daemon.answers():
@@ -634,8 +590,7 @@ def test_commands_are_in_force_while_the_clock_cannot_be_read():
 
 @pytest.mark.proved_alone(SLOW)
 def test_commands_of_any_octets_and_any_length_are_read():
-    """Each line is answered, or passed over as a comment, whatever octets it has and however many; the next one is carried out.
-    While it serves they come in pieces; a start answers them alike."""
+    """Comments are passed over. While it serves the lines come in pieces; a start answers them alike."""
     lines = [b"x" * 4097, b"budget 127.0.0.1 1".ljust(4096), b"#" * 100_000, b"# caf\xe9", b"revoke 127.0.0.1 \xff"]
     lines += [b"\xff" * 4097, b"\r", b"y" * 200_000, b"#" * 65_536, b"z" * 65_535, b"", b"revoke 127.0.0.300", b"revoke 127.0.0.2"]
     faults = dict.fromkeys((1, 2, 5, 6, 7, 8, 10), "line-long") | {2: "count", 5: "not-utf8", 7: "word", 12: "address"}
@@ -643,13 +598,13 @@ def test_commands_of_any_octets_and_any_length_are_read():
     octets = b"\n".join(lines)
     with Daemon() as daemon:
         for at in range(0, len(octets), 70_000):
-            append(daemon, octets[at : at + 70_000])
+            daemon.append_octets(octets[at : at + 70_000])
             time.sleep(0.03)
         until("the faulty lines have their answers", lambda: daemon.answers() == wanted, 2)
         # Behind the last one its line feed is wanting.
         daemon.ask("time", TWO)
         same("answers", wanted, daemon.answers())
-        append(daemon, b"\n")
+        daemon.append_octets(b"\n")
         until("the last one has its answer", lambda: daemon.answers() == f"{wanted}13 done\n", 2)
         said = [f"commands: line {daemon.line(number)}: faulty {fault}" for number, fault in [*faults.items()][:6]]
         until("they are told", lambda: [it for it in told_of("commands") if "faulty" in it][:6] == said, 2)
@@ -659,14 +614,8 @@ def test_commands_of_any_octets_and_any_length_are_read():
         same("faults of the file", [], told_of("commands file"))
 
 
-def append(daemon, octets):
-    with open(daemon.commands, "ab") as it:
-        it.write(octets)
-
-
 def test_commands_of_another_file_or_one_written_anew_are_not_carried_out():
-    """Another file in its place, a shorter one, and one that was written anew or touched: it is told, and no line is carried out
-    until a restart, which carries out the whole file."""
+    """It is told, and no line is carried out until a restart, which carries out the whole file."""
     path, lines = room("commands"), "budget 127.0.0.2 65535\nrevoke 127.0.0.3\n"
 
     def in_place(octets):
@@ -701,8 +650,7 @@ def test_commands_of_another_file_or_one_written_anew_are_not_carried_out():
 
 
 def test_commands_go_on_with_the_same_file():
-    """With another mode or name, away from its path and back there, and touched up to two seconds before a line comes, as a write on a busy
-    disk does, it is the same file."""
+    """It is the same one too where it was touched up to two seconds before a line comes, as a write on a busy disk does."""
     path, away, budget = room("commands"), room("away"), "budget 127.0.0.2 65535"
 
     def linked():
@@ -735,8 +683,7 @@ def test_commands_go_on_with_the_same_file():
 
 
 def test_commands_file_that_becomes_a_pipe():
-    """A pipe that nobody writes into takes the place of the commands file: all are answered meanwhile, it is told, and no file
-    that comes there is read before a restart."""
+    """All are answered meanwhile, it is told, and no file that comes there is read before a restart."""
     with Daemon() as daemon:
         os.mkfifo(room("pipe"))
         asked = paced(daemon, ONE, 250, 750, {250: lambda: os.rename(room("pipe"), daemon.commands)})
@@ -750,16 +697,13 @@ def test_commands_file_that_becomes_a_pipe():
         daemon.ask("deny", ONE)
 
 
-# The customers of files at random.
 ADDRESSES = [f"127.0.0.{it}" for it in range(2, 6)]
 
 
 @pytest.mark.proved_alone(SLOW)
 def test_many_commands_files_at_random_are_the_models():
-    """Files at random, which lie there or are appended in pieces, are answered as docs/FORMATS.md says; and what a start leaves of
-    each is what its history left."""
-    with Daemon(enrolled=[]) as daemon, socket.socket(socket.AF_INET, socket.SOCK_DGRAM) as s:
-        s.connect((probe.HOST, daemon.port))
+    """They lie there or are appended in pieces; what a start leaves of each is what its history left."""
+    with Daemon(enrolled=[]) as daemon, probe.Customer(probe.HOST).socket(daemon.port) as s:
 
         @settings(max_examples=MANY_RANDOM_FILES if judging.IS_LONG else RANDOM_FILES)
         @given(many(octets_of(commands(ADDRESSES, range(1, 9))), 60), st.lists(st.integers(0, 4000), max_size=3))
@@ -782,7 +726,7 @@ def test_many_commands_files_at_random_are_the_models():
             file_of("commands", octets[: pieces[1]])
             daemon.again()
             for begin, end in zip(pieces[1:], pieces[2:]):
-                append(daemon, octets[begin:end])
+                daemon.append_octets(octets[begin:end])
                 # Behind a datagram it looks at the file.
                 s.send(b".")
             judged("appended")
@@ -795,13 +739,12 @@ def test_many_commands_files_at_random_are_the_models():
 
 @pytest.mark.proved_alone(SLOW)
 def test_commands_come_a_thousand_at_once():
-    """While a customer asks, they hold up its replies by five thousandths of a second at most: the longest waits beside an idle
-    file and beside these, in the middle one of nine rounds."""
+    """They hold up replies by five thousandths of a second at most, in the middle one of nine rounds beside an idle file."""
     budget, waits = "budget 127.0.0.2 65535", {0: [], 1000: []}
     with Daemon() as daemon, preferred(daemon):
         for _ in range(9):
             for count, found in waits.items():
-                asked = paced(daemon, ONE, 1000, 400, {200: lambda: append(daemon, f"{budget}\n".encode() * count)})
+                asked = paced(daemon, ONE, 1000, 400, {200: lambda: daemon.append_octets(f"{budget}\n".encode() * count)})
                 same("queries without an answer", [], unanswered(asked))
                 found.append(max(nanos(probe.stamps(it.reply)[2]) - it.before for it in asked) / SECOND * 1000)
         until("all have their answers", lambda: daemon.answers().count("\n") == 9 * 1000)
@@ -810,10 +753,7 @@ def test_commands_come_a_thousand_at_once():
     assert beside <= idle + 5, f"1,000 lines hold up a reply by {beside - idle:.2f} ms"
 
 
-# ---- The clock's daemon
-
 def test_clock_state_is_told_with_more_dispersion():
-    """Unsynchronised before the first answer; then as the clock says, with some dispersion more, for either algorithm."""
     for algorithm, number in (("sha1", 1), ("md5", 65535)):
         clock = FakeClock(algorithm, number)
         clock.is_silent = True
@@ -886,7 +826,6 @@ def test_clock_answers_that_are_forged_are_not_believed():
 
 
 def test_clock_answer_forged_that_it_is_unsynchronised():
-    """Nor does one that says that the clock is unsynchronised."""
     with synchronised() as (clock, daemon):
         old, clock.is_forged = clock.state, True
         clock.tell(leap=3, stratum=0)
@@ -897,7 +836,6 @@ def test_clock_answer_forged_that_it_is_unsynchronised():
 
 
 def test_clock_leap_second_is_told_and_withdrawn():
-    """A leap second is told as long as the clock tells it."""
     with synchronised() as (clock, daemon):
         for leap in (1, 0, 2, 0):
             clock.tell(leap=leap)
@@ -915,7 +853,6 @@ def test_clock_that_says_it_is_unsynchronised():
 
 
 def test_clock_offset_is_dispersion():
-    """What the host's clock is off is added to the dispersion."""
     with synchronised() as (clock, daemon):
         for offset in (0.05, -0.05, 0.2):
             clock.offset = offset
@@ -937,8 +874,7 @@ def test_clock_exchange_is_delay():
 
 
 def test_clock_too_far_or_its_reference_too_old():
-    """The root distance, half the delay and the dispersion, is above its limit of half a second, or the reference time is too old
-    or ahead."""
+    """Half the delay and the dispersion are above the limit of half a second, or the reference time is too old or ahead."""
     with synchronised(most_root_distance=0.5, most_reference_age=2000) as (clock, daemon):
         far = [{"dispersion": 0.51}, {"delay": 1.02}, {"delay": 0.6, "dispersion": 0.25}, {"age": 2004}, {"age": None}, {"age": -30}]
         near = [{"dispersion": 0.45}, {"delay": 0.9}, {"delay": 0.4, "dispersion": 0.25}, {"age": 1984}, {}, {"age": 0}]
@@ -967,7 +903,6 @@ def test_clock_reference_of_any_age_or_up_to_a_limit():
 
 
 def test_clock_precision_and_the_best_one_that_is_told():
-    """A precision that is worse than 2^-16 seconds is told, and a better one is not."""
     with synchronised() as (clock, daemon):
         for told, wanted in ((0xE3, 0xF0), (0xF0, 0xF0), (0xF1, 0xF1), (0xFA, 0xFA)):
             clock.tell(precision=told)
@@ -976,8 +911,7 @@ def test_clock_precision_and_the_best_one_that_is_told():
 
 
 def test_clock_that_wants_fewer_questions_gets_fewer():
-    """The kiss RATE slows the questions: the next one comes after eight seconds, and meanwhile the last answer is believed. An hour later they
-    come each second again."""
+    """After a RATE the next one comes after eight seconds, and the last answer is believed; an hour later they come each second."""
     host = OddHost()
 
     def is_asked_twice():
@@ -1001,7 +935,6 @@ def test_clock_that_wants_fewer_questions_gets_fewer():
 
 
 def test_clock_is_logged():
-    """What is logged of the clock: nothing before its first answer, then each change once."""
     told = lambda: [it.removeprefix("clock: ") for it in read("err").splitlines() if it.startswith("clock: ")]
     follows = lambda stratum, identifier: f"synchronised, stratum {stratum}, reference {identifier}: believed"
     clock = FakeClock()
@@ -1031,14 +964,11 @@ def test_clock_is_logged():
 
 
 def test_clock_that_never_answers_is_logged():
-    """A clock that never answers is told after two seconds."""
     begun = time.monotonic()
     with Daemon(following(probe.free_port())):
         until("it is told", lambda: "clock: not synchronised: no-answer\n" in read("err"), 2 + 2 * SLACK)
         assert time.monotonic() >= begun + 1.5, f"it was told within {time.monotonic() - begun:.2f} seconds"
 
-
-# ---- A host's clock that is set
 
 class HostClock(OddHost):
     """A host whose clock is set, and with it that of a clock daemon on it, if there is one."""
@@ -1084,8 +1014,7 @@ class Judge:
         # A difference of stamps is one modulo an era.
         off = max(0, *((it + 2**63) % 2**64 - 2**63 for it in beyond)) / 2**32
         most = (state.delay / 2 + state.dispersion) / 65536 + 0.001
-        if state.leap != 3 and off > most:
-            raise Odd(f"{what}: leap {state.leap}, off by {off:.6f} seconds and tells {most:.6f}: {state}")
+        assert state.leap == 3 or off <= most, f"{what}: leap {state.leap}, off by {off:.6f} seconds and tells {most:.6f}: {state}"
 
 
 def is_synchronised(state):
@@ -1177,7 +1106,6 @@ def test_clock_set_before_the_start():
 
 
 def test_clock_that_cannot_be_read():
-    """Where the clock cannot be read, replies say that it is not synchronised; also with a fixed clock."""
     host = OddHost()
     with FakeClock() as clock:
         for configured_clock, after in ((FIXED, SLACK), (following(clock.port), TOLD_WITHIN)):
@@ -1254,7 +1182,6 @@ def test_clock_in_the_statistics():
 
 
 def test_clock_of_chronyd():
-    """A real clock daemon: synchronised, killed, and started again."""
     port = probe.free_port()
     words = chronyd_at(port, "chrony", "local stratum 1")
     is_its = lambda it: it.leap == 0 and it.stratum == 1 and it.identifier == bytes([127, 127, 1, 1]) and 0 < it.dispersion < short(0.1)
@@ -1270,8 +1197,7 @@ def test_clock_of_chronyd():
 
 
 def test_clock_of_chronyd_whose_source_is_gone():
-    """A real clock daemon whose source is gone: believed up to the age of its reference time, where a limit is set, and else up to its root
-    distance, which grows by maxclockerror."""
+    """It is believed up to a limit on the age of its reference time, else up to its root distance, which grows by maxclockerror."""
     upstream, port = probe.free_port(), probe.free_port()
     source = begin(chronyd_at(upstream, "upstream", "local stratum 1"))
     begin(chronyd_at(port, "chrony", f"server 127.0.0.1 port {upstream} minpoll -4 maxpoll -4 iburst", "maxclockerror 20000"))
@@ -1294,12 +1220,11 @@ def test_clock_set_and_chronyd_keeps_it():
     host, right, port = HostClock(), probe.free_port(), probe.free_port()
     source = f"server 127.0.0.1 port {right} minpoll -4 maxpoll -4 iburst"
     begin(chronyd_at(right, "right", "local stratum 1"))
-    begin(chronyd_at(port, "chrony", source), host.environment())
+    begin(chronyd_at(port, "chrony", source), env=host.environment())
     with Daemon(following(port), on=host) as daemon:
         judge = Judge(daemon)
         for shift in (0.3, 2, -2, 60, 3600):
-            if judge.tells("before", is_synchronised, 10) is None:
-                raise Odd(f"not synchronised within 10 seconds, before a step of {shift}")
+            assert judge.tells("before", is_synchronised, 10) is not None, f"not synchronised within 10 seconds, before a step of {shift}"
             judge.tells("before", seconds=0.2)
             host.set(shift)
             judge.tells(f"set by {shift}", seconds=spell(2))
@@ -1307,8 +1232,6 @@ def test_clock_set_and_chronyd_keeps_it():
             judge.tells(f"back by {shift}", seconds=spell(1))
         assert judge.tells("at the end", is_synchronised, 10) is not None, "not synchronised within 10 seconds at the end"
 
-
-# ---- Late datagrams and bursts
 
 def stops(daemon, moments, first, last):
     """What is done before the query of each number: the program is stopped, and goes on. It notes when."""
@@ -1367,10 +1290,8 @@ def preferred(daemon):
 
 def test_late_datagrams_after_a_fifth_of_a_second_are_not_lost_by_default():
     """While nobody asks, and under the longest wait that holds where none is given, a stop of 0.2 seconds loses nothing."""
-    def held_up():
-        """For how many seconds the program had to wait for a processor."""
-        return scheduled(daemon.process)[1]
-
+    # For how many seconds the program had to wait for a processor.
+    held_up = lambda: scheduled(daemon.process)[1]
     rng, customer, answered = random.Random(7), probe.Customer(ONE), []
     with Daemon(longest_wait=None) as daemon, customer.socket(daemon.port) as s, preferred(daemon):
         for _ in range(60):
@@ -1394,7 +1315,6 @@ def test_late_datagrams_after_a_fifth_of_a_second_are_not_lost_by_default():
 
 @pytest.mark.proved_alone(SLOW)
 def test_late_queue_that_is_too_old_is_swept_out():
-    """A queue that is too old is swept out and counted, however long, and what comes behind it is answered."""
     allowed = int(pathlib.Path("/proc/sys/net/core/rmem_max").read_text())
     for buffer, each in ((65536, 60), (4194304, 1500)):
         if buffer > allowed:
@@ -1473,8 +1393,7 @@ def receive_buffer_allowed():
 
 @pytest.mark.proved_alone(SLOW)
 def test_burst_of_ten_thousand_queries_is_answered():
-    """Ten thousand queries of the crowd, as fast as can be; then ten thousand more while the program is stopped, so that all of them
-    wait at once."""
+    """They come as fast as can be; then while the program is stopped, so that all of them wait at once."""
     each = 10_000 // 25
     allowed, needed = receive_buffer_allowed(), 10_000 * truesize()
     if needed > allowed:
@@ -1489,7 +1408,6 @@ def test_burst_of_ten_thousand_queries_is_answered():
 
 
 def test_burst_has_the_kernels_drops_counted():
-    """More queries than the socket's buffer holds come while the program is stopped: what the kernel dropped is told."""
     with Daemon(enrolled=CROWD, receive_buffer=65536) as daemon, crowd(daemon, 50, CROWD[:20]) as askers:
         with halted(daemon):
             send_all(askers)
@@ -1513,10 +1431,9 @@ def test_burst_is_not_held_up_by_many_other_sockets():
         for _ in range(600):
             s = stack.enter_context(probe.bound())
             ours[f"0100007F:{s.getsockname()[1]:04X}"] = s
-        with open("/proc/net/udp") as it:
-            last = [ours[words[1]] for words in map(str.split, it) if words[1] in ours][-1]
+        last = [ours[words[1]] for words in udp_sockets() if words[1] in ours][-1]
         last.setsockopt(socket.SOL_SOCKET, socket.SO_RCVBUF, 65536)
-        stack.enter_context(environment(**in_front(LONG_LIST)))
+        stack.enter_context(mock.patch.dict(os.environ, **in_front(LONG_LIST)))
         daemon = stack.enter_context(Daemon(inherited=last))
         asked = paced(daemon, ONE, 100, (WRITES_EACH + 2) * 100)
         same("queries without an answer", [], unanswered(asked))
@@ -1532,7 +1449,6 @@ def test_burst_is_not_held_up_by_many_other_sockets():
 
 @contextlib.contextmanager
 def full_pipe():
-    """The writing end of a pipe that takes nothing more, and that nobody reads."""
     reading, writing = os.pipe()
     try:
         judging.filled(writing)
@@ -1564,8 +1480,7 @@ def test_log_counts_lines_that_are_dropped():
 
 
 def test_log_has_few_lines_of_a_kind():
-    """Forty lines that are done at once, and forty faulty ones behind them: ten of each are told, and all have their answers. In a later minute
-    it is told how many were held."""
+    """Of forty lines that are done, and forty faulty ones, ten each are told, and in a later minute how many were held."""
     host, held = OddHost(), {}
     with Daemon(on=host) as daemon:
         until("it has begun", lambda: told_of("clock"))
@@ -1587,8 +1502,7 @@ def test_log_has_few_lines_of_a_kind():
 
 
 def test_log_tells_a_state_that_was_held_in_the_next_minute():
-    """After ten lines about the clock in a minute no more are told of, until the next one; then what is so by then. So it is of files; and each
-    kind has its own ten, also beside many lines of commands."""
+    """After ten lines about the clock, or about files, what is so in the next minute; also beside many lines of commands."""
     away, follows = of_file("commands", f"cannot be read: {NO_FILE}"), "clock: synchronised, stratum 3, reference 0a0b0c0d: believed"
     with FakeClock() as clock, Daemon(following(clock.port)) as daemon:
         begun = time.monotonic()
@@ -1613,17 +1527,6 @@ def test_log_tells_a_state_that_was_held_in_the_next_minute():
         same("lines that were held", [], [it for it in read("err").splitlines() if "more lines" in it])
 
 
-@contextlib.contextmanager
-def environment(**words):
-    """What is started meanwhile has these words in its environment."""
-    os.environ.update(words)
-    try:
-        yield
-    finally:
-        for name in words:
-            del os.environ[name]
-
-
 def test_log_has_priorities_for_the_journal_at_the_start():
     """So do the fault that ends a start, and a warning before it."""
     words, path = configured(configuration(following(11123), listen=f"127.0.0.1:{probe.free_port()}")), room("commands")
@@ -1635,7 +1538,7 @@ def test_log_has_priorities_for_the_journal_at_the_start():
             for is_journal in (True, False):
                 with open(room("journal"), "w+") as journal:
                     status = os.fstat(journal.fileno())
-                    with environment(JOURNAL_STREAM=f"{status.st_dev}:{status.st_ino + (not is_journal)}"):
+                    with mock.patch.dict(os.environ, JOURNAL_STREAM=f"{status.st_dev}:{status.st_ino + (not is_journal)}"):
                         run([*check, *words], stderr=journal)
                 prefix = lambda priority: f"<{priority}>" * is_journal
                 last = f"{prefix(3)}{path}: {fault}" if fault else f"{prefix(4)}{path}: {nearly_full(MOST_OCTETS)}"
@@ -1655,7 +1558,7 @@ def test_log_has_priorities_for_the_journal():
         with open(room("journal"), "w+") as journal:
             status = os.fstat(journal.fileno())
             stream = f"{status.st_dev}:{status.st_ino + (not is_journal)}"
-            with environment(JOURNAL_STREAM=stream), Daemon(enrolled=[], commands=commands, stderr=journal) as daemon:
+            with mock.patch.dict(os.environ, JOURNAL_STREAM=stream), Daemon(enrolled=[], commands=commands, stderr=journal) as daemon:
                 read_all = lambda: read("journal").splitlines()
                 until("the commands", lambda: sum("commands: " in it for it in read_all()) == 3, WAIT)
                 daemon.append("budget 127.0.0.5 9", "x")
@@ -1669,15 +1572,12 @@ def test_log_has_priorities_for_the_journal():
                 same("lines", len(wanted), len(read_all()))
 
 
-# ---- The service manager
-
 def test_manager_hears_that_it_serves_and_that_it_is_alive():
-    """That the daemon serves, once it has carried out the lines that stand there; and each ten seconds that it is alive."""
     host, lines = OddHost(), "budget 127.0.0.2 65535\n" * 5_000
     for name in (room("manager"), f"@labntpd-{os.getpid()}"):
         with socket.socket(socket.AF_UNIX, socket.SOCK_DGRAM) as s:
             s.bind(name.replace("@", "\0"))
-            with environment(NOTIFY_SOCKET=name), Daemon(commands=lines, on=host) as daemon:
+            with mock.patch.dict(os.environ, NOTIFY_SOCKET=name), Daemon(commands=lines, on=host) as daemon:
                 s.settimeout(WAIT)
                 same("at first", b"READY=1", s.recv(100))
                 same("lines that have their answers by then", daemon.line(5_000), read("answers").count("\n"))
@@ -1699,13 +1599,11 @@ def test_manager_that_hears_nothing():
             while True:
                 other.sendto(b".", room("full"))
         for name in (room("full"), room("gone"), file_of("file", ""), "/" + 200 * "a", "@", "manager", ""):
-            with environment(NOTIFY_SOCKET=name), Daemon() as daemon:
+            with mock.patch.dict(os.environ, NOTIFY_SOCKET=name), Daemon() as daemon:
                 daemon.ask("time", ONE)
                 until("the first statistics", statistics)
                 daemon.ask("time", ONE)
 
-
-# ---- A socket that is handed down
 
 def test_socket_that_is_handed_down_is_served():
     with probe.bound() as s, Daemon(inherited=s) as daemon:
@@ -1728,25 +1626,14 @@ def test_socket_that_is_handed_down_with_what_waited_in_it():
             counted({"labntp_stale_total": 1}, ("labntp_stale_total",))
 
 
-def handing_down(s, **environment):
-    """How a run is handed a socket as its descriptor 3, with these words of its environment; PID stands for its own number."""
-    def prepare():
-        os.dup2(s.fileno(), 3)
-        for name, word in environment.items():
-            os.putenv(name, word.replace("PID", str(os.getpid())))
-
-    return {"close_fds": False, "preexec_fn": prepare}
-
-
 def test_socket_that_is_handed_down_is_judged():
-    """One that no datagram can be received from, or that was handed down to nobody here, is a fault in words; of one that is there --check
-    says so too."""
+    """No datagram can be received from it, or it was handed down to nobody here; of one that is there --check says so too."""
     file_of("commands", "")
-    words, ours = configured(configuration(listen="inherited")), {"LISTEN_PID": "PID", "LISTEN_FDS": "1"}
+    words = configured(configuration(listen="inherited"))
 
     def judged(what, s, line, words=words, checks=([], ["--check"]), **environment):
         for check in checks:
-            same(f"{what} {check}", (3, "", f"listen: {line}\n"), run([*check, *words], **handing_down(s, **environment or ours)))
+            same(f"{what} {check}", (3, "", f"listen: {line}\n"), run([*check, *words], **handing_down(s, **environment or OURS)))
 
     kinds = [(socket.AF_INET, socket.SOCK_STREAM, (probe.HOST, 0), "a UDP socket"), (socket.AF_INET6, socket.SOCK_DGRAM, ("::1", 0), "an IPv4 socket")]
     kinds += [(socket.AF_UNIX, socket.SOCK_DGRAM, "", "an IPv4 socket"), (socket.AF_INET, socket.SOCK_DGRAM, None, "a socket that is bound")]
@@ -1756,7 +1643,7 @@ def test_socket_that_is_handed_down_is_judged():
                 s.bind(address)
             judged(f"{family!r} {kind!r} {address}", s, f"{wanted} is wanted")
     with probe.bound() as s:
-        same("a good one", (0, "ok\n", ""), run(["--check", *words], **handing_down(s, **ours)))
+        same("a good one", (0, "ok\n", ""), run(["--check", *words], **handing_down(s, **OURS)))
         s.connect((probe.HOST, probe.free_port()))
         judged("a connected one", s, "a socket that is not connected is wanted")
     # Others that are bound and of IPv4: one of UDP-Lite, and one that gets all UDP packets.
@@ -1776,7 +1663,7 @@ def test_socket_that_is_handed_down_is_judged():
 
 
 def test_socket_that_does_not_wait_is_made_to():
-    """It is made to wait: the daemon sleeps while nothing comes, see `Daemon.rests`."""
+    """It is made to wait: the daemon sleeps while nothing comes, see `Daemon.is_quiet`."""
     with probe.bound() as s:
         s.setblocking(False)
         with Daemon(inherited=s) as daemon:
@@ -1784,7 +1671,6 @@ def test_socket_that_does_not_wait_is_made_to():
 
 
 def test_socket_with_buffers_that_are_refused():
-    """The system's fault is told."""
     file_of("commands", "")
     words = configured(configuration(listen=f"127.0.0.1:{probe.free_port()}"))
     sets, gets = ("setsockopt", "const void *value, socklen_t length"), ("getsockopt", "void *value, socklen_t *length")
@@ -1837,11 +1723,9 @@ def test_socket_is_kept_over_a_kill_under_load():
 def test_socket_call_that_fails_is_not_tried_again():
     """A socket that was handed down is joined to a port here. What is sent there while nobody is makes its next call fail, and that one
     alone: a call that was tried again would go through."""
-    def fail_next():
-        s.send(b"for nobody")
-
+    fail_next = lambda: s.send(b"for nobody")
     host, customer, port = OddHost(), probe.Customer(ONE), probe.free_port()
-    preloaded = environment(**host.words)
+    preloaded = mock.patch.dict(os.environ, **host.words)
     failures = [f"labntp_{it}_failures_total" for it in ("receive", "send")]
     with probe.bound() as s, preloaded, Daemon(inherited=s) as daemon:
         s.connect((customer.address, port))
@@ -1864,20 +1748,15 @@ def test_socket_call_that_fails_is_not_tried_again():
 
 @contextlib.contextmanager
 def at_port(customer, port, daemon):
-    """A socket of the customer's at this port."""
-    with socket.socket(socket.AF_INET, socket.SOCK_DGRAM) as s:
-        s.bind((customer.address, port))
+    with probe.bound(port, customer.address) as s:
         s.connect((probe.HOST, daemon.port))
         yield s
 
-
-# ---- Statistics
 
 SILENT = "unregistered short long field-short field-unaligned field-past-end rest version mode bare muted over-budget".split()
 
 
 def test_statistics_have_their_names_and_forms():
-    """All numbers are there at the start, in the form of Prometheus, each with its help and its type."""
     names = [answers("time", "basic"), answers("time", "interleaved"), *map(answers, ("rate", "deny", "nak"))]
     names += [answers("silent", it) for it in SILENT]
     names += [f"labntp_{it}_total" for it in ("receive_failures", "send_failures", "stale", "kernel_drops")]
@@ -1945,17 +1824,14 @@ def test_statistics_of_how_long_datagrams_wait():
         took = time.monotonic() - begun
         until("the wait in the statistics", lambda: wait() > 0, WRITES_EACH + WAIT)
         # Before the stop it need not have looked at the queue for a tenth of the longest wait.
-        if not 1.0 <= wait() < took + 5 / 10 + SLACK / 2:
-            raise Odd(f"a query that was taken {took:.2f} seconds after it was sent: {wait()} seconds")
+        assert 1.0 <= wait() < took + 5 / 10 + SLACK / 2, f"a query that was taken {took:.2f} seconds after it was sent: {wait()} seconds"
         until("none, while nobody asks", lambda: wait() == 0, WRITES_EACH + WAIT)
 
 
 def test_statistics_of_files_that_fail():
     """A file that fails is told once, shown for as long as it does, and counted where it begins to."""
     host, told = OddHost(), lambda: [it for it in read("err").splitlines() if " file " in it]
-
-    def tells(name, what):
-        until(f"{what!r} of {name} in the log", lambda: told()[-1:] == [of_file(name, what)], 3)
+    tells = lambda name, what: until(f"{what!r} of {name} in the log", lambda: told()[-1:] == [of_file(name, what)], 3)
 
     def shows(count, *failing):
         wanted = {f'labntp_file_ok{{file="{it}"}}': it not in failing for it in ("commands", *WRITTEN)}
@@ -2015,8 +1891,7 @@ def test_statistics_of_an_answers_file_that_takes_nothing():
 
 
 def test_statistics_and_customers_that_do_not_fit_leave_nothing():
-    """Statistics and customers that cannot be written whole leave nothing beside them, and their room to the answers. Here a file may have so many
-    octets."""
+    """Nothing is left beside them, and their room to the answers. Here a file may have so many octets."""
     with Daemon(enrolled=CROWD, prepare=lambda: limited_to(4096)) as daemon:
         for name in ("statistics", "customers"):
             told = of_file(name, "cannot be written: File too large (os error 27)")
@@ -2026,10 +1901,7 @@ def test_statistics_and_customers_that_do_not_fit_leave_nothing():
         until("the line has its answer", lambda: daemon.answers() == "1 done\n", 2)
 
 
-# ---- Customers
-
 def customers():
-    """The objects of the customers file, by their addresses."""
     text = read("customers")
     assert not text or text.endswith("\n"), f"a customers file that was cut off: {text[-80:]!r}"
     lines = [json.loads(line) for line in text.splitlines()]
@@ -2038,20 +1910,13 @@ def customers():
 
 
 def test_customers_file_has_what_each_has_and_was_answered():
-    """Who is in it after each command; what was counted of each; when each key signed last; and no key."""
     window(10)
     words = ["basic", "interleaved", "rate", "deny", "nak", "short", "long", "field-short", "field-unaligned", "field-past-end", "rest", "version",
              "mode", "bare", "muted", "over-budget"]
 
-    def keys(address):
-        return [(it["number"], it["algorithm"]) for it in customers().get(address, {"keys": []})["keys"]]
-
-    def answered(address):
-        return {name: number for name, number in customers()[address]["answers"].items() if number}
-
-    def in_time(what, is_so):
-        until(what, lambda: customers() and is_so())
-
+    keys = lambda address: [(it["number"], it["algorithm"]) for it in customers().get(address, {"keys": []})["keys"]]
+    answered = lambda address: {name: number for name, number in customers()[address]["answers"].items() if number}
+    in_time = lambda what, is_so: until(what, lambda: customers() and is_so())
     with Daemon(commands="# a comment\nenrol 127.0.0.5 5 md5 6b6579 10\n") as daemon:
         in_time("the customers", lambda: len(customers()) == len(CUSTOMERS) + 1)
         first = customers()["127.0.0.1"]
@@ -2097,8 +1962,7 @@ def test_customers_file_has_what_each_has_and_was_answered():
         in_time("the new enrolments", lambda: [keys(f"127.0.0.{it}") for it in (5, 9)] == [[(9, "md5")], [(10, "md5")]])
         same("their lines", [daemon.line(8), daemon.line(9)], [customers()[f"127.0.0.{it}"]["line"] for it in (5, 9)])
         same("what the first was answered", {"basic": 3, "interleaved": 2, "nak": 1, "deny": 1}, answered("127.0.0.5"))
-        text = read("customers")
-        same("keys in it", [], [it for it in ("6b6579", "6f6c64", "6f74686572") if it in text])
+        same("keys in it", [], [it for it in ("6b6579", "6f6c64", "6f74686572") if it in read("customers")])
         same("files", [], [it for it in os.listdir(judging.ROOM) if "customers" in it and it != "customers"])
 
 
@@ -2177,8 +2041,7 @@ def test_customers_as_many_as_there_may_be():
             same("how many are in the customers file", count, len(customers()))
             resident, peak = memory(daemon.process)
         print(f"{told}: {min(took):.2f} s to the first answer; {resident} KiB of memory, at most {peak}", flush=True)
-        if min(took) > max(1, slow / 2):
-            raise Odd(f"{min(took):.2f} seconds to the first answer, and Python reads the file in {slow:.2f}")
+        assert min(took) <= max(1, slow / 2), f"{min(took):.2f} seconds to the first answer, and Python reads the file in {slow:.2f}"
         assert slowest <= SECOND / 4, f"a query was taken {slowest / SECOND:.2f} seconds after it was sent"
 
 
@@ -2268,8 +2131,7 @@ def test_statistics_are_sums_of_what_was_sent_and_seen():
             last = os.stat(room("statistics")).st_mtime_ns
             pass_seconds(host, WRITES_EACH + 1)
             until("new statistics", lambda: os.stat(room("statistics")).st_mtime_ns > last)
-            counts = {name: int(it) for name, it in statistics().items() if name.startswith("labntp_answers_total")}
-            return collections.Counter(counts)
+            return collections.Counter({name: int(it) for name, it in statistics().items() if name.startswith("labntp_answers_total")})
 
         @settings(max_examples=20)
         @given(st.lists(many(st.tuples(st.integers(0, 5), any_of([*SENT, *["asks"] * 6])), 140), max_size=10))
@@ -2297,7 +2159,6 @@ def test_statistics_are_sums_of_what_was_sent_and_seen():
 
 
 def test_statistics_of_failed_sends():
-    """A signed query from the source port 0, to which nothing can be sent."""
     customer = probe.Customer(ONE)
     try:
         raw = socket.socket(socket.AF_INET, socket.SOCK_RAW, socket.IPPROTO_UDP)
@@ -2322,8 +2183,7 @@ def test_recorded_query_spends_a_budget_until_its_key_is_retired():
         def repeated(count):
             for _ in range(count):
                 s.send(recorded)
-            replies = [probe.answer(s, 0.3) for _ in range(count)]
-            return [probe.kind(owner, recorded, it) for it in replies if it]
+            return [probe.kind(owner, recorded, it) for it in [probe.answer(s, 0.3) for _ in range(count)] if it]
 
         window(10)
         same("answers to a recorded query", ["time", "time", "rate"], repeated(10))
@@ -2334,8 +2194,6 @@ def test_recorded_query_spends_a_budget_until_its_key_is_retired():
         # Its stamps are of another window than this host's.
         same("its customer's own", [1, 1], [daemon.told(f"127.0.0.3/13/sha1/{key}").stratum for _ in range(2)])
 
-
-# ---- Memory
 
 def memory(process):
     """The resident memory in KiB: by its page tables, and the most that it was."""
@@ -2358,8 +2216,6 @@ def test_memory_is_constant_over_half_a_million_queries():
         grown(*seen)
 
 
-# ---- The units
-
 def test_units_give_it_what_it_needs():
     """What the units of examples/ give the service. How exposed it is, tests/test_package.py judges."""
     with open(f"{TOP}/examples/labntpd.service") as service, open(f"{TOP}/examples/labntpd.socket") as listening:
@@ -2368,8 +2224,6 @@ def test_units_give_it_what_it_needs():
     wanted += ["ReceiveBuffer=512K", "SendBuffer=1M"]
     same("lines that are not there", [], [it for it in wanted if it not in lines])
 
-
-# ---- A network of its own
 
 @contextlib.contextmanager
 def namespace():
@@ -2393,34 +2247,18 @@ def namespace():
         ip(f"netns del {name}")
 
 
-# Has the socket that it makes at an address be descriptor 3 of the program that it becomes.
-HANDS_DOWN = """
-import os, socket, sys
-s = socket.socket(socket.AF_INET, socket.SOCK_DGRAM)
-s.bind((sys.argv[1], 20123))
-os.dup2(s.fileno(), 3)
-os.set_inheritable(3, True)
-os.environ.update(LISTEN_FDS="1", LISTEN_PID=str(os.getpid()))
-os.execv(sys.argv[2], sys.argv[2:])
-"""
-
-
 def test_start_at_0_0_0_0_on_a_host_with_several_addresses():
-    """A socket at 0.0.0.0 is warned of where the host has several addresses beside loopback, with the line to write."""
-    judging.needs("ip", "unshare", root=True)
     os.chmod(file_of("commands", ""), 0o600)
     both, why = ["192.0.2.7", "198.51.100.9"], "listen: replies from 0.0.0.0 leave from any address of this host, as 192.0.2.7 and 198.51.100.9"
 
     def tells(line, addresses, listen="0.0.0.0:20123", made=()):
         """What a start and --check tell of such a configuration; where a socket is handed down, it is made at the address in `made`."""
-        lines = ["ip link set lo up", *[f"ip addr add {it}/32 dev lo" for it in addresses], 'exec "$@"']
-        host, words = ["unshare", "--net", "sh", "-ec", "; ".join(lines), "sh"], configured(configuration(listen=listen))
+        host, words = on_a_host(addresses, 20123, *made), configured(configuration(listen=listen))
         told = [line if made else f"{words[1]}: {line}"] if line else []
         if not made:
             same(f"--check of {listen} at {addresses}", (0, "ok\n", "".join(f"{it}\n" for it in told)), run([*words, "--check"], before=host))
         with open(room("out"), "wb") as out, open(room("err"), "wb") as err:
-            handed = [sys.executable, "-c", HANDS_DOWN, *made] if made else []
-            process = judging.start([*host[1:], *handed, judging.PROGRAM, *words], host[0], stdout=out, stderr=err)
+            process = judging.start([*host[1:], judging.PROGRAM, *words], host[0], stdout=out, stderr=err)
         until("it serves", lambda: read("out").startswith("serving ") or process.poll() is not None)
         end(process)
         same(f"a start at {listen} {made} and {addresses}", told, [it for it in read("err").splitlines() if "listen: " in it])
@@ -2449,8 +2287,6 @@ def test_namespace_with_chronyd_basic_and_interleaved():
         both = [answers("time", it) for it in ("basic", "interleaved")]
         until("both kinds are counted", lambda: all(statistics().get(it, 0) > 0 for it in both), WRITES_EACH + WAIT)
 
-
-# ---- An odd host
 
 def pass_seconds(host, seconds):
     """So much time passes at once, as both clocks tell. The daemon then sees an empty queue before another datagram comes: what is in the
@@ -2512,11 +2348,8 @@ def test_departures_are_the_middle_of_the_send():
         host.send = SECOND // 20
         receive, arrival = 0, 0
         for _ in range(8):
-            packet = probe.query(customer, "plain", receive, arrival)
-            s.send(packet)
-            reply = probe.answer(s)
-            arrival = probe.now()
-            same("the answer", "interleaved" if receive else "time", "nothing" if reply is None else probe.kind(customer, packet, reply))
+            word, reply, arrival = probe.exchange(customer, s, "plain", receive, arrival)
+            same("the answer", "interleaved" if receive else "time", word)
             if receive:
                 spans.append((nanos(probe.stamps(reply)[2]) - nanos(receive)) / host.send)
             receive = probe.stamps(reply)[1]
@@ -2560,13 +2393,12 @@ def test_late_and_a_poll_that_fails_is_no_empty_queue():
 def test_late_and_a_list_without_the_socket_is_no_empty_queue():
     """Where the kernel's list cannot be read, or lacks the socket, the queue is not taken for empty."""
     for path in ("/proc/net/none", "/proc/net/udplite"):
-        with environment(**in_front(OTHER_LIST % path)):
+        with mock.patch.dict(os.environ, **in_front(OTHER_LIST % path)):
             late_in_a_heap()
 
 
 def test_commands_are_carried_out_at_once_while_queries_come():
-    """A line of commands is in force for a query that comes a little more than a thousandth of a second after the one before it, by the
-    clocks of the host, which stand still here but for that."""
+    """A query comes 1.2 thousandths of a second after the one before it, by the host's clocks, which stand still here but for that."""
     host = OddHost()
     with Daemon(on=host) as daemon, crowd(daemon, 200, CUSTOMERS[:1]) as (asker,):
         moment = time.time_ns()
@@ -2577,13 +2409,10 @@ def test_commands_are_carried_out_at_once_while_queries_come():
             asker.socket.send(query)
             asker.hears(query)
             same("answers to lines", "".join(f"{it} done\n" for it in range(1, number + 1)), daemon.answers())
-            with open(daemon.commands, "a") as it:
-                it.write("budget 127.0.0.2 65535\n")
+            daemon.append_octets(b"budget 127.0.0.2 65535\n")
 
 
 def test_log_has_its_first_lines():
-    """The log begins with where it serves, by which configuration, and with the receive buffer; then it tells of the lines that stand in the
-    commands file which ones were not done, how many there are, and how many customers they leave."""
     with Daemon(receive_buffer=70_000, commands="# one\nrevoke 127.0.0.3\nrevoke 127.0.0.3\n") as daemon:
         digest = hashlib.sha256(read("labntpd.toml").encode()).hexdigest()
         wanted = [f"labntpd 0.2.0: at 127.0.0.1:{daemon.port}, configuration {digest}"]
@@ -2598,7 +2427,6 @@ def told_of(name):
 
 
 def test_log_tells_of_the_clock_and_late_datagrams():
-    """The clock is told of at the start and where it changes, and late datagrams once they were dropped."""
     follows = "clock: synchronised, stratum 3, reference 0a0b0c0d: believed"
     wanted = ["clock: not synchronised: no-answer", follows, "clock: not synchronised: unsynchronised", follows]
     clock = FakeClock()
@@ -2625,7 +2453,6 @@ def test_log_tells_of_the_clock_and_late_datagrams():
 
 
 def test_log_tells_the_totals_of_an_hour():
-    """Each hour tells the numbers of the statistics. Hours pass at once here, and no descriptor stays open."""
     host, budgets = OddHost(), [("127.0.1.1", 1, "md5", "6b6579", 3), ("127.0.1.2", 2, "md5", "6b6579", 1), *CROWD[2:22]]
     with Daemon(enrolled=budgets, longest_wait=LONGEST_WAIT, receive_buffer=65536, on=host) as daemon, crowd(daemon, 50, CROWD[2:22]) as askers:
         with halted(daemon):
@@ -2669,14 +2496,13 @@ def test_log_tells_no_key():
                     s.send(probe.query(customer_of_it, form))
                     tells_no_key({"a reply": probe.answer(s, 0.2) or b""})
         spoilt = f"enrol 127.0.0.6 8 md5 {more[6]} ".encode()
-        append(daemon, spoilt + b"\xff\n" + spoilt.ljust(5000) + b"\n")
+        daemon.append_octets(spoilt + b"\xff\n" + spoilt.ljust(5000) + b"\n")
         until("all have their answers", lambda: daemon.answers().count("\n") == len(lines) + 2, 2)
         os.rename(file_of("new", read("commands")), daemon.commands)
         until("another file", lambda: told_of("commands file"), 3)
 
 
 def test_rest_takes_hardly_any_of_a_processor():
-    """While nobody asks it takes hardly any of a processor, and it has as many descriptors as before."""
     with FakeClock() as clock, Daemon(following(clock.port)) as daemon:
         daemon.tells("what the clock told", is_grown(clock.state), TOLD_WITHIN)
         taken = share_of_a_processor(daemon.process, 6)
@@ -2684,8 +2510,7 @@ def test_rest_takes_hardly_any_of_a_processor():
 
 
 def test_rest_there_is_none_with_spin_and_all_is_done_in_time():
-    """With `spin` it has a processor or is ready for one all the time, and does what is due at the same paces: it hears of the clock's answers and
-    of commands, drops what waited for too long, and writes its statistics."""
+    """With `spin` it has a processor or is ready for one all the time, and does what is due at the same paces."""
     with FakeClock() as clock, Daemon(following(clock.port), longest_wait=LONGEST_WAIT, spin=True) as daemon:
         daemon.tells("what the clock told", is_grown(clock.state), TOLD_WITHIN)
         before, begun = sum(scheduled(daemon.process)), time.monotonic()
@@ -2708,11 +2533,8 @@ def test_rest_there_is_none_with_spin_and_all_is_done_in_time():
         daemon.ask("time", TWO)
 
 
-# ---- Many queries
-
 @pytest.mark.proved_alone(SLOW)
 def test_many_turns_leave_the_customers():
-    """Behind two and a half millions of datagrams the customers, their exchanges and the memory are as before."""
     stranger, customer, count = probe.Customer("127.0.0.9"), probe.Customer(ONE), 2_500_000
 
     def hear(packet, last):
@@ -2814,19 +2636,18 @@ class Judged:
     def command(self, lines):
         """Writes lines, which are in force for the next datagram, since its receipt is more than a thousandth of a second later. Gives the
         answers that are due."""
-        due = []
-        with open(self.daemon.commands, "a") as it:
-            for line in lines:
-                if "OLDER" in line:
-                    line = line.replace("OLDER", str((self.keys[line.split()[1]] or [(7,)])[-2:][0][0]))
-                it.write(f"{line}\n")
-                self.lines += 1
-                if answer := self.order(line):
-                    due.append(f"{self.lines} {answer}\n")
+        due, written = [], []
+        for line in lines:
+            if "OLDER" in line:
+                line = line.replace("OLDER", str((self.keys[line.split()[1]] or [(7,)])[-2:][0][0]))
+            written.append(f"{line}\n")
+            self.lines += 1
+            if answer := self.order(line):
+                due.append(f"{self.lines} {answer}\n")
+        self.daemon.append_octets("".join(written).encode())
         return "".join(due)
 
     def datagram(self, form, address, which):
-        """The octets of a datagram."""
         self.transmit += 1
         first, origin, receive = (0x23, 0x1B)[which % 2], 0, 0
         if self.stamps[address] and form in ("asks", "older key", "field"):
@@ -2854,7 +2675,6 @@ class Judged:
         return (self.moment // SECOND + probe.SINCE_1900) // WINDOW
 
     def batch(self, lines, windows, datagrams):
-        """Lines of commands, and datagrams behind them."""
         due_lines = self.command(lines)
         window = self.set_clock(windows)
         due = [*filter(None, (self.send(it, more, window) for it in datagrams for more in range(1 + it.which // 8)))]
@@ -2899,14 +2719,12 @@ class Judged:
 
 
 def enrolled():
-    """What each customer has, by the customers file."""
     return {it["address"]: (it["line"], it["budget"], [key["number"] for key in it["keys"]]) for it in customers().values()}
 
 
 @pytest.mark.proved_alone(SLOW)
 def test_many_answers_are_each_the_models():
-    """So many datagrams, with commands between and a clock that is set, have the answers of the model; the statistics count them
-    so, the memory is as before, and a start leaves the customers as they were."""
+    """Commands come between, and the clock is set; the memory is as before, and a start leaves the customers as they were."""
     host, count = OddHost(), MANY_QUERIES if judging.IS_LONG else QUERIES
     with Daemon(enrolled=[*Judged.CUSTOMERS, CUSTOMERS[0]], on=host) as daemon:
         size, before = min(250, int(receive_buffer_allowed() / truesize() / 2)), []

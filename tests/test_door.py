@@ -1,27 +1,19 @@
 """Judges what floods and forgers leave to customers, before and behind the rules of `labntpctl door`.
 
-The two are measured in turns, since rates of different minutes are not to be compared. `--table` judges nothing: it measures labntpd,
-`labntp serve` and chronyd (where it is there), for three kinds of floods, at three rates and three shares of a processor, and prints a table;
-it takes ten minutes.
+The two are measured in turns, since rates of different minutes are not to be compared. A host that is busy for a moment makes answers late
+too, so one of three rounds in time is enough, and a round is not judged by what comes late where it does without a flood. Nor are rounds
+judged in which a busy host gives the flood or the server less than half of what is wanted, or one of two servers clearly less than the
+other. `--table` judges nothing: it measures labntpd, `labntp serve` and chronyd (where it is there), for three kinds of floods, at three
+rates and three shares of a processor, and prints a table; it takes ten minutes.
 
-- Whoever sends up to a hundred datagrams a second in a customer's name, without its key, takes no answer from it: wrong MACs spend its refusals
-  alone, and copies of a query spend its budget, which has room. It is the same behind the rules; there a thousand a second take answers.
-- Behind them little of a flood of one source comes through, and another customer has its answers, none of them late at the median: in one of
-  three rounds, since a host that is busy for a moment makes them late too. A round is not judged by what comes late where it does without a
-  flood. A customer's flood is cut to its rate, nothing of a stranger comes, and DENY is sent.
-- Under a flood before them a customer has not clearly fewer answers than `labntp serve` gives, in the middle one of three rounds. Rounds in which
-  a busy host gives the flood or the server less than half of what is wanted, or one of the two servers clearly less than the other, are not
-  judged.
-
-It needs root, the programs `ip`, `taskset` and `gcc`, and two processors, and behind the rules `nft` (on the path, or below
-$PEERS as tests/run fetches it); else cases are passed over. Everything is done over the loopback interface of a network namespace of
-its own, which ends with it, and on the processors that it may use: the server on the last one, which it shares with busy loops.
+It needs root, the programs `ip`, `taskset` and `gcc`, and two processors, and behind the rules `nft` (on the path, or below $PEERS as
+tests/run fetches it); else cases are passed over. Everything is done over the loopback interface of a network namespace of its own, which
+ends with it, and on the processors that it may use: the server on the last one, which it shares with busy loops.
 """
 import collections
 import contextlib
 import os
 import select
-import socket
 import statistics
 import sys
 import time
@@ -36,45 +28,32 @@ import probe
 from judging import SLOW, Odd, PassedOver
 from own_network import ALLOWED, busy, nft
 
-# How many turns `labntp serve` makes at most.
 TURNS = 1_000_000
-
 # For how many seconds a customer asks, and how long it waits for the last reply.
 ASKING, LINGER = 3, 0.5
-
 # Behind the door: how late the receipts of its queries are at the median at most, in milliseconds (a tenth of one where the host is not busy,
 # and else a time slice of its scheduler, which is four); and which part of its queries is answered, and of a flood comes through.
 LATE, ANSWERED, COMES_THROUGH = 10, 0.98, 0.01
-
 # How many datagrams of a customer the rules let pass in a second; and how many queries it asks: where few are answered, only many tell two
 # servers apart.
 RATE, MANY, FEW = 200, 1000, 100
-
 # The customers: one that asks, and one that floods; and an address of no customer.
 ASKER = ("127.0.0.2", 2, "md5", "6b6579", 65535)
 NEIGHBOUR = ("127.0.0.3", 3, "md5", "6b6579", 65535)
 STRANGER = "127.0.0.8"
-
 # The kinds of floods, the rates, and the shares of a processor as one of so many.
 KINDS = ("one replayed query", "wrong MACs", "a stranger")
 RATES = (50_000, 120_000, 400_000)
 SHARES = (1, 2, 7)
-
 # How many queries were asked and answered, how late their receipts were, in milliseconds, how many datagrams the kernel dropped; and how many
 # came in a second, and which share of a processor the server had.
 Seen = collections.namedtuple("Seen", "asked answered median most drops came had")
-
 # Which part of the rate and of the share that are wanted a round has to have had, to be judged, and which part of what the other server
 # had: a busy host gives less. How many rounds are judged, and made at most.
 LEAST, EVEN, ROUNDS, MOST_ROUNDS = 0.5, 0.8, 3, 8
-
-
 # The processors: that of the server, that of a flood, and those of the customer.
 HERE = ALLOWED[-1]
 FLOODED_FROM, ASKED_FROM = ALLOWED[0], {*ALLOWED[1:-1]} or {ALLOWED[0]}
-
-
-# The modes of files, and the programs.
 MASK = 0o022
 LABNTPD, LABNTP, LABNTPCTL = judging.built("labntpd", "labntp", "labntpctl")
 
@@ -149,7 +128,6 @@ no_door = contextlib.nullcontext
 # ---- Floods
 
 def datagram(kind):
-    """The source and the octets of a flood."""
     customer = probe.Customer(STRANGER if kind == KINDS[2] else text_of(NEIGHBOUR))
     return customer.address, probe.query(customer, "wrong" if kind == KINDS[1] else "plain")
 
@@ -185,12 +163,6 @@ def asks(port, rate):
     return late
 
 
-def drops_at(port):
-    """How many datagrams the kernel dropped for want of room at the socket that is bound to this port."""
-    with open("/proc/net/udp") as it:
-        return sum(int(words[-1]) for words in map(str.split, it) if words[1].endswith(f":{port:04X}"))
-
-
 def arrived():
     """How many datagrams were received in this network namespace, or dropped for want of room."""
     with open("/proc/net/snmp") as it:
@@ -212,7 +184,9 @@ def measure(server, kind, rate, share, guard=no_door):
         if rate:
             stack.enter_context(busy([source, probe.HOST, str(port), str(rate), octets.hex()], FLOODED_FROM))
         time.sleep(0.3)
-        look = lambda: (drops_at(port), arrived(), labntpd_server.scheduled(process)[0], time.monotonic())
+        # What the kernel dropped for want of room at the socket that is bound to this port.
+        drops_here = lambda: sum(int(it[-1]) for it in labntpd_server.udp_sockets() if it[1].endswith(f":{port:04X}"))
+        look = lambda: (drops_here(), arrived(), labntpd_server.scheduled(process)[0], time.monotonic())
         before = look()
         late = asks(port, asked)
         drops, came, had, took = (now - then for now, then in zip(look(), before))
@@ -222,7 +196,6 @@ def measure(server, kind, rate, share, guard=no_door):
 # ---- Cases
 
 def test_door_stops_one_source_before_the_queue():
-    """A source sends far more than it may: it is stopped before the queue, and another customer has its answers in time."""
     with labntpd() as (_, port), door():
         judging.same("a query", "time", probe.ask(port, "plain", text_of(ASKER)))
     for kind, rate in ((KINDS[0], 120_000), (KINDS[1], 400_000)):
@@ -230,7 +203,6 @@ def test_door_stops_one_source_before_the_queue():
 
 
 def is_in_time(seen):
-    """Whether a customer had its answers, and had them in time."""
     return seen.answered >= ANSWERED * seen.asked and seen.median <= LATE
 
 
@@ -248,18 +220,15 @@ def stopped_at_the_door(kind, rate, share):
     raise PassedOver(f"the host is too busy for 1/{share} of a processor: without a flood too answers are late; with one {unjudged}")
 
 
-def is_even(one, other):
-    """Whether the host gave two servers nearly the same flood, and nearly the same share of a processor."""
-    return all(min(it) > EVEN * max(it) for it in ((one.came, other.came), (one.had, other.had)))
-
-
 def judged_rounds(rate, share):
     """How many queries labntpd and `labntp serve` answered in three rounds in which the host gave both what is wanted."""
     rounds, had = [], []
     for _ in range(MOST_ROUNDS):
         pair = [measure(it, KINDS[0], rate, share) for it in (labntpd, labntp)]
         had += [(round(it.came), round(it.had, 3)) for it in pair]
-        if all(it.came > LEAST * rate and it.had > LEAST / share for it in pair) and is_even(*pair):
+        # Whether it gave both nearly the same flood, and nearly the same share of a processor.
+        is_even = all(min(them) > EVEN * max(them) for them in ([it.came for it in pair], [it.had for it in pair]))
+        if all(it.came > LEAST * rate and it.had > LEAST / share for it in pair) and is_even:
             rounds.append([it.answered for it in pair])
         if len(rounds) == ROUNDS:
             return rounds
@@ -268,8 +237,7 @@ def judged_rounds(rate, share):
 
 @pytest.mark.proved_alone(SLOW)
 def test_without_a_door_answers_are_not_clearly_fewer_than_of_labntp_serve():
-    """Not clearly fewer answers than `labntp serve` gives, in the middle one of three rounds, on a small share of a processor and on a very
-    small one: few are answered there, so one round alone may be far off."""
+    """On a small share of a processor and on a very small one: few are answered there, so one round alone may be far off."""
     for rate, share in ((120_000, 7), (400_000, 20)):
         rounds = judged_rounds(rate, share)
         if statistics.median(ours / max(theirs, 1) for ours, theirs in rounds) < 0.75:
@@ -279,13 +247,11 @@ def test_without_a_door_answers_are_not_clearly_fewer_than_of_labntp_serve():
 # How many queries forged customers ask themselves, and how many in a second; how many are forged in a second, and how many in all then.
 OWN, ASKED_EACH, FORGED_EACH = 100, 25, (1, 10, 100)
 forged_at = lambda rate: OWN // ASKED_EACH * rate
-
 # What a forger without the key sends, and which budget its customer has: what it asks itself, and what counts of the forger's.
 FORGERIES = [("wrong", rate, OWN) for rate in FORGED_EACH] + [("replayed", rate, OWN + forged_at(rate)) for rate in FORGED_EACH]
 # And a customer whose budget has no room for copies, and one of whom more is forged than the rules let pass.
 FORGERIES += [("replayed", FORGED_EACH[-1], OWN), ("wrong", 5 * RATE, OWN)]
 FORGED = [(f"127.0.1.{number}", number, "sha1", f"{number:040x}", budget) for number, (_, _, budget) in enumerate(FORGERIES, 1)]
-
 # A window of budgets, and how many refusals are sent in one.
 WINDOW, REFUSED = 64, 4
 
@@ -349,7 +315,6 @@ def test_forgers_take_from_customers(guard):
 # A customer that floods, one that is revoked, and a stranger that is enrolled later.
 REVOKED = ("127.0.0.5", 5, "md5", "6b6579", 20)
 LATER = (STRANGER, 8, "md5", "6b6579", 20)
-
 # How many datagrams a flood has that is cut: it is over within a fraction of a second.
 FLOOD = 2_000
 
@@ -357,8 +322,7 @@ FLOOD = 2_000
 def let_through(port, source):
     """How many datagrams of a flood came to the server, none of which is answered; and how many seconds it took."""
     before, begun = arrived(), time.monotonic()
-    with socket.socket(socket.AF_INET, socket.SOCK_DGRAM) as s:
-        s.bind((source, 0))
+    with probe.bound(host=source) as s:
         for _ in range(FLOOD):
             s.sendto(b"x", (probe.HOST, port))
     time.sleep(0.1)
@@ -373,8 +337,7 @@ def is_cut(port, source, rate):
 
 
 def test_door_lets_each_customers_rate_pass_and_no_stranger():
-    """A customer's flood is cut to its rate, which the words say, and that of who was revoked, who gets DENY; of a stranger nothing comes, until
-    it is enrolled and the rules are loaded again. Others are answered."""
+    """Who was revoked has a rate too, and gets DENY; a stranger may pass once it is enrolled and the rules are loaded again."""
     judging.PROGRAM = LABNTPD
     with labntpd_server.Daemon(enrolled=[NEIGHBOUR, REVOKED], commands=f"revoke {REVOKED[0]}\n") as server, door():
         judging.same("a revoked address", "deny", probe.ask(server.port, "plain", text_of(REVOKED)))
@@ -391,7 +354,6 @@ def test_door_lets_each_customers_rate_pass_and_no_stranger():
 
 @pytest.mark.table
 def test_table():
-    """Measures all under floods of each kind, and prints a table."""
     print("\n| Server | Flood | Datagrams a second | Share of a processor | Answered of 100 | Late, median and most (ms) | Kernel's drops a second |")
     print("|---|---|---:|---|---:|---:|---:|", flush=True)
     rows = [(name, kind, rate, share, no_door) for kind in KINDS for rate in RATES for share in SHARES for name in SERVERS]

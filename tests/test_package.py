@@ -1,16 +1,10 @@
-"""Judges the Debian package that packaging/deb makes of the programs.
+"""Judges the Debian package that packaging/deb makes of the programs: as it is, below a root of its own, and under a systemd of its own.
 
-- What the package has: files, modes, owners, the fields that dpkg reads, the programs, the configuration, the units, the pages of the manual.
-- Of which sources its programs were proved, and how one is refused that was not; that a touched source builds nothing anew.
-- Below a root of its own dpkg installs it, installs it again, removes it and purges it: what stays is what should.
-- Under a systemd of its own nothing is enabled or started; by the steps of docs/OPERATIONS.md it serves, and is checked each minute; an
-  upgrade starts it anew, and a removal stops it. apt upgrades it from a release before, and goes back. That is the package itself under an
-  earlier version, or the one at $LAST_RELEASE.
+The release that it is upgraded from is the package at $LAST_RELEASE, or the package itself under an earlier version. Programs that have no
+record of their proof (tools/records.py) are packed as such, and the case of the record is passed over.
 
-Programs that have no record of their proof (tools/records.py) are packed as such, and the case of the record is passed over.
-
-It needs dpkg, and for some cases root, git, rt, groff, lintian, systemd-analyze, or what tests/own_systemd.py lists; else they are passed over.
-No network is asked, and nothing is left.
+It needs dpkg, and for some cases root, git, rt, groff, lintian, systemd-analyze, or what tests/own_systemd.py lists; else they are passed
+over. No network is asked, and nothing is left.
 """
 import contextlib
 import hashlib
@@ -37,23 +31,19 @@ import records
 from judging import LARGE, TOP, PassedOver, same
 from own_systemd import edit, run as sh
 
-# The modes of files, and the programs.
 MASK = 0o022
-LABNTPD, LABNTP, LABNTP_QUERY, LABNTPCTL = judging.built("labntpd", "labntp", "labntp_query", "labntpctl")
+PROGRAMS = dict(zip(judging.PROGRAMS, judging.built(*judging.PROGRAMS)))
+LABNTP, LABNTP_QUERY, LABNTPD, LABNTPCTL = PROGRAMS.values()
 pytestmark = pytest.mark.proved_alone(LARGE)
-
 # The longest that a command takes, in seconds, and a build.
 LIMIT, BUILD = 20, 120
-
 DOCUMENTATION = "usr/share/doc/labntp"
 CONFFILE = "/etc/labntp/labntpd.toml"
 KEPT = [CONFFILE, "/etc/labntp/clock.key", "/var/lib/labntp/commands"]
 SERVICE, SOCKET, PORT = "labntpd.service", "labntpd.socket", 123
 UNITS = [SERVICE, SOCKET, "labntpd@.service", "labntpd@.socket", "labntpd-check@.service", "labntpd-check@.timer"]
 UNITS += ["labntpd-door@.path", "labntpd-door@.service", "labntpd-door-changed@.service"]
-# One of several, by the templates.
 INSTANCE = [f"labntpd@12301.{it}" for it in ("service", "socket")]
-# The check of the page's server.
 CHECK, CHECK_TIMER = (f"labntpd-check@198.51.100.1.{it}" for it in ("service", "timer"))
 # What has the kernel police that server's door.
 DOOR = [f"labntpd-door{it}" for it in ("@198.51.100.1.path", "@198.51.100.1.service", "-changed@198.51.100.1.service")]
@@ -61,15 +51,9 @@ DOOR = [f"labntpd-door{it}" for it in ("@198.51.100.1.path", "@198.51.100.1.serv
 # the host's root directory, and the clock's device, which a protected clock makes readable. The door's has nftables, with a capability.
 EXPOSED = {SERVICE: 13, CHECK: 11, DOOR[1]: 13}
 
-# What the package has: modes and paths. Behind them stand the files of docs/ and of examples/, but for the units.
+# What the package has: modes and paths of files, but for those of docs/ and of examples/; and its folders of another mode than 755.
 LIST = """
-755 .
-755 etc
-750 etc/labntp
 640 etc/labntp/labntpd.toml
-755 lib
-755 lib/systemd
-755 lib/systemd/system
 644 lib/systemd/system/labntpd-check@.service
 644 lib/systemd/system/labntpd-check@.timer
 644 lib/systemd/system/labntpd-door-changed@.service
@@ -79,50 +63,30 @@ LIST = """
 644 lib/systemd/system/labntpd.socket
 644 lib/systemd/system/labntpd@.service
 644 lib/systemd/system/labntpd@.socket
-755 usr
-755 usr/bin
 755 usr/bin/labntp
 755 usr/bin/labntp-query
-755 usr/lib
-755 usr/lib/sysusers.d
 644 usr/lib/sysusers.d/labntp.conf
-755 usr/sbin
 755 usr/sbin/labntpctl
 755 usr/sbin/labntpd
-755 usr/share
-755 usr/share/doc
-755 usr/share/doc/labntp
 644 usr/share/doc/labntp/README.Debian
 644 usr/share/doc/labntp/README.md
 644 usr/share/doc/labntp/changelog.gz
 644 usr/share/doc/labntp/copyright
-755 usr/share/doc/labntp/docs
-755 usr/share/doc/labntp/examples
-755 usr/share/doc/labntp/scale
 755 usr/share/doc/labntp/scale/cores
 755 usr/share/doc/labntp/scale/machines
 644 usr/share/doc/labntp/scale/buckets.py
 755 usr/share/doc/labntp/scale/statistics
-755 usr/share/lintian
-755 usr/share/lintian/overrides
 644 usr/share/lintian/overrides/labntp
-755 usr/share/man
-755 usr/share/man/man1
 644 usr/share/man/man1/labntp.1.gz
 644 usr/share/man/man1/labntp-query.1.gz
-755 usr/share/man/man8
 644 usr/share/man/man8/labntpctl.8.gz
 644 usr/share/man/man8/labntpd.8.gz
-755 var
-755 var/lib
-750 var/lib/labntp
 """
-
+CLOSED = ("etc/labntp", "var/lib/labntp")
 # What others than root may do with the files that are installed, by mode and group; the group's number is another one on each host.
 INSTALLED = {"/etc/labntp": "750 root labntp", "/var/lib/labntp": "750 root labntp"}
 INSTALLED |= {it: "640 root labntp" for it in (CONFFILE, "/var/lib/labntp/commands")}
 
-# A small program.
 SMALL = """\
 //! Says its name.
 #![tactic(auto)]
@@ -134,7 +98,6 @@ fn main(rt: HostRuntime) -> io::Result<()> {
 }
 """
 
-# The customer that the page enrols.
 TEN = "192.0.2.10"
 # Within how many seconds the page's commands lead to the first customer's time.
 SOON = 10
@@ -161,14 +124,12 @@ def read(path):
 
 def programs_of(**others):
     """The words that name the programs to packaging/deb."""
-    given = {"labntpd": LABNTPD, "labntp": LABNTP, "labntp-query": LABNTP_QUERY, "labntpctl": LABNTPCTL, **others}
-    return [word for name, path in given.items() for word in (f"--{name}", path)]
+    return [word for name, path in {**PROGRAMS, **others}.items() for word in (f"--{name.replace('_', '-')}", path)]
 
 
 def unproved():
     """Why the programs are not packed as proved ones; or nothing."""
-    handed_in = {"labntpd": LABNTPD, "labntp": LABNTP, "labntp_query": LABNTP_QUERY, "labntpctl": LABNTPCTL}
-    return next(filter(None, (records.misfit(name, path) for name, path in handed_in.items())), "")
+    return next(filter(None, (records.misfit(name, path) for name, path in PROGRAMS.items())), "")
 
 
 def git(*words):
@@ -219,17 +180,13 @@ def members(part="--fsys-tarfile"):
 
 
 def tree():
-    """A folder with the files of the package, as they are."""
     folder = f"{judging.ROOM}/tree"
     if not os.path.exists(folder):
         command("dpkg-deb", "-x", package(), folder)
     return folder
 
 
-# ---- The package
-
 def test_build_has_the_same_octets_each_time():
-    """The same octets each time, whoever builds it when; nothing but its path is printed; a program that is not there is told."""
     first, folder = package(), f"{judging.ROOM}/again"
     before = os.umask(0o077)
     try:
@@ -250,6 +207,8 @@ def test_contents_have_files_modes_and_owners():
     for folder in ("docs", "examples"):
         mode = lambda it: "755" if os.access(f"{TOP}/{folder}/{it}", os.X_OK) else "644"
         wanted |= {f"{DOCUMENTATION}/{folder}/{it}": mode(it) for it in {*os.listdir(f"{TOP}/{folder}")} - {*UNITS}}
+    folders = {f"{it}" for path in [*wanted, *(f"{it}/-" for it in CLOSED)] for it in pathlib.Path(path).parents}
+    wanted |= {it: "750" if it in CLOSED else "755" for it in folders}
     found = members()
     same("files and modes", wanted, {path: f"{it.mode:o}" for path, (it, _) in found.items()})
     same("what is not root's", [], [path for path, (it, _) in found.items() if (it.uid, it.gid, it.uname, it.gname) != (0, 0, "root", "root")])
@@ -267,7 +226,6 @@ def test_contents_have_files_modes_and_owners():
 
 
 def test_control_has_fields_conffiles_digests_and_scripts():
-    """The fields, the conffiles, the digests of all other files, and scripts that the shell reads."""
     found, wanted = members("--ctrl-tarfile"), ["control", "conffiles", "md5sums", "postinst", "prerm", "postrm"]
     same("files", sorted([".", *wanted]), sorted(found))
     fields, version = dict(re.findall(r"(?m)^(\S+): (.*)$", found["control"][1].decode())), wanted_version()
@@ -301,7 +259,6 @@ def test_versions_of_a_later_commit_are_newer_than_their_release():
 
 
 def test_record_has_commit_kit_and_sources_of_each_program():
-    """The package tells what its programs are, and of which commit, kit and sources they were proved; and the sources here are these."""
     if why := unproved():
         raise PassedOver(why)
     folder = tree()
@@ -331,13 +288,12 @@ def test_record_has_commit_kit_and_sources_of_each_program():
 
 
 def test_record_bars_a_planted_program():
-    """A program is not packed that has another octet than the one that was proved, no record, or one of other sources, whatever its date;
-    with the words for it, it is, and the version tells it."""
-    names, room = ("labntp", "labntpd", "labntp_query", "labntpctl"), f"{judging.ROOM}/planted"
+    """Dates mean nothing. With the words for it such a program is packed, and the version tells it."""
+    room = f"{judging.ROOM}/planted"
     copy, octets = copied(room), stand_in()
-    for name in names:
+    for name in PROGRAMS:
         records_for(copy, name, octets)
-    there = [word for name in names for word in (f"--{name.replace('_', '-')}", records.built_at(name, copy))]
+    there = programs_of(**{name: records.built_at(name, copy) for name in PROGRAMS})
 
     def refused(why, *words):
         said = command(f"{copy}/packaging/deb", *there, "--dirty", *words, room, wanted=1)
@@ -365,8 +321,7 @@ def test_record_bars_a_planted_program():
 
 
 def test_record_heeds_octets_and_no_dates():
-    """`.ci/proved` builds nothing of a source that was touched, and builds anew where an octet of it, of the program or of the record
-    changed."""
+    """`.ci/proved` builds anew where an octet of a source, of the program or of the record changed."""
     room = f"{judging.ROOM}/dated"
     copy, octets = copied(room), stand_in()
     records_for(copy, "labntpd", octets)
@@ -402,7 +357,6 @@ def test_record_heeds_octets_and_no_dates():
 
 
 def copied(room):
-    """A copy of the sources, with a commit of its own."""
     os.makedirs(room)
     copy = f"{room}/copy"
     listed = git("ls-files", "-z", "--cached", "--others", "--exclude-standard")
@@ -416,7 +370,6 @@ def copied(room):
 
 
 def test_build_has_the_same_program_in_each_folder():
-    """What the toolchain makes of one source does not depend on the folder."""
     judging.needs("rt")
     seen = set()
     for name in ("one", "another"):
@@ -445,7 +398,6 @@ def records_for(copy, name, octets):
 
 
 def test_programs_start_and_replay_the_examples():
-    """They start, and do what the examples say."""
     folder = tree()
     same("--version", True, re.fullmatch(r"labntpd \S+\n", command(f"{folder}/usr/sbin/labntpd", "--version")) is not None)
     same("whether --help has --check", True, "--check" in command(f"{folder}/usr/sbin/labntpd", "--help"))
@@ -460,7 +412,6 @@ def test_programs_start_and_replay_the_examples():
 
 
 def test_configuration_is_good_once_there_is_the_clocks_key():
-    """As it is, it cannot be served by; with the key of the clock's daemon `--check` says `ok`, and nothing else."""
     folder = tree()
     path = f"{folder}/labntpd.toml"
     text = read(f"{folder}{CONFFILE}").decode()
@@ -469,8 +420,7 @@ def test_configuration_is_good_once_there_is_the_clocks_key():
     for it in ("/run/labntp", "/var/lib/labntp"):
         os.makedirs(f"{folder}{it}", exist_ok=True)
     check = [f"{folder}/usr/sbin/labntpd", "--check", "--config", path]
-    said = command(*check, wanted=3)
-    same("what is not there", True, "No such file or directory" in said)
+    same("what is not there", True, "No such file or directory" in command(*check, wanted=3))
     for it, octets in (("/var/lib/labntp/commands", b""), ("/etc/labntp/clock.key", b"6b6579\n")):
         with open(f"{folder}{it}", "wb", opener=lambda path, flags: os.open(path, flags, 0o640)) as file:
             file.write(octets)
@@ -478,7 +428,6 @@ def test_configuration_is_good_once_there_is_the_clocks_key():
 
 
 def test_units_are_read_by_systemd():
-    """systemd reads them without a word; the pages that they name are there; what it reckons of how exposed they are."""
     judging.needs("systemd-analyze")
     folder, names = tree(), [SERVICE, SOCKET, *INSTANCE, CHECK, CHECK_TIMER, *DOOR]
     with tempfile.TemporaryDirectory(dir=judging.ROOM) as copies:
@@ -496,7 +445,6 @@ def test_units_are_read_by_systemd():
 
 
 def test_apparmor_reads_the_profile():
-    """Its own parser reads the profile; it is not loaded."""
     peers = f"{os.environ.get('PEERS', '')}/apparmor"
     found = shutil.which("apparmor_parser", path=f"{os.environ.get('PATH', '')}:{own_systemd.PATH}:{peers}/sbin")
     if not found:
@@ -507,7 +455,6 @@ def test_apparmor_reads_the_profile():
 
 
 def test_manual_is_read_by_groff():
-    """groff reads the pages without a word."""
     judging.needs("groff")
     for page in ("labntp.1", "labntp-query.1", "labntpctl.8", "labntpd.8"):
         said = command("groff", "-man", "-mdoc", "-Tutf8", "-ww", "-z", f"{TOP}/packaging/man/{page}", wanted=None)
@@ -521,8 +468,6 @@ def test_lintian_has_no_error_and_no_warning():
     said = command("lintian", "--allow-root", package(), wanted=None)
     same("errors and warnings", [], [it for it in said.splitlines() if it.startswith(("E:", "W:"))])
 
-
-# ---- Below another root
 
 def test_root_where_it_is_installed_again_removed_and_purged():
     """What dpkg installs there, keeps and deletes, also where the host's dpkg leaves pages out."""
@@ -574,7 +519,6 @@ def test_root_where_it_is_installed_again_removed_and_purged():
 
 
 def paths(root):
-    """All files and folders below it, but for those of dpkg itself."""
     found = {f"{place[len(root):]}/{it}" for place, folders, files in os.walk(root) for it in (*folders, *files)}
     return {it for it in found if not it.startswith(("/var/lib/dpkg", "/var/log"))}
 
@@ -583,8 +527,6 @@ def accounts(root):
     """The files of users and groups, which stay."""
     return {f"/etc/{it}" for it in os.listdir(f"{root}/etc") if re.fullmatch(r"(passwd|group|shadow|gshadow)-?|\.pwd\.lock|\.updated", it)}
 
-
-# ---- Under systemd
 
 def install():
     """Installs it in a copy of the host's root, which may have it. systemd looks for units elsewhere there, so it is given copies."""
@@ -595,15 +537,11 @@ def install():
 @pytest.fixture(scope="module")
 def systemd(room):
     """A systemd under which dpkg has installed the package."""
-    if why := own_systemd.missing("dpkg", "userdel"):
-        raise PassedOver(why)
     deb = package()
     copies = {"labntp.deb": deb, "before.deb": before(deb), "docs": f"{TOP}/docs", "labntpd.apparmor": f"{TOP}/examples/labntpd.apparmor"}
     with contextlib.suppress(PassedOver):
         copies["opens.so"] = odd_host.made(f"{judging.ROOM}/opens.so", odd_host.OPENS)
-    if os.path.isdir(peers := f"{os.environ.get('PEERS', '')}/nftables"):
-        copies["nftables"] = peers
-    with own_systemd.entered(__name__, copies) as make:
+    with own_systemd.entered(__name__, copies, "dpkg", "userdel") as make:
         make("install")
         yield make
 
@@ -614,10 +552,7 @@ def serves():
 
     def is_told():
         with customer.socket(PORT) as s:
-            packet = probe.query(customer)
-            s.send(packet)
-            reply = probe.answer(s, 0.5)
-        return reply and probe.kind(customer, packet, reply) == "time"
+            return probe.exchange(customer, s, wait=0.5)[0] == "time"
 
     judging.until("the time", is_told)
     pid = own_systemd.process(SERVICE)
@@ -625,7 +560,6 @@ def serves():
 
 
 def test_service_is_neither_enabled_nor_started(systemd):
-    """Nothing is enabled or started; who may read its files."""
     same("enabled", "disabled\ndisabled", sh(f"systemctl is-enabled {SOCKET} {SERVICE}", None))
     same("active", "inactive\ninactive", sh(f"systemctl is-active {SOCKET} {SERVICE}", None))
     same("modes, owners and groups", INSTALLED, {it: sh(f"stat -c '%a %U %G' {it}") for it in INSTALLED})
@@ -692,8 +626,7 @@ def test_service_opens_what_the_apparmor_profile_lets_it(systemd):
 
 
 def test_service_is_checked_each_minute_by_the_steps_of_the_page(systemd):
-    """By the page's steps a check comes by itself, and passes. Without an answer, and under a wrong key, it fails, which systemd and the
-    journal tell; and it passes again. A warning is no failure. It reads this key, and no other file with keys."""
+    """A failure is told by systemd and the journal; a warning is none. It reads this key, and no other file with keys."""
     judging.needs("openssl")
     if sh("systemctl is-active systemd-journald.service", None) != "active":
         raise PassedOver("journald does not run")
@@ -745,7 +678,6 @@ def test_service_is_checked_each_minute_by_the_steps_of_the_page(systemd):
 
 
 def test_service_is_started_anew_by_an_upgrade(systemd):
-    """Another process, at the socket that stays; and so for one of several."""
     sh(f"systemctl enable --now {' '.join(INSTANCE)}")
     (pid, socket), text, other = serves(), read(CONFFILE), own_systemd.process(INSTANCE[0])
     sh("dpkg --force-depends --no-triggers --install labntp.deb")
@@ -756,8 +688,7 @@ def test_service_is_started_anew_by_an_upgrade(systemd):
 
 
 def test_service_goes_on_as_apt_goes_back_a_release_and_upgrades(systemd):
-    """apt goes back to a release before, and upgrades from it: configuration, the clock's key and the commands stay as they are, and the
-    customer is served each time."""
+    """Configuration, the clock's key and the commands stay as they are, and the customer is served each time."""
     judging.needs("apt-get")
     serves()
     kept, versions = {path: read(path) for path in KEPT}, []
@@ -783,8 +714,7 @@ def test_service_goes_on_as_apt_goes_back_a_release_and_upgrades(systemd):
 
 
 def test_service_is_upgraded_from_a_register(systemd):
-    """Beside the register of an older version an upgrade restarts nothing, and says what to call. That puts the customers of the
-    register in front of the commands, and restarts."""
+    """Beside it an upgrade restarts nothing, and says what to call. That puts its customers in front of the commands, and restarts."""
     serves()
     commands, pid, script = "/var/lib/labntp/commands", own_systemd.process(SERVICE), f"/{DOCUMENTATION}/examples/from_register"
     before, register = read(commands).decode(), ("192.0.2.20", 20, "sha1", "6b6579" * 6, 10)
@@ -801,7 +731,6 @@ def test_service_is_upgraded_from_a_register(systemd):
 
 
 def test_service_has_the_doors_rules_while_it_is_there(systemd):
-    """By the page's step the door's rules are loaded as customers change; they go with the package."""
     own_network.find_nft(own_systemd.GIVEN, "/usr/local/sbin")
     rules, enrolled = lambda: sh("nft list ruleset"), [CUSTOMER.split("/")[0], "192.0.2.77"]
     sh(own_systemd.commands_of("docs/OPERATIONS.md", "A flood")[0])
@@ -815,7 +744,6 @@ def test_service_has_the_doors_rules_while_it_is_there(systemd):
 
 
 def test_service_is_removed_and_purged(systemd):
-    """A removal stops all and keeps the files, a purge deletes them."""
     serves()
     sh("dpkg --no-triggers --remove labntp")
     same("active", "\n".join(5 * ["inactive"]), sh(f"systemctl is-active {SOCKET} {SERVICE} {' '.join(INSTANCE)} {CHECK_TIMER}", None))

@@ -1,14 +1,8 @@
 """Judges the built client labntp-query from outside: what it asks, what it takes for an answer, what it prints, and its exit status.
 
-- Against a server of its own, whose stamps are known: basic, interleaved, rate, deny, nak, silence, each reason why a reply is not taken,
-  that nothing forged takes the place of the reply, and what comes to unsigned queries.
-- A server by its name, and a query from one of the host's addresses.
-- The lines, the objects of JSON, the line and the status of a check, the key file with its faults, help, version, other words.
-- That no key is shown, in any run.
-- Against labntpd where it is built, against chronyd (on the path, or below $PEERS as tests/peers.py says), and against NTPsec's ntpd where it
-  is on the path and a network apart may be made.
-
-It needs Python 3 on Linux. It takes free ports of 127.0.0.1, and a directory of its own. No wait is without a limit.
+Most cases ask a server of their own, whose stamps are known. No key is shown, in any run. Others ask labntpd where it is built, chronyd (on
+the path, or below $PEERS as tests/peers.py says), and NTPsec's ntpd where it is on the path and a network apart may be made. No wait is
+without a limit.
 """
 import contextlib
 import fractions
@@ -27,8 +21,9 @@ import judging
 import labntpd_server
 import odd_host
 import probe
-from judging import TOP, Odd, PassedOver, file_of, outputs_that_take_nothing, same, until
+from judging import PassedOver, file_of, outputs_that_take_nothing, same, until
 from probe import stamps
+from texts import text_of as text_of_file
 
 # The key of the cases, in both algorithms, and its file.
 NUMBER, KEY = 7, b"zK4-8qTf!wX2"
@@ -36,10 +31,8 @@ SHA1_KEY = "c40b7a1d93e65f2288bb01d4e7f3a69c5d20e8f1"
 KEYS = f"# a comment\n\n6 SHA256 HEX:00\n{NUMBER} {KEY.decode()}\n8 SHA1 HEX:{KEY.hex()}\n"
 SECOND = 1 << 32
 NANOS = 10**9
-
 # The lengths of time that a query is waited with, where it is to end by its time limit.
 SHORT = ["--timeout", "0.2"]
-
 MEMBERS = ["result", "reason", "offset", "delay", "stratum", "leap", "reference_id", "reference", "root_distance", "server", "number"]
 
 
@@ -110,15 +103,15 @@ class FakeServer(labntpd_server.FakeServer):
         return [*keyed(), *more, f"{probe.HOST}:{self.port}"]
 
 
-def basic(told=None):
-    """Answers a request with its time: it came `ahead` later than it left, and stayed for `stay`."""
+def basic(told=None, **key):
+    """Answers a request with its time, under such a key: it came `ahead` later than it left, and stayed for `stay`."""
     told = told or Told()
 
     def answers(request, _):
         transmit = stamps(request)[2]
         came = transmit + told.ahead if told.receive is None else told.receive
         header = told.header(transmit if told.origin is None else told.origin, came, came + told.stay if came else 0)
-        return [header + mac(header)]
+        return [header + mac(header, **key)]
 
     return answers
 
@@ -142,8 +135,6 @@ def line_of(text):
     return found.groups()
 
 
-# ---- Samples
-
 def test_samples_are_basic_and_tell_what_the_reply_does():
     """Offset and half the delay are together what the server's clock is ahead: nothing else is known of when the reply came."""
     others = {Told(ahead=-2 * SECOND, leap=1, stratum=15): "127.0.0.42", Told(ahead=SECOND // 3, stay=SECOND // 7, leap=2, stratum=1): "7f00002a"}
@@ -157,14 +148,11 @@ def test_samples_are_basic_and_tell_what_the_reply_does():
         same("what it tells", ("basic", str(told.stratum), identifier, str(told.leap)), (kind, stratum, reference, leap))
         same("root distance", text_of(told.root_distance()), root_distance)
         both = seconds_in(offset) + seconds_in(delay) / 2
-        if abs(both - fractions.Fraction(told.ahead, SECOND)) > fractions.Fraction(2, NANOS):
-            raise Odd(f"offset {offset}, delay {delay}")
-        if not -fractions.Fraction(told.stay, SECOND) <= seconds_in(delay) < took:
-            raise Odd(f"a delay of {delay} seconds in a run of {took}")
+        assert abs(both - fractions.Fraction(told.ahead, SECOND)) <= fractions.Fraction(2, NANOS), f"offset {offset}, delay {delay}"
+        assert -fractions.Fraction(told.stay, SECOND) <= seconds_in(delay) < took, f"a delay of {delay} seconds in a run of {took}"
 
 
 def test_samples_are_asked_for_by_these_octets():
-    """A client's request of version 4, signed, with a stamp of this host's clock, and nothing else."""
     before = probe.now()
     with FakeServer(basic()) as server:
         asked(server)
@@ -184,13 +172,9 @@ def test_samples_are_interleaved_after_the_first():
         origin, receive, transmit = stamps(request)
         came = transmit + 1000 * SECOND + place
         told = Told()
-        if origin:
-            header = told.header(receive, came, kept[origin])
-        else:
-            header = told.header(transmit, came, came)
         # When it left, as the next reply tells.
         kept[came] = came + SECOND // 1000
-        return [header + mac(header)]
+        return [signed(told.header(receive, came, kept[origin]) if origin else told.header(transmit, came, came))]
 
     with FakeServer(answers) as server:
         _, out, _ = asked(server, "--count", "3", "--interval", "0.1", "--json")
@@ -269,23 +253,14 @@ def test_samples_tell_an_offset_that_may_be_another_by_an_era():
             same(f"the check of {ahead}", seen, out.count(f" s{ERA}, delay "))
 
 
-# ---- Other results
-
 def kiss(code, transmit):
     return struct.pack(">BBbbII4s", 0xE4, 0, 6, 0, 0, 0, code) + struct.pack(">QQQQ", 0, transmit, 0, transmit)
 
 
-def rate(request, _):
-    header = kiss(b"RATE", stamps(request)[2])
-    return [header + mac(header)]
-
-
-def deny(request, _):
-    return [kiss(b"DENY", stamps(request)[2])]
-
-
-def nak(request, place):
-    return [basic()(request, place)[0][:48] + bytes(4)]
+signed = lambda header, **key: header + mac(header, **key)
+rate = lambda request, _: [signed(kiss(b"RATE", stamps(request)[2]))]
+deny = lambda request, _: [kiss(b"DENY", stamps(request)[2])]
+nak = lambda request, place: [basic()(request, place)[0][:48] + bytes(4)]
 
 
 def test_results_are_rate_deny_nak_and_silence():
@@ -302,17 +277,13 @@ def test_results_are_rate_deny_nak_and_silence():
     same("no wait behind a RATE", True, time.monotonic() - begun < 10)
 
 
-def with_field(length, stands=28, octets=bytes(20)):
-    """A reply with a field that writes this length, and so many octets of it and behind it."""
-    def answers(request, place):
-        header = basic()(request, place)[0][:48]
-        return [header + struct.pack(">HH", 0x0104, length) + bytes(stands - 4) + octets]
-
-    return answers
-
-
 def changed(change):
     return lambda request, place: [change(basic()(request, place)[0])]
+
+
+def with_field(length):
+    """A reply with a field of 28 octets that writes this length, and 20 octets behind it."""
+    return changed(lambda it: it[:48] + struct.pack(">HH", 0x0104, length) + bytes(24 + 20))
 
 
 REFUSED = {
@@ -341,12 +312,10 @@ def test_results_tell_each_reason_why_a_reply_is_not_taken():
 
 
 def test_results_of_other_replies_that_are_not_taken():
-    """Other replies that have a reason of the list."""
     others = {
         "unsynchronised": [basic(Told(stratum=0)), basic(Told(stratum=16))],
         "unsigned": [lambda request, place: [rate(request, place)[0][:48]], changed(lambda it: it[:48] + struct.pack(">I", 9))],
-        "mac": [lambda request, place: [(lambda it: it + mac(it, b"other"))(basic()(request, place)[0][:48])],
-                lambda request, place: [(lambda it: it + mac(it, number=8))(basic()(request, place)[0][:48])]],
+        "mac": [basic(key=b"other"), basic(number=8)],
     }
     for word, them in others.items():
         for answers in them:
@@ -373,12 +342,9 @@ def test_results_at_the_time_limit_are_the_last():
 
 
 def test_results_of_a_reply_from_another_port():
-    """A reply from another port of the server is not heard."""
     def answers(request, place):
-        with socket.socket(socket.AF_INET, socket.SOCK_DGRAM) as other:
-            other.bind((probe.HOST, 0))
-            for line in open("/proc/net/udp").readlines()[1:]:
-                words = line.split()
+        with probe.bound() as other:
+            for words in labntpd_server.udp_sockets():
                 if words[2].endswith(f":{server.port:04X}"):
                     other.sendto(basic()(request, place)[0], (probe.HOST, int(words[1].rpartition(":")[2], 16)))
                     heard.append(words[1])
@@ -410,7 +376,6 @@ ICMP = [*((3, code) for code in (2, 3, 6, 7, 8, 9, 10, 13)), (12, 0)]
 
 
 def sum_of(octets):
-    """The checksum of ICMP."""
     whole = sum(struct.unpack(f">{len(octets) // 2}H", octets))
     return ~(whole % 0xFFFF) & 0xFFFF
 
@@ -500,15 +465,12 @@ def test_sockets_with_receives_that_fail():
             same("a check", (3, f"NTP UNKNOWN: {fault}", ""), ran)
 
 
-# ---- Unsigned queries
-
 def unsigned(change=lambda it: it, told=None):
     """Answers without a MAC, as a server does that knows no keys."""
     return lambda request, place: [change(basic(told)(request + bytes(20), place)[0][:48])]
 
 
 def test_unsigned_samples_are_told():
-    """A request of 48 octets; what comes to it is unauthenticated, in the line, the last line, the object and a check."""
     told = Told()
     with FakeServer(unsigned(told=told)) as server:
         place = f"127.0.0.1:{server.port}"
@@ -553,8 +515,6 @@ def test_unsigned_replies_that_are_no_time():
         same("nothing", (1, "silence: nothing came\n", ""), run([*SHORT, f"127.0.0.1:{server.port}"]))
 
 
-# ---- Names, and the address that is asked from
-
 def with_hosts(*words):
     """A run in which /etc/hosts has these names, and names no others."""
     hosts = file_of("hosts", "127.0.0.1 localhost\n::1 ntp.example\n127.0.0.1 ntp.example 4.ntp.example\n::1 six.example\n")
@@ -579,7 +539,6 @@ def test_sockets_reach_a_server_by_its_name():
 
 
 def test_sockets_have_the_address_that_is_asked_from():
-    """It asks from the address that is named, which must be the host's."""
     with FakeServer(basic()) as server:
         for source in ("127.0.0.5", "127.0.0.1"):
             asked(server, "--source", source)
@@ -589,8 +548,6 @@ def test_sockets_have_the_address_that_is_asked_from():
         same("of a check", (3, f"NTP UNKNOWN: {fault}", ""), run(server.words("--source", "192.0.2.77", "--max-offset", "1")))
     same("requests", 2, len(server.requests))
 
-
-# ---- JSON
 
 def test_json_of_samples():
     told = Told(leap=1)
@@ -607,8 +564,6 @@ def test_json_of_samples():
             same("offset and half the delay", True, abs(found["offset"] + found["delay"] / 2 - 1000) < 1e-8)
             same("nine decimals at most", True, all(round(found[it], 9) == found[it] for it in ("offset", "delay")))
 
-
-# ---- Checks
 
 FIGURES = (r"offset (\S+) s, delay (\S+) s, stratum (\d+), root distance (\S+) s "
            r"\| offset=(\S+)s delay=(\S+)s stratum=(\d+) root_distance=(\S+)s\n")
@@ -673,8 +628,6 @@ def test_checks_in_json():
     same("one object", ["basic"], [it["result"] for it in objects(out)])
 
 
-# ---- The key file
-
 def test_keys_at_a_path_with_any_character_are_told_in_one_line():
     """Of its path each character that is no printable ASCII is told as `\\u{..}`."""
     path, told = (f"{judging.ROOM}/keys {it}" for it in ("~\x1b\n\u00e9", "~\\u{1b}\\u{a}\\u{e9}"))
@@ -691,34 +644,24 @@ def in_file(line, number=NUMBER):
 
 
 def test_keys_in_each_form_of_a_line():
-    """Each line gives the key of 127.0.0.1's customer."""
     forms = {
         f"{NUMBER} {KEY.decode()}": "md5", f"{NUMBER} MD5 {KEY.decode()}": "md5", f"{NUMBER} ASCII:{KEY.decode()}": "md5",
         f"{NUMBER} MD5 ASCII:{KEY.decode()}": "md5", f"{NUMBER} HEX:{KEY.hex()}": "md5", f"  {NUMBER}   MD5\tHEX:{KEY.hex().upper()}  ": "md5",
         f"{NUMBER} SHA1 HEX:{KEY.hex()}": "sha1", f"{NUMBER}\tSHA1\t{KEY.decode()}\r": "sha1",
     }
     for line, algorithm in forms.items():
-        def answers(request, _):
-            transmit = stamps(request)[2]
-            header = Told().header(transmit, transmit, transmit)
+        def answers(request, place):
             same("MAC of the request", mac(request[:48], algorithm=algorithm), request[48:])
-            return [header + mac(header, algorithm=algorithm)]
+            return basic(algorithm=algorithm)(request, place)
 
         with FakeServer(answers) as server:
             for text in (in_file(line), line):
-                words = [*keyed(text=text), *SHORT, f"127.0.0.1:{server.port}"]
-                same(f"with {line!r}", "basic", run(words)[1].partition(":")[0])
+                same(f"with {line!r}", "basic", run([*keyed(text=text), *SHORT, f"127.0.0.1:{server.port}"])[1].partition(":")[0])
 
 
 def test_keys_with_the_most_octets_and_the_highest_number():
-    """The longest key, and the highest number."""
     key = b"k" * 32
-    def answers(request, _):
-        transmit = stamps(request)[2]
-        header = Told().header(transmit, transmit, transmit)
-        return [header + mac(header, key, 65535, "sha1")]
-
-    with FakeServer(answers) as server:
+    with FakeServer(basic(key=key, number=65535, algorithm="sha1")) as server:
         words = [*keyed(65535, f"65535 SHA1 {key.decode()}"), f"127.0.0.1:{server.port}"]
         same("the longest key", "basic", run(words)[1].partition(":")[0])
 
@@ -750,16 +693,13 @@ def test_sockets_with_an_address_that_is_refused():
     same("a broadcast", (3, "", True), (status, out, err.startswith("255.255.255.255: ") and err.count("\n") == 1))
 
 
-# ---- Words
-
 def test_words_for_help_and_version():
     status, out, err = run(["--help"])
     same("help", (0, ""), (status, err))
     for word in ("--key-file", "--number", "--count", "--interval", "--timeout", "--json", "--max-offset", "--max-stratum",
                  "--max-root-distance", "--warn-offset", "--warn-stratum", "--warn-root-distance", "--source", "HOST[:PORT]", "136 years", "Examples:", "Exit status:"):
         same(f"{word} in the help", True, word in out)
-    with open(f"{TOP}/crates/labntpd_files/src/command_line.rt") as it:
-        version = re.search(r'VERSION: &str = "(.*)"', it.read())[1]
+    version = re.search(r'VERSION: &str = "(.*)"', text_of_file("crates/labntpd_files/src/command_line.rt"))[1]
     same("version", (0, f"labntp-query {version}\n", ""), run(["--version"]))
 
 
@@ -798,10 +738,7 @@ def test_words_and_writes_that_fail():
         outputs_that_take_nothing([word])
 
 
-# ---- Other servers
-
 def test_servers_labntpd():
-    """Basic, interleaved, then RATE past a budget, and a NAK for another key; DENY once it is revoked."""
     (built,) = judging.built("labntpd")
     if not os.access(built, os.X_OK):
         raise PassedOver("labntpd is not built")

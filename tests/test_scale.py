@@ -1,17 +1,10 @@
 """Judges scale/cores and scale/machines: customers that are split by source address over several processes of labntpd.
 
-256 customers ask, four processes of one host or four hosts answer, and a router stands between where there are hosts. The commands are those of
-docs/SCALING.md.
+256 customers ask, four processes of one host or four hosts answer, and a router stands between where there are hosts. The commands are
+those of docs/SCALING.md.
 
-- Each customer has exactly its budget, whatever its source port. A split that heeds the port gives more, and is seen to.
-- Who falls silent when a process is killed, who moves when one is drained, is added or loses its link, and what that gives them.
-- What comes past the split, in fragments, or in a flood.
-
-`--table` judges nothing: it measures queries a second through one, two and three processes and through chronyd, ten times in turns, and prints
-a table.
-
-It needs root, gcc, the programs `mount`, `ip` and `sysctl`, two processors, and `nft` (on the path, or below $PEERS as tests/run fetches it);
-else cases are passed over. Everything is done in namespaces of its own, of networks and mounts, which end with it.
+It needs root, gcc, the programs `mount`, `ip` and `sysctl`, two processors, and `nft` (on the path, or below $PEERS as tests/run fetches
+it); else cases are passed over. Everything is done in namespaces of its own, of networks and mounts, which end with it.
 """
 import collections
 import contextlib
@@ -21,7 +14,6 @@ import ipaddress
 import os
 import re
 import select
-import socket
 import statistics
 import subprocess
 import time
@@ -35,29 +27,21 @@ import own_systemd
 import probe
 from judging import SLOW, TOP, Odd, same, until
 from own_network import ALLOWED, nft
+from texts import text_of
 
 PAGE = "docs/SCALING.md"
-
-# The modes of files, and the program beside labntpd.
 MASK = 0o022
 (LABNTPCTL,) = judging.built("labntpctl")
-
 # The address that is split, as the page has it, and the processes and the hosts.
 SERVICE, PORT = "192.0.2.1", 123
 PORTS = [f"{12301 + it}" for it in range(4)]
 HOSTS = [f"10.67.{it}.2" for it in range(4)]
-
 # The customers, and further ones, some of them at each process: their answers tell that what came before has been answered.
 COUNT = 256
 ADDRESSES = [f"10.66.{it // 256}.{it % 256}" for it in range(1, COUNT + 1)]
 FURTHER = [f"10.66.2.{it}" for it in range(1, 65)]
-
-# A customer on the host that answers.
 LOOPBACK = "127.0.0.1"
-
-# A budget that nobody spends.
 AMPLE = 65535
-
 # How long what may still come is waited for, once it is known to have been sent, in seconds.
 SETTLE = 0.1
 
@@ -112,7 +96,6 @@ class Space:
 
 
 def sh(command, wanted=0):
-    """What a shell command prints, at the top of the repository."""
     how = {"stdin": subprocess.DEVNULL, "stdout": subprocess.PIPE, "stderr": subprocess.STDOUT, "text": True, "cwd": TOP}
     ran = subprocess.run(["sh", "-ec", command], timeout=judging.WAIT, **how)
     if wanted not in (None, ran.returncode):
@@ -121,7 +104,6 @@ def sh(command, wanted=0):
 
 
 def link(one, address, other, other_address, names=("eth", "eth")):
-    """A pair of interfaces that joins two spaces."""
     sh(f"ip link add {names[0]} netns {one.name} type veth peer name {names[1]} netns {other.name}")
     for space, name, it in ((one, names[0], address), (other, names[1], other_address)):
         sh(f"ip -n {space.name} addr add {it} dev {name} && ip -n {space.name} link set {name} up")
@@ -163,7 +145,6 @@ class Site:
             it.serves()
 
     def run(self, words, wanted=0):
-        """What the script prints."""
         return self.at.sh(f"scale/{self.split} {words}", wanted)
 
     def up(self):
@@ -174,7 +155,6 @@ class Site:
         return {*re.findall(r"fwmark \S+ lookup (\d+)", self.at.sh("ip rule"))}
 
     def where(self, addresses):
-        """Which owner the script says that each has."""
         told = dict(re.findall(r"(?m)^(\S+): bucket \d+, \w+ (\S+)$", self.run(f"show {' '.join(addresses)}")))
         same("addresses that it tells of", [*addresses], [*told])
         return told
@@ -209,7 +189,6 @@ class Site:
         return ready
 
     def rounds(self, count):
-        """What each is answered, one query after another."""
         told = collections.defaultdict(list)
         for _ in range(count):
             for it, word in self.ask(markers=FURTHER).items():
@@ -279,9 +258,7 @@ def at_both(budget=AMPLE):
 
 
 def commands(heading):
-    """The commands of a section of the page."""
-    with open(f"{TOP}/{PAGE}") as it:
-        return [line for block in own_systemd.blocks_of(it.read(), heading) for line in block.splitlines()]
+    return [line for block in own_systemd.blocks_of(text_of(PAGE), heading) for line in block.splitlines()]
 
 
 # ---- Cases
@@ -291,13 +268,11 @@ HELD = [*BUDGET * ["time"], "rate", "silence", "silence"]
 
 
 def tally(told):
-    """How many heard each list of words."""
     return dict(collections.Counter(" ".join(it) for it in told.values()))
 
 
 @at_both(BUDGET)
 def test_each_customer_has_its_budget_from_whatever_port(site):
-    """Each customer is answered as by one server."""
     labntpd_server.window(8)
     site.up()
     same("customers that heard each", {" ".join(HELD): COUNT}, tally(site.rounds(len(HELD))))
@@ -329,7 +304,6 @@ def test_machines_split_by_port_give_one_more():
 @pytest.mark.proved_alone(SLOW)
 @at_both()
 def test_customers_of_one_that_is_killed_alone_are_silent(site):
-    """While all are loaded, one ends. Its customers alone are silent, and have answers once it is there again."""
     site.up()
     where, gone = site.where(ADDRESSES + FURTHER), site.owners[1]
     loads = {owner: it for it, owner in where.items() if it in FURTHER}.values()
@@ -350,11 +324,9 @@ def test_customers_of_one_that_is_killed_alone_are_silent(site):
 
 @at_both()
 def test_commands_of_the_page_split(site):
-    """The page's commands, one after another; a customer has the time behind each."""
     for command in commands({"cores": "Several processes on one host", "machines": "Several hosts"}[site.split]):
         if command.startswith(f"scale/{site.split} "):
-            told = site.at.sh(command)
-            same(f"whether {command} tells something", " up " not in command, bool(told))
+            same(f"whether {command} tells something", " up " not in command, bool(site.at.sh(command)))
         elif command == f"systemctl restart labntpd@{PORTS[1]}":
             judging.end(site.processes[PORTS[1]].process)
             site.processes[PORTS[1]].start()
@@ -368,16 +340,14 @@ def exchange(site, address, received=0):
     """A query that asks about the reply with this receive stamp: what it is answered, and the receive stamp of that."""
     customer, probe.HOST = site.known[address], SERVICE
     with site.customers, customer.socket(PORT) as s:
-        packet = probe.query(customer, "plain", received, probe.now())
-        s.send(packet)
-        reply = probe.answer(s, judging.WAIT)
+        word, reply, _ = probe.exchange(customer, s, "plain", received, probe.now(), wait=judging.WAIT)
     assert reply is not None, f"{address} has no answer"
-    return probe.kind(customer, packet, reply), probe.stamps(reply)[1]
+    return word, probe.stamps(reply)[1]
 
 
 @at_both(4)
 def test_nobody_is_refused_for_one_that_is_drained(site):
-    """One is drained, and comes back. Nobody is refused for that. Who moves begins anew, and finds its counts when it comes back."""
+    """Who moves begins anew, and finds its counts when it comes back."""
     labntpd_server.window(12)
     site.up()
     gone, before = site.owners[1], site.where(ADDRESSES)
@@ -402,7 +372,6 @@ def test_nobody_is_refused_for_one_that_is_drained(site):
 
 @at_both()
 def test_customers_are_answered_while_one_is_drained_and_added(site):
-    """Customers ask again and again while one is drained and added: each query has its answer."""
     site.up()
     for job in ("drain", "add"):
         with site.at:
@@ -414,7 +383,6 @@ def test_customers_are_answered_while_one_is_drained_and_added(site):
 
 
 def test_cores_that_are_added_get_who_moves():
-    """A fifth process takes its share, and nobody moves but to it."""
     with cores() as site:
         site.up()
         before, new = site.where(ADDRESSES), "12305"
@@ -431,8 +399,7 @@ def test_cores_get_nothing_past_the_split():
     with cores() as site:
         site.up()
         customer = site.known[ADDRESSES[0]]
-        with site.customers, socket.socket(socket.AF_INET, socket.SOCK_DGRAM) as s:
-            s.bind((customer.address, 0))
+        with site.customers, probe.bound(host=customer.address) as s:
             for port in PORTS:
                 s.sendto(probe.query(customer), (SERVICE, int(port)))
             site.ask(markers=FURTHER)
@@ -450,18 +417,15 @@ def test_cores_get_nothing_past_the_split():
 
 @at_both()
 def test_fragments_come_to_one(site):
-    """A query of 1,024 octets comes in two parts, and both come to one."""
     site.up()
     sh("ip -n customers link set eth mtu 600")
     site.all_have_time(form="field-1024")
-    told = site.customers.sh("grep ^Ip: /proc/net/snmp").splitlines()
-    counted = dict(zip(*(line.split() for line in told)))
+    counted = dict(zip(*map(str.split, site.customers.sh("grep ^Ip: /proc/net/snmp").splitlines())))
     same("fragments", 2 * COUNT, int(counted["FragCreates"]))
 
 
 @at_both()
 def test_flood_behind_the_door_takes_hardly_an_answer(site):
-    """One customer sends as much as it can. Behind the door the others have 999 answers in 1,000."""
     site.up()
     with site.at:
         table = own_network.load_door(LABNTPCTL, *next(iter(site.processes.values())).words, "--address", f"{SERVICE}:{PORT}")
@@ -529,7 +493,6 @@ def test_machines_split_again():
 
 @at_both()
 def test_nothing_stays(site):
-    """`--dry-run` prints what `up` loads, and a second `up` changes nothing; `down` leaves nothing; other words have nothing done."""
     look = lambda: site.at.sh("nft list ruleset; ip -4 rule; ip -4 route show table all")
     before, words = look(), f"up {SERVICE} {' '.join(site.owners)}"
     rules = site.run(f"--dry-run {words}")
@@ -554,7 +517,6 @@ def test_nothing_stays(site):
 
 
 def test_cores_have_statistics_each_with_its_process():
-    """node_exporter is handed what each process has written, with a label, and as old as that."""
     with cores() as site:
         folder = f"{judging.ROOM}/textfiles"
         os.makedirs(folder, exist_ok=True)
@@ -629,12 +591,10 @@ int main(int words, char **word) {
 
 def chronyd_over(site):
     """chronyd at the split's own address and port, with all keys; it answers where nothing is split."""
-    keys = (text.split("/") for text in site.texts.values())
-    judging.file_of("keys", "".join(f"{number} SHA1 HEX:{key}\n" for _, number, _, key in keys))
-    lines = ["local stratum 1", f"port {PORT}", f"bindaddress {SERVICE}", "allow", "cmdport 0", f"keyfile {labntpd_server.room('keys')}"]
-    lines += [f"pidfile {labntpd_server.room('chronyd.pid')}"]
+    keys = "".join(f"{number} SHA1 HEX:{key}\n" for _, number, _, key in (text.split("/") for text in site.texts.values()))
     with site.at:
-        return labntpd_server.begin(labntpd_server.chronyd("-d", "-x", "-f", judging.file_of("chrony.conf", "\n".join(lines))))
+        words = labntpd_server.chronyd_at(PORT, "chrony", "local stratum 1", keys=keys, address=SERVICE, allowed=("all",))
+        return labntpd_server.begin(words)
 
 
 def measured(site, processes, lines, seconds):

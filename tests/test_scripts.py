@@ -1,38 +1,27 @@
 """Judges the replays of the built program by worked examples: scripts, each with the answers that were worked for it.
 
-- Each NAME.script of examples/ and of crates/test_programs/data/: `labntp replay` writes NAME.answers, and nothing else.
-- Each line of tests/faulty_lines, behind an enrolment: the enrolment is answered, and the fault of the line is told.
-- Floods of 70,000 queries; and queries that are cut, or changed in one octet, between the events of an exchange.
-- `test_programs examples`, which sees more of such scripts in its own process, is given each of data/, and here those of examples/
-  where it is built.
-
-The answers were written out from docs/FORMATS.md, and from nothing that the program answered; their digests are those of Python's
-`hashlib` over a key and the octets before the key number. To add a script, write both files into crates/test_programs/data, begin
-the script with a comment that says what it shows, and give the folder above its name in `args` and its line in `stdout`.
+The answers were written out from docs/FORMATS.md, and from nothing that the program answered; their digests are those of Python's `hashlib`
+over a key and the octets before the key number. To add a script, write both files into crates/test_programs/data, begin the script with a
+comment that says what it shows, and give the folder above its name in `args` and its line in `stdout`.
 """
-import glob
 import itertools
 import os
+import pathlib
 import subprocess
 
 import pytest
 
 import judging
 from judging import SLOW, TOP, PassedOver, same
+from texts import files_below, lines_of, text_of
 
-EXAMPLES, CRATE = f"{TOP}/examples", f"{TOP}/crates/test_programs"
+EXAMPLES, CRATE = "examples", "crates/test_programs"
 # How long a run takes at most, in seconds.
 WAIT = 60
 ENROLMENT = "enrol 192.0.2.10 7 md5 6b6579 10"
 
 
-def text_of(path):
-    with open(path) as it:
-        return it.read()
-
-
 def run(words, given="", folder=TOP):
-    """A run of a program: its status, standard output and standard error."""
     how = {"input": given.encode(), "stdout": subprocess.PIPE, "stderr": subprocess.PIPE, "cwd": folder}
     ran = subprocess.run(words, timeout=WAIT, **how)
     return ran.returncode, ran.stdout.decode(errors="replace"), ran.stderr.decode(errors="replace")
@@ -52,30 +41,28 @@ def answers(lines):
 
 
 def are_told(lines, wanted):
-    """Each line is answered as is wanted."""
     for line, *both in zip(lines, wanted, answers(lines)):
         same(line, *both)
 
 
-# ---- The scripts
-
 def names(folder):
-    return sorted(os.path.basename(path).removesuffix(".script") for path in glob.glob(f"{folder}/*.script"))
+    return sorted(os.path.basename(path).removesuffix(".script") for path in files_below(folder, ".script"))
 
 
 def example(name, folder=f"{CRATE}/data"):
     """The events of a script, each with its answer."""
-    events = [line for line in text_of(f"{folder}/{name}.script").split("\n") if line and line[0] != "#"]
-    answers = text_of(f"{folder}/{name}.answers").splitlines()
+    events = [line for line in lines_of(f"{folder}/{name}.script") if line and line[0] != "#"]
+    answers = lines_of(f"{folder}/{name}.answers")
     same(f"how many answers {name} has", len(events), len(answers))
     return list(zip(events, answers))
 
 
-@pytest.mark.parametrize("script", [f"{os.path.relpath(it, TOP)}/{name}" for it in (EXAMPLES, f"{CRATE}/data") for name in names(it)])
+@pytest.mark.parametrize("script", [f"{it}/{name}" for it in (EXAMPLES, f"{CRATE}/data") for name in names(it)])
 def test_script_is_replayed(script):
-    status, written, faults = replay(text_of(f"{TOP}/{script}.script"))
+    events, wanted = (pathlib.Path(f"{TOP}/{script}.{it}").read_text() for it in ("script", "answers"))
+    status, written, faults = replay(events)
     same("status and standard error", (0, ""), (status, faults))
-    both = itertools.zip_longest(text_of(f"{TOP}/{script}.answers").splitlines(True), written.splitlines(True))
+    both = itertools.zip_longest(wanted.splitlines(True), written.splitlines(True))
     for number, lines in enumerate(both, 1):
         same(f"answer {number}", *lines)
 
@@ -88,15 +75,10 @@ def test_datagrams_get_the_same_answers_each_alone():
 
 
 def test_faulty_lines_are_told():
-    """No line behind the faulty one is answered; and whether a line feed ends it is the same."""
-    for line in text_of(f"{TOP}/tests/faulty_lines").splitlines():
-        if line[0] != "#":
-            line, _, fault = line.rpartition(" | ")
-            for behind in ("\nrevoke 192.0.2.10\n", "\n", ""):
-                same(line, (1, "done\n", f"line 2: {fault}\n"), replay(f"{ENROLMENT}\n{line}{behind}"))
+    for line, fault in (it.rsplit(" | ", 1) for it in lines_of("tests/faulty_lines") if it[0] != "#"):
+        for behind in ("\nrevoke 192.0.2.10\n", "\n", ""):
+            same(line, (1, "done\n", f"line 2: {fault}\n"), replay(f"{ENROLMENT}\n{line}{behind}"))
 
-
-# ---- The program crates/test_programs
 
 def held(name):
     """What it writes of a script of which all holds."""
@@ -106,20 +88,18 @@ def held(name):
 def test_each_script_is_given_to_test_programs():
     """It is given each script of its folder behind the word `all`, and its answers are there. It writes other lines too."""
     given = names(f"{CRATE}/data")
-    same("args", ["all", *given], text_of(f"{CRATE}/args").splitlines())
+    same("args", ["all", *given], lines_of(f"{CRATE}/args"))
     same("stdout", [*map(held, given)], [line for line in text_of(f"{CRATE}/stdout").splitlines(True) if ": run " in line])
-    same("data", sorted(f"{name}.{kind}" for name in given for kind in ("answers", "script")), sorted(os.listdir(f"{CRATE}/data")))
+    same("data", sorted(f"{name}.{kind}" for name in given for kind in ("answers", "script")), sorted(os.listdir(f"{TOP}/{CRATE}/data")))
 
 
 def test_examples_hold_in_one_process():
-    program = f"{CRATE}/out/test_programs"
+    program = f"{TOP}/{CRATE}/out/test_programs"
     if not os.access(program, os.X_OK):
         raise PassedOver("it is not built")
     given = names(EXAMPLES)
-    same("what is seen", (0, "".join(map(held, given)), ""), run([program, "examples", *given], folder=EXAMPLES))
+    same("what is seen", (0, "".join(map(held, given)), ""), run([program, "examples", *given], folder=f"{TOP}/{EXAMPLES}"))
 
-
-# ---- Floods
 
 def kind(answer):
     """A silence with its reason, and of any other answer its first word."""
@@ -146,8 +126,6 @@ def test_largest_budget_does_not_wrap():
     same("what is told", [("done", 1), ("time", 65_535), ("rate", 1), ("silent over-budget", 4_464)], counts)
 
 
-# ---- Queries that are cut or changed
-
 def query_with_field():
     """The line of a signed query with a field of 16 octets, up to its octets, and these."""
     _, (line, _) = example("field")
@@ -156,13 +134,11 @@ def query_with_field():
 
 
 def fronts():
-    """The lines of each front of that query, but the whole."""
     head, octets = query_with_field()
     return [f"{head} {octets[:length].hex() or '-'}" for length in range(len(octets))]
 
 
 def changed():
-    """The lines of that query with each octet changed to each other value."""
     head, octets = query_with_field()
     change = lambda place, by: octets[:place] + bytes([octets[place] ^ by]) + octets[place + 1 :]
     return [f"{head} {change(place, by).hex()}" for place in range(len(octets)) for by in range(1, 256)]

@@ -1,13 +1,7 @@
 """Judges the units of examples/ under a systemd of its own, installed by packaging/by_hand and the commands of docs/OPERATIONS.md.
 
-- The script installs it, with the files of examples/ as they are, but for `listen`, and the page's commands start it before the host has
-  the address.
-- What the process is and may do, who reads its files, the journal; a kill, a start that fails, a restart and a stop, while a customer asks;
-  that it has started once it serves, and is ended when it stands still.
-- The page's other ways: at another address, and without the socket unit.
-- The units that load the door's rules as customers change.
-
-It needs root, systemd, useradd, openssl, and what tests/own_systemd.py lists; else all cases are passed over. That says too what is left alone.
+It needs root, systemd, useradd, openssl, and what tests/own_systemd.py lists; else all cases are passed over. That says too what is left
+alone.
 """
 import contextlib
 import errno
@@ -33,19 +27,15 @@ from judging import SECOND, SLOW, TOP, PassedOver, same, until
 from own_systemd import UNITS, commands_of, edit, run as sh
 from probe import nanos
 
-# The modes of files.
 MASK = 0o022
-
 # The files that the page names, by the names that tests/test_daemon.py has for them.
 FILES = {"clock.key": "/etc/labntp/clock.key", "commands": "/var/lib/labntp/commands"}
 FILES |= {"answers": "/run/labntp/answers", "statistics": "/run/labntp/labntpd.prom", "customers": "/run/labntp/customers"}
 CONFIGURATION, SERVICE, SOCKET = "/etc/labntp/labntpd.toml", "labntpd.service", "labntpd.socket"
-
 # The address of the example, and another; a customer, that of the example's commands, and one that asks often.
 SERVER, OTHER, PORT, CLOCK_PORT = "192.0.2.1", "192.0.2.2", 123, 11123
 TEN, HERE, ASKER = "192.0.2.10/7/md5/6b6579", "127.0.0.1/9/sha1/6c61626e74702d6578616d706c652d6b65792d39", "192.0.2.30/30/sha1/9d04b6f1c7a85e32"
 ENROLMENT = f"enrol {ASKER.replace('/', ' ')} 65535\nenrol {TEN.replace('/', ' ')} 10\n"
-
 # What the page has asked where all is well, and a part of what is told then.
 ASKED = {
     "systemctl status labntpd.socket labntpd": "active (running)",
@@ -54,10 +44,8 @@ ASKED = {
 }
 # What has the door's rules loaded, and the program that it runs.
 DOOR, LABNTPCTL = f"labntpd-door@{SERVER}", "crates/labntpctl/out/labntpctl"
-
 # What it has asked where the daemon does not start.
 ASKED_WHY = "journalctl -u labntpd -n 20"
-
 # The longest that a datagram waits and is answered, as the example has it; and that customers go without answers. In seconds.
 LONGEST_WAIT, SOON = 0.25, 1 + labntpd_server.SLACK
 # How long systemd waits before it starts the daemon anew that has ended, in seconds.
@@ -72,16 +60,17 @@ RESTARTS, SILENCE, AS_IDLE = 9, 0.2, 3
 @pytest.fixture(scope="module", autouse=True)
 def systemd(room):
     """A systemd under which it is installed."""
-    if why := own_systemd.missing("useradd", "userdel", "openssl"):
-        raise PassedOver(why)
     labntpd, labntpctl = judging.built("labntpd", "labntpctl")
     copies = {it: f"{TOP}/{it}" for it in ("examples", "docs", "packaging/by_hand")} | {"crates/labntpd/out/labntpd": labntpd, LABNTPCTL: labntpctl}
-    if os.path.isdir(peers := f"{os.environ.get('PEERS', '')}/nftables"):
-        copies["nftables"] = peers
-    with own_systemd.entered(__name__, copies) as make:
+    with own_systemd.entered(__name__, copies, "useradd", "userdel", "openssl") as make:
         make("install")
         yield make
         make("end")
+
+
+@pytest.fixture(autouse=True)
+def well_at_first(systemd):
+    systemd("well")
 
 
 def install():
@@ -106,7 +95,6 @@ def install():
 
 
 def end():
-    """The daemon asked its clock as it should."""
     CLOCK.__exit__(None)
 
 
@@ -125,17 +113,15 @@ def serves(host=SERVER):
     while told != "time":
         assert time.monotonic() <= begun + (SOON if told == "nothing" else 2 * SOON), f"at {host}, too late: {told}"
         with customer.socket(PORT) as s, contextlib.suppress(ConnectionRefusedError):
-            packet = probe.query(customer)
-            s.send(packet)
-            if reply := probe.answer(s, 0.05):
+            word, reply, _ = probe.exchange(customer, s, wait=0.05)
+            if reply:
                 same("the MAC", customer.mac(reply[:48]), reply[48:])
-                told = probe.kind(customer, packet, reply)
+                told = word
     probe.HOST = SERVER
 
 
 def test_install_leaves_chronyds_other_keys():
     """share_clock changes no other key of chronyd, and says what bars it."""
-    well()
     keys, own, key = "/etc/chrony/chrony.keys", FILES["clock.key"], labntpd_server.read("clock.key").strip()
     line, kept = f"1 SHA1 HEX:{key}\n", [sh(f"cat {it}") for it in (keys, own)]
 
@@ -162,13 +148,8 @@ def test_install_leaves_chronyds_other_keys():
     sh(share)
 
 
-def pid():
-    return own_systemd.process(SERVICE)
-
-
-def handed_down():
-    """The socket that the process has as its descriptor 3."""
-    return os.readlink(f"/proc/{pid()}/fd/3")
+pid = lambda: own_systemd.process(SERVICE)
+handed_down = lambda: os.readlink(f"/proc/{pid()}/fd/3")
 
 
 def shown(**wanted):
@@ -179,7 +160,6 @@ def shown(**wanted):
 def anew(*steps, apart=150, **wanted):
     """A customer asks a hundred times a second, while a step is done each so many queries. No port is refused, none has a late answer, and
     soon after systemd had to start it anew behind the last step each has one. Another process has the socket then, and new files; and systemd tells what is wanted."""
-    well()
     first, handed, done = pid(), handed_down(), []
     doing = {50 + apart * at: lambda it=it: done.append((it(), time.time_ns())) for at, it in enumerate(steps)}
     asked = labntpd_server.paced(types.SimpleNamespace(port=PORT), ASKER, 100, max(doing) + 300, doing)
@@ -224,7 +204,6 @@ def test_ended_by_a_kill_it_is_soon_there_again():
 
 @pytest.mark.proved_alone(SLOW)
 def test_ended_by_a_restart_it_is_soon_there_again():
-    """And for how long nobody is answered meanwhile, which is told."""
     anew(lambda: sh(f"systemctl restart --no-block {SERVICE}"), Result="success", NRestarts="0")
     found, idle = sorted(silences()), statistics.median(idle_restarts())
     silence = statistics.median(found)
@@ -248,15 +227,11 @@ def asked_in_vain(count):
 # ---- Cases
 
 def test_install_by_the_pages_commands_before_the_host_has_the_address():
-    """`--check` says `ok` and nothing else; both units are enabled, and start before the host has the address."""
-    well()
     same("what the page's commands print first", ["ok", "Created"], TOLD.split()[:2])
     same("enabled", "enabled\nenabled", sh(f"systemctl is-enabled {SOCKET} {SERVICE}"))
 
 
 def test_answers_come_over_a_socket_that_systemd_has_with_its_buffers():
-    """Over the socket that systemd has, with the buffers that its unit gives it."""
-    well()
     for form, customer, wanted in (("plain", TEN, "time"), ("wrong", TEN, "nak"), ("plain", ASKER, "time")):
         same(f"{form} query of {customer}", wanted, probe.ask(PORT, form, customer))
     same("interleaved", "interleaved", probe.interleave(PORT, ASKER))
@@ -265,8 +240,6 @@ def test_answers_come_over_a_socket_that_systemd_has_with_its_buffers():
 
 
 def test_process_has_its_user_no_capability_and_is_first_at_a_processor():
-    """A user of its own, no capability, first at a processor, and no file with its memory."""
-    well()
     user, group = sh("id -u labntp; id -g labntp").split()
     wanted = {"Uid": "\t".join(4 * [user]), "Gid": "\t".join(4 * [group]), "Groups": group, "NoNewPrivs": "1", "Seccomp": "2"}
     wanted |= {f"Cap{it}": 16 * "0" for it in ("Inh", "Prm", "Eff", "Bnd", "Amb")}
@@ -293,7 +266,6 @@ def test_process_has_policy_and_processors_by_the_files_for_exact_stamps():
 
 
 def test_process_has_its_weight_in_the_kernel():
-    well()
     shown(CPUWeight="1000")
     path = f"/sys/fs/cgroup{sh(f'grep ^0:: /proc/{pid()}/cgroup')[3:]}/cpu.weight"
     if not os.path.exists(path):
@@ -302,7 +274,6 @@ def test_process_has_its_weight_in_the_kernel():
 
 
 def test_process_is_the_last_to_be_ended_for_want_of_memory():
-    well()
     shown(OOMScoreAdjust="-500")
     if not int(sh("grep ^CapEff /proc/1/status").split()[1], 16) >> 24 & 1:
         raise PassedOver("systemd has no capability to it here (CAP_SYS_RESOURCE)")
@@ -311,7 +282,6 @@ def test_process_is_the_last_to_be_ended_for_want_of_memory():
 
 def test_process_writes_and_sees_few_places():
     """It writes into /run/labntp, and where nobody looks. It sees neither files nor processes of others."""
-    well()
     folders = "/etc/labntp /var/lib/labntp /usr/local/sbin /srv /run /tmp /var/tmp /dev /root /home"
     sh("for it in /tmp /var/tmp /dev /root /home; do touch $it/of-others; done")
     there = f"nsenter --mount --target {pid()}"
@@ -330,8 +300,6 @@ def writable(process):
 
 
 def test_files_are_readable_for_few():
-    """Others may read the answers, the statistics and the customers, and no file with a key."""
-    well()
     until("all are there", lambda: all(map(os.path.exists, FILES.values())))
     for place in [*FILES.values(), CONFIGURATION]:
         is_told = place.startswith("/run/")
@@ -340,8 +308,6 @@ def test_files_are_readable_for_few():
 
 
 def test_commands_are_carried_out_and_answered():
-    """What the page has appended is carried out and answered."""
-    well()
     sh(f"cat examples/commands >>{FILES['commands']}")
     until("the answers", lambda: labntpd_server.read("answers") == "1 done\n2 done\n4 done\n5 done\n", SOON)
     same("a query of the new customer", "time", probe.ask(PORT, "plain", HERE))
@@ -349,10 +315,7 @@ def test_commands_are_carried_out_and_answered():
 
 def test_ended_by_a_start_that_fails_it_is_soon_there_once_it_does_not():
     """A start that fails is tried again every two seconds, more often than systemd tries others, until the file is put right."""
-    tried = []
-
-    def spoil():
-        sh(f"mv {FILES['commands']} {FILES['commands']}.away; systemctl restart --no-block {SERVICE}")
+    tried, spoil = [], lambda: sh(f"mv {FILES['commands']} {FILES['commands']}.away; systemctl restart --no-block {SERVICE}")
 
     def mend():
         tried.append(int(*own_systemd.shown(SERVICE, "NRestarts")))
@@ -364,7 +327,6 @@ def test_ended_by_a_start_that_fails_it_is_soon_there_once_it_does_not():
 
 def test_start_has_ended_once_it_serves():
     """A start has ended once all lines of the commands file are carried out, and a customer has an answer at once."""
-    well()
     count = 5_000
     judging.file_of("commands", ENROLMENT + "budget 192.0.2.10 10\n" * count)
     sh(f"systemctl restart {SERVICE}")
@@ -375,7 +337,6 @@ def test_start_has_ended_once_it_serves():
 
 def test_ended_as_it_stands_still_it_is_soon_there_again():
     """It is ended and started anew by itself where it stands still for longer than its unit allows, here 12 seconds."""
-    well()
     edit(f"{UNITS}/{SERVICE}", ("^WatchdogSec=.*", "WatchdogSec=12"))
     sh(f"systemctl daemon-reload; systemctl restart {SERVICE}")
     serves()
@@ -390,7 +351,6 @@ def test_ended_as_it_stands_still_it_is_soon_there_again():
 
 def test_ended_by_a_stop_with_the_socket_and_without():
     """SIGTERM ends it at once. A datagram at the socket, which stays, starts it again, and has no answer; without the socket it does not."""
-    well()
     ended = {"ActiveState": "inactive", "Result": "success", "ExecMainCode": "2", "ExecMainStatus": f"{signal.SIGTERM}"}
     begun = time.monotonic()
     sh(f"systemctl stop {SERVICE}")
@@ -407,8 +367,6 @@ def test_ended_by_a_stop_with_the_socket_and_without():
 
 
 def test_journal_has_warnings_and_no_key():
-    """Its warnings are apart from its information. No key stands there, nor in what it has written."""
-    well()
     if sh("systemctl is-active systemd-journald.service", None) != "active":
         raise PassedOver("journald does not run")
     CLOCK.is_silent = True
@@ -426,7 +384,6 @@ def test_journal_has_warnings_and_no_key():
 
 def test_door_has_its_rules_loaded_as_customers_change():
     """The units load the door's rules, and a customer is let in as soon as it is enrolled, however many others are meanwhile."""
-    well()
     if not os.path.exists(f"{own_systemd.GIVEN}/{LABNTPCTL}"):
         raise PassedOver("there is no program labntpctl")
     own_network.find_nft(own_systemd.GIVEN, "/usr/local/sbin")
@@ -458,8 +415,6 @@ def test_door_has_its_rules_loaded_as_customers_change():
 
 
 def test_page_has_units_journal_and_commands_file_asked():
-    """What the page has asked of the units, of the journal and of the commands file, and of the journal again where a start fails."""
-    well()
     if sh("systemctl is-active systemd-journald.service", None) != "active":
         raise PassedOver("journald does not run")
     page = " ".join(sh("cat docs/OPERATIONS.md").split())
@@ -473,8 +428,6 @@ def test_page_has_units_journal_and_commands_file_asked():
 
 
 def test_page_leads_to_another_address():
-    """At the address that is written into the socket's unit, once that is started anew."""
-    well()
     edit(f"{UNITS}/{SOCKET}", (f"^ListenDatagram={SERVER}:", f"ListenDatagram={OTHER}:"))
     sh(f"systemctl daemon-reload; systemctl restart {SOCKET}")
     serves(OTHER)
@@ -483,7 +436,6 @@ def test_page_leads_to_another_address():
 
 def test_page_leads_to_a_service_without_the_sockets_unit():
     """Without the socket's unit it binds the port itself, by the one capability to it."""
-    well()
     edit(CONFIGURATION, ("^listen = .*", f'listen = "{SERVER}:{PORT}"'))
     names = [(f"^{it}=$", f"{it}=CAP_NET_BIND_SERVICE") for it in ("CapabilityBoundingSet", "AmbientCapabilities")]
     edit(f"{UNITS}/{SERVICE}", (f"^Requires={SOCKET}\n", ""), (f"^After={SOCKET} ", "After="), *names)
@@ -504,7 +456,6 @@ def settings(path):
 
 def test_page_leads_to_several_processes_by_the_template():
     """By the template two serve at ports of their own, by the same configuration and commands; each writes files of its own."""
-    well()
     names, ports = [f"labntpd@{it}" for it in (12301, 12302)], (12301, 12302)
     try:
         begin, _, end, *_ = commands_of("docs/SCALING.md", "Several processes on one host")

@@ -23,7 +23,6 @@ PLACE = re.compile(r"(?:note: )?(?:\./)?((?:src|specs|proofs)/\S+?):(\d+):\d+: (
 NAMES = re.compile(r"has no field|is not in scope|has no `|was not admitted|, which was rejected,")
 # What is told of a text that antt cannot read; where its error is about a named goal, only some words say so.
 UNREAD = re.compile(r"is not in scope|has no field|is no name|operand is missing|expected the end|cannot continue")
-
 REFUSED, PASSED, BY_NAMES, FAULTY, UNTOLD = "refused", "passed", "by names", "faulty", "untold"
 # How many edits a check has at most: it tells nothing of the first before it has tried the last, and takes memory for each.
 MOST = 72
@@ -167,7 +166,6 @@ def closures_of(name, function):
 
 
 def proofs_of(name):
-    """The folder of the proofs of a function with this printed name."""
     return "/".join(["proofs", *name.split("::")[1:]])
 
 

@@ -64,9 +64,9 @@ class Progress(Ticker):
 
 
 @contextlib.contextmanager
-def alone(what, top):
+def alone(what):
     """Waits until no other build works in this tree, since what is kept of a crate lies elsewhere while it is proved."""
-    with open(f"{top}/crates.txt", encoding="utf-8") as it:
+    with open(f"{TOP}/crates.txt", encoding="utf-8") as it:
         try:
             fcntl.flock(it, fcntl.LOCK_EX | fcntl.LOCK_NB)
         except BlockingIOError:
@@ -86,25 +86,25 @@ def run(words, folder, name, progress, said):
     return ran.returncode == 0
 
 
-def build(what, names, program=None, top=TOP):
+def build(what, names, program=None):
     """Proves and builds these libraries with all below them, and then the program, with its record. Returns whether all went well; what
     failed is told."""
-    crates, said = crates_of(top), []
+    crates, said = crates_of(), []
     # A source that changes during the build is another one than in the record.
-    sources = sources_of(program, top) if program else {}
-    wanted = {*names}.union(*(below(it, crates) for it in names)) - {*filter(lambda it: is_program(it, top), names)}
+    sources = sources_of(program) if program else {}
+    wanted = {*names}.union(*(below(it, crates) for it in names)) - {*filter(is_program, names)}
 
     def prove(name, jobs):
-        with room(name, crates, top) as root:
+        with room(name, crates) as root:
             return run(["rt", "lib", "--jobs", str(jobs)], f"{root}/crates/{name}", name, progress, said)
 
-    with alone(what, top), Progress(what, len(wanted) + bool(program)) as progress:
+    with alone(what), Progress(what, len(wanted) + bool(program)) as progress:
         tasks = {name: crates[name] for name in crates if name in wanted}
-        well = len(in_lanes(tasks, {name: 1 + lines_of(name, top) for name in tasks}, prove, LANES)) == len(tasks)
+        well = len(in_lanes(tasks, {name: 1 + lines_of(name) for name in tasks}, prove, LANES)) == len(tasks)
         if well and program:
             command = ["rt", "run", "--jobs", str(min(2, LANES)), "--", ENDS_AT_ONCE[program]]
-            well = run(command, f"{top}/crates/{program}", program, progress, said)
+            well = run(command, f"{TOP}/crates/{program}", program, progress, said)
             if well:
-                write(program, sources, top)
+                write(program, sources)
     print(f"{what}: proved and built in {progress.minutes()}" if well else "".join(said) + f"{what}: not built", file=sys.stderr, flush=True)
     return well

@@ -53,6 +53,25 @@ def take_orphans():
     ctypes.CDLL(None).prctl(PR_SET_CHILD_SUBREAPER, 1, 0, 0, 0)
 
 
+@contextlib.contextmanager
+def ended_by_signals():
+    """A signal that asks for the end ends what was started too, with the status that a shell gives; so does the end itself."""
+    ends = (signal.SIGINT, signal.SIGTERM, signal.SIGHUP)
+
+    def interrupted(number, _):
+        for it in ends:
+            signal.signal(it, signal.SIG_IGN)
+        raise SystemExit(128 + number)
+
+    take_orphans()
+    for it in ends:
+        signal.signal(it, interrupted)
+    try:
+        yield
+    finally:
+        end_all()
+
+
 def end_all():
     """Ends all that was started, and what that has started."""
     while True:

@@ -23,7 +23,6 @@ def digest_of(path):
 
 
 def crate_digest(name, top=TOP):
-    """The digest of the sources of a crate."""
     found = [f"{at[len(top) + 1:]}/{file}" for part in PARTS for at, _, files in os.walk(f"{top}/crates/{name}/{part}") for file in files]
     lines = (f"{digest_of(f'{top}/{path}')}  {path}\n" for path in sorted(found))
     return hashlib.sha256("".join(lines).encode()).hexdigest()
@@ -70,9 +69,9 @@ def built_at(name, top=TOP):
     return f"{top}/crates/{name}/out/{name}"
 
 
-def write(name, sources, top=TOP):
+def write(name, sources):
     """Writes the record of a program that was proved and built from these sources."""
-    program = built_at(name, top)
+    program = built_at(name)
     with open(path_of(program), "w", encoding="utf-8") as it:
         it.write(text_of(statement({name: digest_of(program)}, sources, kit())))
 
@@ -88,9 +87,9 @@ def record_of(program):
         return None
 
 
-def misfit(name, program=None, top=TOP):
+def misfit(name, program=None):
     """Why a program is not taken for one that was proved of the sources that are here; or nothing."""
-    program = program or built_at(name, top)
+    program = program or built_at(name)
     if not os.access(program, os.X_OK):
         return f"{program} is not there"
     record = record_of(program)
@@ -99,6 +98,6 @@ def misfit(name, program=None, top=TOP):
     subjects, proved, _ = digests_in(record)
     if subjects.get(name) != digest_of(program):
         return f"{program} is not the program of which its record was made"
-    sources = sources_of(name, top)
+    sources = sources_of(name)
     other = sorted(it for it in {*sources, *proved} if sources.get(it) != proved.get(it))
     return f"{program} was made of other sources: {', '.join(other)}" if other else None

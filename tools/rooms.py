@@ -4,6 +4,7 @@
 another. A room is a small tree of its own, with the sources of one crate and of those below it, and with what was kept of them before.
 """
 import contextlib
+import graphlib
 import os
 import pathlib
 import re
@@ -41,17 +42,17 @@ def below(name, crates):
     return {*found}
 
 
-def is_program(name, top=TOP):
-    return os.path.exists(f"{top}/crates/{name}/src/main.rt")
+def is_program(name):
+    return os.path.exists(f"{TOP}/crates/{name}/src/main.rt")
 
 
-def has_tests(name, top=TOP):
-    return subprocess.run(["grep", "-rqE", r"^ *#\[test\]", f"{top}/crates/{name}/src"]).returncode == 0
+def has_tests(name):
+    return subprocess.run(["grep", "-rqE", r"^ *#\[test\]", f"{TOP}/crates/{name}/src"]).returncode == 0
 
 
-def lines_of(name, top=TOP):
+def lines_of(name):
     """How many lines a check of the crate reads of its own: a measure of how long it takes."""
-    paths = [f"{at}/{it}" for part in PARTS for at, _, files in os.walk(f"{top}/crates/{name}/{part}") for it in files]
+    paths = [f"{at}/{it}" for part in PARTS for at, _, files in os.walk(f"{TOP}/crates/{name}/{part}") for it in files]
     return sum(pathlib.Path(it).read_bytes().count(b"\n") for it in paths)
 
 
@@ -71,28 +72,22 @@ def in_lanes(tasks, weights, work, lanes):
     """Calls work(task, jobs) for each task once those that it waits for have ended well, so many at a time, first those with the longest
     chain behind them. A task has two jobs where no other wants the processor, and that of the longest chain always: a third would read once
     more what the crate stands on, and save hardly any time. Returns the tasks that ended well."""
-    chain = longest_chain(tasks, weights)
-    left, running, well, ended = sorted(tasks, key=lambda it: -chain[it]), {}, set(), set()
+    chain, order = longest_chain(tasks, weights), graphlib.TopologicalSorter(tasks)
+    ready, running, well = [], {}, set()
+    order.prepare()
     with ThreadPoolExecutor(lanes) as pool:
-        while left or running:
-            for task in [it for it in left if any(below in ended - well for below in tasks[it])]:
-                left.remove(task)
-                ended.add(task)
-            ready = [it for it in left if all(below in well for below in tasks[it])]
-            for at, task in enumerate(ready):
-                idle = lanes - sum(jobs for _, jobs in running.values())
-                if idle > 0:
-                    left.remove(task)
-                    is_longest = chain[task] >= max([chain[it] for it in left] + [chain[it] for it, _ in running.values()], default=0)
-                    jobs = min(2, lanes if is_longest else max(1, idle // (len(ready) - at)))
-                    running[pool.submit(work, task, jobs)] = task, jobs
-            if not running:
-                continue
+        # What waits for a task that failed never gets ready.
+        while (ready := sorted([*ready, *order.get_ready()], key=lambda it: -chain[it])) or running:
+            while ready and (idle := lanes - sum(jobs for _, jobs in running.values())) > 0:
+                is_longest = chain[ready[0]] >= max((chain[it] for it, _ in running.values()), default=0)
+                task, jobs = ready[0], min(2, lanes if is_longest else max(1, idle // len(ready)))
+                ready.remove(task)
+                running[pool.submit(work, task, jobs)] = task, jobs
             for it in wait(running, return_when=FIRST_COMPLETED).done:
                 task, _ = running.pop(it)
-                ended.add(task)
                 if it.result():
                     well.add(task)
+                    order.done(task)
     return well
 
 
@@ -109,21 +104,21 @@ def link_tree(source, target):
 
 
 @contextlib.contextmanager
-def room(name, crates, top=TOP, kept="moved"):
+def room(name, crates, kept="moved"):
     """The root of a tree of its own for one crate, over what is kept of those below it. What is kept of the crate itself is `moved` there
     and back at the end, `copied`, or `left`: then a check there begins with nothing."""
     with tempfile.TemporaryDirectory(prefix=f"room-{name}-") as root:
         for it in [name, *below(name, crates)]:
             for part in PARTS:
-                if os.path.isdir(f"{top}/crates/{it}/{part}"):
-                    shutil.copytree(f"{top}/crates/{it}/{part}", f"{root}/crates/{it}/{part}")
-            if it != name and os.path.isdir(f"{top}/crates/{it}/out/rlib"):
-                link_tree(f"{top}/crates/{it}/out/rlib", f"{root}/crates/{it}/out/rlib")
-        if os.path.isfile(f"{top}/HANDLES"):
-            shutil.copy(f"{top}/HANDLES", root)
-        with open(f"{top}/crates.txt", encoding="utf-8") as every, open(f"{root}/crates.txt", "w", encoding="utf-8") as own:
+                if os.path.isdir(f"{TOP}/crates/{it}/{part}"):
+                    shutil.copytree(f"{TOP}/crates/{it}/{part}", f"{root}/crates/{it}/{part}")
+            if it != name and os.path.isdir(f"{TOP}/crates/{it}/out/rlib"):
+                link_tree(f"{TOP}/crates/{it}/out/rlib", f"{root}/crates/{it}/out/rlib")
+        if os.path.isfile(f"{TOP}/HANDLES"):
+            shutil.copy(f"{TOP}/HANDLES", root)
+        with open(f"{TOP}/crates.txt", encoding="utf-8") as every, open(f"{root}/crates.txt", "w", encoding="utf-8") as own:
             own.writelines(line for line in every if line.partition(":")[0].strip() in {name, *below(name, crates)})
-        there, here = f"{top}/crates/{name}/out", f"{root}/crates/{name}/out"
+        there, here = f"{TOP}/crates/{name}/out", f"{root}/crates/{name}/out"
         try:
             if kept == "left":
                 # The toolchain begins with what any checkout kept of the same sources, and else with what is kept here.

@@ -6,6 +6,7 @@
 Prints `ok NAME` or `FAILED NAME: what was seen`, and last `N passed, M failed`; status 1 where M is not 0.
 """
 import os
+import shutil
 import subprocess
 import sys
 import tempfile
@@ -118,6 +119,7 @@ def edit_file(top, name):
 
 
 def make(top):
+    shutil.copytree(HERE, f"{top}/tools")
     write(f"{top}/crates.txt", "numbers:\nsmall:\n")
     write(f"{top}/crates/numbers/src/lib.rt", NUMBERS)
     write(f"{top}/crates/numbers/proofs/two_more/Answers.antt", ANSWERS)
@@ -128,7 +130,7 @@ def make(top):
 
 def ran(top, *words):
     """The lines that tools/wrong_bodies prints of that repository, and its status."""
-    it = subprocess.run([f"{HERE}/wrong_bodies", "--top", top, *words], stdin=subprocess.DEVNULL, stdout=subprocess.PIPE, text=True)
+    it = subprocess.run([f"{top}/tools/wrong_bodies", *words], stdin=subprocess.DEVNULL, stdout=subprocess.PIPE, text=True)
     return it.stdout.splitlines(), it.returncode
 
 
@@ -138,7 +140,7 @@ def begins(lines, words):
 
 def cases(top):
     """The name of each case, and what is wrong with what was seen, or nothing."""
-    digests = f"{top}/digests"
+    digests = f"{top}/.ci/wrong_bodies.digests"
     write(edit_file(top, "small/no_such_function"), "file: src/lib.rt\nold:     x.min(7)\nnew:     least(x, 7)\n")
     lines, status = ran(top, "--check")
     told = ("small/wrong-bodies/no_such_function.edit: its file names no function least", "numbers/wrong-bodies/no_such_line.edit: ")
@@ -154,18 +156,20 @@ def cases(top):
     yield "many_in_one_check", "" if begins(lines, "numbers: 5 of 10 refused, in 7 checks") == 1 else "\n".join(lines)
     for name in NOT_REFUSED:
         os.remove(edit_file(top, name))
-    lines, status = ran(top, "--digests", digests, "--write-digests")
+    os.mkdir(os.path.dirname(digests))
+    lines, status = ran(top, "--write-digests")
     yield "all_refused", "" if (lines[-1], status) == (f"{len(REFUSED)} passed, 0 failed", 0) else "\n".join(lines)
     lines, status = ran(top, "--behind-ci")
     yield "behind_ci", "" if (lines[-1], status) == (f"{len(REFUSED)} passed, 0 failed", 0) else "\n".join(lines)
-    lines, status = ran(top, "--digests", digests, "--tenth", "9")
+    lines, status = ran(top, "--tenth", "9")
     yield "as_noted", "" if (lines[-1], status) == ("0 passed, 0 failed", 0) else "\n".join(lines)
     with open(digests, encoding="utf-8") as file:
         numbers, small = file.read().splitlines()
     write(digests, f"{numbers}\n{small[:-1]}{'0' if small[-1] != '0' else '1'}\nabsent {'0' * 64}\nsmall\n")
-    lines, status = ran(top, "--digests", digests, "--tenth", "9")
+    lines, status = ran(top, "--tenth", "9")
     yield "false_digest", "" if begins(lines, "small: 1 of 1 refused") == 1 else "\n".join(lines)
-    yield "bad_digests", "" if (begins(lines, "FAILED digests: "), lines[-1], status) == (2, "1 passed, 2 failed", 1) else "\n".join(lines)
+    seen = begins(lines, "FAILED wrong_bodies.digests: "), lines[-1], status
+    yield "bad_digests", "" if seen == (2, "1 passed, 2 failed", 1) else "\n".join(lines)
     lines, status = ran(top, "--plant", "1", "small")
     yield "planted", "" if (begins(lines, "LET THROUGH small/src/lib.rt:10"), status) == (1, 0) else "\n".join(lines)
     # (the libraries that are built stand in `out`)

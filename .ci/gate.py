@@ -11,8 +11,8 @@
    by two compilers. The programs get their records (tools/records.py).
 3. `tests/run`: the programs, as they were built, from outside. It waits for most of its time.
 4. Beside it, giving way to it, `tools/wrong_bodies`: those of wrong-bodies/, many in one check. All with `--whole`; else those of the crates
-   that changed since the last whole run, and a tenth of the others, another one each day, as far as they are tried in 140 minutes from the
-   start: the others are skipped, and counted.
+   that changed since the last whole run, and a tenth of the others, another one each day. What is not tried 150 minutes after the start is
+   skipped, and counted.
 
 Where `rt ci` says nothing for ten seconds, a line tells what it is at. At the end a table tells what took how long. The last line is
 `N passed, M failed`, or `N passed, M failed, K skipped`. Status 0 only where nothing failed. An interrupt ends all that was started; the
@@ -44,8 +44,8 @@ from rooms import Ticker, crates_of
 COMPARED = ("tools/belief", "tools/crates", "tools/wrong_bodies", "tests/pages")
 # After how many seconds without a line one tells how far it is.
 SILENCE = 10
-# After how many minutes no other wrong body is tried, if not all are asked for: a slow machine ends within three hours too.
-LONGEST = 140
+# After how many minutes wrong bodies are left, if not all are asked for: a slow machine ends within three hours too.
+LONGEST = 150
 COUNTS = re.compile(r"(\d+) passed, (\d+) failed(?:, (\d+) skipped)?")
 # What prctl takes: a process is ended with the one that started it.
 PR_SET_PDEATHSIG = 1

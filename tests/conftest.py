@@ -126,6 +126,14 @@ def outcome_of(reports):
     return "failed" if failed else "skipped" if any(it.skipped for it in reports) else "passed", failed and seen_in(failed)
 
 
+def await_calm(longest=120):
+    """Waits until this process was woken in time for a second, so many seconds at most: where a host stands still, each run fails alike."""
+    begun, in_time = time.monotonic(), 0
+    while in_time < 100 and (before := time.monotonic()) < begun + longest:
+        time.sleep(0.01)
+        in_time = in_time + 1 if time.monotonic() < before + 0.05 else 0
+
+
 def runs_of(item, nextitem):
     """Makes a case, and one that fails again, until it passed in more than half of the most runs or cannot any longer. The reports of the last
     run, which tell of the others. One whose time ran out is not made again."""
@@ -135,6 +143,7 @@ def runs_of(item, nextitem):
         if seen and not 2 * well <= most < 2 * (most - len(seen) + well) or seen and "Timeout >" in (seen[-1][1] or ""):
             break
         if seen:
+            await_calm()
             item._initrequest()
         reports = runtestprotocol(item, nextitem=nextitem, log=False)
         seen.append(outcome_of(reports))

@@ -18,8 +18,8 @@ from processes import ended_by_signals
 
 # What the environment has where programs were compiled without proof, by tests/run. Their checks make them slow.
 UNPROVED = "UNPROVED_PROGRAMS"
-# How long a step that must come is waited for, in seconds.
-WAIT = 60 if UNPROVED in os.environ else 10
+# How long a step that must come is waited for, in seconds: a host of others may stand still for half a minute.
+WAIT = 60
 SECOND = 1_000_000_000
 REFERENCE = "0001ec00000000000000104e495354ec00000000000000"
 FIVE = "127.0.0.5/5/md5/6b6579"

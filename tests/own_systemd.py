@@ -25,7 +25,8 @@ SYSTEMD = "/usr/lib/systemd/systemd"
 PROGRAMS = (SYSTEMD, "systemctl", "journalctl", "mount", "unshare", "nsenter", "setpriv", "pivot_root", "ip", "ss")
 PATH = "/usr/local/sbin:/usr/local/bin:/usr/sbin:/usr/bin:/sbin:/bin"
 NAMESPACES = ("unshare", "--fork", "--pid", "--kill-child=KILL", "--mount", "--propagation", "private", "--net", "--uts", "--ipc", "--cgroup")
-# Where the unit files are that are installed, and the folder that is handed to it.
+# How many seconds a command may take. Where the unit files are that are installed, and the folder that is handed to it.
+LIMIT = 300
 UNITS, GIVEN = "/etc/systemd/system", "/given"
 
 # Makes the root file system, below a folder that has `given`. The kernel's settings are the host's, so they can be read alone. What is mounted
@@ -164,7 +165,7 @@ def begin(module, room):
             os.dup2(os.open(os.devnull, os.O_RDWR), it)
         environment = {"PATH": PATH, "container": "own", "SYSTEMD_UNIT_PATH": f"{UNITS}:/units", "SYSTEMD_GENERATOR_PATH": "/units/none"}
         os.execve(SYSTEMD, [SYSTEMD, "--unit=multi-user.target", "--log-target=journal", "--show-status=0"], environment)
-    why = f"no root can be made: {ran.stderr.strip()[-200:]}" if ran.returncode else has_not_started(30)
+    why = f"no root can be made: {ran.stderr.strip()[-200:]}" if ran.returncode else has_not_started(judging.WAIT)
     with os.fdopen(os.dup(1), "w") as told:
         # What is printed there is no answer.
         os.dup2(2, 1)
@@ -187,7 +188,7 @@ def has_not_started(seconds):
 def run(commands, wanted=0):
     """What shell commands print, in the folder that was handed over."""
     how = {"stdin": subprocess.DEVNULL, "stdout": subprocess.PIPE, "stderr": subprocess.STDOUT, "text": True}
-    ran = subprocess.run(["sh", "-ec", commands], cwd=GIVEN, timeout=30, **how)
+    ran = subprocess.run(["sh", "-ec", commands], cwd=GIVEN, timeout=LIMIT, **how)
     if wanted not in (None, ran.returncode):
         raise Failed(f"{commands.strip()[-80:]!r} ended with {ran.returncode}: {' '.join(ran.stdout.split())[-300:]}")
     return ran.stdout.strip()

@@ -35,8 +35,6 @@ MASK = 0o022
 PROGRAMS = dict(zip(judging.PROGRAMS, judging.built(*judging.PROGRAMS)))
 LABNTP, LABNTP_QUERY, LABNTPD, LABNTPCTL = PROGRAMS.values()
 pytestmark = pytest.mark.proved_alone(LARGE)
-# The longest that a command takes, in seconds, and a build.
-LIMIT, BUILD = 20, 120
 DOCUMENTATION = "usr/share/doc/labntp"
 CONFFILE = "/etc/labntp/labntpd.toml"
 KEPT = [CONFFILE, "/etc/labntp/clock.key", "/var/lib/labntp/commands"]
@@ -107,7 +105,7 @@ SOON = 10
 
 def command(*words, wanted=0, env_of=(), **how):
     """What a command prints; it is to end with this status, where one is wanted. `env_of` are more words of its environment."""
-    how = {"stdin": subprocess.DEVNULL, "stdout": subprocess.PIPE, "stderr": subprocess.STDOUT, "text": True, "errors": "replace", "timeout": LIMIT, **how}
+    how = {"stdin": subprocess.DEVNULL, "stdout": subprocess.PIPE, "stderr": subprocess.STDOUT, "text": True, "errors": "replace", "timeout": own_systemd.LIMIT, **how}
     environment = {**os.environ, "PATH": f"{os.environ.get('PATH', '')}:{own_systemd.PATH}", "LC_ALL": "C.UTF-8", **dict(env_of)}
     ran = subprocess.run(words, env=environment, **how)
     assert wanted in (None, ran.returncode), f"{' '.join(words)} ended with {ran.returncode}: {(ran.stdout or '').strip()[-300:]}"
@@ -150,7 +148,7 @@ def build(folder, *words):
     """Builds the package into a folder, and gives its path."""
     os.mkdir(folder)
     as_such = ["--unproved"] * bool(unproved()) + ["--dirty"] * is_dirty()
-    return command(f"{TOP}/packaging/deb", *programs_of(), *as_such, *words, folder, timeout=BUILD).strip()
+    return command(f"{TOP}/packaging/deb", *programs_of(), *as_such, *words, folder).strip()
 
 
 def package():
@@ -377,7 +375,7 @@ def test_build_has_the_same_program_in_each_folder():
         os.makedirs(f"{crate}/src")
         for path, text in (("src/main.rt", SMALL), ("stdout", "small\n"), ("../../crates.txt", "small:\n")):
             pathlib.Path(f"{crate}/{path}").write_text(text)
-        command("rt", "run", cwd=crate, timeout=BUILD)
+        command("rt", "run", cwd=crate)
         seen.add(hashlib.sha256(read(f"{crate}/out/small")).hexdigest())
     same("how many different programs", 1, len(seen))
 

@@ -163,6 +163,8 @@ def cases(top):
     yield "behind_ci", "" if (lines[-1], status) == (f"{len(REFUSED)} passed, 0 failed", 0) else "\n".join(lines)
     lines, status = ran(top, "--tenth", "9")
     yield "as_noted", "" if (lines[-1], status) == ("0 passed, 0 failed", 0) else "\n".join(lines)
+    lines, status = ran(top, "--minutes", "0")
+    yield "left_for_want_of_time", "" if (lines[-1], status) == (f"0 passed, 0 failed, {len(REFUSED)} skipped", 0) else "\n".join(lines)
     with open(digests, encoding="utf-8") as file:
         numbers, small = file.read().splitlines()
     write(digests, f"{numbers}\n{small[:-1]}{'0' if small[-1] != '0' else '1'}\nabsent {'0' * 64}\nsmall\n")

@@ -4,6 +4,7 @@
 another. A room is a small tree of its own, with the sources of one crate and of those below it, and with what was kept of them before.
 """
 import contextlib
+import functools
 import graphlib
 import os
 import pathlib
@@ -27,6 +28,7 @@ def listed(top=TOP):
     return {name: words.split() for name, words in found.items()}
 
 
+@functools.cache
 def crates_of(top=TOP):
     """Each crate that crates.txt lists, with those of the repository that it stands on by name, lowest first."""
     found = listed(top)

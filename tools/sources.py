@@ -1,28 +1,16 @@
-"""What tools/belief and tools/crates read of Rattle: the crates, their clauses and their definitions."""
+"""What tools/belief reads of Rattle: the crates, their clauses and their definitions."""
 import collections
 import functools
 import os
 import re
 
-from rooms import TOP, listed
+from rooms import TOP, crates_of
 from texts import Odd, files_below, lines_of, text_of
 
 # A string, a field of what stands in brackets, a path of names, a bracket or another sign.
 TOKEN = re.compile(
     r'"(?:[^"\\]|\\.)*"|(?<=[)}\]])(?:\.[^\s(){}\[\],;."]+)+|[^\s(){}\[\],;."]+(?:\.[^\s(){}\[\],;."]+)*|[(){}\[\],;.]'
 )
-Crate = collections.namedtuple("Crate", "name direct level is_library")
-
-
-@functools.cache
-def crates():
-    """The crates of crates.txt, lowest first: by level, and on one level as they stand there."""
-    names = listed(TOP)
-    direct = {name: tuple(it for it in on if it in names) for name, on in names.items()}
-    level_of = functools.cache(lambda name: 1 + max(map(level_of, direct[name]), default=0))
-    found = [Crate(name, on, level_of(name), os.path.exists(f"{TOP}/crates/{name}/src/lib.rt")) for name, on in direct.items()]
-    return {it.name: it for it in sorted(found, key=lambda it: it.level)}
-
 
 # The numbers of the lines of something, but for blank ones, and those of the comment above it.
 Item = collections.namedtuple("Item", "comment numbers")
@@ -254,7 +242,7 @@ source = functools.cache(Source)
 @functools.cache
 def sources(crate):
     """The files of a crate's src/, without its tests."""
-    paths = files_below(f"crates/{crate}/src", ".rt") if crate in crates() else []
+    paths = files_below(f"crates/{crate}/src", ".rt") if crate in crates_of() else []
     tests = [(path, re.findall(r"#\[cfg\(test\)\]\n *(?:pub )?mod (\w+);", text_of(path))) for path in paths]
     tests = {f"{os.path.dirname(path)}/{name}.rt" for path, names in tests for name in names}
     return [source(path) for path in paths if path not in tests]
@@ -271,14 +259,15 @@ def find_type(crate, name):
 @functools.cache
 def traits():
     """The traits of the crates, by name."""
-    return {it.name: it for crate in crates() for file in sources(crate) for it in file.blocks if not it.is_impl}
+    return {it.name: it for crate in crates_of() for file in sources(crate) for it in file.blocks if not it.is_impl}
 
 
 @functools.cache
 def public_names(crate):
     """The names that a library itself makes public."""
     found = set()
-    lib = source(f"crates/{crate}/src/lib.rt") if crates()[crate].is_library else None
+    path = f"crates/{crate}/src/lib.rt"
+    lib = source(path) if os.path.exists(f"{TOP}/{path}") else None
     for file in sources(crate) if lib else ():
         found |= {name for of, name in file.exports.values() if of == crate} if file is lib else set()
         if file is lib or os.path.basename(file.path).removesuffix(".rt") in lib.open_modules:

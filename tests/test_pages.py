@@ -269,6 +269,7 @@ def test_operations_asks_the_customers_file():
         until("both counts", is_told, SOON)
         same("with two keys", ["127.0.0.1"], lines(of_page("jq -r 'select(.keys | length == 2) ..")))
         same("with a short key", True, "192.0.2.10" in lines(of_page("jq -r 'select(any(.keys[]; .octets < 16)) ..")))
+        same("silent for a week", ["192.0.2.10"], lines(of_page("jq -r --argjson t ..")))
         same("with number 7", ["192.0.2.10"], lines(of_page("jq -r 'select(any(.keys[]; .number == 7)) ..")))
         of_one = place.do(of_page("jq 'select(.address == \"192.0.2.10\") .."), FILE=file)
         same("the key of one", [7], [it["number"] for it in json.loads(of_one)])

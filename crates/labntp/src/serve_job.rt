@@ -10,7 +10,7 @@ use ntp_admin::{
 };
 use ntp_host::{SystemWire, UdpPort, read_regular_file};
 use ntp_port::FixedReference;
-use ntp_server::{Server, Totals};
+use ntp_server::{NoReports, Server, Totals};
 use std::alloc::Global;
 use std::fs::Files;
 use std::io::{self, ErrorKind, Write};
@@ -46,7 +46,7 @@ pub fn serve_status<R: Net + Files + Clock, W: Write, F: Write>(
         return write_status(faults);
     }
     let mut server = server(rt, socket, serving.commands, loaded, &mut *faults);
-    let Totals { arrivals, sent, .. } = server.serve(u64::from(serving.turns));
+    let Totals { arrivals, sent, .. } = server.serve(u64::from(serving.turns), &mut NoReports);
     drop(server);
     if writeln!(out, "arrivals {arrivals} sent {sent}").is_err() {
         return write_status(faults);

@@ -1,9 +1,7 @@
 //! The observers of a daemon.
-ghost use Rattle.std.specs.Prelude.{◌≡◌, option_copied};
-ghost use Rattle.ntp_service.specs.declared.observation.Observation.{Observation};
+ghost use Rattle.std.specs.Prelude.{◌≡◌};
 ghost use Rattle.ntp_reports.specs.{declared.counts.Counts.Counts, Counted.nothing_counted, Counted.CountsOneMore};
-ghost use Rattle.ntp_reports.specs.{AnswerText.AnswersLine, Logging.customers_after};
-ghost use Rattle.ntp_reports.specs.Reported.{ReportsLine, ReportsTurn, IfThere};
+ghost use Rattle.ntp_reports.specs.Observing.{AnswersThis, ReportsThis, IsLeftByTurns, customers_then};
 
 use crate::command_log::CommandLog;
 use ntp_host::{HostClocks, Log};
@@ -67,14 +65,12 @@ impl<'a, L: Write + Drop, W: Write + Drop> ReportingObserver<'a, L, W> {
 }
 
 impl<'a, L: Write + Drop, W: Write + Drop> Observer for ReportingObserver<'a, L, W> {
-    fn line(&mut self, number: u64, command: Option<&Command>, outcome: LineOutcome)
-        ensures counts { CountsOneMore self.old.counts self.new.counts
-            (Observation.Line number (option_copied command.entry) outcome) }
-        ensures answers { IfThere (AnswersLine W.contents number outcome) self.old.answers self.new.answers }
-        ensures customers { self.new.log.customers
-            ≡ customers_after self.old.log.customers (option_copied command.entry) outcome }
-        ensures reports { IfThere (ReportsLine number (option_copied command.entry) outcome) self.old.reports self.new.reports }
-    {
+    ghost heard = { λ old new observation. CountsOneMore old.counts new.counts observation
+        × AnswersThis W.contents observation old.answers new.answers
+        × (new.log.customers ≡ customers_then old.log.customers observation) × IsLeftByTurns observation old.log new.log
+        × ReportsThis observation old.reports new.reports };
+
+    fn line(&mut self, number: u64, command: Option<&Command>, outcome: LineOutcome) {
         self.counts.count_line(outcome);
         if let Some(answers) = &mut self.answers {
             answers.line(number, outcome);
@@ -85,12 +81,7 @@ impl<'a, L: Write + Drop, W: Write + Drop> Observer for ReportingObserver<'a, L,
         }
     }
 
-    fn turn(&mut self, outcome: &TurnOutcome)
-        ensures counts { CountsOneMore self.old.counts self.new.counts (Observation.Turn outcome.now) }
-        ensures answers { self.new.answers ≡ self.old.answers }
-        ensures log { self.new.log ≡ self.old.log }
-        ensures reports { IfThere (ReportsTurn outcome.now) self.old.reports self.new.reports }
-    {
+    fn turn(&mut self, outcome: &TurnOutcome) {
         self.counts.count_turn(outcome);
         if let Some(reports) = &mut self.reports {
             reports.turn(outcome);

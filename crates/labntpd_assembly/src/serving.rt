@@ -2,7 +2,7 @@
 ghost use Rattle.std.specs.Prelude.{◌≡◌, ◌+◌, ◌<◌, ◌^◌, None, false, true, [], IfOk};
 ghost use Rattle.std.specs.declared.alloc.Global.{Global};
 ghost use Rattle.ntp_reports.specs.Counted.{count_at};
-ghost use Rattle.ntp_service.specs.Headline.{StandsFor};
+ghost use Rattle.ntp_service.specs.{InTurn.InTurn, Headline.StandsFor};
 ghost use Rattle.ntp_port.specs.{Port.failed_calls, Pacing.Paced};
 ghost use Rattle.ntp_server.specs.Rounds.{ServesRounds};
 
@@ -85,7 +85,7 @@ where
 
     /// Serves for `turns` turns, with all that is done beside it. It cannot fail.
     ///
-    /// First it carries out the lines that stand in its commands file; then it makes the rounds of `serve_reported`. Where the
+    /// First it carries out the lines that stand in its commands file; then it makes the rounds of `serve`. Where the
     /// port below `FreshPort` tells its turns, the rounds have these, but those whose datagrams were dropped and counted as
     /// stale, and what it sent is the replies; and so with the commands, as `EachMillisecond` asks for them, with the states of
     /// the clock and with the observer: each as far as it tells.
@@ -98,13 +98,13 @@ where
               looked = Paced C.looked;
               asked = S.asked;
               tended = S.tended;
-              seen = O.seen;
+              heard = O.heard;
             })
-            None None false true turns result }
+            (InTurn (λ _ _ _. Unit {0}) self.old.beside self.new.beside) false true turns result }
         // Behind the last turn it is known how many receives have failed, and how many stale datagrams were dropped.
         ensures receives { 0 < turns → self.new.beside.seen.failed ≡ count_at (O.counted self.new.daemon.observer) Kind.NothingReceived }
         ensures stale { 0 < turns → self.new.beside.seen.stale ≡ self.new.daemon.port.counts.dropped }
     {
-        self.daemon.serve_reported(turns, &mut self.beside)
+        self.daemon.serve(turns, &mut self.beside)
     }
 }

@@ -1,19 +1,20 @@
 -- Lines carried out one after another.
-use Rattle.std.proofs.Common.{◌≡◌, ℕ, ◌+◌, ◌<◌, ◌≤◌, ◌^◌, false, List, [], ◌∷◌, ◌++◌, length, Option, Some, Ok, Err, arith, refl, sym, ap, ◌∙◌, subst, append_assoc, append-nil}
+use Rattle.std.proofs.Common.{◌≡◌, ℕ, ◌+◌, ◌<◌, ◌≤◌, ◌^◌, false, List, [], ◌∷◌, ◌++◌, length, None, Some, Ok, Err, arith, refl, sym, ap, ◌∙◌, subst, append_assoc, append-nil}
 use Rattle.std.specs.Prelude.{Result, IfOk, IfErr, IsUtf8}
 use Rattle.std.proofs.{lemmas.Bool.false_from_ne_true, lemmas.Bool.Decides.nat_tests}
 use Rattle.std.proofs.{lemmas.Str.is_utf8-from_IsUtf8, lemmas.Str.IsUtf8-from_is_utf8, lemmas.List.length-append}
 use Rattle.ntp_service.specs.{declared.refusal.Refusal.Refusal, Registry.Registry, declared.command.Command.Command}
 use Rattle.ntp_service.specs.{declared.event.Event.Event, declared.line_fault.LineFault.LineFault}
 use Rattle.ntp_service.specs.{declared.line_fault.LineFault.TheVariants.NotUtf8, declared.observation.LineOutcome.LineOutcome}
-use Rattle.ntp_service.specs.{declared.observation.Observation.Observation, Sees.Sees}
+use Rattle.ntp_service.specs.{declared.observation.Observation.Observation, InTurn.InTurn}
 use Rattle.ntp_service.specs.declared.event.Event.TheVariants as event
 use Rattle.ntp_service.specs.declared.observation.Observation.TheVariants.{Line}
+use Rattle.ntp_service.specs.declared.observation.LineOutcome.TheVariants.{Faulty}
 use Rattle.ntp_service.proofs.PublicLaws.{Tells-nil, Tells-one}
 use Rattle.ntp_service.specs.Headline.{StandsFor, Tells, TellsOne, command_outcome}
 use Rattle.ntp_admin.specs.{Words.words, Spells.command_in, Spells.is_passed_over, FileText.IsText}
-use Rattle.ntp_admin.specs.CommandsFile.{complete_lines, line_reading, count_on, carried_out, happened_read, observed_read, CarriesOut, CarriesOutDue}
-use Rattle.ntp_admin.specs.Applying.{AppliesLine}
+use Rattle.ntp_admin.specs.CommandsFile.{complete_lines, line_reading, count_on, carried_out, CarriesOut, CarriesOutDue}
+use Rattle.ntp_admin.specs.Applying.{AppliesLine, AppliesText}
 use Rattle.ntp_admin.proofs.LinesTaken.{count_on-none, CarriesOut-none, CarriesOut-more}
 
 -- ---- what a line is read as
@@ -29,73 +30,95 @@ pub reads-no-text : (most : ℕ) (line : List ℕ) → is_passed_over line ≡ f
 reads-no-text most line taken short none = grind (arith, nat_tests, false_from_ne_true, IsUtf8-from_is_utf8)
 
 -- ---- one line
--- a command was carried out or refused
-pub AppliesLine-command : (A : Type 0) (most number : ℕ) (line : List ℕ) (c : Command) (r : Result (Unit {0}) Refusal) (o : LineOutcome)
-    (old new : Registry) (seen told : Option (List Observation)) → line_reading most line ≡ Some (Ok c) → o ≡ carried_out r
-    → ((history : List (Event A)) → StandsFor old history → TellsOne history (event.Command c) (command_outcome r) new)
-    → Sees seen told (Line number (Some c) o ∷ []) → AppliesLine A most number line old new seen told
-AppliesLine-command A most number line c r o old new seen told read said tells sees =
-    rw read
-    (r, subst (λ x. Sees seen told (Line number (Some c) x ∷ [])) said sees, λ history stands. Tells-one history _ _ new (tells history stands))
+module _ {O : Type 0} (Heard : O → O → Observation → Type 0) (A : Type 0) (most number : ℕ) (line : List ℕ) (old new : Registry)
+    (earlier later : O) where
+  -- a command was carried out or refused
+  pub AppliesLine-command : (c : Command) (r : Result (Unit {0}) Refusal) (o : LineOutcome) → line_reading most line ≡ Some (Ok c)
+      → o ≡ carried_out r → ((history : List (Event A)) → StandsFor old history → TellsOne history (event.Command c) (command_outcome r) new)
+      → Heard earlier later (Line number (Some c) o) → AppliesLine A most number line old new (InTurn Heard earlier later)
+  AppliesLine-command c r o read said tells heard =
+      rw read (
+        r,
+        (later, subst (λ x. Heard earlier later (Line number (Some c) x)) said heard, refl),
+        λ history stands. Tells-one history _ _ new (tells history stands),
+      )
 
--- a line that is no command
-pub AppliesLine-none : (A : Type 0) (most number : ℕ) (line : List ℕ) (s : Registry) (seen told : Option (List Observation))
-    → happened_read {A = A} (line_reading most line) (Ok tt) ≡ [] → Sees seen told (observed_read number (line_reading most line) (Ok tt))
-    → AppliesLine A most number line s s seen told
-AppliesLine-none A most number line s seen told none sees =
-    (Ok tt, sees, λ history stands. subst (λ es. Tells history es s) (sym none) (Tells-nil history s stands))
+  -- a line that is no command
+  pub AppliesLine-fault : (fault : LineFault) → line_reading most line ≡ Some (Err fault) → new ≡ old
+      → Heard earlier later (Line number None (Faulty fault)) → AppliesLine A most number line old new (InTurn Heard earlier later)
+  AppliesLine-fault fault read same heard =
+      rw read (Ok tt, (later, heard, refl), λ history stands. subst (λ s. Tells history [] s) (sym same) (Tells-nil history old stands))
+
+  -- one that is passed over
+  pub AppliesLine-none : line_reading most line ≡ None → new ≡ old → later ≡ earlier
+      → AppliesLine A most number line old new (InTurn Heard earlier later)
+  AppliesLine-none read same unheard =
+      rw read (Ok tt, unheard, λ history stands. subst (λ s. Tells history [] s) (sym same) (Tells-nil history old stands))
 
 -- ---- the lines of octets
 -- what was carried out of octets, where `rest` is still to be read
-pub record Applied (A : Type 0) (most before : ℕ) (old : Registry) (seen : Option (List Observation)) (octets rest : List ℕ) (number : ℕ)
-    (new : Registry) (told : Option (List Observation)) : Type 0 where
+pub record Applied (A : Type 0) (most before : ℕ) (old : Registry) (octets rest : List ℕ) (number : ℕ) (new : Registry)
+    (Heard : List Observation → Type 0) : Type 0 where
   pub done : List (List ℕ)
   pub whole : complete_lines octets ≡ done ++ complete_lines rest
   pub counted : number ≡ count_on before (length done)
-  pub carried : CarriesOut A most before done old new seen told
+  pub carried : CarriesOut A most before done old new Heard
 
-pub Applied-none : (A : Type 0) (most before : ℕ) (s : Registry) (seen : Option (List Observation)) (octets : List ℕ) → before < 2 ^ 64
-    → Applied A most before s seen octets octets before s seen
-Applied-none A most before s seen octets fits = record {
+pub Applied-none : (A : Type 0) (most before : ℕ) (s : Registry) (octets : List ℕ) (Heard : List Observation → Type 0) → before < 2 ^ 64
+    → Heard [] → Applied A most before s octets octets before s Heard
+Applied-none A most before s octets Heard fits heard = record {
   done = [];
   whole = refl;
   counted = count_on-none before fits;
-  carried = CarriesOut-none A most before s seen;
+  carried = CarriesOut-none A most before s Heard heard;
 }
 
 -- and one line more
-pub Applied-more : (A : Type 0) (most before : ℕ) (old mid new : Registry) (seen halfway told : Option (List Observation))
-    (octets rest line others : List ℕ) (number next : ℕ) → before < 2 ^ 64 → Applied A most before old seen octets rest number mid halfway
-    → complete_lines rest ≡ line ∷ complete_lines others → next ≡ count_on number 1
-    → AppliesLine A most next line mid new halfway told → Applied A most before old seen octets others next new told
-Applied-more A most before old mid new seen halfway told octets rest line others number next fits a cut is one =
+pub Applied-more : {O : Type 0} (Heard : O → O → Observation → Type 0) (A : Type 0) (most before : ℕ) (old mid new : Registry)
+    (earlier halfway later : O) (octets rest line others : List ℕ) (number next : ℕ) → before < 2 ^ 64
+    → Applied A most before old octets rest number mid (InTurn Heard earlier halfway) → complete_lines rest ≡ line ∷ complete_lines others
+    → next ≡ count_on number 1 → AppliesLine A most next line mid new (InTurn Heard halfway later)
+    → Applied A most before old octets others next new (InTurn Heard earlier later)
+Applied-more Heard A most before old mid new earlier halfway later octets rest line others number next fits a cut is one =
     let many : length (a.done ++ line ∷ []) ≡ length a.done + 1 = length-append a.done (line ∷ []) in
     let place : next ≡ count_on before (length a.done + 1) = omega (arith, is, a.counted) in
     record {
       done = a.done ++ line ∷ [];
       whole = a.whole ∙ ap (λ l. a.done ++ l) cut ∙ sym (append_assoc a.done (line ∷ []) (complete_lines others));
       counted = place ∙ ap (count_on before) (sym many);
-      carried = CarriesOut-more A most before next a.done line old mid new seen halfway told fits place a.carried one;
+      carried = CarriesOut-more Heard A most before next a.done line old mid new earlier halfway later fits place a.carried one;
     }
 
 -- at the end
-module _ (A : Type 0) (most before : ℕ) (old new : Registry) (seen told : Option (List Observation)) (octets rest : List ℕ)
-    (number : ℕ) (a : Applied A most before old seen octets rest number new told) (end : complete_lines rest ≡ []) where
+module _ (A : Type 0) (most before : ℕ) (old new : Registry) (Heard : List Observation → Type 0) (octets rest : List ℕ) (number : ℕ)
+    (a : Applied A most before old octets rest number new Heard) (end : complete_lines rest ≡ []) where
   all-done : a.done ≡ complete_lines octets
   all-done = sym (a.whole ∙ ap (λ l. a.done ++ l) end ∙ append-nil a.done)
 
   pub Applied-count : number ≡ count_on before (length (complete_lines octets))
   Applied-count = a.counted ∙ ap (λ ls. count_on before (length ls)) all-done
 
-  pub Applied-lines : CarriesOut A most before (complete_lines octets) old new seen told
-  Applied-lines = subst (λ ls. CarriesOut A most before ls old new seen told) all-done a.carried
+  pub Applied-lines : CarriesOut A most before (complete_lines octets) old new Heard
+  Applied-lines = subst (λ ls. CarriesOut A most before ls old new Heard) all-done a.carried
 
--- ---- octets that are no text
-pub Due-none : (A : Type 0) (applied : ℕ) (octets : List ℕ) (s : Registry) (seen : Option (List Observation))
-    → (IsText octets → ⊥) → CarriesOutDue A applied octets applied s s seen seen
-Due-none A applied octets s seen not = record {
+-- ---- octets of a file
+-- those of a text, whoever heard of them
+pub Due-text : (A : Type 0) (applied after : ℕ) (octets : List ℕ) (old new : Registry) (Heard : List Observation → Type 0) → IsText octets
+    → AppliesText A applied octets after old new Heard → CarriesOutDue A applied octets after old new
+Due-text A applied after octets old new Heard text applies =
+    let c = applies.1 in
+    record {
+      lines = _;
+      text = λ yes. (refl, applies.0);
+      other = λ no. absurd (no text);
+      carried = record { taken = c.taken; these = c.these; observed = tt; tells = c.tells };
+    }
+
+-- those that are no text
+pub Due-none : (A : Type 0) (applied : ℕ) (octets : List ℕ) (s : Registry) → (IsText octets → ⊥) → CarriesOutDue A applied octets applied s s
+Due-none A applied octets s not = record {
   lines = [];
   text = λ yes. absurd (not yes);
   other = λ no. (refl, refl);
-  carried = CarriesOut-none A _ applied s seen;
+  carried = CarriesOut-none A _ applied s _ tt;
 }

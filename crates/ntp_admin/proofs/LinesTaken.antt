@@ -1,8 +1,8 @@
 -- Lists of lines that were taken.
-use Rattle.std.proofs.Common.{◌≡◌, ℕ, ◌+◌, ◌<◌, ◌^◌, List, [], ◌∷◌, ◌++◌, length, Option, arith, refl, sym, ap, ◌∙◌, subst, append_assoc}
+use Rattle.std.proofs.Common.{◌≡◌, ℕ, ◌+◌, ◌<◌, ◌^◌, List, [], ◌∷◌, ◌++◌, length, arith, refl, sym, ap, ◌∙◌, subst, append_assoc}
 use Rattle.std.proofs.{lemmas.List.length-map, lemmas.List.map-append, lemmas.Grind.flat_map-append}
-use Rattle.ntp_service.specs.{Registry.Registry, declared.observation.Observation.Observation, Sees.Sees, Headline.Tells}
-use Rattle.ntp_service.proofs.PublicLaws.{Sees-nil, Sees-append, Tells-nil, Tells-append}
+use Rattle.ntp_service.specs.{Registry.Registry, declared.observation.Observation.Observation, InTurn.InTurn, Headline.Tells}
+use Rattle.ntp_service.proofs.PublicLaws.{InTurn-append, Tells-nil, Tells-append}
 use Rattle.ntp_admin.specs.CommandsFile.{line_reading, count_on, TakenLine, happened_read, observed_read, happened_at_lines, line_observations, CarriesOut}
 use Rattle.ntp_admin.specs.Applying.{AppliesLine}
 
@@ -37,29 +37,30 @@ module _ (most : ℕ) (taken : List TakenLine) (t : TakenLine) where
   line_observations-more before fits = grind (arith, line_observations-append, most, taken, t, count_on-more)
 
 -- no line was carried out
-pub CarriesOut-none : (A : Type 0) (most before : ℕ) (s : Registry) (seen : Option (List Observation)) → CarriesOut A most before [] s s seen seen
-CarriesOut-none A most before s seen = record {
+pub CarriesOut-none : (A : Type 0) (most before : ℕ) (s : Registry) (Heard : List Observation → Type 0) → Heard []
+    → CarriesOut A most before [] s s Heard
+CarriesOut-none A most before s Heard heard = record {
   taken = [];
   these = refl;
-  observed = Sees-nil seen;
+  observed = heard;
   tells = λ history stands. Tells-nil history s stands;
 }
 
 -- and then one more
-pub CarriesOut-more : (A : Type 0) (most before number : ℕ) (lines : List (List ℕ)) (line : List ℕ) (old mid new : Registry)
-    (seen halfway told : Option (List Observation)) → before < 2 ^ 64 → number ≡ count_on before (length lines + 1)
-    → CarriesOut A most before lines old mid seen halfway → AppliesLine A most number line mid new halfway told
-    → CarriesOut A most before (lines ++ line ∷ []) old new seen told
-CarriesOut-more A most before number lines line old mid new seen halfway told fits place c one =
+pub CarriesOut-more : {O : Type 0} (Heard : O → O → Observation → Type 0) (A : Type 0) (most before number : ℕ) (lines : List (List ℕ))
+    (line : List ℕ) (old mid new : Registry) (earlier halfway later : O) → before < 2 ^ 64 → number ≡ count_on before (length lines + 1)
+    → CarriesOut A most before lines old mid (InTurn Heard earlier halfway) → AppliesLine A most number line mid new (InTurn Heard halfway later)
+    → CarriesOut A most before (lines ++ line ∷ []) old new (InTurn Heard earlier later)
+CarriesOut-more Heard A most before number lines line old mid new earlier halfway later fits place c one =
     let t : TakenLine = record { line = line; result = one.0 } in
     let many : length lines ≡ length c.taken = sym (ap length c.these) ∙ length-map c.taken (λ x. x.line) in
     let same : number ≡ count_on before (length c.taken + 1) = place ∙ ap (λ n. count_on before (n + 1)) many in
     record {
       taken = c.taken ++ t ∷ [];
       these = map-append (λ x. x.line) c.taken (t ∷ []) ∙ ap (λ ls. ls ++ line ∷ []) c.these;
-      observed = subst (λ os. Sees seen told os) (sym (line_observations-more most c.taken t before fits))
-          (Sees-append seen halfway told _ _ c.observed
-          (subst (λ n. Sees halfway told (observed_read n (line_reading most line) one.0)) same one.1));
+      observed = subst (λ os. InTurn Heard earlier later os) (sym (line_observations-more most c.taken t before fits))
+          (InTurn-append Heard _ _ earlier halfway later c.observed
+          (subst (λ n. InTurn Heard halfway later (observed_read n (line_reading most line) one.0)) same one.1));
       tells = λ history stands. subst (λ l. Tells history l new) (sym (happened-more most c.taken t))
           (Tells-append history _ _ mid new (c.tells history stands) (λ there. one.2 _ there));
     }

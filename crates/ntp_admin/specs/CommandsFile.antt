@@ -6,7 +6,7 @@ use Rattle.ntp_service.specs.{Vocabulary.refusal_word, Vocabulary.line_fault_wor
 use Rattle.ntp_service.specs.{declared.event.Event.Event, declared.line_fault.LineFault.LineFault}
 use Rattle.ntp_service.specs.declared.line_fault.LineFault.TheVariants.{LineLong, NotUtf8}
 use Rattle.ntp_service.specs.{declared.outcome.Outcome.Outcome, declared.observation.LineOutcome.LineOutcome}
-use Rattle.ntp_service.specs.{declared.observation.Observation.Observation, Sees.Sees}
+use Rattle.ntp_service.specs.declared.observation.Observation.{Observation}
 use Rattle.ntp_admin.specs.{Words.words, Words.parts, Spells.command_in, Spells.is_passed_over, Answers.line_feed}
 use Rattle.ntp_admin.specs.FileText.{most_file_octets, IsText}
 use Rattle.ntp_service.specs.declared.event.Event.TheVariants as event
@@ -46,7 +46,7 @@ abbrev pub carried_out : Result (Unit {0}) Refusal → LineOutcome
 carried_out (Ok done) = Done
 carried_out (Err refusal) = Refused refusal
 
--- what an observer is told of a line with a number, read so: its command, if it is one, and what became of it
+-- what an observer hears of a line with a number, read so: its command, if it is one, and what became of it
 abbrev pub observed_read : ℕ → Option (Result Command LineFault) → Result (Unit {0}) Refusal → List Observation
 observed_read number None result = []
 observed_read number (Some (Ok command)) result = Line number (Some command) (carried_out result) ∷ []
@@ -56,29 +56,27 @@ observed_read number (Some (Err fault)) result = Line number None (Faulty fault)
 abbrev pub happened_at_lines : {A : Type 0} → ℕ → List TakenLine → List (Event A × Outcome)
 happened_at_lines most taken = flat_map (λ t. happened_read (line_reading most t.line) t.result) taken
 
--- what an observer is told of them, where `before` lines stand in front of the first
+-- what an observer hears of them, where `before` lines stand in front of the first
 abbrev pub line_observations : ℕ → ℕ → List TakenLine → List Observation
 line_observations most before [] = []
 line_observations most before (t ∷ taken) =
     observed_read (count_on before 1) (line_reading most t.line) t.result ++ line_observations most (count_on before 1) taken
 
--- these lines were carried out, each once: whatever history the service stood for, it tells what happened at them, and the observer is
--- told what became of each
-pub record CarriesOut (A : Type 0) (most before : ℕ) (lines : List (List ℕ)) (old new : Registry)
-    (seen told : Option (List Observation)) : Type 0 where
+-- these lines were carried out, each once: whatever history the service stood for, it tells what happened at them, and an observer heard
+-- what became of each
+pub record CarriesOut (A : Type 0) (most before : ℕ) (lines : List (List ℕ)) (old new : Registry) (Heard : List Observation → Type 0) : Type 0 where
   pub taken : List TakenLine
   pub these : map (λ t. t.line) taken ≡ lines
-  pub observed : Sees seen told (line_observations most before taken)
+  pub observed : Heard (line_observations most before taken)
   pub tells : (history : List (Event A)) → StandsFor old history → Tells history (happened_at_lines most taken) new
 
 -- the lines that are due in a file's octets were carried out, where `applied` are applied, and `after` once they were taken: of a
 -- text, its complete lines behind those; of other octets none. Each may be as long as the file
-pub record CarriesOutDue (A : Type 0) (applied : ℕ) (octets : List ℕ) (after : ℕ) (old new : Registry)
-    (seen told : Option (List Observation)) : Type 0 where
+pub record CarriesOutDue (A : Type 0) (applied : ℕ) (octets : List ℕ) (after : ℕ) (old new : Registry) : Type 0 where
   pub lines : List (List ℕ)
   pub text : IsText octets → (lines ≡ drop applied (complete_lines octets)) × (after ≡ max applied (length (complete_lines octets)))
   pub other : ¬ IsText octets → (lines ≡ []) × (after ≡ applied)
-  pub carried : CarriesOut A most_file_octets applied lines old new seen told
+  pub carried : CarriesOut A most_file_octets applied lines old new (λ _. Unit {0})
 
 -- the line that tells of a fault of the commands file
 abbrev pub fault_line : ℕ → List ℕ → List ℕ

@@ -1,5 +1,6 @@
 //! The commands file, carried out line by line.
-ghost use Rattle.std.specs.Prelude.{◌≡◌, ◌<◌, ◌≤◌, ◌==◌, [], ◌∷◌, None, length, drop, position, IfSome, IfNone, MatchOption};
+ghost use Rattle.std.specs.Prelude.{◌≡◌, ◌<◌, ◌≤◌, ◌==◌, [], ◌∷◌, length, drop, position, IfSome, IfNone, MatchOption};
+ghost use Rattle.ntp_service.specs.InTurn.{InTurn};
 ghost use Rattle.ntp_admin.specs.FileText.{IsText};
 ghost use Rattle.ntp_admin.specs.CommandsFile.{most_line_octets, complete_lines, line_reading, count_on, carried_out, CarriesOut, CarriesOutDue};
 ghost use Rattle.ntp_admin.specs.Applying.{AppliesText, AppliesLine};
@@ -32,7 +33,7 @@ pub fn apply_lines<A: Allocator + Copy, O: Observer>(
 ) -> u64
     ensures count { result ≡ count_on before (length (complete_lines octets.now)) }
     ensures lines { CarriesOut A most_line_octets before (complete_lines octets.now) service.old service.new
-        (O.seen observer.old) (O.seen observer.new) }
+        (InTurn O.heard observer.old observer.new) }
 {
     carry_out_lines(service, octets, MOST_LINE_OCTETS, before, observer)
 }
@@ -52,7 +53,7 @@ pub fn commands_step<A: Allocator + Copy, W: Write>(
     applied: u64,
     faults: &mut W,
 ) -> u64
-    ensures due { CarriesOutDue A applied octets.now result service.old service.new None None }
+    ensures due { CarriesOutDue A applied octets.now result service.old service.new }
     ensures nothing { ¬ IsText octets.now → (result ≡ applied) × (service.new ≡ service.old) × (faults.new ≡ faults.old) }
 {
     match text_of(octets) {
@@ -69,7 +70,7 @@ fn apply_text<A: Allocator + Copy, O: Observer>(
     observer: &mut O,
 ) -> u64
     requires { IsText text.now }
-    ensures { AppliesText A applied text.now result service.old service.new (O.seen observer.old) (O.seen observer.new) }
+    ensures { AppliesText A applied text.now result service.old service.new (InTurn O.heard observer.old observer.new) }
 {
     match behind(text, applied) {
         Some(due) => carry_out_lines(service, due, MOST_FILE_OCTETS, applied, observer),
@@ -119,7 +120,7 @@ fn carry_out_lines<A: Allocator + Copy, O: Observer>(
 ) -> u64
     ensures count { result ≡ count_on before (length (complete_lines octets.now)) }
     ensures lines { CarriesOut A most before (complete_lines octets.now) service.old service.new
-        (O.seen observer.old) (O.seen observer.new) }
+        (InTurn O.heard observer.old observer.new) }
 {
     let mut rest = octets;
     let mut number = before;
@@ -139,7 +140,7 @@ fn carry_out_line<A: Allocator + Copy, O: Observer>(
     number: u64,
     observer: &mut O,
 )
-    ensures { AppliesLine A most number line.now service.old service.new (O.seen observer.old) (O.seen observer.new) }
+    ensures { AppliesLine A most number line.now service.old service.new (InTurn O.heard observer.old observer.new) }
 {
     match read_line(line, most) {
         Some(Ok(command)) => {

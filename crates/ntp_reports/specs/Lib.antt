@@ -6,3 +6,4 @@ pub mod Allowing
 pub mod Signing
 pub mod Customers
 pub mod Reported
+pub mod Observing

@@ -1,3 +1,2 @@
-mod Telling
 mod Looking
 mod Making

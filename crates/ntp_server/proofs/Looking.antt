@@ -4,15 +4,14 @@ use Rattle.std.specs.Prelude.{is_none, is_some, flat_map}
 use Rattle.std.proofs.lemmas.List.{map-append}
 use Rattle.std.proofs.{lemmas.List.Elements.filter-append, lemmas.List.Elements.filter_map-append, lemmas.Grind.flat_map-append}
 use Rattle.ntp_packet.specs.declared.moment.Moment.{Moment}
-use Rattle.ntp_service.specs.{Sees.Sees, Headline.Tells}
-use Rattle.ntp_service.proofs.PublicLaws.{Sees-nil, Sees-append, Tells-nil, Tells-append}
+use Rattle.ntp_service.specs.{InTurn.InTurn, Headline.Tells}
+use Rattle.ntp_service.proofs.PublicLaws.{InTurn-append, Tells-nil, Tells-append}
 use Rattle.ntp_port.specs.{Port.CountsMore}
 use Rattle.ntp_port.proofs.PublicLaws.{CountsMore-nil, CountsMore-append}
 use Rattle.ntp_admin.specs.CommandsFile.{most_line_octets, count_on, line_observations, happened_at_lines}
 use Rattle.ntp_server.specs.declared.server.Server.{Server}
 use Rattle.ntp_server.specs.Rounds.{Round, PartsTell, AreDueInTurn, given_in, turns_in, asked_in, happened_in_round, round_observations}
 use Rattle.ntp_server.specs.Steps.{Looks, Orders, Starts, Waits}
-use Rattle.ntp_server.proofs.Telling.{Looks-append, Asks-append}
 
 -- ---- rounds
 due-append : (xs ys : List Round) (a b c : ℕ) → AreDueInTurn a xs b → AreDueInTurn b ys c → AreDueInTurn a (xs ++ ys) c
@@ -20,16 +19,15 @@ due-append [] ys a b c p q = subst (λ n. AreDueInTurn n ys c) p q
 due-append (x ∷ xs) ys a b c p q = (p.0, p.1, due-append xs ys (count_on a (length x.taken)) b c p.2 q)
 
 pub Orders-nil : {P C R O A : Type 0} (t : PartsTell P C R O) (p : Server P C R O A) → Orders p p t []
-Orders-nil t p = search (rules, Sees-nil, Tells-nil)
+Orders-nil t p = search (rules, Tells-nil)
 
 pub Orders-append : {P C R O A : Type 0} (t : PartsTell P C R O) (xs ys : List Round) (p q r : Server P C R O A) → Orders p q t xs
     → Orders q r t ys → Orders p r t (xs ++ ys)
 Orders-append t xs ys p q r x y = record {
   due = due-append xs ys p.applied q.applied r.applied x.due y.due;
-  commands = Looks-append t.looked xs ys p.commands q.commands r.commands x.commands y.commands;
-  observed = subst (λ l. Sees (t.seen p.observer) (t.seen r.observer) l) (sym (flat_map-append round_observations xs ys))
-      (Sees-append (t.seen p.observer) (t.seen q.observer) (t.seen r.observer) (flat_map round_observations xs) (flat_map round_observations ys)
-      x.observed y.observed);
+  commands = InTurn-append _ xs ys p.commands q.commands r.commands x.commands y.commands;
+  observed = subst (λ l. InTurn t.heard p.observer r.observer l) (sym (flat_map-append round_observations xs ys))
+      (InTurn-append t.heard _ _ p.observer q.observer r.observer x.observed y.observed);
   tells = λ history stands. subst (λ l. Tells history l r.service) (sym (flat_map-append happened_in_round xs ys))
       (Tells-append history (flat_map happened_in_round xs) (flat_map happened_in_round ys) q.service r.service (x.tells history stands)
       (λ stood. y.tells _ stood));
@@ -47,7 +45,7 @@ Looks-nothing t asked given p q fits applied observer service none gives = recor
   lines = refl;
   counted = omega (arith, applied);
   commands = subst (λ o. t.looked p.commands q.commands asked o) none gives;
-  observed = subst (λ o. Sees (t.seen p.observer) (t.seen o) []) (sym observer) (Sees-nil (t.seen p.observer));
+  observed = observer;
   tells = λ history stands. subst (λ s. Tells history [] s) (sym service) (Tells-nil history p.service stands);
 }
 
@@ -63,7 +61,7 @@ Orders-look {p = p} {q = q} {t = t} l =
     record {
       due = (refl, l.lines, l.counted);
       commands = (q.commands, l.commands, refl);
-      observed = subst (λ os. Sees (t.seen p.observer) (t.seen q.observer) os) (sym (append-nil (heard ++ []) ∙ append-nil heard)) l.observed;
+      observed = subst (λ os. InTurn t.heard p.observer q.observer os) (sym (append-nil (heard ++ []) ∙ append-nil heard)) l.observed;
       tells = λ history stands. subst (λ es. Tells history es q.service) (sym (append-nil (happened ++ []) ∙ append-nil happened))
           (l.tells history stands);
     }
@@ -125,9 +123,9 @@ Starts-all p q t many s all =
     record { start = s.start; at_start = s.at_start; gave = s.gave; until = inr (s.all, s.counted ∙ all); orders = s.orders }
 
 -- ---- a wait
-pub Waits-none : {P C R O A : Type 0} (t : PartsTell P C R O) (prompt : Bool) (shown : Option (List (Option Moment))) (p : Server P C R O A)
-    → (w : Waits p p t shown shown prompt) × (length w.rounds ≡ 0)
-Waits-none t prompt shown p = (
+pub Waits-none : {P C R O A : Type 0} (t : PartsTell P C R O) (prompt : Bool) (Shown : List (Option Moment) → Type 0) (p : Server P C R O A)
+    → Shown [] → (w : Waits p p t Shown prompt) × (length w.rounds ≡ 0)
+Waits-none t prompt Shown p shown = (
   record {
     rounds = [];
     no_turn = refl;
@@ -136,19 +134,19 @@ Waits-none t prompt shown p = (
     orders = Orders-nil t p;
     waited = CountsMore-nil (t.counts p.port).idle_waits;
     tended = refl;
-    reported = Sees-nil shown;
+    reported = shown;
   },
   refl,
 )
 
 -- it goes on only at a port that is not prompt
-pub Waits-more : {P C R O A : Type 0} (t : PartsTell P C R O) (prompt gave : Bool) (shown halfway later : Option (List (Option Moment)))
-    (p q r : Server P C R O A) (port : P) (states : R) (n : ℕ) → prompt ≡ false
-    → (w : Waits p q t shown halfway prompt) × (length w.rounds ≡ n)
+pub Waits-more : {P C R O A Q : Type 0} (t : PartsTell P C R O) (prompt gave : Bool) (Shows : Q → Q → Option Moment → Type 0)
+    (earlier halfway later : Q) (p q r : Server P C R O A) (port : P) (states : R) (n : ℕ) → prompt ≡ false
+    → (w : Waits p q t (InTurn Shows earlier halfway) prompt) × (length w.rounds ≡ n)
     → Looks (record q { port = port }) r t None gave → CountsMore (t.counts q.port).idle_waits (t.counts r.port).idle_waits 1
-    → r.reference ≡ q.reference → t.tended r.reference states → Sees halfway later (None ∷ [])
-    → (w : Waits p (record r { reference = states }) t shown later prompt) × (length w.rounds ≡ n + 1)
-Waits-more {P} {C} {R} {O} {A} t prompt gave shown halfway later p q r port states n waits (w, many) l waited same tends shows =
+    → r.reference ≡ q.reference → t.tended r.reference states → Shows halfway later None
+    → (w : Waits p (record r { reference = states }) t (InTurn Shows earlier later) prompt) × (length w.rounds ≡ n + 1)
+Waits-more {P} {C} {R} {O} {A} t prompt gave Shows earlier halfway later p q r port states n waits (w, many) l waited same tends shown =
     let round = waiting l in
     let end : Server P C R O A = record r { reference = states } in
     let all : length (w.rounds ++ round ∷ []) ≡ length w.rounds + 1 = length-append w.rounds (round ∷ []) in
@@ -162,19 +160,19 @@ Waits-more {P} {C} {R} {O} {A} t prompt gave shown halfway later p q r port stat
             (record { due = look.due; commands = look.commands; observed = look.observed; tells = look.tells });
         waited = CountsMore-append (t.counts p.port).idle_waits (t.counts q.port).idle_waits (t.counts r.port).idle_waits (length w.rounds) 1 _ all
             w.waited waited;
-        tended = Asks-append t.asked t.tended w.rounds (round ∷ []) p.reference q.reference states w.tended
+        tended = InTurn-append _ w.rounds (round ∷ []) p.reference q.reference states w.tended
             (states, subst (λ s. t.tended s states) same tends, refl);
-        reported = subst (λ xs. Sees shown later xs) (sym (map-append asked_in w.rounds (round ∷ [])))
-            (Sees-append shown halfway later (map asked_in w.rounds) (None ∷ []) w.reported shows);
+        reported = subst (λ xs. InTurn Shows earlier later xs) (sym (map-append asked_in w.rounds (round ∷ [])))
+            (InTurn-append Shows _ _ earlier halfway later w.reported (later, shown, refl));
       },
       all ∙ ap (λ m. m + 1) many,
     )
 
 -- the port goes on, as far as its waits are counted
-pub Waits-port : {P C R O A : Type 0} (t : PartsTell P C R O) (prompt : Bool) (shown later : Option (List (Option Moment))) (p q : Server P C R O A)
-    (port : P) (w : Waits p q t shown later prompt) → CountsMore (t.counts p.port).idle_waits (t.counts port).idle_waits (length w.rounds)
-    → Waits p (record q { port = port }) t shown later prompt
-Waits-port t prompt shown later p q port w waited = record {
+pub Waits-port : {P C R O A : Type 0} (t : PartsTell P C R O) (prompt : Bool) (Shown : List (Option Moment) → Type 0) (p q : Server P C R O A)
+    (port : P) (w : Waits p q t Shown prompt) → CountsMore (t.counts p.port).idle_waits (t.counts port).idle_waits (length w.rounds)
+    → Waits p (record q { port = port }) t Shown prompt
+Waits-port t prompt Shown p q port w waited = record {
   rounds = w.rounds;
   no_turn = w.no_turn;
   waiting = w.waiting;

@@ -9,8 +9,8 @@ use Rattle.ntp_packet.specs.declared.moment.Moment.{Moment}
 use Rattle.ntp_reply.specs.Reference.{ReferenceState}
 use Rattle.ntp_service.specs.{declared.observation.Arrival.Arrival, declared.observation.Observation.TheVariants.Turn}
 use Rattle.ntp_service.specs.declared.observation.TurnOutcome.{TurnOutcome}
-use Rattle.ntp_service.specs.{Sees.Sees, Headline.Tells}
-use Rattle.ntp_service.proofs.PublicLaws.{Sees-nil, Sees-append, Tells-append}
+use Rattle.ntp_service.specs.{InTurn.InTurn, Headline.Tells}
+use Rattle.ntp_service.proofs.PublicLaws.{InTurn-append, Tells-append}
 use Rattle.ntp_port.specs.{declared.port.PortCounts.PortCounts, declared.port.PortFault.PortFault, Serving.Makes}
 use Rattle.ntp_port.specs.Port.{failed_calls, counted_send, CountsMore}
 use Rattle.ntp_port.specs.Made.{Made, turn_of, arrival_of, happened_in_turn, sent_in, has_arrived, has_departed, is_unsent, turn_outcome}
@@ -19,7 +19,6 @@ use Rattle.ntp_admin.specs.CommandsFile.{most_line_octets, line_observations, ha
 use Rattle.ntp_server.specs.{declared.server.Server.Server, declared.server.Totals.Totals}
 use Rattle.ntp_server.specs.Rounds.{Round, PartsTell, ServesRounds, turns_in, made_in, waits_in, receipt_in, asked_in}
 use Rattle.ntp_server.specs.Steps.{Looks, Orders, Starts, Waits, MakesTurn, totals_after}
-use Rattle.ntp_server.proofs.Telling.{Asks-append}
 use Rattle.ntp_server.proofs.Looking.{Orders-append}
 
 -- ---- a turn behind a wait and a look
@@ -28,21 +27,21 @@ came : (made : Made) (r : Result Arrival PortFault) → option_map arrival_of (t
     → option_map (λ a. a.receipt) (result_ok r) ≡ receipt_in made
 came made r arrived = grind arith
 
-pub Makes-turn : {P C R O A : Type 0} (t : PartsTell P C R O) (prompt may gave : Bool) (asked : Option Moment)
-    (shown halfway later : Option (List (Option Moment))) (p q r s : Server P C R O A) (reference : ReferenceState)
+pub Makes-turn : {P C R O A Q : Type 0} (t : PartsTell P C R O) (prompt may gave : Bool) (asked : Option Moment)
+    (Shows : Q → Q → Option Moment → Type 0) (earlier halfway later : Q) (p q r s : Server P C R O A) (reference : ReferenceState)
     (received : Result Arrival PortFault) (buffer : List ℕ) (outcome : TurnOutcome) → s.applied ≡ r.applied → s.commands ≡ r.commands
-    → Waits p q t shown halfway prompt → Looks q r t asked gave → asked ≡ option_map (λ a. a.receipt) (result_ok received)
+    → Waits p q t (InTurn Shows earlier halfway) prompt → Looks q r t asked gave → asked ≡ option_map (λ a. a.receipt) (result_ok received)
     → r.reference ≡ q.reference → t.asked r.reference s.reference asked reference → r.port ≡ q.port
     → TakesTurn A reference may received buffer (t.port p.port) (t.port s.port) (t.counts p.port) (t.counts r.port) (t.counts s.port) r.service
     s.service outcome
-    → Sees (t.seen r.observer) (t.seen s.observer) (Turn outcome ∷ []) → Sees halfway later (asked ∷ [])
-    → MakesTurn p s t shown later prompt may outcome
-Makes-turn t prompt may gave asked shown halfway later p q r s reference received buffer outcome applied commands w l receipt same asks port taken
-    seen shows =
+    → t.heard r.observer s.observer (Turn outcome) → Shows halfway later asked
+    → MakesTurn p s t (InTurn Shows earlier later) prompt may outcome
+Makes-turn t prompt may gave asked Shows earlier halfway later p q r s reference received buffer outcome applied commands w l receipt same asks port taken
+    heard shown =
     let turn = taken.turn in
     let right : asked ≡ receipt_in turn.made = receipt ∙ came turn.made received turn.arrived in
     let round : Round = record { applied = q.applied; given = l.given; taken = l.taken; turn = Some (reference, turn.made) } in
-    let heard = line_observations most_line_octets q.applied l.taken in
+    let lines = line_observations most_line_octets q.applied l.taken in
     let happened = happened_at_lines most_line_octets l.taken in
     record {
       earlier = w.rounds;
@@ -60,15 +59,15 @@ Makes-turn t prompt may gave asked shown halfway later p q r s reference receive
           subst (λ a. t.looked q.commands s.commands a l.given) right (subst (λ c. t.looked q.commands c asked l.given) (sym commands) l.commands),
           refl,
         );
-        observed = subst (λ os. Sees (t.seen q.observer) (t.seen s.observer) os) (sym (append-nil (heard ++ Turn (turn_outcome turn.made) ∷ [])))
-            (Sees-append (t.seen q.observer) (t.seen r.observer) (t.seen s.observer) heard (Turn (turn_outcome turn.made) ∷ []) l.observed
-            (subst (λ o. Sees (t.seen r.observer) (t.seen s.observer) (Turn o ∷ [])) turn.comes_to seen));
+        observed = subst (λ os. InTurn t.heard q.observer s.observer os) (sym (append-nil (lines ++ Turn (turn_outcome turn.made) ∷ [])))
+            (InTurn-append t.heard lines (Turn (turn_outcome turn.made) ∷ []) q.observer r.observer s.observer l.observed
+            (s.observer, subst (λ o. t.heard r.observer s.observer (Turn o)) turn.comes_to heard, refl));
         tells = λ history stands.
             subst (λ es. Tells history es s.service) (sym (append-nil (happened ++ happened_in_turn reference turn.made)))
             (Tells-append history happened (happened_in_turn reference turn.made) r.service s.service (l.tells history stands)
             (λ stood. turn.tells _ stood));
       });
-      states = Asks-append t.asked t.tended w.rounds (round ∷ []) p.reference q.reference s.reference w.tended (
+      states = InTurn-append _ w.rounds (round ∷ []) p.reference q.reference s.reference w.tended (
         s.reference,
         subst (λ a. t.asked q.reference s.reference a reference) right (subst (λ x. t.asked x s.reference asked reference) same asks),
         refl,
@@ -76,9 +75,8 @@ Makes-turn t prompt may gave asked shown halfway later p q r s reference receive
       waits = subst (λ n. CountsMore (t.counts p.port).idle_waits n (length w.rounds))
           (sym (ap (λ (k : PortCounts). k.idle_waits) (turn.counts ∙ ap (λ port. counted_send (is_unsent turn.made) (t.counts port)) port)))
           w.waited;
-      reported = subst (λ xs. Sees shown later xs) (sym (map-append asked_in w.rounds (round ∷ [])))
-          (Sees-append shown halfway later (map asked_in w.rounds) (receipt_in turn.made ∷ []) w.reported
-          (subst (λ a. Sees halfway later (a ∷ [])) right shows));
+      reported = subst (λ xs. InTurn Shows earlier later xs) (sym (map-append asked_in w.rounds (round ∷ [])))
+          (InTurn-append Shows _ _ earlier halfway later w.reported (later, subst (λ a. Shows halfway later a) right shown, refl));
       port = taken.port;
       comes_to = turn.comes_to;
     }
@@ -110,10 +108,10 @@ few_such is ms = omega (arith, length-filter is ms, count_by-le-length is ms)
 
 -- ---- one turn more
 -- behind the start
-pub Serves-none : {P C R O A : Type 0} (t : PartsTell P C R O) (prompt may : Bool) (shown : Option (List (Option Moment))) (p q : Server P C R O A)
-    → q.port ≡ p.port → q.reference ≡ p.reference → Starts p q t
-    → ServesRounds p q t shown shown prompt may 0 (record { arrivals = 0; sent = 0; departed = 0 })
-Serves-none t prompt may shown p q port reference s =
+pub Serves-none : {P C R O A : Type 0} (t : PartsTell P C R O) (prompt may : Bool) (Shown : List (Option Moment) → Type 0) (p q : Server P C R O A)
+    → Shown [] → q.port ≡ p.port → q.reference ≡ p.reference → Starts p q t
+    → ServesRounds p q t Shown prompt may 0 (record { arrivals = 0; sent = 0; departed = 0 })
+Serves-none t prompt may Shown p q shown port reference s =
     let all : s.start ++ [] ≡ s.start = append-nil s.start in
     let orders = subst (λ l. Orders p q t l) (sym all) s.orders in
     record {
@@ -129,7 +127,7 @@ Serves-none t prompt may shown p q port reference s =
       commands = orders.commands;
       states = reference;
       waits = subst (λ x. CountsMore (t.counts p.port).idle_waits (t.counts x).idle_waits 0) (sym port) (CountsMore-nil (t.counts p.port).idle_waits);
-      reported = Sees-nil shown;
+      reported = shown;
       port = subst (λ x. Makes may [] (t.counts p.port) (t.counts x) (t.port p.port) (t.port x)) (sym port) (Makes-nil may (t.counts p.port) (t.port p.port));
       observed = orders.observed;
       arrivals = refl;
@@ -168,10 +166,11 @@ module _ (rounds earlier : List Round) (round : Round) (reference : ReferenceSta
       subst (λ l. IfSome (slice_get l (length l - 1)) (λ r. IsSome r.turn)) (append_assoc rounds earlier (round ∷ []))
       (subst (λ o. IfSome o (λ r. IsSome r.turn)) (sym (last-of (rounds ++ earlier) round)) (subst IsSome (sym turn) refl))
 
-pub Serves-turn : {P C R O A : Type 0} (t : PartsTell P C R O) (prompt may : Bool) (shown halfway later : Option (List (Option Moment))) (n : ℕ)
-    (p q r : Server P C R O A) (a b : Totals) (outcome : TurnOutcome) → ServesRounds p q t shown halfway prompt may n a
-    → MakesTurn q r t halfway later prompt may outcome → b ≡ totals_after a outcome → ServesRounds p r t shown later prompt may (n + 1) b
-Serves-turn t prompt may shown halfway later n p q r a b outcome s m counted =
+pub Serves-turn : {P C R O A Q : Type 0} (t : PartsTell P C R O) (prompt may : Bool) (n : ℕ) (Shows : Q → Q → Option Moment → Type 0)
+    (earlier halfway later : Q) (p q r : Server P C R O A) (a b : Totals) (outcome : TurnOutcome)
+    → ServesRounds p q t (InTurn Shows earlier halfway) prompt may n a → MakesTurn q r t (InTurn Shows halfway later) prompt may outcome
+    → b ≡ totals_after a outcome → ServesRounds p r t (InTurn Shows earlier later) prompt may (n + 1) b
+Serves-turn t prompt may n Shows earlier halfway later p q r a b outcome s m counted =
     let totals : b ≡ totals_after a (turn_outcome m.made) = counted ∙ ap (totals_after a) m.comes_to in
     let more = m.earlier ++ m.round ∷ [] in
     let turns : turns_in (s.rounds ++ more) ≡ turns_in s.rounds ++ (m.reference, m.made) ∷ []
@@ -195,11 +194,11 @@ Serves-turn t prompt may shown halfway later n p q r a b outcome s m counted =
       one_look = λ is. waits ∙ ap (λ l. l ++ m.earlier) (s.one_look is) ∙ m.one_look is;
       due = orders.due;
       commands = orders.commands;
-      states = Asks-append t.asked t.tended s.rounds more p.reference q.reference r.reference s.states m.states;
+      states = InTurn-append _ s.rounds more p.reference q.reference r.reference s.states m.states;
       waits = CountsMore-append (t.counts p.port).idle_waits (t.counts q.port).idle_waits (t.counts r.port).idle_waits (length (waits_in s.rounds))
           (length m.earlier) _ many s.waits m.waits;
-      reported = subst (λ l. Sees shown later l) (sym (map-append asked_in s.rounds more))
-          (Sees-append shown halfway later (map asked_in s.rounds) (map asked_in more) s.reported m.reported);
+      reported = subst (λ l. InTurn Shows earlier later l) (sym (map-append asked_in s.rounds more))
+          (InTurn-append Shows _ _ earlier halfway later s.reported m.reported);
       port = subst (λ l. Makes may l (t.counts p.port) (t.counts r.port) (t.port p.port) (t.port r.port)) (sym made)
           (Makes-append may (made_in s.rounds) (m.made ∷ []) (t.counts p.port) (t.counts q.port) (t.counts r.port) (t.port p.port) (t.port q.port)
           (t.port r.port) s.port m.port);
@@ -234,10 +233,10 @@ Serves-turn t prompt may shown halfway later n p q r a b outcome s m counted =
     }
 
 -- how many there can be
-pub Serves-few : {P C R O A : Type 0} (t : PartsTell P C R O) (prompt may : Bool) (shown later : Option (List (Option Moment))) (n : ℕ)
-    (p q : Server P C R O A) (a : Totals) → ServesRounds p q t shown later prompt may n a
+pub Serves-few : {P C R O A : Type 0} (t : PartsTell P C R O) (prompt may : Bool) (Shown : List (Option Moment) → Type 0) (n : ℕ)
+    (p q : Server P C R O A) (a : Totals) → ServesRounds p q t Shown prompt may n a
     → (a.arrivals ≤ n) × (a.sent ≤ n) × (a.departed ≤ n) × (failed_calls (t.counts q.port) ≤ failed_calls (t.counts p.port) + n)
-Serves-few t prompt may shown later n p q a s =
+Serves-few t prompt may Shown n p q a s =
     let made = made_in s.rounds in
     let all : length made ≡ n = length-map (turns_in s.rounds) (λ x. x.1) ∙ s.each in (
       omega (arith, all, s.arrivals, few_such has_arrived made),

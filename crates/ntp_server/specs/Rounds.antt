@@ -5,7 +5,7 @@ use Rattle.ntp_packet.specs.declared.moment.Moment.{Moment}
 use Rattle.ntp_reply.specs.Reference.{ReferenceState}
 use Rattle.ntp_service.specs.{declared.event.Event.Event, declared.outcome.Outcome.Outcome}
 use Rattle.ntp_service.specs.{declared.observation.Observation.Observation, declared.observation.Observation.TheVariants.Turn}
-use Rattle.ntp_service.specs.{Sees.Sees, Headline.StandsFor, Headline.Tells}
+use Rattle.ntp_service.specs.{InTurn.InTurn, Headline.StandsFor, Headline.Tells}
 use Rattle.ntp_port.specs.{declared.port.PortCounts.PortCounts, Port.Told, Port.CountsMore, Serving.Makes}
 use Rattle.ntp_port.specs.Made.{Made, turn_of, happened_in_turn, sent_in, has_arrived, has_departed, turn_outcome}
 use Rattle.ntp_admin.specs.CommandsFile.{most_line_octets, count_on, complete_lines, TakenLine, happened_at_lines, line_observations}
@@ -49,9 +49,7 @@ asked_in r = option_and_then (λ t. receipt_in t.1) r.turn
 
 -- the looks of rounds follow one another, from one state of the source of commands to another
 abbrev pub LooksInTurn : {C : Type 0} → (C → C → Option Moment → Option (List ℕ) → Type 0) → C → C → List Round → Type 0
-LooksInTurn Looked before after [] = after ≡ before
-LooksInTurn {C = C} Looked before after (r ∷ rounds) = (between : C) × Looked before between (asked_in r) r.given
-    × LooksInTurn Looked between after rounds
+LooksInTurn Looked = InTurn (λ before after r. Looked before after (asked_in r) r.given)
 
 -- in a round the source of the states was asked for that of the turn, or without a turn given time
 abbrev pub AsksOnce : {R : Type 0} → (R → R → Option Moment → ReferenceState → Type 0) → (R → R → Type 0) → R → R
@@ -61,32 +59,29 @@ AsksOnce Asked Tended before after (Some (state, made)) = Asked before after (re
 
 -- and so once in each of these rounds, in turn
 abbrev pub AsksInTurn : {R : Type 0} → (R → R → Option Moment → ReferenceState → Type 0) → (R → R → Type 0) → R → R → List Round → Type 0
-AsksInTurn Asked Tended before after [] = after ≡ before
-AsksInTurn {R = R} Asked Tended before after (r ∷ rounds) = (between : R)
-    × AsksOnce Asked Tended before between r.turn × AsksInTurn Asked Tended between after rounds
+AsksInTurn Asked Tended = InTurn (λ before after r. AsksOnce Asked Tended before after r.turn)
 
 -- what happened in a round: at the lines that were taken, then in its turn
 abbrev pub happened_in_round : {A : Type 0} → Round → List (Event A × Outcome)
 happened_in_round r = happened_at_lines most_line_octets r.taken ++ option_map_or (λ t. happened_in_turn t.0 t.1) r.turn []
 
--- what an observer is told of a round: each line that was taken, then the turn
+-- what an observer hears of a round: each line that was taken, then the turn
 abbrev pub round_observations : Round → List Observation
 round_observations r = line_observations most_line_octets r.applied r.taken ++ option_map_or (λ t. Turn (turn_outcome t.1) ∷ []) r.turn []
 
 -- what the parts of a server tell: its port, and what that counted; a look at its commands; an ask for the state of its clock, and time
--- for the source of that; its observer
+-- for the source of that; what its observer heard
 pub record PartsTell (P C R O : Type 0) : Type 1 where
   pub port : P → Option Told
   pub counts : P → PortCounts
   pub looked : C → C → Option Moment → Option (List ℕ) → Type 0
   pub asked : R → R → Option Moment → ReferenceState → Type 0
   pub tended : R → R → Type 0
-  pub seen : O → Option (List Observation)
+  pub heard : O → O → Observation → Type 0
 
--- a server that was `before` made `turns` turns and is `after`, at a port that is prompt or not, and may drop or not; its reporter tells
--- that it was shown `shown` before and `later` after
+-- a server that was `before` made `turns` turns and is `after`, at a port that is prompt or not, and may drop or not
 pub record ServesRounds {P C R O A : Type 0} (before after : Server P C R O A) (t : PartsTell P C R O)
-    (shown later : Option (List (Option Moment))) (prompt may_drop : Bool) (turns : ℕ) (totals : Totals) : Type 0 where
+    (Shown : List (Option Moment) → Type 0) (prompt may_drop : Bool) (turns : ℕ) (totals : Totals) : Type 0 where
   -- the rounds at the start, none with a turn: their looks gave these octets one by one, and then nothing, or were 2^64 - 1
   pub start : List Round
   pub at_start : turns_in start ≡ []
@@ -104,9 +99,9 @@ pub record ServesRounds {P C R O A : Type 0} (before after : Server P C R O A) (
   -- in each round without a turn one wait of the port ended with nothing
   pub waits : CountsMore (t.counts before.port).idle_waits (t.counts after.port).idle_waits (length (waits_in rounds))
   -- the reporter was shown the server once in each round, with what the source of commands was asked with there
-  pub reported : Sees shown later (map asked_in rounds)
+  pub reported : Shown (map asked_in rounds)
   pub port : Makes may_drop (made_in rounds) (t.counts before.port) (t.counts after.port) (t.port before.port) (t.port after.port)
-  pub observed : Sees (t.seen before.observer) (t.seen after.observer) (flat_map round_observations (start ++ rounds))
+  pub observed : InTurn t.heard before.observer after.observer (flat_map round_observations (start ++ rounds))
   pub arrivals : totals.arrivals ≡ length (filter has_arrived (made_in rounds))
   pub sent : totals.sent ≡ length (flat_map sent_in (made_in rounds))
   pub departed : totals.departed ≡ length (filter has_departed (made_in rounds))

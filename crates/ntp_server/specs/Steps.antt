@@ -5,7 +5,7 @@ use Rattle.ntp_packet.specs.declared.moment.Moment.{Moment}
 use Rattle.ntp_reply.specs.Reference.{ReferenceState}
 use Rattle.ntp_service.specs.{declared.event.Event.Event, declared.observation.TurnOutcome.TurnOutcome}
 use Rattle.ntp_service.specs.declared.observation.TurnOutcome.TheVariants.{NothingReceived, Answered}
-use Rattle.ntp_service.specs.{Sees.Sees, Sending.was_sent, Sending.was_noted, Headline.StandsFor, Headline.Tells}
+use Rattle.ntp_service.specs.{InTurn.InTurn, Sending.was_sent, Sending.was_noted, Headline.StandsFor, Headline.Tells}
 use Rattle.ntp_port.specs.{Port.CountsMore, Made.Made, Made.turn_outcome, Serving.Makes}
 use Rattle.ntp_admin.specs.CommandsFile.{most_line_octets, count_on, complete_lines, TakenLine, happened_at_lines, line_observations}
 use Rattle.ntp_server.specs.{declared.server.Server.Server, declared.server.Totals.Totals}
@@ -20,7 +20,7 @@ pub record Looks {P C R O A : Type 0} (before after : Server P C R O A) (t : Par
   pub lines : map (λ x. x.line) taken ≡ option_map_or complete_lines given []
   pub counted : after.applied ≡ count_on before.applied (length taken)
   pub commands : t.looked before.commands after.commands asked given
-  pub observed : Sees (t.seen before.observer) (t.seen after.observer) (line_observations most_line_octets before.applied taken)
+  pub observed : InTurn t.heard before.observer after.observer (line_observations most_line_octets before.applied taken)
   pub tells : (history : List (Event A)) → StandsFor before.service history
       → Tells history (happened_at_lines most_line_octets taken) after.service
 
@@ -28,7 +28,7 @@ pub record Looks {P C R O A : Type 0} (before after : Server P C R O A) (t : Par
 pub record Orders {P C R O A : Type 0} (before after : Server P C R O A) (t : PartsTell P C R O) (rounds : List Round) : Type 0 where
   pub due : AreDueInTurn before.applied rounds after.applied
   pub commands : LooksInTurn t.looked before.commands after.commands rounds
-  pub observed : Sees (t.seen before.observer) (t.seen after.observer) (flat_map round_observations rounds)
+  pub observed : InTurn t.heard before.observer after.observer (flat_map round_observations rounds)
   pub tells : (history : List (Event A)) → StandsFor before.service history
       → Tells history (flat_map happened_in_round rounds) after.service
 
@@ -42,7 +42,7 @@ pub record Starts {P C R O A : Type 0} (before after : Server P C R O A) (t : Pa
 
 -- rounds were made while waiting at a port that is prompt or not
 pub record Waits {P C R O A : Type 0} (before after : Server P C R O A) (t : PartsTell P C R O)
-    (shown later : Option (List (Option Moment))) (prompt : Bool) : Type 0 where
+    (Shown : List (Option Moment) → Type 0) (prompt : Bool) : Type 0 where
   pub rounds : List Round
   pub no_turn : turns_in rounds ≡ []
   pub waiting : waits_in rounds ≡ rounds
@@ -50,11 +50,11 @@ pub record Waits {P C R O A : Type 0} (before after : Server P C R O A) (t : Par
   pub orders : Orders before after t rounds
   pub waited : CountsMore (t.counts before.port).idle_waits (t.counts after.port).idle_waits (length rounds)
   pub tended : AsksInTurn t.asked t.tended before.reference after.reference rounds
-  pub reported : Sees shown later (map asked_in rounds)
+  pub reported : Shown (map asked_in rounds)
 
 -- rounds were made; the last one alone has a turn, which came to this
 pub record MakesTurn {P C R O A : Type 0} (before after : Server P C R O A) (t : PartsTell P C R O)
-    (shown later : Option (List (Option Moment))) (prompt may_drop : Bool) (outcome : TurnOutcome) : Type 0 where
+    (Shown : List (Option Moment) → Type 0) (prompt may_drop : Bool) (outcome : TurnOutcome) : Type 0 where
   pub earlier : List Round
   pub round : Round
   pub reference : ReferenceState
@@ -66,7 +66,7 @@ pub record MakesTurn {P C R O A : Type 0} (before after : Server P C R O A) (t :
   pub orders : Orders before after t (earlier ++ round ∷ [])
   pub states : AsksInTurn t.asked t.tended before.reference after.reference (earlier ++ round ∷ [])
   pub waits : CountsMore (t.counts before.port).idle_waits (t.counts after.port).idle_waits (length earlier)
-  pub reported : Sees shown later (map asked_in (earlier ++ round ∷ []))
+  pub reported : Shown (map asked_in (earlier ++ round ∷ []))
   pub port : Makes may_drop (made ∷ []) (t.counts before.port) (t.counts after.port) (t.port before.port) (t.port after.port)
   pub comes_to : outcome ≡ turn_outcome made
 

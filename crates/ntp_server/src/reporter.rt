@@ -1,7 +1,6 @@
 //! Who is shown a server while it serves.
-ghost use Rattle.std.specs.Prelude.{Option, None, List, [], ◌∷◌};
+ghost use Rattle.std.specs.Prelude.{Option};
 ghost use Rattle.ntp_packet.specs.declared.moment.Moment.{Moment};
-ghost use Rattle.ntp_service.specs.Sees.{Sees};
 
 use ntp_packet::Moment;
 
@@ -9,18 +8,18 @@ use ntp_packet::Moment;
 ///
 /// It has the server behind a shared reference, and so can change nothing of what the server does.
 ///
-/// It may tell what it was shown the server with, and what it knows of a server that it was shown last.
+/// It may say how it goes on when it is shown a server, and what it knows of the one that it was shown last.
 pub trait Reporter<S> {
-    // What it was shown a server with so far, where it tells that.
-    ghost shown: { Self → Option (List (Option Moment)) } = { λ _. None };
+    // How it goes on when it is shown a server with this, as far as it says that.
+    ghost shown: { Self → Self → Option Moment → Type 0 } = { λ _ _ _. Unit {0} };
 
-    // That what it knows is of a server as it is, where it tells that.
+    // That what it knows is of a server as it is, as far as it says that.
     ghost knows: { Self → S → Type 0 } = { λ _ _. Unit {0} };
 
     /// Shows the server. Called after each turn (with the receipt, or `None` if receiving failed) and after each wait that
     /// ended with nothing (with `None`).
     fn report(&mut self, server: &S, receipt: Option<Moment>)
-        ensures shown { Sees (shown self.old) (shown self.new) (receipt ∷ []) }
+        ensures shown { shown self.old self.new receipt }
         ensures known { knows self.new server.now };
 }
 

@@ -1,10 +1,11 @@
 //! A server, turn by turn.
-ghost use Rattle.std.specs.Prelude.{◌≡◌, ◌+◌, ◌-◌, ◌≤◌, ◌<◌, ◌^◌, None, option_map, IfOk, is_err};
+ghost use Rattle.std.specs.Prelude.{◌≡◌, ◌+◌, ◌-◌, ◌≤◌, ◌<◌, ◌^◌, option_map, IfOk, is_err};
 ghost use Rattle.std.specs.Result.{result_ok};
+ghost use Rattle.ntp_service.specs.InTurn.{InTurn};
 ghost use Rattle.ntp_port.specs.Port.{most_received_octets, failed_calls, CountsReceive, Receives};
 ghost use Rattle.ntp_server.specs.Steps.{totals_after};
 
-use crate::reporter::{NoReports, Reporter};
+use crate::reporter::Reporter;
 use ntp_admin::apply_lines;
 use ntp_packet::Moment;
 use ntp_port::{
@@ -60,29 +61,20 @@ impl<
     /// at, and the lines that this gives are carried out, in order. Then the datagram is answered with the state of the clock
     /// that is in force, and its reply is sent, as `serve` of a port does it. The observer hears of each line and each turn as
     /// it is done. It takes memory for enrolments, rollovers and the octets of new lines.
-    pub fn serve(&mut self, turns: u64) -> Totals
-        requires { failed_calls (P.counts self.old.port) + turns < 2 ^ 64 }
-        ensures { ServesRounds self.old self.new
-            (record { port = P.told; counts = P.counts; looked = C.looked; asked = R.asked; tended = R.tended; seen = O.seen })
-            None None P.is_prompt P.may_drop turns result }
-    {
-        self.serve_reported(turns, &mut NoReports)
-    }
-
-    /// Does what `serve` does, and shows a reporter this server as it is: after each turn, with when its datagram came, and with
-    /// nothing where none could be received; and whenever a wait ended with none, with nothing, once new commands are carried
-    /// out and the source of the clock's state has looked after itself. The reporter sees the server behind a shared
-    /// reference: what the server does is the same whatever the reporter does. Behind the last turn it has been shown the
-    /// server as it is then.
-    pub fn serve_reported<Q: Reporter<Server<P, C, R, O, A>>>(
+    ///
+    /// Shows a reporter this server as it is: after each turn, with when its datagram came, and with nothing where none could be
+    /// received; and whenever a wait ended with none, with nothing, once new commands are carried out and the source of the
+    /// clock's state has looked after itself. The reporter sees the server behind a shared reference: what the server does is the
+    /// same whatever the reporter does. Behind the last turn it has been shown the server as it is then.
+    pub fn serve<Q: Reporter<Server<P, C, R, O, A>>>(
         &mut self,
         turns: u64,
         reporter: &mut Q,
     ) -> Totals
         requires { failed_calls (P.counts self.old.port) + turns < 2 ^ 64 }
         ensures rounds { ServesRounds self.old self.new
-            (record { port = P.told; counts = P.counts; looked = C.looked; asked = R.asked; tended = R.tended; seen = O.seen })
-            (Q.shown reporter.old) (Q.shown reporter.new) P.is_prompt P.may_drop turns result }
+            (record { port = P.told; counts = P.counts; looked = C.looked; asked = R.asked; tended = R.tended; heard = O.heard })
+            (InTurn Q.shown reporter.old reporter.new) P.is_prompt P.may_drop turns result }
         ensures known { 0 < turns → Q.knows reporter.new self.new }
     {
         let mut datagram = [0; MOST_RECEIVED_OCTETS];
@@ -107,8 +99,8 @@ impl<
     ) -> TurnOutcome
         requires { failed_calls (P.counts self.old.port) < 2 ^ 64 - 1 }
         ensures made { MakesTurn self.old self.new
-            (record { port = P.told; counts = P.counts; looked = C.looked; asked = R.asked; tended = R.tended; seen = O.seen })
-            (Q.shown reporter.old) (Q.shown reporter.new) P.is_prompt P.may_drop result }
+            (record { port = P.told; counts = P.counts; looked = C.looked; asked = R.asked; tended = R.tended; heard = O.heard })
+            (InTurn Q.shown reporter.old reporter.new) P.is_prompt P.may_drop result }
         ensures known { Q.knows reporter.new self.new }
     {
         let received = self.wait(datagram, reporter);
@@ -139,8 +131,8 @@ impl<
         ensures turns { Receives P.may_drop (P.counts self.old.port).dropped (P.counts self.new.port).dropped
             (P.told self.old.port) (P.told self.new.port) result datagram.new }
         ensures waits { Waits self.old self.new
-            (record { port = P.told; counts = P.counts; looked = C.looked; asked = R.asked; tended = R.tended; seen = O.seen })
-            (Q.shown reporter.old) (Q.shown reporter.new) P.is_prompt }
+            (record { port = P.told; counts = P.counts; looked = C.looked; asked = R.asked; tended = R.tended; heard = O.heard })
+            (InTurn Q.shown reporter.old reporter.new) P.is_prompt }
     {
         for _wait in 0..UNCOUNTED_WAITS {
             if let Some(received) = self.port.receive_in_time(datagram) {
@@ -158,7 +150,7 @@ impl<
         ensures port { self.new.port ≡ self.old.port }
         ensures reference { self.new.reference ≡ self.old.reference }
         ensures starts { Starts self.old self.new
-            (record { port = P.told; counts = P.counts; looked = C.looked; asked = R.asked; tended = R.tended; seen = O.seen }) }
+            (record { port = P.told; counts = P.counts; looked = C.looked; asked = R.asked; tended = R.tended; heard = O.heard }) }
     {
         for _look in 0..u64::MAX {
             if !self.look(None) {
@@ -172,7 +164,7 @@ impl<
         ensures port { self.new.port ≡ self.old.port }
         ensures reference { self.new.reference ≡ self.old.reference }
         ensures looks { Looks self.old self.new
-            (record { port = P.told; counts = P.counts; looked = C.looked; asked = R.asked; tended = R.tended; seen = O.seen })
+            (record { port = P.told; counts = P.counts; looked = C.looked; asked = R.asked; tended = R.tended; heard = O.heard })
             receipt result }
     {
         let before = self.applied;

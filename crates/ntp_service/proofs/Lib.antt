@@ -7,7 +7,7 @@ mod Members
 mod Numbers
 mod Lookups
 mod Agreement
-mod Seen
+mod InTurns
 mod Histories
 mod Datagrams
 mod CommandSteps

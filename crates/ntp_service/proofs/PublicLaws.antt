@@ -16,7 +16,5 @@ pub use Rattle.ntp_service.proofs.Runs.{Tells-one}
 pub use Rattle.ntp_service.proofs.Runs.{Tells-push}
 -- a service that told of two lists, one after the other, tells of both
 pub use Rattle.ntp_service.proofs.Runs.{Tells-append}
--- who was told nothing has seen what it had
-pub use Rattle.ntp_service.proofs.Seen.{Sees-nil}
--- who was told two lists, one after the other, was told both
-pub use Rattle.ntp_service.proofs.Seen.{Sees-append}
+-- two lists that led on, one after the other, led on together
+pub use Rattle.ntp_service.proofs.InTurns.{InTurn-append}

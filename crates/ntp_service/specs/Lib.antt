@@ -2,7 +2,7 @@ pub mod Address
 pub mod Commands
 pub mod Vocabulary
 pub mod Registry
-pub mod Sees
+pub mod InTurn
 pub mod Sending
 pub mod Events
 pub mod Model

@@ -1,6 +1,6 @@
 -- What parts in memory tell.
-use Rattle.std.specs.Prelude.{◌≡◌, ℕ, ◌-◌, ◌<◌, Option, None, Some, option_map, List, [], ◌∷◌, length, map, drop, reverse, slice_get, vec_len, vec_capacity, if◌then◌else◌}
-use Rattle.std.specs.Option.{option_map_or}
+use Rattle.std.specs.Prelude.{◌≡◌, ℕ, ◌-◌, ◌<◌, false, Option, None, Some, option_map, List, [], ◌∷◌, ◌++◌, length, map, drop, reverse, slice_get, vec_len, vec_capacity, if◌then◌else◌}
+use Rattle.std.specs.{Option.option_map_or, Bool.OnFalse}
 use Rattle.ntp_packet.specs.declared.moment.Moment.{Moment}
 use Rattle.ntp_reply.specs.Reference.{ReferenceState}
 use Rattle.ntp_service.specs.declared.observation.Observation.{Observation}
@@ -59,9 +59,9 @@ pieces_left m = map (λ look. option_map (λ octets. octets.items) look) (drop m
 abbrev pub states_left : {A : Type 0} → MemoryStates A → List ReferenceState
 states_left m = drop m.given m.states.items
 
--- what an observer in memory has seen, where it missed nothing
-abbrev pub seen_by : {A : Type 0} → MemoryObserver A → Option (List Observation)
-seen_by m = if m.has_missed then None else Some m.seen.items
+-- an observer in memory has kept one observation more, as long as it missed none
+abbrev pub KeepsOne : {A : Type 0} → MemoryObserver A → MemoryObserver A → Observation → Type 0
+KeepsOne old new observation = OnFalse new.has_missed ((old.has_missed ≡ false) × (new.seen.items ≡ old.seen.items ++ observation ∷ []))
 
 -- an observer in memory has room for one observation more
 abbrev pub HasRoom : {A : Type 0} → MemoryObserver A → Type 0

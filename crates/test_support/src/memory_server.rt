@@ -89,7 +89,7 @@ impl<A: Allocator> ReferenceSource for MemoryStates<A> {
     fn tend(&mut self) {}
 }
 
-/// An observer in memory, with limited room for observations. It tells what it has seen as long as it had room for all.
+/// An observer in memory, with limited room for observations. It keeps each as long as it had room for all.
 #[derive(Debug, Drop)]
 pub struct MemoryObserver<A: Allocator = Global> {
     seen: Vec<Observation, A>,
@@ -98,13 +98,13 @@ pub struct MemoryObserver<A: Allocator = Global> {
 }
 
 impl<A: Allocator> MemoryObserver<A> {
-    ghost use Rattle.test_support.specs.Memory.{seen_by, HasRoom};
-    ghost use Rattle.ntp_service.specs.Sees.{Sees};
+    ghost use Rattle.test_support.specs.Memory.{HasRoom, KeepsOne};
 
     /// One that has seen nothing. The room is taken from `alloc` here, so that no call of it takes memory: `NoMemory` only where
     /// it was refused.
     pub fn new(alloc: A, room: usize) -> Result<MemoryObserver<A>, NoMemory>
-        ensures seen { IfOk result (λ m. seen_by m ≡ Some []) }
+        ensures seen { IfOk result (λ m. m.seen.items ≡ []) }
+        ensures missed { IfOk result (λ m. m.has_missed ≡ false) }
         ensures room { IfOk result (λ m. room ≤ vec_capacity m.seen) }
     {
         let seen = Vec::with_capacity(alloc, room)?;
@@ -130,7 +130,7 @@ impl<A: Allocator> MemoryObserver<A> {
 
     // Keeps an observation, where there is room.
     fn see(&mut self, observation: Observation)
-        ensures sees { Sees (seen_by self.old) (seen_by self.new) (observation ∷ []) }
+        ensures keeps { KeepsOne self.old self.new observation }
         ensures room { HasRoom self.old → self.new.has_missed ≡ self.old.has_missed }
     {
         if self.has_missed || self.seen.len() == self.seen.capacity() {
@@ -142,9 +142,9 @@ impl<A: Allocator> MemoryObserver<A> {
 }
 
 impl<A: Allocator> Observer for MemoryObserver<A> {
-    ghost use Rattle.test_support.specs.Memory.{seen_by};
+    ghost use Rattle.test_support.specs.Memory.{KeepsOne};
 
-    ghost seen = { seen_by };
+    ghost heard = { KeepsOne };
 
     fn line(&mut self, number: u64, command: Option<&Command>, outcome: LineOutcome) {
         self.see(Observation::Line {

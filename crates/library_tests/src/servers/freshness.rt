@@ -4,7 +4,7 @@
 use ntp_port::{
     FixedReference, FreshPort, MOST_RECEIVED_OCTETS, Port, PortFault, QueueWatch, TimedPort,
 };
-use ntp_server::Server;
+use ntp_server::{NoReports, Server};
 use std::alloc::{AllocError, Global};
 use std::test::Fail;
 use test_support::{
@@ -171,7 +171,7 @@ fn one_turn(server: &mut FreshServer) -> Result<(u64, u64, u64), PortFault> {
     if server.port.failures() > 0 {
         return Err(PortFault::Receive);
     }
-    let totals = server.serve(1);
+    let totals = server.serve(1, &mut NoReports);
     Ok((totals.arrivals, totals.sent, server.port.stale()))
 }
 

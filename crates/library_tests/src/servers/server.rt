@@ -156,7 +156,7 @@ where
     Q: Reporter<Server<P, MemoryCommands<A>, R, MemoryObserver<A>, A>>,
 {
     assert!(rt; server.port.failures() == 0);
-    server.serve_reported(turns, reporter)
+    server.serve(turns, reporter)
 }
 
 // What is told of a datagram before the enrolment, of one behind it, and of one behind the revocation.

@@ -1,4 +1,4 @@
-use Rattle.std.proofs.Common.{length, arith, ap}
+use Rattle.std.proofs.Common.{length, arith, ap, refl}
 use Rattle.std.proofs.lemmas.List.{length-drop, drop_all}
 use Rattle.ntp_admin.specs.{FileText.most_file_octets, CommandsFile.complete_lines}
 use Rattle.ntp_admin.proofs.{LinesCut.complete_lines-few, LinesTaken.CarriesOut-none}
@@ -24,5 +24,5 @@ pub returns-in-None : goal.returns-in-None
 returns-in-None g c =
     let few = c.in-None.ensures.fewer in (
       omega (arith, few),
-      rw (drop_all c.args.applied (complete_lines c.args.text.now) (omega (arith, few))) (CarriesOut-none _ most_file_octets c.args.applied _ _),
+      rw (drop_all c.args.applied (complete_lines c.args.text.now) (omega (arith, few))) (CarriesOut-none _ most_file_octets c.args.applied _ _ refl),
     )

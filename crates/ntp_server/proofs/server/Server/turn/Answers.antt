@@ -14,6 +14,6 @@ returns-clause-made g c =
     (sym c.look.ensures.port) c.wait-received.ensures.turns in
     let taken = takes-turn _ _ _ _ _ _ _ _ _ _ _ _ _ counts _ received c.answer_received-outcome.ensures.idle
     c.answer_received-outcome.ensures.makes in
-    Makes-turn _ _ _ _ _ _ _ _ _ _ _ _ _ _ _ _ refl refl c.wait-received.ensures.waits c.look.ensures.looks
+    Makes-turn _ _ _ _ _ g.Q.Reporter.shown _ _ _ _ _ _ _ _ _ _ _ refl refl c.wait-received.ensures.waits c.look.ensures.looks
     c.receipt_of-receipt.ensures c.look.ensures.reference c.in_force-reference.ensures c.look.ensures.port taken c.turn.ensures
     c.report.ensures.shown

@@ -5,6 +5,7 @@ use crate::desk::{Clerk, Desk, MOST_REPORTED_OCTETS, RECORD_FORM, Stop};
 use ntp_admin::{Command, Escaped, Status};
 use ntp_clerk::{command_line, command_shown, record_line};
 use ntp_host::{open_shared_file, pause};
+use std::alloc::{AllocError, Global};
 use std::fmt::{self, Display};
 use std::fs;
 use std::io::{self, ErrorKind, Read, Seek, SeekFrom, Write};
@@ -61,34 +62,49 @@ impl Addition {
     pub fn new(
         clerk: &Clerk<'_>,
         loaded: &Loaded,
-        name_lines: String,
+        name_lines: &str,
         commands: Vec<Command>,
     ) -> Result<Addition, Stop> {
-        let (desk, alloc) = (clerk.desk, clerk.desk.alloc());
-        let (names, count) = (name_lines.lines().count(), commands.len());
+        let (names, count) = (name_lines.lines().count(), commands.len() as u64);
         let before = loaded.lines.saturating_add(1).saturating_add(names as u64);
-        let (time, user) = (desk.time(RECORD_FORM)?, desk.user()?);
-        let mut text = record_line(alloc, time.as_str(), user.as_str())?;
-        text.push_str(name_lines.as_str())?;
-        for command in commands.iter() {
-            text.push_str(command_line(alloc, command)?.as_str())?;
-        }
+        let text = added_text(clerk.desk, name_lines, &commands)?;
         loaded.judge_room(clerk, text.len())?;
         Ok(Addition {
+            shown: shown(clerk.desk.alloc(), names, &commands)?,
             text,
             names,
             numbers: LineNumbers {
                 first: before.saturating_add(1),
-                last: before.saturating_add(count as u64),
-            },
-            shown: match commands.as_slice() {
-                [] => format!(in alloc; "names: {names}")?,
-                [command] => command_shown(alloc, command)?,
-                _ => format!(in alloc; "{count} commands")?,
+                last: before.saturating_add(count),
             },
             commands,
             given: None,
         })
+    }
+}
+
+// Writes the record of an order, lines of names and the lines of commands.
+fn added_text(desk: Desk<'_>, name_lines: &str, commands: &[Command]) -> Result<String, Stop> {
+    let mut text = record(desk)?;
+    text.push_str(name_lines)?;
+    for command in commands {
+        text.push_str(command_line(desk.alloc(), command)?.as_str())?;
+    }
+    Ok(text)
+}
+
+// Writes the record of an order of now.
+fn record(desk: Desk<'_>) -> Result<String, Stop> {
+    let (time, user) = (desk.time(RECORD_FORM)?, desk.user()?);
+    Ok(record_line(desk.alloc(), time.as_str(), user.as_str())?)
+}
+
+// Writes a command alone, or how many commands there are, or how many names without any.
+fn shown(alloc: Global, names: usize, commands: &[Command]) -> Result<String, AllocError> {
+    match commands {
+        [] => format!(in alloc; "names: {names}"),
+        [command] => command_shown(alloc, command),
+        _ => format!(in alloc; "{} commands", commands.len()),
     }
 }
 
@@ -114,13 +130,14 @@ pub struct Answers<'a> {
     millis: u64,
 }
 
+// Answers that are not `done`, with the numbers of their lines.
+type BadAnswers = Vec<(u64, String)>;
+
 // What an answers file answers behind its old answers.
-#[derive(Drop)]
+#[derive(Clone, Copy)]
 struct Answered {
     // The count of answers to the lines that are waited for.
     count: u64,
-    // Those that are not `done`, with the numbers of their lines.
-    bad: Vec<(u64, String)>,
     // The octets up to the end of the last answer.
     end: u64,
 }
@@ -143,7 +160,7 @@ impl<'a> Answers<'a> {
             millis: manner.millis,
         };
         for path in paths.into_iter().flat_map(|paths| paths.split(',')) {
-            let answered = answers.answered(path, 0)?;
+            let answered = answers.answered(path, 0, &mut Vec::new(clerk.desk.alloc()))?;
             if answered.count > 0 {
                 let why = "lines were answered that do not stand here: restart labntpd";
                 return Err(clerk.refusal(why));
@@ -194,101 +211,111 @@ impl<'a> Answers<'a> {
         if count == 0 {
             return Ok(());
         }
-        let Some(bad) = self.wait()? else {
-            let lines = if count == 1 { "line" } else { "lines" };
-            let _ = writeln!(
-                desk.faults(),
-                "{numbers}: no answer; where labntpd does not run, it carries the {lines} out at its next start"
-            );
-            return Err(Stop::Printed(Status::IoFailed));
-        };
-        if bad.is_empty() {
-            tell(desk, has_failed, format_args!("{numbers}: done"));
-            return Ok(());
+        let mut bad = Vec::new(desk.alloc());
+        if self.wait(&mut bad)? {
+            return tell_answers(desk, has_failed, addition, &bad);
         }
-        for (number, answer) in bad.iter() {
-            let answer = Escaped(answer.as_str());
-            let place = number.saturating_sub(numbers.first) as usize;
-            match addition.commands.get(place) {
-                // A command alone was printed before.
-                Some(command) if count > 1 => {
-                    let shown = command_shown(desk.alloc(), command)?;
-                    let what = format_args!("line {number}: {shown}: {answer}");
-                    tell(desk, has_failed, what);
-                }
-                _ => tell(desk, has_failed, format_args!("line {number}: {answer}")),
-            }
-        }
-        take_back(desk, &addition.given)?;
-        Err(Stop::Printed(Status::TextFaulty))
+        let lines = if count == 1 { "line" } else { "lines" };
+        let _ = writeln!(
+            desk.faults(),
+            "{numbers}: no answer; where labntpd does not run, it carries the {lines} out at its next start"
+        );
+        Err(Stop::Printed(Status::IoFailed))
     }
 
-    // Waits until each file answers each line, and returns what is not `done`; nothing where that takes too long.
-    fn wait(&self) -> Result<Option<Vec<(u64, String)>>, Stop> {
+    // Waits until each file answers each line, takes what is not `done`, and returns whether that took not too long.
+    fn wait(&self, bad: &mut BadAnswers) -> Result<bool, Stop> {
         if self.files.is_empty() {
-            return Ok(None);
+            return Ok(false);
         }
         for _ in 0..self.millis / LOOKED_EACH {
-            let bad = self.bad_of_all()?;
-            if bad.is_some() {
-                return Ok(bad);
+            if self.are_whole(bad)? {
+                return Ok(true);
             }
             pause(LOOKED_EACH as i32);
         }
-        self.bad_of_all()
+        self.are_whole(bad)
     }
 
-    // Returns what is not `done`, if each file answers each line now.
-    fn bad_of_all(&self) -> Result<Option<Vec<(u64, String)>>, Stop> {
-        let mut all: Vec<(u64, String)> = Vec::new(self.clerk.desk.alloc());
+    // Takes what is not `done`, and returns whether each file answers each line now.
+    fn are_whole(&self, bad: &mut BadAnswers) -> Result<bool, Stop> {
+        bad.clear();
         for (path, old) in self.files.iter() {
-            let Answered { count, mut bad, .. } = self.answered(path, *old)?;
+            let count = self.answered(path, *old, bad)?.count;
             if count <= self.numbers.last.saturating_sub(self.numbers.first) {
-                return Ok(None);
-            }
-            for bad in bad.drain(..) {
-                if !all.iter().any(|other| other.0 == bad.0) {
-                    all.push(bad)?;
-                }
+                return Ok(false);
             }
         }
-        Ok(Some(all))
+        Ok(true)
     }
 
-    // Reads what a file answers behind `old` octets of old answers.
-    fn answered(&self, path: &str, old: u64) -> Result<Answered, Stop> {
+    // Reads what a file answers behind `old` octets of old answers, and takes what is not `done`.
+    fn answered(&self, path: &str, old: u64, bad: &mut BadAnswers) -> Result<Answered, Stop> {
         let desk = self.clerk.desk;
-        let mut answered = Answered {
-            count: 0,
-            bad: Vec::new(desk.alloc()),
-            end: old,
-        };
         let octets = match octets_behind(desk, path, old) {
-            Err(error) if error.kind() == ErrorKind::NotFound => return Ok(answered),
+            Err(error) if error.kind() == ErrorKind::NotFound => Vec::new(desk.alloc()),
             octets => desk.at(path, octets)?,
         };
-        let Some(end) = octets.iter().rposition(|octet| *octet == b'\n') else {
-            return Ok(answered);
-        };
-        let whole = octets.get(..=end).unwrap_or(&[]);
-        answered.end = answered.end.saturating_add(whole.len() as u64);
-        let Ok(text) = str::from_utf8(whole) else {
-            return Err(desk.refusal_at(path, "this is no UTF-8"));
-        };
+        let end = octets.iter().rposition(|octet| *octet == b'\n');
+        let whole = end.and_then(|end| octets.get(..=end)).unwrap_or(&[]);
+        match str::from_utf8(whole) {
+            Ok(text) => Ok(Answered {
+                count: self.count(text, bad)?,
+                end: old.saturating_add(whole.len() as u64),
+            }),
+            Err(_) => Err(desk.refusal_at(path, "this is no UTF-8")),
+        }
+    }
+
+    // Counts the answers of a text to these lines, and takes the first one to each that is not `done`.
+    fn count(&self, text: &str, bad: &mut BadAnswers) -> Result<u64, AllocError> {
+        let mut count: u64 = 0;
         for line in text.lines() {
             let (number, answer) = line.split_once(' ').unwrap_or((line, ""));
             let number = number.parse::<u64>().unwrap_or(0);
             if number < self.numbers.first || self.numbers.last < number {
                 continue;
             }
-            answered.count = answered.count.saturating_add(1);
-            if answer != "done" {
-                let answer = String::from_str(desk.alloc(), answer)?;
-                answered.bad.push((number, answer))?;
+            count = count.saturating_add(1);
+            if answer != "done" && !bad.iter().any(|other| other.0 == number) {
+                let answer = String::from_str(self.clerk.desk.alloc(), answer)?;
+                bad.push((number, answer))?;
             }
         }
-        Ok(answered)
+        Ok(count)
     }
+}
+
+// Prints the answers to the lines that were appended, which are `done` but for these.
+fn tell_answers(
+    desk: Desk<'_>,
+    has_failed: &mut bool,
+    addition: &Addition,
+    bad: &[(u64, String)],
+) -> Result<(), Stop> {
+    let numbers = addition.numbers;
+    if bad.is_empty() {
+        tell(desk, has_failed, format_args!("{numbers}: done"));
+        return Ok(());
+    }
+    for (number, answer) in bad {
+        let answer = Escaped(answer.as_str());
+        let place = number.saturating_sub(numbers.first) as usize;
+        match addition.commands.get(place) {
+            // A command alone was printed before.
+            Some(command) if addition.commands.len() > 1 => {
+                let shown = command_shown(desk.alloc(), command)?;
+                tell(
+                    desk,
+                    has_failed,
+                    format_args!("line {number}: {shown}: {answer}"),
+                );
+            }
+            _ => tell(desk, has_failed, format_args!("line {number}: {answer}")),
+        }
+    }
+    take_back(desk, &addition.given)?;
+    Err(Stop::Printed(Status::TextFaulty))
 }
 
 // Reads the octets of an answers file behind its old ones; all where it has fewer, since it was emptied.

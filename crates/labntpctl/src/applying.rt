@@ -43,10 +43,10 @@ pub fn apply(clerk: &Clerk<'_>, application: &Application<'_>) -> Result<(), Sto
         application,
         wanted: &wanted,
     };
-    if application.manner.dry_run {
-        return work.judge_ending(&work.changes(&clerk.load()?)?);
+    match application.manner.dry_run {
+        true => work.judge_ending(&work.changes(&clerk.load()?)?),
+        false => work.make(&mut HeldFile::hold(clerk)?),
     }
-    work.append(&mut HeldFile::hold(clerk)?)
 }
 
 // What is applied.
@@ -58,11 +58,18 @@ struct Work<'a> {
 }
 
 impl<'a> Work<'a> {
-    // Appends the lines that make the customers of the file that is held the wanted ones, once the clerk is asked.
-    fn append(&self, held: &mut HeldFile) -> Result<(), Stop> {
-        let Some(addition) = self.addition(&mut held.loaded)? else {
+    // Shows the changes, and makes them in the file that is held, if there are any.
+    fn make(&self, held: &mut HeldFile) -> Result<(), Stop> {
+        let changes = self.changes(&held.loaded)?;
+        if changes.shown.is_empty() {
             return Ok(());
-        };
+        }
+        let addition = self.addition(&mut held.loaded, &changes)?;
+        self.append(held, &addition)
+    }
+
+    // Appends lines to the file that is held, once the clerk is asked.
+    fn append(&self, held: &mut HeldFile, addition: &Addition) -> Result<(), Stop> {
         let (clerk, application) = (self.clerk, self.application);
         let answers = Answers::to(clerk, application.manner, addition.numbers)?;
         if application.asks {
@@ -70,19 +77,15 @@ impl<'a> Work<'a> {
             let what = format_args!("apply {commands} commands and {names} names? [y/N] ");
             clerk.desk.ask(what)?;
         }
-        answers.append(held, &addition)
+        answers.append(held, addition)
     }
 
-    // Returns these lines, and shows what they change; nothing where nothing changes.
-    fn addition(&self, loaded: &mut Loaded) -> Result<Option<Addition>, Stop> {
-        let changes = self.changes(loaded)?;
-        if changes.shown.is_empty() {
-            return Ok(None);
-        }
-        self.judge_ending(&changes)?;
+    // Returns the lines that make the customers the wanted ones.
+    fn addition(&self, loaded: &mut Loaded, changes: &Changes) -> Result<Addition, Stop> {
+        self.judge_ending(changes)?;
         judge_daemon(self.clerk, loaded)?;
         let commands = self.commands(loaded)?;
-        Ok(Some(Addition::new(self.clerk, loaded, changes.names, commands)?))
+        Addition::new(self.clerk, loaded, changes.names.as_str(), commands)
     }
 
     // Finds and prints the changes.
@@ -99,31 +102,14 @@ impl<'a> Work<'a> {
     // Finds the changes: of wanted customers in their order, then the enrolments that end.
     fn found_in(&self, loaded: &Loaded) -> Result<Changes, AllocError> {
         let alloc = self.clerk.desk.alloc();
-        let mut there: ByAddress<Terms> = IndexMap::new(alloc);
-        for customer in customers_of(alloc, &loaded.service)?.iter() {
-            there.insert(customer.address, customer.terms)?;
-        }
+        let mut there = terms_in(alloc, loaded)?;
         let mut changes = Changes {
             shown: String::new(alloc),
             names: String::new(alloc),
             enrolled: there.len(),
             ending: 0,
         };
-        for customer in self.wanted {
-            let old_name = loaded.name(customer.address);
-            let name = customer.name.as_ref();
-            let name = name.map_or(old_name, |name| name.as_str());
-            let before = there.swap_remove(&customer.address);
-            changes.add(customer, before, old_name, name)?;
-            if name != old_name {
-                let line = name_line(alloc, customer.address, name)?;
-                changes.names.push_str(line.as_str())?;
-            }
-        }
-        changes.ending = there.len();
-        for address in there.keys() {
-            writeln!(changes.shown, "- {}", Dotted(*address))?;
-        }
+        changes.add_all(alloc, self.wanted, loaded, &mut there)?;
         Ok(changes)
     }
 
@@ -151,10 +137,24 @@ impl<'a> Work<'a> {
     }
 }
 
+// Returns what each customer of a commands file is enrolled with.
+fn terms_in(alloc: Global, loaded: &Loaded) -> Result<ByAddress<Terms>, AllocError> {
+    let mut there = IndexMap::new(alloc);
+    for customer in customers_of(alloc, &loaded.service)?.iter() {
+        there.insert(customer.address, customer.terms)?;
+    }
+    Ok(there)
+}
+
 // Reads the customers of a file, or reports each fault in it.
 fn wanted_at(desk: Desk<'_>, path: &str) -> Result<Vec<WantedCustomer>, Stop> {
-    let text = desk.text(path, MOST_COMMANDS_OCTETS as u32)?;
-    match read_wanted(desk.alloc(), text.as_str())? {
+    let text = desk.text(path, desk.octets(path, MOST_COMMANDS_OCTETS as u32)?)?;
+    wanted_in(desk, path, text.as_str())
+}
+
+// Returns the customers of a file with this text, or reports each fault in it.
+fn wanted_in(desk: Desk<'_>, path: &str, text: &str) -> Result<Vec<WantedCustomer>, Stop> {
+    match read_wanted(desk.alloc(), text)? {
         Ok(wanted) => Ok(wanted.customers),
         Err(found) => {
             for fault in found.iter() {
@@ -197,6 +197,32 @@ struct Changes {
 }
 
 impl Changes {
+    // Adds the changes that make the customers of a commands file, with these terms, the wanted ones.
+    fn add_all(
+        &mut self,
+        alloc: Global,
+        wanted: &[WantedCustomer],
+        loaded: &Loaded,
+        there: &mut ByAddress<Terms>,
+    ) -> Result<(), AllocError> {
+        for customer in wanted {
+            let old_name = loaded.name(customer.address);
+            let name = customer.name.as_ref();
+            let name = name.map_or(old_name, |name| name.as_str());
+            let before = there.swap_remove(&customer.address);
+            self.add(customer, before, old_name, name)?;
+            if name != old_name {
+                let line = name_line(alloc, customer.address, name)?;
+                self.names.push_str(line.as_str())?;
+            }
+        }
+        self.ending = there.len();
+        for address in there.keys() {
+            writeln!(self.shown, "- {}", Dotted(*address))?;
+        }
+        Ok(())
+    }
+
     // Adds the changes of a wanted customer, who had these terms, if it was enrolled, and the old name.
     fn add(
         &mut self,
@@ -235,52 +261,77 @@ impl Changes {
 
 /// Writes the customers of the commands file with their names into a new file, or to standard output where none is named.
 pub fn export(clerk: &Clerk<'_>, path: Option<&str>, keys: KeyLines) -> Result<(), Stop> {
-    let (desk, loaded) = (clerk.desk, clerk.load()?);
-    let wanted = |GivenKey { number, key }| WantedKey { number, key };
-    let mut customers = customers_of(desk.alloc(), &loaded.service)?;
-    customers.sort_by_key(|customer| customer.address)?;
-    let mut text = Vec::new(desk.alloc());
-    for Wanted { address, terms } in customers.iter() {
-        let customer = WantedCustomer {
-            address: *address,
-            older: wanted(terms.older),
-            newer: terms.newer.map(wanted),
-            budget: terms.budget,
-            name: match loaded.name(*address) {
-                "" => None,
-                name => Some(Text::of(desk.alloc(), name)?),
-            },
-        };
-        desk.at("customers", write_wanted(&mut text, &customer, keys))?;
-    }
+    let (desk, mut text) = (clerk.desk, Vec::new(clerk.desk.alloc()));
+    let count = write_customers(desk, &clerk.load()?, keys, &mut text)?;
     let Some(path) = path else {
         return desk.printed(desk.rt.stdout().write_all(&text));
     };
     write_new(desk, path, &text)?;
-    desk.print(format_args!("{} customers\n", customers.len()))
+    desk.print(format_args!("{count} customers\n"))
+}
+
+// Writes the customers of a commands file with their names in the order of their addresses, and returns how many there are.
+fn write_customers(
+    desk: Desk<'_>,
+    loaded: &Loaded,
+    keys: KeyLines,
+    text: &mut Vec<u8>,
+) -> Result<usize, Stop> {
+    let mut customers = customers_of(desk.alloc(), &loaded.service)?;
+    customers.sort_by_key(|customer| customer.address)?;
+    for customer in customers.iter() {
+        let name = loaded.name(customer.address);
+        let wanted = wanted_customer(desk.alloc(), customer, name)?;
+        desk.at("customers", write_wanted(text, &wanted, keys))?;
+    }
+    Ok(customers.len())
+}
+
+// Returns a customer with its name, which may be empty, as a wanted one.
+fn wanted_customer(
+    alloc: Global,
+    there: &Wanted,
+    name: &str,
+) -> Result<WantedCustomer, AllocError> {
+    let (terms, wanted) = (
+        there.terms,
+        |GivenKey { number, key }| WantedKey { number, key },
+    );
+    Ok(WantedCustomer {
+        address: there.address,
+        older: wanted(terms.older),
+        newer: terms.newer.map(wanted),
+        budget: terms.budget,
+        name: match name {
+            "" => None,
+            name => Some(Text::of(alloc, name)?),
+        },
+    })
 }
 
 /// Writes the commands file anew in fewer lines, and keeps the old one beside it; or only prints how long it would be.
 pub fn fold_commands(clerk: &Clerk<'_>, dry_run: bool) -> Result<(), Stop> {
     judge_no_link(clerk)?;
-    if dry_run {
-        return fold_loaded(clerk, &clerk.load()?, true);
+    match dry_run {
+        true => fold_loaded(clerk, &clerk.load()?, true),
+        false => fold_loaded(clerk, &HeldFile::hold(clerk)?.loaded, false),
     }
-    let held = HeldFile::hold(clerk)?;
-    fold_loaded(clerk, &held.loaded, false)
 }
 
-// Does so with what was read of it, and prints where the old one is kept.
+// Does so with what was read of it.
 fn fold_loaded(clerk: &Clerk<'_>, loaded: &Loaded, dry_run: bool) -> Result<(), Stop> {
-    let (desk, path) = (clerk.desk, clerk.commands());
     match folded(clerk, loaded)? {
-        Some(text) if !dry_run => {
-            let kept = put_in_place(desk, path, text.as_str())?;
-            desk.print(format_args!("kept: {kept}\n{RESTART}"))?;
-            desk.at(path, store_name(desk.rt, path))
-        }
+        Some(text) if !dry_run => replace(clerk, text.as_str()),
         _ => Ok(()),
     }
+}
+
+// Writes the commands file anew, and prints where the old one is kept.
+fn replace(clerk: &Clerk<'_>, text: &str) -> Result<(), Stop> {
+    let (desk, path) = (clerk.desk, clerk.commands());
+    let kept = put_in_place(desk, path, text)?;
+    desk.print(format_args!("kept: {kept}\n{RESTART}"))?;
+    desk.at(path, store_name(desk.rt, path))
 }
 
 // Checks that the path is no link: a fold would replace the link, and leave the file that it names.
@@ -324,17 +375,33 @@ fn folded(clerk: &Clerk<'_>, loaded: &Loaded) -> Result<Option<String>, Stop> {
 
 // Returns the text of a file with these customers, names and records alone. A record stands in front of all to whom it belongs.
 fn folded_text(alloc: Global, loaded: &Loaded, spare: Key) -> Result<String, LeadFault> {
+    let revoked = revoked_in(alloc, loaded)?;
+    let commands = fold(alloc, &loaded.service, &revoked, spare)?;
+    Ok(folded_lines(alloc, loaded, &commands)?)
+}
+
+// Returns the addresses that were revoked.
+fn revoked_in(alloc: Global, loaded: &Loaded) -> Result<Vec<Address>, AllocError> {
     let mut revoked = Vec::new(alloc);
     for address in loaded.service.addresses()?.iter() {
         let customer = loaded.service.customer(*address);
         if customer.is_some_and(|customer| !customer.is_enrolled()) {
-            revoked.push(*address).map_err(AllocError::from)?;
+            revoked.push(*address)?;
         }
     }
+    Ok(revoked)
+}
+
+// Returns the lines of commands with the names and the records of the customers.
+fn folded_lines(
+    alloc: Global,
+    loaded: &Loaded,
+    commands: &[Command],
+) -> Result<String, AllocError> {
     let mut text = String::new(alloc);
     // Whose comment stands there last.
     let mut last: Option<Address> = None;
-    for command in fold(alloc, &loaded.service, &revoked, spare)?.iter() {
+    for command in commands {
         if let Command::Enrol { address, .. } = command {
             let record = loaded.record(*address);
             if record != last.map_or("", |last| loaded.record(last)) {

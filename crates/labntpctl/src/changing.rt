@@ -3,7 +3,7 @@
 use crate::appending::{Addition, Answers, Manner};
 use crate::applying::unled;
 use crate::commands_file::{HeldFile, Loaded};
-use crate::customers::{customer_lines, judge_daemon};
+use crate::customers::{KeyLine, customer_lines, judge_daemon};
 use crate::desk::{
     Clerk, Desk, NTP_PORT, Named, SIGNED_FORM, Stop, date, signed_date, whole_seconds,
 };
@@ -16,7 +16,7 @@ use ntp_clerk::{
     is_read_two_ways, key_named, may_retire, name_line, number_for_a_key, number_to_retire,
     rollover, seen_at, terms_of,
 };
-use ntp_mac::Algorithm;
+use ntp_mac::{Algorithm, Key};
 use ntp_query::{KeyFileFault, KeyLineFault, Server, key_in_text, spaced};
 use ntp_service::{Address, LineOutcome, Refusal};
 use std::alloc::{AllocError, Global};
@@ -106,18 +106,22 @@ impl<'a> ChangeRequest<'a> {
 
     // Returns the change once the clerk confirms it. Others may append meanwhile.
     fn confirmed(&self, clerk: &Clerk<'_>) -> Result<ChangeRequest<'a>, Stop> {
-        let Change::Retire { asks: true, .. } = self.change else {
-            return Ok(*self);
-        };
-        let mut loaded = clerk.load()?;
-        let addition = self.addition(clerk, &mut loaded)?;
-        let Some(Command::Retire { number, .. }) = addition.commands.first() else {
-            return Ok(*self);
+        match self.change {
+            Change::Retire { asks: true, .. } => self.confirmed_retire(clerk, &mut clerk.load()?),
+            _ => Ok(*self),
+        }
+    }
+
+    // Returns the change with the number of the key that is retired, once the clerk confirms it.
+    fn confirmed_retire(&self, clerk: &Clerk<'_>, loaded: &mut Loaded) -> Result<Self, Stop> {
+        let number = match self.addition(clerk, loaded)?.commands.first() {
+            Some(Command::Retire { number, .. }) => *number,
+            _ => return Ok(*self),
         };
         let customer = Named(self.address, loaded.name(self.address));
-        ask_first(clerk, customer, *number)?;
+        ask_first(clerk, customer, number)?;
         let change = Change::Retire {
-            number: Some(*number),
+            number: Some(number),
             asks: false,
         };
         Ok(ChangeRequest { change, ..*self })
@@ -125,26 +129,28 @@ impl<'a> ChangeRequest<'a> {
 
     // Returns the lines for a change, once labntpd will do it and the commands file has room. Changes the customers in `loaded`.
     fn addition(&self, clerk: &Clerk<'_>, loaded: &mut Loaded) -> Result<Addition, Stop> {
-        let alloc = clerk.desk.alloc();
         loaded.judge_room(clerk, 0)?;
         let commands = self.commands(clerk.desk, loaded)?;
+        let names = self.name_lines(clerk.desk.alloc(), loaded)?;
+        let mut addition = Addition::new(clerk, loaded, names.as_str(), commands)?;
+        if let Change::Move(to) = self.change {
+            addition.shown = shown_move(clerk.desk.alloc(), self.address, to)?;
+        }
+        Ok(addition)
+    }
+
+    // Returns the line of the name that an address gets, if it gets one.
+    fn name_lines(&self, alloc: Global, loaded: &Loaded) -> Result<String, AllocError> {
         let (named, name) = match self.change {
             Change::Enrol { name, .. } => (self.address, name.unwrap_or("")),
             Change::Name(name) => (self.address, name),
             Change::Move(to) => (to, loaded.name(self.address)),
             _ => (self.address, ""),
         };
-        let names = match name {
-            "" => String::new(alloc),
-            name => name_line(alloc, named, name)?,
-        };
-        let mut addition = Addition::new(clerk, loaded, names, commands)?;
-        if let Change::Move(to) = self.change {
-            let (from, to) = (Dotted(self.address), Dotted(to));
-            let what = "its counts and saved exchanges end";
-            addition.shown = format!(in alloc; "{from} becomes {to}: {what}")?;
+        match name {
+            "" => Ok(String::new(alloc)),
+            name => name_line(alloc, named, name),
         }
-        Ok(addition)
     }
 
     // Returns the commands for a change, once the customers in `loaded` are changed by them.
@@ -156,14 +162,13 @@ impl<'a> ChangeRequest<'a> {
                 fault => unled(desk, fault),
             });
         }
-        let mut commands = Vec::new(desk.alloc());
-        if let Some(command) = self.command(desk, loaded)? {
-            let done = loaded.service.command(&command);
-            let there = seen_at(&loaded.service, self.address);
-            done.map_err(|refusal| refused(desk, refusal, there))?;
-            commands.push(command)?;
-        }
-        Ok(commands)
+        let Some(command) = self.command(desk, loaded)? else {
+            return Ok(Vec::new(desk.alloc()));
+        };
+        let done = loaded.service.command(&command);
+        let there = seen_at(&loaded.service, self.address);
+        done.map_err(|refusal| refused(desk, refusal, there))?;
+        Ok(vec![in desk.alloc(); command]?)
     }
 
     // Returns the command for a change that is one; nothing for the name of an address that was enrolled.
@@ -203,39 +208,65 @@ impl<'a> ChangeRequest<'a> {
         let Some((number, key)) = given else {
             return Ok(None);
         };
-        let (desk, alloc) = (clerk.desk, clerk.desk.alloc());
-        let customer = format!(in alloc; "{}", Dotted(self.address))?;
+        let (desk, alloc, customer) = (clerk.desk, clerk.desk.alloc(), Dotted(self.address));
+        let text = self.text_for(
+            alloc,
+            server_for(clerk, wanted.server),
+            GivenKey { number, key },
+        )?;
         let path = match wanted.output {
             Some(path) => String::from_str(alloc, path)?,
             None => format!(in alloc; "{customer}-{number}.keys")?,
         };
-        let server = wanted.server.or(clerk.server());
-        let several = SeveralAddresses::configured(desk.rt, alloc, clerk.configuration.listen);
-        if let (None, Some(several)) = (server, several) {
-            let config = Escaped(clerk.config);
-            let _ = writeln!(desk.faults(), "warning: {config}: {several}");
-        }
-        let server_word = match server {
+        write_new(desk, path.as_str(), text.as_bytes())?;
+        Ok(Some(path))
+    }
+
+    // Returns the text of this file.
+    fn text_for(
+        &self,
+        alloc: Global,
+        server: Option<Server>,
+        given: GivenKey,
+    ) -> Result<String, AllocError> {
+        let customer = format!(in alloc; "{}", Dotted(self.address))?;
+        let name = match server {
             Some(server) => format!(in alloc; "{}", Dotted(server.address))?,
             None => String::from_str(alloc, "SERVER")?,
         };
         let grant = Grant {
             customer: customer.as_str(),
-            server: server_word.as_str(),
+            server: name.as_str(),
             port: server.map_or(NTP_PORT, |server| server.port),
-            number,
-            key,
+            number: given.number,
+            key: given.key,
         };
-        let text = customer_text(alloc, &grant)?;
-        write_new(desk, path.as_str(), text.as_bytes())?;
-        Ok(Some(path))
+        customer_text(alloc, &grant)
     }
+}
+
+// Returns the server that a customer asks, if it is known, or warns that the host has several addresses.
+fn server_for(clerk: &Clerk<'_>, named: Option<Server>) -> Option<Server> {
+    let (desk, server) = (clerk.desk, named.or(clerk.server()));
+    let listen = clerk.configuration.listen;
+    let several = SeveralAddresses::configured(desk.rt, desk.alloc(), listen);
+    if let (None, Some(several)) = (server, several) {
+        let config = Escaped(clerk.config);
+        let _ = writeln!(desk.faults(), "warning: {config}: {several}");
+    }
+    server
+}
+
+// Says what a move comes to.
+fn shown_move(alloc: Global, from: Address, to: Address) -> Result<String, AllocError> {
+    let (from, to) = (Dotted(from), Dotted(to));
+    format!(in alloc; "{from} becomes {to}: its counts and saved exchanges end")
 }
 
 // Asks whether a customer's key is to be retired, once its other key is known to be in use.
 fn ask_first(clerk: &Clerk<'_>, customer: Named<'_>, number: NonZero<u16>) -> Result<(), Stop> {
-    let (desk, (said, are_ground)) = (clerk.desk, uses(clerk, customer.0, number)?);
-    if !are_ground {
+    let (desk, mut said) = (clerk.desk, String::new(clerk.desk.alloc()));
+    if !write_uses(clerk, customer.0, number, &mut said)? {
         let why = "no other key was used, or the count is younger than a day: --yes is wanted";
         return Err(desk.refusal(format_args!("{customer}: {said}: {why}")));
     }
@@ -243,38 +274,62 @@ fn ask_first(clerk: &Clerk<'_>, customer: Named<'_>, number: NonZero<u16>) -> Re
 }
 
 // Says when each key of an address was last used, and returns whether that is ground to retire this one.
-fn uses(clerk: &Clerk<'_>, address: Address, number: NonZero<u16>) -> Result<(String, bool), Stop> {
-    let (desk, alloc) = (clerk.desk, clerk.desk.alloc());
+fn write_uses(
+    clerk: &Clerk<'_>,
+    address: Address,
+    number: NonZero<u16>,
+    said: &mut String,
+) -> Result<bool, Stop> {
     clerk.renew_customers()?;
-    let text = clerk.reported(&clerk.configuration.customers)?;
-    let lines = customer_lines(desk, text.as_ref().map_or("", |text| text.as_str()))?;
-    let address = format!(in alloc; "{}", Dotted(address))?;
-    let (mut said, mut used) = (String::new(alloc), Vec::new(alloc));
-    let customer = lines.iter().filter(|line| line.address == address.as_str());
-    for key in customer.flat_map(|customer| customer.keys.iter()) {
-        let other = key.number;
-        if let Some(seconds) = key.last_signed {
-            let date = signed_date(alloc, seconds)?;
-            write!(said, "key {other} last used {date}, ")?;
-            used.push(other)?;
-        } else {
-            write!(said, "key {other} not used, ")?;
-        }
-    }
-    let statistics = clerk.reported(&clerk.configuration.statistics)?;
-    let mut values = statistics.as_ref().map_or("", |text| text.as_str()).lines();
-    let begun = values.find_map(|line| line.strip_prefix("labntp_start_time_seconds "));
-    let begun = begun.and_then(|seconds| whole_seconds(seconds));
-    let customers = clerk.configuration.customers.as_ref();
+    let used = used_keys(clerk, address, said)?;
+    let begun = start_of_counts(clerk)?;
+    let (desk, customers) = (clerk.desk, clerk.configuration.customers.as_ref());
     let written = customers.and_then(|path| desk.written_at(path.as_str()));
-    let date_of = |time: Option<u64>| time.and_then(|seconds| date(alloc, seconds, SIGNED_FORM));
+    let date_of = |time: Option<u64>| time.and_then(|time| date(desk.alloc(), time, SIGNED_FORM));
     match (date_of(begun), date_of(written)) {
         (Some(begun), Some(written)) => write!(said, "counted from {begun} to {written}")?,
         _ => write!(said, "counted since a time that is not known")?,
     }
     let begun = begun.unwrap_or(u64::MAX);
     let counted = written.unwrap_or(0).saturating_sub(begun);
-    Ok((said, may_retire(number, &used, counted)))
+    Ok(may_retire(number, &used, counted))
+}
+
+// Says when each key of an address was last used, and returns the numbers of those that were.
+fn used_keys(clerk: &Clerk<'_>, address: Address, said: &mut String) -> Result<Vec<u16>, Stop> {
+    let text = clerk.reported(&clerk.configuration.customers)?;
+    let lines = customer_lines(clerk.desk, text.as_ref().map_or("", |text| text.as_str()))?;
+    let mut used = Vec::new(clerk.desk.alloc());
+    let customer = lines
+        .iter()
+        .filter(|line| words::address(line.address) == Some(address));
+    for key in customer.flat_map(|customer| customer.keys.iter()) {
+        write_use(clerk.desk.alloc(), key, said)?;
+        if key.last_signed.is_some() {
+            used.push(key.number)?;
+        }
+    }
+    Ok(used)
+}
+
+// Says when a key was last used.
+fn write_use(alloc: Global, key: &KeyLine<'_>, said: &mut String) -> Result<(), AllocError> {
+    let number = key.number;
+    match key.last_signed {
+        Some(seconds) => {
+            let date = signed_date(alloc, seconds)?;
+            write!(said, "key {number} last used {date}, ")
+        }
+        None => write!(said, "key {number} not used, "),
+    }
+}
+
+// Returns since when labntpd counts, in seconds since 1970, if its statistics file says it.
+fn start_of_counts(clerk: &Clerk<'_>) -> Result<Option<u64>, Stop> {
+    let statistics = clerk.reported(&clerk.configuration.statistics)?;
+    let mut values = statistics.as_ref().map_or("", |text| text.as_str()).lines();
+    let begun = values.find_map(|line| line.strip_prefix("labntp_start_time_seconds "));
+    Ok(begun.and_then(|seconds| whole_seconds(seconds)))
 }
 
 // Reports why a command is refused for an address that has this.
@@ -305,17 +360,25 @@ fn key_for(desk: Desk<'_>, wanted: &KeyRequest<'_>, loaded: &Loaded) -> Result<G
 // Reads the key with a number, or the only one, from a key file in the form of chrony.
 fn key_in_file(desk: Desk<'_>, path: &str, number: Option<NonZero<u16>>) -> Result<GivenKey, Stop> {
     let octets = spaced(desk.alloc(), &desk.octets(path, MOST_KEY_FILE_OCTETS)?)?;
-    let Ok(text) = str::from_utf8(&octets) else {
-        return Err(desk.refusal_at(path, "this is no UTF-8"));
-    };
+    let text = desk.text(path, octets)?;
     let number = match number {
         Some(number) => number,
-        None => only_number(desk, path, text)?,
+        None => only_number(desk, path, text.as_str())?,
     };
-    let key = match key_in_text(text, number.get()) {
-        Ok(key) => key,
+    let key = key_under(desk, path, text.as_str(), number)?;
+    Ok(GivenKey { number, key })
+}
+
+// Returns the key with a number in the text of a key file, or reports what is wrong with it.
+fn key_under(desk: Desk<'_>, path: &str, text: &str, number: NonZero<u16>) -> Result<Key, Stop> {
+    match key_in_text(text, number.get()) {
+        Ok(key) if is_read_two_ways(key.octets()) => {
+            let why = "HEX: is wanted in front of more than 20 digits";
+            Err(desk.refusal_at(path, format_args!("key {number}: {why}")))
+        }
+        Ok(key) => Ok(key),
         Err(KeyFileFault::Missing) => {
-            return Err(desk.refusal_at(path, format_args!("there is no key {number}")));
+            Err(desk.refusal_at(path, format_args!("there is no key {number}")))
         }
         Err(KeyFileFault::Line { line, fault }) => {
             let wanted = match fault {
@@ -323,14 +386,9 @@ fn key_in_file(desk: Desk<'_>, path: &str, number: Option<NonZero<u16>>) -> Resu
                 KeyLineFault::Algorithm => "a key for MD5 or SHA1 is wanted",
                 KeyLineFault::Key => "a key of 1 to 32 octets is wanted, behind HEX: in digits",
             };
-            return Err(desk.refusal_at(path, format_args!("line {line}: {wanted}")));
+            Err(desk.refusal_at(path, format_args!("line {line}: {wanted}")))
         }
-    };
-    if is_read_two_ways(key.octets()) {
-        let why = "HEX: is wanted in front of more than 20 digits";
-        return Err(desk.refusal_at(path, format_args!("key {number}: {why}")));
     }
-    Ok(GivenKey { number, key })
 }
 
 // Returns the only number of a key in the text of a key file.

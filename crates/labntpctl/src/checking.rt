@@ -137,11 +137,18 @@ impl<'a> Report<'a> {
         let Some(octets) = self.octets(path) else {
             return Ok(0);
         };
-        let Ok(text) = str::from_utf8(&octets) else {
-            let line = line_without_text(&octets);
-            self.fault(Line(path, line), "this is no UTF-8");
-            return Ok(0);
-        };
+        match str::from_utf8(&octets) {
+            Ok(text) => self.check_customers(path, text),
+            Err(_) => {
+                let line = line_without_text(&octets);
+                self.fault(Line(path, line), "this is no UTF-8");
+                Ok(0)
+            }
+        }
+    }
+
+    // Does so with its text.
+    fn check_customers(&mut self, path: &str, text: &str) -> Result<usize, Stop> {
         match read_wanted(self.desk.alloc(), text)? {
             Ok(wanted) => {
                 for warning in wanted.warnings.iter() {
@@ -160,32 +167,40 @@ impl<'a> Report<'a> {
 
     // Reports every fault of the configuration file, and of the places that it names. Returns the path of the commands file.
     fn check_configuration(&mut self, path: &str) -> Result<Option<String>, Stop> {
-        let (rt, alloc) = (self.desk.rt, self.desk.alloc());
         let Some(text) = self.small_text(path) else {
             return Ok(None);
         };
         self.check_settings(path, text.as_str())?;
-        let Ok(document) = toml::table_from_str(alloc, text.as_str()) else {
-            return Ok(None);
-        };
-        let named = named_files(path, &document);
+        match toml::table_from_str(self.desk.alloc(), text.as_str()) {
+            Ok(document) => self.check_places(named_files(path, &document)),
+            Err(_) => Ok(None),
+        }
+    }
+
+    // Does so with the places.
+    fn check_places(&mut self, named: NamedFiles<'_>) -> Result<Option<String>, Stop> {
+        let (rt, alloc) = (self.desk.rt, self.desk.alloc());
         if tell_places(rt, alloc, named, usize::MAX, &mut self.out)? > 0 {
             self.take(Status::TextFaulty);
         }
         if let Some(key_file) = named.key_file {
             self.check_clock_key(key_file);
         }
-        let commands = named.commands.map(|path| String::from_str(alloc, path));
-        Ok(commands.transpose()?)
+        match named.commands {
+            Some(path) => Ok(Some(String::from_str(alloc, path)?)),
+            None => Ok(None),
+        }
     }
 
     // Reports every fault of a configuration, or warns of 0.0.0.0 where the host has several addresses and it names none for customers.
     fn check_settings(&mut self, path: &str, text: &str) -> Result<(), Stop> {
         let (rt, alloc) = (self.desk.rt, self.desk.alloc());
-        match &read_configuration(alloc, text) {
-            Ok(configuration) => {
-                let several = SeveralAddresses::configured(rt, alloc, configuration.listen);
-                if let (None, Some(several)) = (configuration.served_as, several) {
+        let read = read_configuration(alloc, text);
+        let served = read.map(|configuration| (configuration.listen, configuration.served_as));
+        match served {
+            Ok((listen, served_as)) => {
+                let several = SeveralAddresses::configured(rt, alloc, listen);
+                if let (None, Some(several)) = (served_as, several) {
                     self.warning(Escaped(path), several);
                 }
             }
@@ -291,7 +306,6 @@ fn named_files<'a>(path: &'a str, document: &'a Table) -> NamedFiles<'a> {
 
 // Reports every fault of the commands file at a path, and returns how many customers it leaves enrolled.
 fn check_commands(report: &mut Report<'_>, path: &str) -> Result<usize, Stop> {
-    let alloc = report.desk.alloc();
     let Some(octets) = report.octets(path) else {
         return Ok(0);
     };
@@ -301,8 +315,14 @@ fn check_commands(report: &mut Report<'_>, path: &str) -> Result<usize, Stop> {
         write_nearly_full(&mut report.out, count);
         let _ = writeln!(report.out, "");
     }
-    let loaded = Loaded::of(alloc, &octets)?;
-    let mut lines = complete_lines(&octets).split(|octet| *octet == b'\n');
+    let loaded = Loaded::of(report.desk.alloc(), &octets)?;
+    check_lines(report, path, &octets, &loaded);
+    Ok(customers_of(report.desk.alloc(), &loaded.service)?.len())
+}
+
+// Reports what became of the lines of the commands file at a path, which has these octets.
+fn check_lines(report: &mut Report<'_>, path: &str, octets: &[u8], loaded: &Loaded) {
+    let mut lines = complete_lines(octets).split(|octet| *octet == b'\n');
     let mut last = 0;
     for heard in loaded.heard.lines.iter() {
         // Lines that are passed over are not heard of.
@@ -311,11 +331,10 @@ fn check_commands(report: &mut Report<'_>, path: &str) -> Result<usize, Stop> {
         last = heard.number;
         report.check_line(Line(path, last), heard, str::from_utf8(line).unwrap_or(""));
     }
-    if !loaded.is_ended && count <= MOST_COMMANDS_OCTETS {
+    if !loaded.is_ended && loaded.octets <= MOST_COMMANDS_OCTETS {
         let line = Line(path, loaded.lines.saturating_add(1));
         report.fault(line, "a line feed at its end is wanted");
     }
-    Ok(customers_of(alloc, &loaded.service)?.len())
 }
 
 // A line of the file at a path.

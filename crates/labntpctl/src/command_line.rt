@@ -44,6 +44,13 @@ pub enum Task<'a> {
     Check(Checked<'a>),
     /// Lists customers.
     List(Listing<'a>),
+    /// Works by the configuration.
+    Configured(Work<'a>),
+}
+
+/// Work by the configuration.
+#[derive(Clone, Copy)]
+pub enum Work<'a> {
     /// Prints the differences between labntpd's customers and those of the commands file.
     Compare,
     /// Explains what datagrams would get.
@@ -62,8 +69,8 @@ pub enum Task<'a> {
 
 /// Reads the path of the configuration file, and the work, from words. The error may be a request for the help or the version.
 pub fn parse<'a>(alloc: Global, words: &'a [String]) -> Result<(&'a str, Task<'a>), Error> {
-    let matches = command(alloc)?.try_get_matches_from(words)?;
-    match asked_in(&matches) {
+    let asked = asked_in(&command(alloc)?.try_get_matches_from(words)?);
+    match asked {
         Ok(asked) => Ok(asked),
         Err(message) => { Err(command(alloc)?.error(ErrorKind::ValueValidation, message)?) }
     }
@@ -79,28 +86,35 @@ fn asked_in<'a>(matches: &ArgMatches<'a>) -> Result<(&'a str, Task<'a>), &'stati
             commands: matches.get_str("COMMANDS"),
             wanted: matches.get_str("wanted"),
         }),
-        "customers" if matches.get_flag("compare") => Task::Compare,
-        "customers" => Task::List(listing_in(matches)?),
-        "explain" => Task::Explain(explained_in(matches)?),
+        "customers" if !matches.get_flag("compare") => Task::List(listing_in(matches)?),
+        _ => Task::Configured(work_in(name, matches)?),
+    };
+    Ok((matches.get_str("config").unwrap_or(USUAL_CONFIG), task))
+}
+
+// Returns the work by the configuration that a command is.
+fn work_in<'a>(name: &str, matches: &ArgMatches<'a>) -> Result<Work<'a>, &'static str> {
+    Ok(match name {
+        "customers" => Work::Compare,
+        "explain" => Work::Explain(explained_in(matches)?),
         "door" => {
             let rate = number_in(matches, "rate").ok_or("--rate N is missing")?;
-            Task::Door(place_in(matches)?, rate)
+            Work::Door(place_in(matches)?, rate)
         }
-        "apply" => Task::Apply(Application {
+        "apply" => Work::Apply(Application {
             path: matches.get_str("FILE").ok_or("FILE is missing")?,
             asks: !matches.get_flag("yes"),
             ends_many: matches.get_flag("end-many"),
             manner: manner_in(matches)?,
         }),
-        "export" => Task::Export(matches.get_str("FILE"), keys_in(matches)?),
-        "fold" => Task::Fold(matches.get_flag("dry-run")),
-        _ => Task::Change(ChangeRequest {
+        "export" => Work::Export(matches.get_str("FILE"), keys_in(matches)?),
+        "fold" => Work::Fold(matches.get_flag("dry-run")),
+        _ => Work::Change(ChangeRequest {
             address: address_in(matches, "ADDRESS")?,
             change: change_in(name, matches)?,
             manner: manner_in(matches)?,
         }),
-    };
-    Ok((matches.get_str("config").unwrap_or(USUAL_CONFIG), task))
+    })
 }
 
 // Returns which customers are listed.
@@ -327,20 +341,38 @@ fn argument<'a>(alloc: Global, usage: &'a str, help: &'a str) -> Result<Arg<'a>,
         (true, value) => arg.long(name).value_name(value),
         (false, _) => arg.value_name(name).required(option.starts_with('<')),
     };
-    let number = ValueParser::Unsigned(1, 65_535);
+    let (parser, default) = values_of(name);
+    let arg = match parser {
+        Some(parser) => arg.value_parser(parser),
+        None => arg,
+    };
+    let arg = match default {
+        "" => arg,
+        default => arg.default_value(default),
+    };
+    arg.conflicts_with_all(conflicting(name))
+}
+
+// Returns what values of an argument have to be, if not any text, and the value where it is left out, if not an empty one.
+fn values_of(name: &str) -> (Option<ValueParser<'static>>, &'static str) {
+    let number = Some(ValueParser::Unsigned(1, 65_535));
     match name {
-        "config" => Ok(arg.default_value(USUAL_CONFIG)),
-        "compare" => arg.conflicts_with_all(&["json", "ADDRESS|COMMANDS"]),
-        "COMMANDS" => arg.conflicts_with("config"),
-        "key-file" => arg.conflicts_with_all(&["algorithm", "text-key"]),
-        "algorithm" => Ok(
-            arg.value_parser(["md5", "sha1"].as_slice())
-                .default_value("sha1"),
-        ),
-        "wait" => Ok(arg.value_parser(ValueParser::Float).default_value("5")),
-        "rate" => Ok(arg.value_parser(number).default_value("200")),
-        "budget" => Ok(arg.value_parser(number).default_value("10")),
-        "number" | "N" => Ok(arg.value_parser(number)),
-        _ => Ok(arg),
+        "config" => (None, USUAL_CONFIG),
+        "algorithm" => (Some(ValueParser::Names(&["md5", "sha1"])), "sha1"),
+        "wait" => (Some(ValueParser::Float), "5"),
+        "rate" => (number, "200"),
+        "budget" => (number, "10"),
+        "number" | "N" => (number, ""),
+        _ => (None, ""),
+    }
+}
+
+// Returns the arguments that are not used with an argument.
+fn conflicting(name: &str) -> &'static [&'static str] {
+    match name {
+        "compare" => &["json", "ADDRESS|COMMANDS"],
+        "COMMANDS" => &["config"],
+        "key-file" => &["algorithm", "text-key"],
+        _ => &[],
     }
 }

@@ -48,27 +48,63 @@ impl Loaded {
     /// Carries out the complete lines of these octets, as labntpd does.
     pub fn of(alloc: Global, octets: &[u8]) -> Result<Loaded, AllocError> {
         let whole = complete_lines(octets);
-        let mut service = Service::new(alloc);
-        let mut heard = Heard {
-            counts: CustomerCounts::new(alloc),
-            lines: Vec::new(alloc),
-            has_missed: false,
-        };
-        let lines = apply_lines(&mut service, whole, 0, &mut heard);
-        if heard.has_missed || heard.counts.has_missed() {
-            return Err(AllocError);
-        }
         let mut loaded = Loaded {
-            service,
-            heard,
+            service: Service::new(alloc),
+            heard: Heard {
+                counts: CustomerCounts::new(alloc),
+                lines: Vec::new(alloc),
+                has_missed: false,
+            },
             names: IndexMap::new(alloc),
             records: IndexMap::new(alloc),
-            lines,
+            lines: 0,
             octets: octets.len() as u64,
             is_ended: whole.len() == octets.len(),
         };
-        note_comments(alloc, whole, &mut loaded)?;
+        loaded.carry_out(alloc, whole)?;
         Ok(loaded)
+    }
+
+    // Reads an open commands file.
+    fn from_file(desk: Desk<'_>, path: &str, file: &File) -> Result<Loaded, Stop> {
+        let mut octets = Vec::new(desk.alloc());
+        let most = MOST_COMMANDS_OCTETS.saturating_add(1);
+        desk.at(path, file.take(most).read_to_end(&mut octets))?;
+        Ok(Loaded::of(desk.alloc(), &octets)?)
+    }
+
+    // Carries out complete lines, and notes what they come to.
+    fn carry_out(&mut self, alloc: Global, lines: &[u8]) -> Result<(), AllocError> {
+        self.lines = apply_lines(&mut self.service, lines, 0, &mut self.heard);
+        if self.heard.has_missed || self.heard.counts.has_missed() {
+            return Err(AllocError);
+        }
+        self.note_comments(alloc, lines)
+    }
+
+    // Takes from these lines, by address, the last names, and the comments in front of the last commands that were done.
+    fn note_comments(&mut self, alloc: Global, octets: &[u8]) -> Result<(), AllocError> {
+        let (mut record, mut taken): (&[u8], usize) = (&[], 0);
+        for (place, line) in octets.split(|octet| *octet == b'\n').enumerate() {
+            let number = (place as u64).saturating_add(1);
+            let heard = self.heard.lines.get(taken);
+            if let Some(heard) = heard.filter(|heard| heard.number == number) {
+                taken = taken.saturating_add(1);
+                if let (Some(command), LineOutcome::Done) = (heard.command, heard.outcome) {
+                    let record = String::from_str(alloc, str::from_utf8(record).unwrap_or(""))?;
+                    self.records.insert(command.address(), record)?;
+                }
+                continue;
+            }
+            let text = str::from_utf8(line).unwrap_or("");
+            match name_in(text).filter(|named| is_name(named.1)) {
+                Some((address, name)) => {
+                    self.names.insert(address, String::from_str(alloc, name)?)?;
+                }
+                None => record = line,
+            }
+        }
+        Ok(())
     }
 
     /// Returns the name of an address, or an empty text.
@@ -105,32 +141,6 @@ pub fn complete_lines(octets: &[u8]) -> &[u8] {
         Some(end) => read.get(..=end).unwrap_or(read),
         None => &[],
     }
-}
-
-// Takes from these lines, by address, the last names, and the comments in front of the last commands that were done.
-fn note_comments(alloc: Global, octets: &[u8], loaded: &mut Loaded) -> Result<(), AllocError> {
-    let (mut record, mut taken): (&[u8], usize) = (&[], 0);
-    let (names, records) = (&mut loaded.names, &mut loaded.records);
-    for (place, line) in octets.split(|octet| *octet == b'\n').enumerate() {
-        let number = (place as u64).saturating_add(1);
-        let heard = loaded.heard.lines.get(taken);
-        if let Some(heard) = heard.filter(|heard| heard.number == number) {
-            taken = taken.saturating_add(1);
-            if let (Some(command), LineOutcome::Done) = (heard.command, heard.outcome) {
-                let record = str::from_utf8(record).unwrap_or("");
-                records.insert(command.address(), String::from_str(alloc, record)?)?;
-            }
-            continue;
-        }
-        let text = str::from_utf8(line).unwrap_or("");
-        match name_in(text).filter(|named| is_name(named.1)) {
-            Some((address, name)) => {
-                names.insert(address, String::from_str(alloc, name)?)?;
-            }
-            None => record = line,
-        }
-    }
-    Ok(())
 }
 
 /// A line of a commands file that was taken.
@@ -181,18 +191,10 @@ impl HeldFile {
     pub fn hold(clerk: &Clerk<'_>) -> Result<HeldFile, Stop> {
         let (desk, path) = (clerk.desk, clerk.commands());
         let file = match held_file(desk.rt, path) {
-            Err(error) if error.kind() == ErrorKind::WouldBlock => {
-                let holder = holder(desk, path);
-                let holder = holder.as_ref().map_or("", |holder| holder.as_str());
-                let why = format_args!("somebody else has held it for ten seconds{holder}");
-                return Err(desk.failure_at(path, why));
-            }
+            Err(error) if error.kind() == ErrorKind::WouldBlock => return Err(held(desk, path)),
             file => desk.at(path, file)?,
         };
-        let mut octets = Vec::new(desk.alloc());
-        let most = MOST_COMMANDS_OCTETS.saturating_add(1);
-        desk.at(path, (&file).take(most).read_to_end(&mut octets))?;
-        let loaded = Loaded::of(desk.alloc(), &octets)?;
+        let loaded = Loaded::from_file(desk, path, &file)?;
         Ok(HeldFile { file, loaded })
     }
 
@@ -204,11 +206,8 @@ impl HeldFile {
         let done = write_counted(&mut self.file, text.as_bytes(), &mut written);
         if done.is_err() && self.has_grown_by(written) {
             let kept = comment_octets(text.as_bytes().get(..written).unwrap_or(&[])) as u64;
-            let is_cut = self
-                .file
-                .set_len(self.loaded.octets.saturating_add(kept))
-                .is_ok();
-            if is_cut && kept == 0 {
+            let length = self.loaded.octets.saturating_add(kept);
+            if self.file.set_len(length).is_ok() && kept == 0 {
                 let _ = self.file.set_modified(modified);
             }
         }
@@ -235,18 +234,8 @@ fn held_file(rt: &HostRuntime, path: &str) -> io::Result<File> {
     for _ in 0..MOST_ASKED {
         // A pipe that is opened for reading and writing is opened at once, whoever holds its other end (fifo(7)).
         let file = OpenOptions::new().read(true).append(true).open(rt, path)?;
-        if !file.metadata()?.is_file() {
-            return Err(not_regular());
-        }
-        match file.try_lock() {
-            Ok(()) => {
-                // Another file may have taken its place before it was held.
-                if is_at(rt, &file, path)? {
-                    return Ok(file);
-                }
-            }
-            Err(TryLockError::WouldBlock) => {}
-            Err(TryLockError::Error(error)) => return Err(error),
+        if is_held(rt, &file, path)? {
+            return Ok(file);
         }
         drop(file);
         pause(ASKED_EACH);
@@ -254,19 +243,43 @@ fn held_file(rt: &HostRuntime, path: &str) -> io::Result<File> {
     Err(io::Error::from(ErrorKind::WouldBlock))
 }
 
+// Holds a regular file, and returns whether it is held and stands at a path.
+fn is_held(rt: &HostRuntime, file: &File, path: &str) -> io::Result<bool> {
+    if !file.metadata()?.is_file() {
+        return Err(not_regular());
+    }
+    match file.try_lock() {
+        // Another file may have taken its place before it was held.
+        Ok(()) => is_at(rt, file, path),
+        Err(TryLockError::WouldBlock) => Ok(false),
+        Err(TryLockError::Error(error)) => Err(error),
+    }
+}
+
+// Reports that somebody else holds the file at a path.
+fn held(desk: Desk<'_>, path: &str) -> Stop {
+    let holder = holder(desk, path);
+    let holder = holder.as_ref().map_or("", |holder| holder.as_str());
+    let why = format_args!("somebody else has held it for ten seconds{holder}");
+    desk.failure_at(path, why)
+}
+
 // Returns which process holds the file at a path, by what the system says (proc(5)), if that can be read.
 fn holder(desk: Desk<'_>, path: &str) -> Option<String> {
-    let alloc = desk.alloc();
-    let inode = format!(in alloc; ":{} ", fs::metadata(desk.rt, path).ok()?.ino()).ok()?;
+    let inode = fs::metadata(desk.rt, path).ok()?.ino();
     let locks = system_text(desk, "/proc/locks")?;
-    let mut lines = locks.as_str().lines();
-    let line = lines.find(|line| line.contains(inode.as_str()))?;
-    // NUMBER: FLOCK ADVISORY WRITE PROCESS DEVICE:INODE FIRST LAST
-    let process = line.split_ascii_whitespace().nth(4)?;
-    let name = format!(in alloc; "/proc/{process}/comm").ok()?;
+    let process = process_in(desk.alloc(), locks.as_str(), inode)?;
+    let name = format!(in desk.alloc(); "/proc/{process}/comm").ok()?;
     let program = system_text(desk, name.as_str())?;
     let program = Escaped(program.as_str().trim_end());
-    format!(in alloc; ": process {process}, {program}").ok()
+    format!(in desk.alloc(); ": process {process}, {program}").ok()
+}
+
+// Returns the process that holds the file with an inode, by lines NUMBER: FLOCK ADVISORY WRITE PROCESS DEVICE:INODE FIRST LAST.
+fn process_in<'a>(alloc: Global, locks: &'a str, inode: u64) -> Option<&'a str> {
+    let inode = format!(in alloc; ":{inode} ").ok()?;
+    let line = locks.lines().find(|line| line.contains(inode.as_str()))?;
+    line.split_ascii_whitespace().nth(4)
 }
 
 // Reads what the system says at a path.

@@ -75,17 +75,53 @@ impl<'a> CustomerLine<'a> {
         Some((words::address(self.address)?, seen))
     }
 
+    // Writes the customer, which has this line, if it is listed, and returns whether it is.
+    fn write(
+        &self,
+        alloc: Global,
+        shown: &mut String,
+        line: &str,
+        file: Option<&Loaded>,
+        how: Listing<'_>,
+    ) -> Result<bool, AllocError> {
+        let address = words::address(self.address);
+        if how.address.is_some() && how.address != address {
+            return Ok(false);
+        }
+        let named = file.zip(address);
+        let name = named.map_or("", |(file, address)| file.name(address));
+        match how.json {
+            true => write_object(alloc, shown, line, name)?,
+            false => self.write_rows(alloc, shown, name)?,
+        }
+        Ok(true)
+    }
+
     // Writes a row of the table for each key. A value that is too long shifts the columns behind it.
     fn write_rows(&self, alloc: Global, table: &mut String, name: &str) -> Result<(), AllocError> {
         let mut row = String::new(alloc);
-        cell(&mut row, 15, Escaped(self.address))?;
-        cell(&mut row, 8, Escaped(self.state))?;
-        match self.budget {
-            Some(budget) => cell(&mut row, 6, budget)?,
-            None => cell(&mut row, 6, "-")?,
+        self.write_cells(alloc, &mut row)?;
+        row.push_str(name)?;
+        writeln!(table, "{}", row.as_str().trim_end())?;
+        for key in self.keys.iter().skip(1) {
+            row.clear();
+            cell(&mut row, 39, "")?;
+            write_key(alloc, &mut row, Some(key))?;
+            writeln!(table, "{}", row.as_str().trim_end())?;
         }
-        cell(&mut row, 7, self.line)?;
-        write_key(alloc, &mut row, self.keys.first())?;
+        Ok(())
+    }
+
+    // Writes the cells of the first row, all but the name.
+    fn write_cells(&self, alloc: Global, row: &mut String) -> Result<(), AllocError> {
+        cell(row, 15, Escaped(self.address))?;
+        cell(row, 8, Escaped(self.state))?;
+        match self.budget {
+            Some(budget) => cell(row, 6, budget)?,
+            None => cell(row, 6, "-")?,
+        }
+        cell(row, 7, self.line)?;
+        write_key(alloc, row, self.keys.first())?;
         let counts = self.answers;
         for (width, count) in [
             (7, counts.basic),
@@ -96,15 +132,7 @@ impl<'a> CustomerLine<'a> {
             (11, counts.over_budget),
             (7, counts.muted),
         ] {
-            cell(&mut row, width, count)?;
-        }
-        row.push_str(name)?;
-        writeln!(table, "{}", row.as_str().trim_end())?;
-        for key in self.keys.iter().skip(1) {
-            row.clear();
-            cell(&mut row, 39, "")?;
-            write_key(alloc, &mut row, Some(key))?;
-            writeln!(table, "{}", row.as_str().trim_end())?;
+            cell(row, width, count)?;
         }
         Ok(())
     }
@@ -174,16 +202,20 @@ pub fn list(desk: Desk<'_>, config: &str, listing: Listing<'_>) -> Result<(), St
     if let Some(path) = listing.commands {
         return list_file(desk, path, listing);
     }
-    let clerk = &Clerk::new(desk, config)?;
+    list_configured(&Clerk::new(desk, config)?, listing)
+}
+
+// Does so by the configuration.
+fn list_configured(clerk: &Clerk<'_>, listing: Listing<'_>) -> Result<(), Stop> {
     clerk.renew_customers()?;
     let reported = clerk.reported(&clerk.configuration.customers)?;
     // That labntpd reads no more bars a change, but no list.
     let _ = judge_reading(clerk);
-    match &reported {
-        Some(text) if names(desk.alloc(), text.as_str(), listing.address)? => {
-            list_reported(clerk, text.as_str(), listing)
-        }
-        _ => list_file(desk, clerk.commands(), listing),
+    let report = reported.as_ref().map_or("", |text| text.as_str());
+    let is_named = reported.is_some() && names(clerk.desk.alloc(), report, listing.address)?;
+    match is_named {
+        true => list_reported(clerk, report, listing),
+        false => list_file(clerk.desk, clerk.commands(), listing),
     }
 }
 
@@ -246,17 +278,8 @@ fn write(desk: Desk<'_>, text: &str, file: Option<&Loaded>, how: Listing<'_>) ->
             Err(Stop::Memory) => return Err(Stop::Memory),
             Err(fault) => done = Err(fault),
             Ok(customer) => {
-                let address = words::address(customer.address);
-                if how.address.is_some() && how.address != address {
-                    continue;
-                }
-                is_there = true;
-                let named = file.zip(address);
-                let name = named.map_or("", |(file, address)| file.name(address));
-                match how.json {
-                    true => write_object(desk.alloc(), &mut shown, line, name)?,
-                    false => customer.write_rows(desk.alloc(), &mut shown, name)?,
-                }
+                let is_listed = customer.write(desk.alloc(), &mut shown, line, file, how)?;
+                is_there = is_there || is_listed;
             }
         }
     }
@@ -372,29 +395,36 @@ pub fn lasting_differences(clerk: &Clerk<'_>, loaded: &Loaded) -> Result<Vec<Dif
     if has_all_lines {
         return Ok(all);
     }
-    let mut service = Service::new(alloc);
     let mut open: ByAddress<Difference> = IndexMap::new(alloc);
     for difference in all.iter() {
         if difference.daemon != Seen::Nothing {
             open.insert(difference.address, *difference)?;
         }
     }
+    remove_mended(&mut Service::new(alloc), loaded, &mut open)?;
+    Ok(open.values().copied().collect(alloc)?)
+}
+
+// Removes the differences whose address had behind a command what labntpd reported. The service has no customer at first.
+fn remove_mended(
+    service: &mut Service,
+    loaded: &Loaded,
+    open: &mut ByAddress<Difference>,
+) -> Result<(), AllocError> {
     for line in loaded.heard.lines.iter() {
         let (LineOutcome::Done, Some(command)) = (line.outcome, line.command) else {
             continue;
         };
         if service.command(&command) == Err(Refusal::NoMemory) {
-            return Err(Stop::Memory);
+            return Err(AllocError);
         }
         let address = command.address();
-        let Some(daemon) = open.get(&address).map(|open| open.daemon) else {
-            continue;
-        };
-        if differing_at(&service, address, daemon).is_none() {
+        let daemon = open.get(&address).map(|open| open.daemon);
+        if daemon.is_some_and(|daemon| differing_at(service, address, daemon).is_none()) {
             open.shift_remove(&address);
         }
     }
-    Ok(open.values().copied().collect(alloc)?)
+    Ok(())
 }
 
 // Returns whether labntpd's report has all lines of the commands file, if both are there.

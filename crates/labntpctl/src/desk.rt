@@ -165,6 +165,22 @@ impl<'a> Desk<'a> {
         }
     }
 
+    // Makes a file at `wanted`, and waits until labntpd has written the file at `path` anew.
+    fn wait_for_renewal(self, path: &str, wanted: &str) {
+        let before = node_at(self, path);
+        if new_for_owner(self.rt, wanted).is_err() {
+            return;
+        }
+        for _ in 0..MOST_LOOKS {
+            pause(10);
+            if node_at(self, path) != before {
+                break;
+            }
+        }
+        // labntpd leaves it where it writes for another reason.
+        let _ = fs::remove_file(self.rt, wanted);
+    }
+
     /// Reports why something is refused.
     pub fn refusal<D: Display + Drop>(self, why: D) -> Stop {
         let _ = writeln!(self.faults(), "{why}");
@@ -190,11 +206,8 @@ impl<'a> Desk<'a> {
 
     /// Reads the regular file at a path, of at most `most` octets.
     pub fn octets(self, path: &str, most: u32) -> Result<Vec<u8>, Stop> {
-        self.judged(
-            path,
-            most,
-            read_regular_file(self.rt, self.alloc(), path, most),
-        )
+        let read = read_regular_file(self.rt, self.alloc(), path, most);
+        self.judged(path, most, read)
     }
 
     // Returns what was read of the file at a path, once it has at most `most` octets.
@@ -206,13 +219,8 @@ impl<'a> Desk<'a> {
         Ok(octets)
     }
 
-    /// Reads the text file at a path, of at most `most` octets.
-    pub fn text(self, path: &str, most: u32) -> Result<String, Stop> {
-        self.text_of(path, self.octets(path, most)?)
-    }
-
-    // Returns the text that the octets of the file at a path are.
-    fn text_of(self, path: &str, octets: Vec<u8>) -> Result<String, Stop> {
+    /// Returns the text that the octets of the file at a path are.
+    pub fn text(self, path: &str, octets: Vec<u8>) -> Result<String, Stop> {
         String::from_utf8(octets).map_err(|_| self.refusal_at(path, "this is no UTF-8"))
     }
 }
@@ -280,7 +288,7 @@ impl<'a> Clerk<'a> {
         let (desk, path, most) = (self.desk, path.as_str(), MOST_REPORTED_OCTETS);
         match read_shared_file(desk.rt, desk.alloc(), path, most) {
             Err(error) if error.kind() == ErrorKind::NotFound => Ok(None),
-            read => Ok(Some(desk.text_of(path, desk.judged(path, most, read)?)?)),
+            read => Ok(Some(desk.text(path, desk.judged(path, most, read)?)?)),
         }
     }
 
@@ -297,19 +305,8 @@ impl<'a> Clerk<'a> {
             let _ = writeln!(desk.faults(), "warning: {path}: {age} seconds old: {why}");
             return Ok(());
         }
-        let before = node_at(desk, path);
         let wanted = format!(in desk.alloc(); "{path}.wanted")?;
-        if new_for_owner(desk.rt, wanted.as_str()).is_err() {
-            return Ok(());
-        }
-        for _ in 0..MOST_LOOKS {
-            pause(10);
-            if node_at(desk, path) != before {
-                break;
-            }
-        }
-        // labntpd leaves it where it writes for another reason.
-        let _ = fs::remove_file(desk.rt, wanted.as_str());
+        desk.wait_for_renewal(path, wanted.as_str());
         Ok(())
     }
 

@@ -1,3 +1,4 @@
 mod Adding
 mod Reports
 mod LogLines
+mod Lines

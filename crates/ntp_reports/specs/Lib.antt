@@ -1,5 +1,6 @@
 pub mod Kinds
 pub mod Counted
+pub mod Statistics
 pub mod AnswerText
 pub mod Logging
 pub mod Allowing

@@ -1,9 +1,12 @@
-//! The kinds that are told, each with its word.
+//! How often answers and lines of commands of each kind were counted, with the labels of the statistics.
+ghost use Rattle.std.specs.Prelude.{◌≡◌, map};
+ghost use Rattle.ntp_reports.specs.Statistics.{answers, commands};
 
+use crate::counts::Counts;
 use crate::kind::Kind;
 
-/// A kind that is told, what stands before its word in the labels of the statistics, and the word.
-pub(crate) type CountedKind = (Kind, &'static str, &'static str);
+/// A sample with a label: what stands before the word in the label, the word, and a number.
+pub(crate) type Labelled<'a> = (&'static str, &'a str, u64);
 
 /// The label before the word of an answer.
 const ANSWER: &str = "answer";
@@ -17,37 +20,55 @@ const SILENT: &str = r#"answer="silent",reason"#;
 /// The labels before the word of the reason of a refusal.
 const REFUSED: &str = r#"answer="refused",reason"#;
 
-/// The answers to datagrams.
-pub(crate) const ANSWERS: [CountedKind; 17] = [
-    (Kind::Basic, MODE, "basic"),
-    (Kind::Interleaved, MODE, "interleaved"),
-    (Kind::Rate, ANSWER, "rate"),
-    (Kind::Deny, ANSWER, "deny"),
-    (Kind::Nak, ANSWER, "nak"),
-    (Kind::Unregistered, SILENT, "unregistered"),
-    (Kind::Short, SILENT, "short"),
-    (Kind::Long, SILENT, "long"),
-    (Kind::FieldShort, SILENT, "field-short"),
-    (Kind::FieldUnaligned, SILENT, "field-unaligned"),
-    (Kind::FieldPastEnd, SILENT, "field-past-end"),
-    (Kind::Rest, SILENT, "rest"),
-    (Kind::Version, SILENT, "version"),
-    (Kind::Mode, SILENT, "mode"),
-    (Kind::Bare, SILENT, "bare"),
-    (Kind::Muted, SILENT, "muted"),
-    (Kind::OverBudget, SILENT, "over-budget"),
-];
+/// Returns how often each answer was given to datagrams.
+#[tactic(auto, unfolding(crate::specs::Statistics::answers))]
+pub(crate) fn answers(counts: &Counts) -> [Labelled<'static>; 17]
+    ensures { map (λ s. (s.0.now, s.1.now, s.2)) result ≡ answers counts.now }
+{
+    [
+        (MODE, "basic", counts.count(Kind::Basic)),
+        (MODE, "interleaved", counts.count(Kind::Interleaved)),
+        (ANSWER, "rate", counts.count(Kind::Rate)),
+        (ANSWER, "deny", counts.count(Kind::Deny)),
+        (ANSWER, "nak", counts.count(Kind::Nak)),
+        (SILENT, "unregistered", counts.count(Kind::Unregistered)),
+        (SILENT, "short", counts.count(Kind::Short)),
+        (SILENT, "long", counts.count(Kind::Long)),
+        (SILENT, "field-short", counts.count(Kind::FieldShort)),
+        (
+            SILENT,
+            "field-unaligned",
+            counts.count(Kind::FieldUnaligned),
+        ),
+        (SILENT, "field-past-end", counts.count(Kind::FieldPastEnd)),
+        (SILENT, "rest", counts.count(Kind::Rest)),
+        (SILENT, "version", counts.count(Kind::Version)),
+        (SILENT, "mode", counts.count(Kind::Mode)),
+        (SILENT, "bare", counts.count(Kind::Bare)),
+        (SILENT, "muted", counts.count(Kind::Muted)),
+        (SILENT, "over-budget", counts.count(Kind::OverBudget)),
+    ]
+}
 
-/// What became of lines of commands.
-pub(crate) const COMMANDS: [CountedKind; 10] = [
-    (Kind::Done, ANSWER, "done"),
-    (Kind::AlreadyEnrolled, REFUSED, "already-enrolled"),
-    (Kind::KeyTaken, REFUSED, "key-taken"),
-    (Kind::NoMemory, REFUSED, "no-memory"),
-    (Kind::NotEnrolled, REFUSED, "not-enrolled"),
-    (Kind::SameNumber, REFUSED, "same-number"),
-    (Kind::RoomFull, REFUSED, "room-full"),
-    (Kind::OnlyKey, REFUSED, "only-key"),
-    (Kind::NotHeld, REFUSED, "not-held"),
-    (Kind::Faulty, ANSWER, "faulty"),
-];
+/// Returns how often each outcome came of lines of commands.
+#[tactic(auto, unfolding(crate::specs::Statistics::commands))]
+pub(crate) fn commands(counts: &Counts) -> [Labelled<'static>; 10]
+    ensures { map (λ s. (s.0.now, s.1.now, s.2)) result ≡ commands counts.now }
+{
+    [
+        (ANSWER, "done", counts.count(Kind::Done)),
+        (
+            REFUSED,
+            "already-enrolled",
+            counts.count(Kind::AlreadyEnrolled),
+        ),
+        (REFUSED, "key-taken", counts.count(Kind::KeyTaken)),
+        (REFUSED, "no-memory", counts.count(Kind::NoMemory)),
+        (REFUSED, "not-enrolled", counts.count(Kind::NotEnrolled)),
+        (REFUSED, "same-number", counts.count(Kind::SameNumber)),
+        (REFUSED, "room-full", counts.count(Kind::RoomFull)),
+        (REFUSED, "only-key", counts.count(Kind::OnlyKey)),
+        (REFUSED, "not-held", counts.count(Kind::NotHeld)),
+        (ANSWER, "faulty", counts.count(Kind::Faulty)),
+    ]
+}

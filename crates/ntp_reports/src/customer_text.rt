@@ -1,9 +1,10 @@
 //! What is written of a customer: a line of JSON.
+ghost use Rattle.std.specs.Prelude.{◌≡◌, codes, option_map, if◌then◌else◌};
+ghost use Rattle.ntp_customer.specs.Customer.{enrolment_at, is_enrolled};
 
-use crate::counted_kinds::ANSWERS;
+use crate::counted_kinds::answers;
 use crate::counts::Counts;
 use crate::customer_report::CustomerReport;
-use crate::kind::Kind;
 use ntp_mac::Algorithm;
 use ntp_packet::Moment;
 use ntp_service::{Address, Customer};
@@ -12,6 +13,9 @@ use std::alloc::{AllocError, Allocator, Global};
 
 /// The seconds from 1900-01-01 to 1970-01-01 (RFC 5905, 6).
 const UNIX_EPOCH: u64 = 2_208_988_800;
+
+/// The word of an answer to an address that was never enrolled.
+const UNREGISTERED: &str = "unregistered";
 
 /// How many nanoseconds a second has.
 const SECOND_NANOS: u64 = 1_000_000_000;
@@ -47,10 +51,10 @@ impl Described for AnswerCounts {}
 impl Serialize for AnswerCounts {
     fn serialize<S: Serializer>(&self, out: &mut S) -> Result<(), S::Error> {
         out.begin_map(None)?;
-        for (kind, _, word) in &ANSWERS {
-            if *kind != Kind::Unregistered {
+        for (_, word, count) in &answers(&self.counts) {
+            if *word != UNREGISTERED {
                 out.key(word)?;
-                out.u64(self.counts.count(*kind))?;
+                out.u64(*count)?;
             }
         }
         out.end_map()
@@ -71,11 +75,34 @@ pub fn customer_line<A: Allocator + Copy>(
 ) -> Result<Vec<u8>, AllocError> {
     let Address([a, b, c, d]) = address;
     let address = format!(in alloc; "{a}.{b}.{c}.{d}")?;
+    let keys = key_lines(alloc, customer, report)?;
+    let line = line_with(address.as_str(), keys, customer, report);
+    let Ok(mut octets) = serde_json::to_vec(alloc, &line) else {
+        return Err(AllocError);
+    };
+    octets.push(b'\n')?;
+    Ok(octets)
+}
+
+// What is written of a customer with this address and these keys.
+fn line_with<'a, A: Allocator + Copy>(
+    address: &'a str,
+    keys: Vec<KeyLine>,
+    customer: &Customer<A>,
+    report: &CustomerReport,
+) -> CustomerLine<'a>
+    ensures address { result.address.now ≡ address.now }
+    ensures state { result.state.now ≡ (if is_enrolled customer.now then codes "enrolled" else codes "revoked") }
+    ensures keys { result.keys ≡ keys }
+    ensures budget { result.budget ≡ option_map (λ e. e.budget) (enrolment_at customer.now) }
+    ensures line { result.line ≡ report.now.line }
+    ensures answers { result.answers.counts ≡ report.now.counts }
+{
     let is_enrolled = customer.is_enrolled();
-    let line = CustomerLine {
-        address: address.as_str(),
+    CustomerLine {
+        address,
         state: if is_enrolled { "enrolled" } else { "revoked" },
-        keys: key_lines(alloc, customer, report)?,
+        keys,
         budget: if is_enrolled {
             Some(customer.budget())
         } else {
@@ -85,12 +112,7 @@ pub fn customer_line<A: Allocator + Copy>(
         answers: AnswerCounts {
             counts: *report.counts(),
         },
-    };
-    let Ok(mut octets) = serde_json::to_vec(alloc, &line) else {
-        return Err(AllocError);
-    };
-    octets.push(b'\n')?;
-    Ok(octets)
+    }
 }
 
 // What is written of the keys of a customer, the older one first.

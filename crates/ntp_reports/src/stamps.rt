@@ -45,16 +45,5 @@ fn stamp_at(octets: &[u8], at: usize) -> Stamp
     requires { at + 8 ≤ length octets.now }
     ensures { result ≡ stamp_of (take 8 (drop at octets.now)) }
 {
-    Stamp(u64::from_be_bytes(eight_at(octets, at)))
-}
-
-// The eight octets from a place on.
-fn eight_at(octets: &[u8], at: usize) -> [u8; 8]
-    requires { at + 8 ≤ length octets.now }
-    ensures { result ≡ take 8 (drop at octets.now) }
-{
-    let part = &octets[at..];
-    [
-        part[0], part[1], part[2], part[3], part[4], part[5], part[6], part[7],
-    ]
+    Stamp(u64::from_be_bytes(*octets[at..].first_chunk().unwrap()))
 }

@@ -1,6 +1,10 @@
 //! Statistics in the text form of Prometheus.
+ghost use Rattle.std.specs.Prelude.{◌≡◌, ◌++◌, OnOk, map, flat_map};
+ghost use Rattle.std.specs.Io.KnownBytes.{Appends};
+ghost use Rattle.ntp_reports.specs.Statistics.{seconds_text, sample, labelled, belief_word, beliefs, files_ok};
+ghost use Rattle.ntp_reports.specs.Statistics.{samples_text, metric_text, short_nanos, rows, HaveRows, WritesStatistics};
 
-use crate::counted_kinds::{ANSWERS, COMMANDS, CountedKind};
+use crate::counted_kinds::{Labelled, answers, commands};
 use crate::counts::Counts;
 use crate::kind::Kind;
 use ntp_client::Doubt;
@@ -38,7 +42,9 @@ const BELIEFS: [Belief; 9] = [
 
 impl Belief {
     /// Its word in the statistics and the log.
-    pub fn word(self) -> &'static str {
+    pub fn word(self) -> &'static str
+        ensures { result.now ≡ belief_word self }
+    {
         match self {
             Belief::Believed => "believed",
             Belief::Fixed => "fixed",
@@ -139,14 +145,15 @@ const COUNTER: &str = "counter";
 // The type of one that comes and goes.
 const GAUGE: &str = "gauge";
 
-// What a metric has behind its name. A number or a time that there is not is `NaN`.
+// What a metric has behind its name. A time that there is not is `NaN`.
 #[derive(Clone, Copy)]
 enum Samples<'a> {
-    Number(Option<u64>),
+    Number(u64),
     // In nanoseconds.
     Seconds(Option<u64>),
     SignedSeconds(Option<i64>),
-    Counts(&'static [CountedKind]),
+    Answers,
+    Commands,
     Belief(Belief),
     Files(FileGauges),
     Version(&'a str),
@@ -163,11 +170,11 @@ struct Metric<'a> {
 
 // Metrics: of each its type, its name, its samples and its help.
 macro_rules! metrics {
-    ($($sort:ident $name:literal = $samples:ident($value:expr), $help:literal;)*) => {
+    ($($sort:ident $name:literal = $samples:ident $(($value:expr))?, $help:literal;)*) => {
         [$(Metric {
             sort: $sort,
             name: $name,
-            samples: Samples::$samples($value),
+            samples: Samples::$samples $(($value))?,
             help: $help,
         }),*]
     };
@@ -184,74 +191,65 @@ pub fn write_statistics<W: Write>(
     out: &mut W,
     counts: &Counts,
     gauges: &Gauges<'_>,
-) -> io::Result<()> {
-    for metric in datagram_metrics(counts, gauges) {
-        write_metric(out, counts, &metric)?;
-    }
-    for metric in command_metrics(gauges) {
-        write_metric(out, counts, &metric)?;
-    }
-    for metric in clock_metrics(&gauges.clock) {
-        write_metric(out, counts, &metric)?;
-    }
-    for metric in program_metrics(gauges) {
-        write_metric(out, counts, &metric)?;
+) -> io::Result<()>
+    ensures { OnOk result (WritesStatistics counts.now gauges.now (W.contents out.old) (W.contents out.new)) }
+{
+    write_metrics(out, counts, &metrics(counts, gauges))
+}
+
+// Writes metrics, one behind another.
+fn write_metrics<W: Write>(out: &mut W, counts: &Counts, metrics: &[Metric<'_>]) -> io::Result<()>
+    ensures { OnOk result (Appends (W.contents out.old) (W.contents out.new) (flat_map (metric_text counts.now) metrics.now)) }
+{
+    for metric in metrics {
+        write_metric(out, counts, metric)?;
     }
     Ok(())
 }
 
-// What is told of datagrams, of the socket and of its queue.
-fn datagram_metrics(counts: &Counts, gauges: &Gauges<'_>) -> [Metric<'static>; 10] {
+// The metrics, in the order of the file.
+fn metrics<'a>(counts: &Counts, gauges: &Gauges<'a>) -> [Metric<'a>; 32]
+    ensures { HaveRows (rows counts.now gauges.now) result }
+{
+    let clock = &gauges.clock;
     metrics! {
-        COUNTER "labntp_answers_total" = Counts(&ANSWERS),
+        COUNTER "labntp_answers_total" = Answers,
             "Answers to datagrams.";
-        COUNTER "labntp_receive_failures_total" = Number(Some(counts.count(Kind::NothingReceived))),
+        COUNTER "labntp_receive_failures_total" = Number(counts.count(Kind::NothingReceived)),
             "Calls that received no datagram.";
-        COUNTER "labntp_send_failures_total" = Number(Some(counts.count(Kind::NotSent))),
+        COUNTER "labntp_send_failures_total" = Number(counts.count(Kind::NotSent)),
             "Replies that could not be sent.";
-        COUNTER "labntp_stale_total" = Number(Some(gauges.stale)),
+        COUNTER "labntp_stale_total" = Number(gauges.stale),
             "Datagrams that were dropped, since they may have waited for too long.";
-        COUNTER "labntp_kernel_drops_total" = Number(Some(gauges.kernel_drops)),
+        COUNTER "labntp_kernel_drops_total" = Number(gauges.kernel_drops),
             "Datagrams that the kernel dropped for want of room.";
-        COUNTER "labntp_departures_noted_total" = Number(Some(counts.count(Kind::Noted))),
+        COUNTER "labntp_departures_noted_total" = Number(counts.count(Kind::Noted)),
             "Replies whose departure was noted.";
-        GAUGE "labntp_receive_buffer_octets" = Number(Some(gauges.receive_buffer)),
+        GAUGE "labntp_receive_buffer_octets" = Number(gauges.receive_buffer),
             "The socket's receive buffer, as the kernel counts.";
         GAUGE "labntp_queue_wait_seconds" = Seconds(gauges.queue_wait),
             "How long a datagram can have waited at most.";
-        COUNTER "labntp_send_would_wait_total" = Number(Some(gauges.send_would_wait)),
+        COUNTER "labntp_send_would_wait_total" = Number(gauges.send_would_wait),
             "Replies that were not sent, since the socket would have waited.";
-        COUNTER "labntp_sweeps_total" = Number(Some(gauges.sweeps)),
+        COUNTER "labntp_sweeps_total" = Number(gauges.sweeps),
             "Times that the queue was swept.";
-    }
-}
-
-// What is told of commands and customers.
-fn command_metrics(gauges: &Gauges<'_>) -> [Metric<'static>; 5] {
-    metrics! {
-        COUNTER "labntp_commands_total" = Counts(&COMMANDS),
+        COUNTER "labntp_commands_total" = Commands,
             "Lines of commands.";
-        GAUGE "labntp_commands_lines" = Number(Some(gauges.commands_lines)),
+        GAUGE "labntp_commands_lines" = Number(gauges.commands_lines),
             "Lines of the commands file that are applied.";
-        GAUGE "labntp_commands_octets" = Number(Some(gauges.commands_octets)),
+        GAUGE "labntp_commands_octets" = Number(gauges.commands_octets),
             "Octets of these lines.";
-        GAUGE "labntp_commands_changed" = Number(Some(u64::from(gauges.commands_changed))),
+        GAUGE "labntp_commands_changed" = Number(u64::from(gauges.commands_changed)),
             "Whether the commands file is no longer the one that was read: no line is carried out until a restart.";
-        GAUGE "labntp_customers" = Number(Some(gauges.customers)),
+        GAUGE "labntp_customers" = Number(gauges.customers),
             "Customers that are enrolled.";
-    }
-}
-
-// What is told of the clock.
-fn clock_metrics(clock: &ClockGauges) -> [Metric<'static>; 12] {
-    metrics! {
-        GAUGE "labntp_clock_synchronised" = Number(Some(u64::from(clock.is_synchronised))),
+        GAUGE "labntp_clock_synchronised" = Number(u64::from(clock.is_synchronised)),
             "Whether replies say that the clock is synchronised.";
         GAUGE "labntp_clock_age_seconds" = Seconds(clock.age),
             "How old what is known of the clock is.";
-        GAUGE "labntp_clock_stratum" = Number(Some(u64::from(clock.stratum))),
+        GAUGE "labntp_clock_stratum" = Number(u64::from(clock.stratum)),
             "The stratum that replies tell.";
-        GAUGE "labntp_clock_leap" = Number(Some(u64::from(clock.leap))),
+        GAUGE "labntp_clock_leap" = Number(u64::from(clock.leap)),
             "The leap indicator that replies tell.";
         GAUGE "labntp_clock_root_delay_seconds" = Seconds(Some(nanos_of(clock.root_delay))),
             "The root delay that replies tell.";
@@ -269,15 +267,9 @@ fn clock_metrics(clock: &ClockGauges) -> [Metric<'static>; 12] {
             "Up to which of these distances it is believed.";
         GAUGE "labntp_clock_believed" = Belief(clock.belief),
             "Whether the clock's daemon is believed, or why not.";
-    }
-}
-
-// What the program tells of itself.
-fn program_metrics<'a>(gauges: &Gauges<'a>) -> [Metric<'a>; 5] {
-    metrics! {
-        COUNTER "labntp_log_lines_dropped_total" = Number(Some(gauges.log_lines_dropped)),
+        COUNTER "labntp_log_lines_dropped_total" = Number(gauges.log_lines_dropped),
             "Lines of the log that were not written.";
-        COUNTER "labntp_files_unreadable_total" = Number(Some(gauges.files_unreadable)),
+        COUNTER "labntp_files_unreadable_total" = Number(gauges.files_unreadable),
             "Times that a file began to fail, at reading or writing.";
         GAUGE "labntp_file_ok" = Files(gauges.files),
             "Whether a file can be read or written.";
@@ -288,8 +280,10 @@ fn program_metrics<'a>(gauges: &Gauges<'a>) -> [Metric<'a>; 5] {
     }
 }
 
-// A metric with its help, its type and its samples.
-fn write_metric<W: Write>(out: &mut W, counts: &Counts, metric: &Metric<'_>) -> io::Result<()> {
+// Writes a metric: its help, its type and its samples.
+fn write_metric<W: Write>(out: &mut W, counts: &Counts, metric: &Metric<'_>) -> io::Result<()>
+    ensures { OnOk result (Appends (W.contents out.old) (W.contents out.new) (metric_text counts.now metric.now)) }
+{
     let Metric {
         sort,
         name,
@@ -297,69 +291,78 @@ fn write_metric<W: Write>(out: &mut W, counts: &Counts, metric: &Metric<'_>) -> 
         help,
     } = *metric;
     write!(out, "# HELP {name} {help}\n# TYPE {name} {sort}\n")?;
+    write_samples(out, counts, name, samples)
+}
+
+// Writes the samples of a metric.
+fn write_samples<W: Write>(
+    out: &mut W,
+    counts: &Counts,
+    name: &str,
+    samples: Samples<'_>,
+) -> io::Result<()>
+    ensures { OnOk result (Appends (W.contents out.old) (W.contents out.new) (samples_text counts.now name.now samples.entry)) }
+{
     match samples {
-        Samples::Number(Some(number)) => writeln!(out, "{name} {number}"),
+        Samples::Number(number) => writeln!(out, "{name} {number}"),
         Samples::Seconds(Some(nanos)) => write_seconds(out, name, "", nanos),
-        Samples::SignedSeconds(Some(nanos)) => {
-            let sign = if nanos < 0 { "-" } else { "" };
-            write_seconds(out, name, sign, nanos.unsigned_abs())
+        Samples::SignedSeconds(Some(nanos)) if nanos < 0 => {
+            write_seconds(out, name, "-", nanos.unsigned_abs())
         }
-        Samples::Number(None) | Samples::Seconds(None) | Samples::SignedSeconds(None) => {
-            writeln!(out, "{name} NaN")
-        }
-        Samples::Counts(kinds) => write_counts(out, name, counts, kinds),
-        Samples::Belief(belief) => write_belief(out, name, belief),
-        Samples::Files(files) => write_files(out, name, files),
-        Samples::Version(version) => writeln!(out, "{name}{{version=\"{version}\"}} 1"),
+        Samples::SignedSeconds(Some(nanos)) => write_seconds(out, name, "", nanos.unsigned_abs()),
+        Samples::Seconds(None) | Samples::SignedSeconds(None) => writeln!(out, "{name} NaN"),
+        Samples::Answers => write_labelled(out, name, &answers(counts)),
+        Samples::Commands => write_labelled(out, name, &commands(counts)),
+        Samples::Belief(belief) => write_labelled(out, name, &beliefs(belief)),
+        Samples::Files(files) => write_labelled(out, name, &files_ok(files)),
+        Samples::Version(version) => write_labelled(out, name, &[("version", version, 1)]),
     }
 }
 
-// A time in seconds with nine decimals.
-fn write_seconds<W: Write>(out: &mut W, name: &str, sign: &str, nanos: u64) -> io::Result<()> {
+// Writes a sample of a time in seconds with nine decimals.
+fn write_seconds<W: Write>(out: &mut W, name: &str, sign: &str, nanos: u64) -> io::Result<()>
+    ensures { OnOk result (Appends (W.contents out.old) (W.contents out.new) (sample name.now (sign.now ++ seconds_text nanos))) }
+{
     let whole = nanos / SECOND_NANOS;
     let rest = nanos % SECOND_NANOS;
     writeln!(out, "{name} {sign}{whole}.{rest:09}")
 }
 
-// How often each of these kinds was counted.
-fn write_counts<W: Write>(
-    out: &mut W,
-    name: &str,
-    counts: &Counts,
-    kinds: &[CountedKind],
-) -> io::Result<()> {
-    for (kind, label, word) in kinds {
-        let count = counts.count(*kind);
-        writeln!(out, "{name}{{{label}=\"{word}\"}} {count}")?;
+// Writes samples with labels.
+fn write_labelled<W: Write>(out: &mut W, name: &str, samples: &[Labelled<'_>]) -> io::Result<()>
+    ensures { OnOk result (Appends (W.contents out.old) (W.contents out.new)
+        (flat_map (labelled name.now) (map (λ s. (s.0.now, s.1.now, s.2)) samples.now))) }
+{
+    for (key, word, number) in samples {
+        writeln!(out, "{name}{{{key}=\"{word}\"}} {number}")?;
     }
     Ok(())
 }
 
-// Whether the daemon is believed, and why not: of all reasons 1 stands at the one that there is.
-fn write_belief<W: Write>(out: &mut W, name: &str, belief: Belief) -> io::Result<()> {
-    for each in &BELIEFS {
-        let is_so = u8::from(belief == *each);
-        let word = each.word();
-        writeln!(out, "{name}{{why=\"{word}\"}} {is_so}")?;
-    }
-    Ok(())
+// Returns all beliefs, with 1 at the one that there is.
+#[tactic(auto, unfolding(crate::specs::Statistics::beliefs))]
+fn beliefs(belief: Belief) -> [Labelled<'static>; 9]
+    ensures { map (λ s. (s.0.now, s.1.now, s.2)) result ≡ beliefs belief }
+{
+    BELIEFS.map(|each| ("why", each.word(), u64::from(each.word() == belief.word())))
 }
 
-// Which files are well.
-fn write_files<W: Write>(out: &mut W, name: &str, files: FileGauges) -> io::Result<()> {
-    for (file, is_well) in [
-        ("commands", files.commands),
-        ("answers", files.answers),
-        ("statistics", files.statistics),
-        ("customers", files.customers),
-    ] {
-        let is_well = u8::from(is_well);
-        writeln!(out, "{name}{{file=\"{file}\"}} {is_well}")?;
-    }
-    Ok(())
+// Returns the files, with 1 at those that are well.
+#[tactic(auto, unfolding(crate::specs::Statistics::files_ok))]
+fn files_ok(files: FileGauges) -> [Labelled<'static>; 4]
+    ensures { map (λ s. (s.0.now, s.1.now, s.2)) result ≡ files_ok files }
+{
+    [
+        ("file", "commands", u64::from(files.commands)),
+        ("file", "answers", u64::from(files.answers)),
+        ("file", "statistics", u64::from(files.statistics)),
+        ("file", "customers", u64::from(files.customers)),
+    ]
 }
 
 // A time in the short format (2^16 units are a second), in nanoseconds, rounded down.
-fn nanos_of(time: Short) -> u64 {
+fn nanos_of(time: Short) -> u64
+    ensures { result ≡ short_nanos time }
+{
     u64::from(time.0) * SECOND_NANOS / 65_536
 }

@@ -1,6 +1,6 @@
 //! Customers are served over a socket.
-ghost use Rattle.std.specs.Prelude.{◌≡◌};
-ghost use Rattle.ntp_port.specs.Port.{failed_calls};
+ghost use Rattle.std.specs.Prelude.{◌≡◌, ◌-◌, ◌<◌, ◌^◌};
+ghost use Rattle.ntp_port.specs.{declared.serving.Served.Served, Port.failed_calls, Sending.counted};
 
 use crate::whole_commands::WholeCommands;
 use labntp_jobs::Serving;
@@ -10,7 +10,8 @@ use ntp_admin::{
 };
 use ntp_host::{SystemWire, UdpPort, read_regular_file};
 use ntp_port::FixedReference;
-use ntp_server::{NoReports, Server, Totals};
+use ntp_server::{NoReports, Server};
+use ntp_service::{Command, LineOutcome, Observer, TurnOutcome};
 use std::alloc::Global;
 use std::fs::Files;
 use std::io::{self, ErrorKind, Write};
@@ -46,12 +47,38 @@ pub fn serve_status<R: Net + Files + Clock, W: Write, F: Write>(
         return write_status(faults);
     }
     let mut server = server(rt, socket, serving.commands, loaded, &mut *faults);
-    let Totals { arrivals, sent, .. } = server.serve(u64::from(serving.turns), &mut NoReports);
+    server.serve(u64::from(serving.turns), &mut NoReports);
+    let (arrivals, sent) = (server.observer.arrivals, server.observer.sent);
     drop(server);
     if writeln!(out, "arrivals {arrivals} sent {sent}").is_err() {
         return write_status(faults);
     }
     Status::Done
+}
+
+// Writes what is wrong with lines of commands, and counts the datagrams that came and the replies that were sent.
+#[derive(Drop)]
+struct Heard<F> {
+    faults: FaultLines<F>,
+    arrivals: u64,
+    sent: u64,
+}
+
+impl<F: Write> Observer for Heard<F> {
+    fn line(&mut self, number: u64, command: Option<&Command>, outcome: LineOutcome) {
+        self.faults.line(number, command, outcome);
+    }
+
+    fn turn(&mut self, outcome: &TurnOutcome)
+        ensures { (before : Served) → before.arrivals ≡ self.old.arrivals → before.sent ≡ self.old.sent
+            → self.old.arrivals < 2 ^ 64 - 1 → self.old.sent < 2 ^ 64 - 1
+            → (self.new.arrivals ≡ (counted outcome.now before).arrivals) × (self.new.sent ≡ (counted outcome.now before).sent) }
+    {
+        if let TurnOutcome::Answered { sending, .. } = outcome {
+            self.arrivals = self.arrivals.saturating_add(1);
+            self.sent = self.sent.saturating_add(u64::from(sending.was_sent()));
+        }
+    }
 }
 
 // The reference state and the customers of the register file at a path.
@@ -89,7 +116,7 @@ fn server<'a, R: Files + Clock, F: Write>(
     UdpPort<SystemWire<&'a R>>,
     WholeCommands<'a, R>,
     FixedReference,
-    FaultLines<&'a mut F>,
+    Heard<&'a mut F>,
     Global,
 >
     ensures { failed_calls result.port.counts ≡ 0 }
@@ -104,7 +131,11 @@ fn server<'a, R: Files + Clock, F: Write>(
         commands: WholeCommands::new(rt, commands),
         applied: 0,
         reference: FixedReference(reference),
-        observer: FaultLines::new(faults),
+        observer: Heard {
+            faults: FaultLines::new(faults),
+            arrivals: 0,
+            sent: 0,
+        },
         service,
     }
 }

@@ -13,7 +13,7 @@ use crate::observers::DaemonObserver;
 use crate::parts::{Daemon, DaemonPort, Host, Parts, StartupFacts};
 use ntp_port::EachMillisecond;
 use ntp_reports::Kind;
-use ntp_server::{Server, Totals};
+use ntp_server::Server;
 use ntp_service::Service;
 use std::fs::Files;
 use std::io::Write;
@@ -89,7 +89,7 @@ where
     /// port below `FreshPort` tells its turns, the rounds have these, but those whose datagrams were dropped and counted as
     /// stale, and what it sent is the replies; and so with the commands, as `EachMillisecond` asks for them, with the states of
     /// the clock and with the observer: each as far as it tells.
-    pub fn serve(&mut self, turns: u64) -> Totals
+    pub fn serve(&mut self, turns: u64)
         requires failures { failed_calls self.old.daemon.port.counts + turns < 2 ^ 64 }
         ensures serves { ServesRounds self.old.daemon self.new.daemon
             (record {
@@ -100,11 +100,11 @@ where
               tended = S.tended;
               heard = O.heard;
             })
-            (InTurn (λ _ _ _. Unit {0}) self.old.beside self.new.beside) false true turns result }
+            (InTurn (λ _ _ _. Unit {0}) self.old.beside self.new.beside) false true turns }
         // Behind the last turn it is known how many receives have failed, and how many stale datagrams were dropped.
         ensures receives { 0 < turns → self.new.beside.seen.failed ≡ count_at (O.counted self.new.daemon.observer) Kind.NothingReceived }
         ensures stale { 0 < turns → self.new.beside.seen.stale ≡ self.new.daemon.port.counts.dropped }
     {
-        self.daemon.serve(turns, &mut self.beside)
+        self.daemon.serve(turns, &mut self.beside);
     }
 }

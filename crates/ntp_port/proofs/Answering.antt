@@ -9,8 +9,7 @@ use Rattle.ntp_reply.specs.{Reference.ReferenceState, declared.answers.Answer.An
 use Rattle.ntp_service.specs.declared.event.Event.TheVariants as event
 use Rattle.ntp_service.specs.declared.outcome.Outcome.TheVariants as outcome
 use Rattle.ntp_service.proofs.PublicLaws.{Tells-nil, Tells-one, Tells-append}
-use Rattle.ntp_port.specs.{declared.sent.Sent.Sent, declared.port.PortCounts.PortCounts, declared.port.PortFault.PortFault}
-use Rattle.ntp_port.specs.Serving.{TurnMakes}
+use Rattle.ntp_port.specs.{declared.sent.Sent.Sent, declared.port.PortCounts.PortCounts, declared.port.PortFault.PortFault, Serving.TurnMakes}
 use Rattle.ntp_port.specs.Port.{IncomingValue, Readings, TurnValue, no_turn, Told, Arrives, Begins, ReceiveTells, NowTells, ReadClock, behind, received, counted_send}
 use Rattle.ntp_port.specs.Made.{Missed, Received, turn_of, arrival_of, sending_of, is_unsent}
 use Rattle.ntp_port.specs.Sending.{turn_with, IsInTurn, SendingMakes}

@@ -3,17 +3,14 @@ use Rattle.std.proofs.Common.{◌≡◌, ℕ, ◌+◌, ◌≤◌, Bool, true, fa
 use Rattle.std.proofs.lemmas.Grind.{flat_map-append}
 use Rattle.std.specs.Prelude.{Result, flat_map}
 use Rattle.ntp_service.specs.{Registry.Registry, declared.observation.Arrival.Arrival, declared.observation.Sending.Sending}
-use Rattle.ntp_service.specs.declared.observation.TurnOutcome.{TurnOutcome}
-use Rattle.ntp_service.specs.{Headline.Tells, Sending.was_sent, Sending.was_noted}
+use Rattle.ntp_service.specs.{declared.observation.TurnOutcome.TurnOutcome, Headline.Tells, Sending.was_sent, Sending.was_noted}
 use Rattle.ntp_reply.specs.{Reference.ReferenceState, declared.answers.Answer.Answer}
 use Rattle.ntp_reply.specs.declared.answers.Answer.TheVariants as answer
 use Rattle.ntp_service.proofs.PublicLaws.{Tells-nil, Tells-append}
 use Rattle.ntp_port.specs.{declared.port.PortCounts.PortCounts, declared.port.PortFault.PortFault, declared.serving.Served.Served}
-use Rattle.ntp_port.specs.{Serving.ServeMakes, Sending.counted}
-use Rattle.ntp_port.specs.Port.{IncomingValue, Readings, Told}
+use Rattle.ntp_port.specs.{Serving.ServeMakes, Sending.counted, Port.IncomingValue, Port.Readings, Port.Told}
 use Rattle.ntp_port.specs.Made.{Made, Received, happened_in_turn, sent_in, has_arrived, has_departed, sending_of, turn_outcome}
-use Rattle.ntp_port.proofs.Taking.{TakesTurn}
-use Rattle.ntp_port.proofs.ManyTurns.{sent_of, if_so, count-more, Makes-nil, Makes-append}
+use Rattle.ntp_port.proofs.{Taking.TakesTurn, ManyTurns.sent_of, ManyTurns.if_so, ManyTurns.count-more, ManyTurns.Makes-nil, ManyTurns.Makes-append}
 
 pub at-most-one : (b : Bool) → if_so b ≤ 1
 at-most-one b = grind arith
@@ -40,14 +37,6 @@ sends-one d clock true (answer.Time reply saved) false = record { sent = refl; n
 sends-one d clock false (answer.Silent why) noted = record { sent = refl; noted = refl }
 sends-one d clock sends a noted = record { sent = refl; noted = refl }
 
-pub sent-one : (d : IncomingValue) (clock : Readings) (sends : Bool) (a : Answer) (noted : Bool)
-    → if_so (was_sent (sending_of a sends noted)) ≡ length (sent_in (Received d clock sends a noted))
-sent-one d clock sends a noted = (sends-one d clock sends a noted).sent
-
-pub noted-one : (d : IncomingValue) (clock : Readings) (sends : Bool) (a : Answer) (noted : Bool)
-    → was_noted (sending_of a sends noted) ≡ has_departed (Received d clock sends a noted)
-noted-one d clock sends a noted = (sends-one d clock sends a noted).noted
-
 -- what a turn counts
 record Counted (m : Made) (c d : Served) : Type 0 where
   arrivals : d.arrivals ≡ c.arrivals + if_so (has_arrived m)
@@ -55,7 +44,7 @@ record Counted (m : Made) (c d : Served) : Type 0 where
   departed : d.departed ≡ c.departed + if_so (has_departed m)
 
 counted-made : (m : Made) (c : Served) → Counted m c (counted (turn_outcome m) c)
-counted-made m c = grind (arith, sent-one, if_so, noted-one)
+counted-made m c = grind (arith, sends-one, if_so)
 
 sent-more : (made : List Made) (m : Made) → length (sent_of (made ++ m ∷ [])) ≡ length (sent_of made) + length (sent_in m)
 sent-more made m = grind (arith, flat_map-append, length-append, sent_of, append-nil)

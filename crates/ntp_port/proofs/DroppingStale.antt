@@ -4,8 +4,7 @@ use Rattle.ntp_service.specs.declared.observation.Arrival.{Arrival}
 use Rattle.ntp_port.specs.{declared.port.PortFault.PortFault, declared.queue_event.QueueEvent.QueueEvent}
 use Rattle.ntp_port.specs.{declared.queue_event.QueueEvent.TheVariants.Taken, declared.queue_watch.QueueWatch.QueueWatch}
 use Rattle.ntp_port.specs.{declared.fresh_port.Next.Next, declared.fresh_port.Next.TheVariants.Stale}
-use Rattle.ntp_port.specs.{Freshness.MayBeAnswered, Freshness.IsInOrder, Queue.TellsEvents}
-use Rattle.ntp_port.specs.Port.{Told, TellsOn, DropTells}
+use Rattle.ntp_port.specs.{Freshness.MayBeAnswered, Freshness.IsInOrder, Queue.TellsEvents, Port.Told, Port.TellsOn, Port.DropTells}
 use Rattle.ntp_port.specs.Watch.{Watches, Counts, IsWaiting, longest_of}
 use Rattle.ntp_port.specs.Fresh.{HandsOnTurn, Stands, InHand, Swept, AreStale, most_sweeps, counted_on, IsSeenFrom, PassesOn, Kept, PassesOnInTime}
 use Rattle.ntp_port.specs.Next.{ComesTo, drops_in, TakesNext, Drops}

@@ -3,14 +3,12 @@ use Rattle.std.proofs.Common.{◌≡◌, ℕ, ◌+◌, ◌/◌, ◌<◌, ◌≤�
 use Rattle.ntp_port.specs.{Port.Told, declared.queue_event.QueueEvent.QueueEvent}
 use Rattle.ntp_port.specs.declared.queue_event.QueueEvent.TheVariants.{Held, Looked}
 use Rattle.ntp_port.specs.{declared.queue_watch.QueueWatch.QueueWatch, Next.LooksAtQueue}
-use Rattle.ntp_port.specs.Freshness.{takes, WasLookedAt, WasWatched}
-use Rattle.ntp_port.specs.Queue.{TellsEvents}
+use Rattle.ntp_port.specs.{Freshness.takes, Freshness.WasLookedAt, Freshness.WasWatched, Queue.TellsEvents}
 use Rattle.ntp_port.specs.Watch.{Watches, Counts, IsWaiting, IsCounted, longest_of}
 use Rattle.ntp_port.specs.Fresh.{KeepsHistory, Stands, IsSeenFrom, Kept}
 use Rattle.ntp_port.proofs.Seeing.{IsSeenFrom-same, IsSeenFrom-more, seen-in_call}
 use Rattle.ntp_port.proofs.Watching.{looked-later, looked-by, kept-looked, kept-watched, watched-by}
-use Rattle.ntp_port.proofs.Keeping.{StandsFor-Held, StandsFor-Looked, StandsFor-next}
-use Rattle.ntp_port.proofs.Waiting.{quiet-append}
+use Rattle.ntp_port.proofs.{Keeping.StandsFor-Held, Keeping.StandsFor-Looked, Keeping.StandsFor-next, Waiting.quiet-append}
 
 -- a look that saw these events, or none
 Looks-saw : (a : Kept) (after : QueueWatch) (u : Option Told) (r : Option (List QueueEvent)) (events : List QueueEvent)

@@ -2,8 +2,7 @@
 use Rattle.std.proofs.Common.{◌≡◌, ℕ, ◌+◌, ◌≤◌, Bool, Option, None, Some, List, [], ◌∷◌, ◌++◌, length, filter, sym, ap, subst, ◌∙◌, append_assoc, append-nil, length-append, arith}
 use Rattle.std.specs.Prelude.{flat_map, Result, is_err, is_none, option_map, if◌then◌else◌}
 use Rattle.std.specs.Result.{result_ok}
-use Rattle.std.proofs.{lemmas.List.map-append, lemmas.List.drop-drop, lemmas.List.Elements.filter-append}
-use Rattle.std.proofs.lemmas.Grind.{flat_map-append}
+use Rattle.std.proofs.{lemmas.List.map-append, lemmas.List.drop-drop, lemmas.List.Elements.filter-append, lemmas.Grind.flat_map-append}
 use Rattle.ntp_port.specs.{declared.sent.Sent.Sent, declared.port.PortCounts.PortCounts, declared.port.PortFault.PortFault}
 use Rattle.ntp_service.specs.declared.observation.Arrival.{Arrival}
 use Rattle.ntp_port.specs.Port.{Told, TurnValue, failed_calls, counted_send, CountsReceive}

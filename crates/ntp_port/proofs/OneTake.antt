@@ -2,10 +2,8 @@
 use Rattle.std.proofs.Common.{◌≡◌, ℕ, max, List, ◌∷◌, ◌++◌, Option, Result, sym, subst, ◌∙◌, arith}
 use Rattle.ntp_service.specs.declared.observation.Arrival.{Arrival}
 use Rattle.ntp_port.specs.{declared.port.PortFault.PortFault, Port.Told, declared.queue_event.QueueEvent.QueueEvent}
-use Rattle.ntp_port.specs.{declared.queue_event.QueueEvent.TheVariants.Read, declared.fresh_port.Next.Next, Freshness.WasWatched}
-use Rattle.ntp_port.specs.Watch.{longest_of}
-use Rattle.ntp_port.specs.Queue.{ReadsClock, TellsEvents, seen_in_wait}
-use Rattle.ntp_port.specs.Fresh.{KeepsHistory, Stands, counted_on, Kept}
+use Rattle.ntp_port.specs.{declared.queue_event.QueueEvent.TheVariants.Read, declared.fresh_port.Next.Next, Freshness.WasWatched, Watch.longest_of}
+use Rattle.ntp_port.specs.{Queue.ReadsClock, Queue.TellsEvents, Queue.seen_in_wait, Fresh.KeepsHistory, Fresh.Stands, Fresh.counted_on, Fresh.Kept}
 use Rattle.ntp_port.specs.Next.{ComesTo, NextTells, drops_in, LooksOn, LooksAtQueue, TakesNext}
 use Rattle.ntp_port.proofs.{Seeing.seen-in_take, Keeping.StandsFor-Read}
 

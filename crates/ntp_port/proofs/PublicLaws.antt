@@ -14,14 +14,6 @@ pub use Rattle.ntp_port.proofs.Dropping.{Receives-after}
 pub use Rattle.ntp_port.proofs.Taking.{TakesTurn}
 -- what is received and answered makes a turn
 pub use Rattle.ntp_port.proofs.Taking.{takes-turn}
--- what turns send
-pub use Rattle.ntp_port.proofs.ManyTurns.{sent_of}
--- 1 where something is so, else 0
-pub use Rattle.ntp_port.proofs.ManyTurns.{if_so}
--- how many turns are such
-pub use Rattle.ntp_port.proofs.ManyTurns.{count_of}
--- with one turn more there is one such more, or not
-pub use Rattle.ntp_port.proofs.ManyTurns.{count-more}
 -- a port that stays as it is made no turns
 pub use Rattle.ntp_port.proofs.ManyTurns.{Makes-nil}
 -- a port that made turns twice made both
@@ -30,7 +22,3 @@ pub use Rattle.ntp_port.proofs.ManyTurns.{Makes-append}
 pub use Rattle.ntp_port.proofs.ManyTurns.{Makes-few}
 -- one thing is counted once at most
 pub use Rattle.ntp_port.proofs.Counting.{at-most-one}
--- a reply that was sent is counted as one
-pub use Rattle.ntp_port.proofs.Counting.{sent-one}
--- a departure that was noted is one that the turn has
-pub use Rattle.ntp_port.proofs.Counting.{noted-one}

@@ -1,19 +1,15 @@
 -- A turn behind those whose datagrams were dropped.
 use Rattle.std.proofs.Common.{inl, inr, ◌⊎◌, ◌≡◌, ℕ, zero, suc, Bool, true, false, Option, None, Some, Result, Ok, Err, List, [], ◌∷◌, ◌++◌, length, get_or, refl, sym, ap, subst, ◌∙◌, append-nil, length-append, arith}
-use Rattle.std.specs.Prelude.{IfErr, is_err, flat_map, option_map}
-use Rattle.std.specs.Result.{result_ok}
+use Rattle.std.specs.{Prelude.IfErr, Prelude.is_err, Prelude.flat_map, Prelude.option_map, Result.result_ok}
 use Rattle.std.proofs.lemmas.Grind.{flat_map-append}
-use Rattle.ntp_service.specs.{Registry.Registry, declared.observation.Arrival.Arrival}
-use Rattle.ntp_service.specs.declared.observation.TurnOutcome.{TurnOutcome}
+use Rattle.ntp_service.specs.{Registry.Registry, declared.observation.Arrival.Arrival, declared.observation.TurnOutcome.TurnOutcome}
 use Rattle.ntp_reply.specs.Reference.{ReferenceState}
 use Rattle.ntp_port.specs.{declared.port.PortCounts.PortCounts, declared.port.PortFault.PortFault, Serving.firsts}
-use Rattle.ntp_port.specs.declared.port.PortFault.TheVariants.{Receive}
-use Rattle.ntp_port.specs.Sending.{turn_with}
+use Rattle.ntp_port.specs.{declared.port.PortFault.TheVariants.Receive, Sending.turn_with}
 use Rattle.ntp_port.specs.Port.{IncomingValue, Readings, TurnValue, no_turn, Told, Arrives, Begins, ReceiveTells, DropTells, TellsOn, DropsTurns, CountsMore, CountsReceive, Receives}
 use Rattle.ntp_port.specs.Made.{Made, Missed, Received, turn_of, arrival_of}
 use Rattle.ntp_port.specs.Serving.{Follows, Step, InTurn, Skipped, GivenUp, begun_in, made_of, dropped_in, PassesOver, AreBegun, Makes, TurnMakes}
-use Rattle.ntp_port.proofs.ManyTurns.{Follows-nil, Follows-append, Makes-one}
-use Rattle.ntp_port.proofs.Dropping.{CountsMore-nil, CountsMore-append}
+use Rattle.ntp_port.proofs.{ManyTurns.Follows-nil, ManyTurns.Follows-append, ManyTurns.Makes-one, Dropping.CountsMore-nil, Dropping.CountsMore-append}
 
 -- ---- one that was dropped
 record DropsOne (t u : Option Told) : Type 0 where

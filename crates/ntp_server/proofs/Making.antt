@@ -4,7 +4,6 @@ use Rattle.std.specs.Prelude.{option_map, IsSome, IfSome, slice_get}
 use Rattle.std.specs.{Result.result_ok}
 use Rattle.std.proofs.lemmas.List.{append_assoc, map-append, length-map}
 use Rattle.std.proofs.{lemmas.List.Elements.filter-append, lemmas.List.Elements.filter_map-append, lemmas.Grind.flat_map-append}
-use Rattle.std.proofs.lemmas.List.Sums.{length-filter, count_by-le-length}
 use Rattle.ntp_packet.specs.declared.moment.Moment.{Moment}
 use Rattle.ntp_reply.specs.Reference.{ReferenceState}
 use Rattle.ntp_service.specs.{declared.observation.Arrival.Arrival, declared.observation.Observation.TheVariants.Turn}
@@ -13,12 +12,12 @@ use Rattle.ntp_service.specs.{InTurn.InTurn, Headline.Tells}
 use Rattle.ntp_service.proofs.PublicLaws.{InTurn-append, Tells-append}
 use Rattle.ntp_port.specs.{declared.port.PortCounts.PortCounts, declared.port.PortFault.PortFault, Serving.Makes}
 use Rattle.ntp_port.specs.Port.{failed_calls, counted_send, CountsMore}
-use Rattle.ntp_port.specs.Made.{Made, turn_of, arrival_of, happened_in_turn, sent_in, has_arrived, has_departed, is_unsent, turn_outcome}
-use Rattle.ntp_port.proofs.PublicLaws.{CountsMore-nil, CountsMore-append, TakesTurn, sent_of, count_of, if_so, count-more, Makes-nil, Makes-append, Makes-few, at-most-one, sent-one, noted-one}
+use Rattle.ntp_port.specs.Made.{Made, turn_of, arrival_of, happened_in_turn, is_unsent, turn_outcome}
+use Rattle.ntp_port.proofs.PublicLaws.{CountsMore-nil, CountsMore-append, TakesTurn, Makes-nil, Makes-append, Makes-few}
 use Rattle.ntp_admin.specs.CommandsFile.{most_line_octets, line_observations, happened_at_lines}
-use Rattle.ntp_server.specs.{declared.server.Server.Server, declared.server.Totals.Totals}
+use Rattle.ntp_server.specs.declared.server.Server.{Server}
 use Rattle.ntp_server.specs.Rounds.{Round, PartsTell, ServesRounds, turns_in, made_in, waits_in, receipt_in, asked_in}
-use Rattle.ntp_server.specs.Steps.{Looks, Orders, Starts, Waits, MakesTurn, totals_after}
+use Rattle.ntp_server.specs.Steps.{Looks, Orders, Starts, Waits, MakesTurn}
 use Rattle.ntp_server.proofs.Looking.{Orders-append}
 
 -- ---- a turn behind a wait and a look
@@ -35,7 +34,7 @@ pub Makes-turn : {P C R O A Q : Type 0} (t : PartsTell P C R O) (prompt may gave
     → TakesTurn A reference may received buffer (t.port p.port) (t.port s.port) (t.counts p.port) (t.counts r.port) (t.counts s.port) r.service
     s.service outcome
     → t.heard r.observer s.observer (Turn outcome) → Shows halfway later asked
-    → MakesTurn p s t (InTurn Shows earlier later) prompt may outcome
+    → MakesTurn p s t (InTurn Shows earlier later) prompt may
 Makes-turn t prompt may gave asked Shows earlier halfway later p q r s reference received buffer outcome applied commands w l receipt same asks port taken
     heard shown =
     let turn = taken.turn in
@@ -78,39 +77,13 @@ Makes-turn t prompt may gave asked Shows earlier halfway later p q r s reference
       reported = subst (λ xs. InTurn Shows earlier later xs) (sym (map-append asked_in w.rounds (round ∷ [])))
           (InTurn-append Shows _ _ earlier halfway later w.reported (later, subst (λ a. Shows halfway later a) right shown, refl));
       port = taken.port;
-      comes_to = turn.comes_to;
     }
-
--- ---- what a turn comes to, counted
-arrivals-made : (a : Totals) (m : Made) → (totals_after a (turn_outcome m)).arrivals ≡ a.arrivals + if_so (has_arrived m)
-arrivals-made a m = grind arith
-
-replies-made : (a : Totals) (m : Made) → (totals_after a (turn_outcome m)).sent ≡ a.sent + length (sent_in m)
-replies-made a m = grind (arith, sent-one)
-
-departures-made : (a : Totals) (m : Made) → (totals_after a (turn_outcome m)).departed ≡ a.departed + if_so (has_departed m)
-departures-made a m = grind (arith, if_so, noted-one)
-
--- there is at most one reply a turn
-few_sent : (ms : List Made) → length (sent_of ms) ≤ length ms
-few_sent [] = omega arith
-few_sent (m ∷ ms) =
-    omega (arith, few_sent ms, length-append (sent_in m) (sent_of ms), replies-made none m, one (turn_outcome m))
-  where
-    none : Totals
-    none = record { arrivals = 0; sent = 0; departed = 0 }
-
-    one : (o : TurnOutcome) → (totals_after none o).sent ≤ 1
-    one o = grind (arith, at-most-one)
-
-few_such : (is : Made → Bool) (ms : List Made) → count_of is ms ≤ length ms
-few_such is ms = omega (arith, length-filter is ms, count_by-le-length is ms)
 
 -- ---- one turn more
 -- behind the start
 pub Serves-none : {P C R O A : Type 0} (t : PartsTell P C R O) (prompt may : Bool) (Shown : List (Option Moment) → Type 0) (p q : Server P C R O A)
     → Shown [] → q.port ≡ p.port → q.reference ≡ p.reference → Starts p q t
-    → ServesRounds p q t Shown prompt may 0 (record { arrivals = 0; sent = 0; departed = 0 })
+    → ServesRounds p q t Shown prompt may 0
 Serves-none t prompt may Shown p q shown port reference s =
     let all : s.start ++ [] ≡ s.start = append-nil s.start in
     let orders = subst (λ l. Orders p q t l) (sym all) s.orders in
@@ -130,9 +103,6 @@ Serves-none t prompt may Shown p q shown port reference s =
       reported = shown;
       port = subst (λ x. Makes may [] (t.counts p.port) (t.counts x) (t.port p.port) (t.port x)) (sym port) (Makes-nil may (t.counts p.port) (t.port p.port));
       observed = orders.observed;
-      arrivals = refl;
-      sent = refl;
-      departed = refl;
       tells = orders.tells;
     }
 
@@ -167,11 +137,10 @@ module _ (rounds earlier : List Round) (round : Round) (reference : ReferenceSta
       (subst (λ o. IfSome o (λ r. IsSome r.turn)) (sym (last-of (rounds ++ earlier) round)) (subst IsSome (sym turn) refl))
 
 pub Serves-turn : {P C R O A Q : Type 0} (t : PartsTell P C R O) (prompt may : Bool) (n : ℕ) (Shows : Q → Q → Option Moment → Type 0)
-    (earlier halfway later : Q) (p q r : Server P C R O A) (a b : Totals) (outcome : TurnOutcome)
-    → ServesRounds p q t (InTurn Shows earlier halfway) prompt may n a → MakesTurn q r t (InTurn Shows halfway later) prompt may outcome
-    → b ≡ totals_after a outcome → ServesRounds p r t (InTurn Shows earlier later) prompt may (n + 1) b
-Serves-turn t prompt may n Shows earlier halfway later p q r a b outcome s m counted =
-    let totals : b ≡ totals_after a (turn_outcome m.made) = counted ∙ ap (totals_after a) m.comes_to in
+    (earlier halfway later : Q) (p q r : Server P C R O A)
+    → ServesRounds p q t (InTurn Shows earlier halfway) prompt may n → MakesTurn q r t (InTurn Shows halfway later) prompt may
+    → ServesRounds p r t (InTurn Shows earlier later) prompt may (n + 1)
+Serves-turn t prompt may n Shows earlier halfway later p q r s m =
     let more = m.earlier ++ m.round ∷ [] in
     let turns : turns_in (s.rounds ++ more) ≡ turns_in s.rounds ++ (m.reference, m.made) ∷ []
     = turns-more s.rounds m.earlier m.round m.reference m.made m.no_turn m.waiting m.turn in
@@ -203,44 +172,15 @@ Serves-turn t prompt may n Shows earlier halfway later p q r a b outcome s m cou
           (Makes-append may (made_in s.rounds) (m.made ∷ []) (t.counts p.port) (t.counts q.port) (t.counts r.port) (t.port p.port) (t.port q.port)
           (t.port r.port) s.port m.port);
       observed = orders.observed;
-      arrivals = omega (
-        arith,
-        s.arrivals,
-        ap (λ (x : Totals). x.arrivals) totals,
-        arrivals-made a m.made,
-        ap (count_of has_arrived) made,
-        count-more has_arrived (made_in s.rounds) m.made,
-      );
-      sent = omega (
-        arith,
-        s.sent,
-        ap (λ (x : Totals). x.sent) totals,
-        replies-made a m.made,
-        ap (λ l. length (sent_of l)) made,
-        ap length (flat_map-append sent_in (made_in s.rounds) (m.made ∷ [])),
-        ap length (append-nil (sent_in m.made)),
-        length-append (sent_of (made_in s.rounds)) (sent_in m.made ++ []),
-      );
-      departed = omega (
-        arith,
-        s.departed,
-        ap (λ (x : Totals). x.departed) totals,
-        departures-made a m.made,
-        ap (count_of has_departed) made,
-        count-more has_departed (made_in s.rounds) m.made,
-      );
       tells = orders.tells;
     }
 
--- how many there can be
+-- how many calls can fail
 pub Serves-few : {P C R O A : Type 0} (t : PartsTell P C R O) (prompt may : Bool) (Shown : List (Option Moment) → Type 0) (n : ℕ)
-    (p q : Server P C R O A) (a : Totals) → ServesRounds p q t Shown prompt may n a
-    → (a.arrivals ≤ n) × (a.sent ≤ n) × (a.departed ≤ n) × (failed_calls (t.counts q.port) ≤ failed_calls (t.counts p.port) + n)
-Serves-few t prompt may Shown n p q a s =
-    let made = made_in s.rounds in
-    let all : length made ≡ n = length-map (turns_in s.rounds) (λ x. x.1) ∙ s.each in (
-      omega (arith, all, s.arrivals, few_such has_arrived made),
-      omega (arith, all, s.sent, few_sent made),
-      omega (arith, all, s.departed, few_such has_departed made),
-      omega (arith, all, Makes-few may made (t.counts p.port) (t.counts q.port) (t.port p.port) (t.port q.port) s.port),
-    )
+    (p q : Server P C R O A) → ServesRounds p q t Shown prompt may n → failed_calls (t.counts q.port) ≤ failed_calls (t.counts p.port) + n
+Serves-few t prompt may Shown n p q s = omega (
+  arith,
+  length-map (turns_in s.rounds) (λ x. x.1),
+  s.each,
+  Makes-few may (made_in s.rounds) (t.counts p.port) (t.counts q.port) (t.port p.port) (t.port q.port) s.port,
+)

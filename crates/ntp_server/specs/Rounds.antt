@@ -7,9 +7,9 @@ use Rattle.ntp_service.specs.{declared.event.Event.Event, declared.outcome.Outco
 use Rattle.ntp_service.specs.{declared.observation.Observation.Observation, declared.observation.Observation.TheVariants.Turn}
 use Rattle.ntp_service.specs.{InTurn.InTurn, Headline.StandsFor, Headline.Tells}
 use Rattle.ntp_port.specs.{declared.port.PortCounts.PortCounts, Port.Told, Port.CountsMore, Serving.Makes}
-use Rattle.ntp_port.specs.Made.{Made, turn_of, happened_in_turn, sent_in, has_arrived, has_departed, turn_outcome}
+use Rattle.ntp_port.specs.Made.{Made, turn_of, happened_in_turn, turn_outcome}
 use Rattle.ntp_admin.specs.CommandsFile.{most_line_octets, count_on, complete_lines, TakenLine, happened_at_lines, line_observations}
-use Rattle.ntp_server.specs.{declared.server.Server.Server, declared.server.Totals.Totals}
+use Rattle.ntp_server.specs.declared.server.Server.{Server}
 
 -- a round: a look at the commands, before which `applied` lines were applied, with the octets that their source gave, if any, and the lines
 -- that were taken; and the turn behind it, if one was made, with the state of the clock that was in force
@@ -81,7 +81,7 @@ pub record PartsTell (P C R O : Type 0) : Type 1 where
 
 -- a server that was `before` made `turns` turns and is `after`, at a port that is prompt or not, and may drop or not
 pub record ServesRounds {P C R O A : Type 0} (before after : Server P C R O A) (t : PartsTell P C R O)
-    (Shown : List (Option Moment) → Type 0) (prompt may_drop : Bool) (turns : ℕ) (totals : Totals) : Type 0 where
+    (Shown : List (Option Moment) → Type 0) (prompt may_drop : Bool) (turns : ℕ) : Type 0 where
   -- the rounds at the start, none with a turn: their looks gave these octets one by one, and then nothing, or were 2^64 - 1
   pub start : List Round
   pub at_start : turns_in start ≡ []
@@ -102,9 +102,6 @@ pub record ServesRounds {P C R O A : Type 0} (before after : Server P C R O A) (
   pub reported : Shown (map asked_in rounds)
   pub port : Makes may_drop (made_in rounds) (t.counts before.port) (t.counts after.port) (t.port before.port) (t.port after.port)
   pub observed : InTurn t.heard before.observer after.observer (flat_map round_observations (start ++ rounds))
-  pub arrivals : totals.arrivals ≡ length (filter has_arrived (made_in rounds))
-  pub sent : totals.sent ≡ length (flat_map sent_in (made_in rounds))
-  pub departed : totals.departed ≡ length (filter has_departed (made_in rounds))
   -- whatever history the service stood for, it tells what happened in the rounds
   pub tells : (history : List (Event A)) → StandsFor before.service history
       → Tells history (flat_map happened_in_round (start ++ rounds)) after.service

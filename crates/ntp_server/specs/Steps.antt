@@ -1,14 +1,12 @@
 -- Not to be believed: for proofs. What a look, the start, a wait and a turn do.
-use Rattle.std.specs.Prelude.{◌≡◌, ◌⊎◌, ℕ, ◌+◌, ◌-◌, ◌^◌, Bool, true, is_some, Option, None, Some, List, [], ◌∷◌, ◌++◌, length, map, flat_map, if◌then◌else◌}
+use Rattle.std.specs.Prelude.{◌≡◌, ◌⊎◌, ℕ, ◌-◌, ◌^◌, Bool, true, is_some, Option, None, Some, List, [], ◌∷◌, ◌++◌, length, map, flat_map}
 use Rattle.std.specs.Option.{option_map_or}
 use Rattle.ntp_packet.specs.declared.moment.Moment.{Moment}
 use Rattle.ntp_reply.specs.Reference.{ReferenceState}
-use Rattle.ntp_service.specs.{declared.event.Event.Event, declared.observation.TurnOutcome.TurnOutcome}
-use Rattle.ntp_service.specs.declared.observation.TurnOutcome.TheVariants.{NothingReceived, Answered}
-use Rattle.ntp_service.specs.{InTurn.InTurn, Sending.was_sent, Sending.was_noted, Headline.StandsFor, Headline.Tells}
-use Rattle.ntp_port.specs.{Port.CountsMore, Made.Made, Made.turn_outcome, Serving.Makes}
+use Rattle.ntp_service.specs.{declared.event.Event.Event, InTurn.InTurn, Headline.StandsFor, Headline.Tells}
+use Rattle.ntp_port.specs.{Port.CountsMore, Made.Made, Serving.Makes}
 use Rattle.ntp_admin.specs.CommandsFile.{most_line_octets, count_on, complete_lines, TakenLine, happened_at_lines, line_observations}
-use Rattle.ntp_server.specs.{declared.server.Server.Server, declared.server.Totals.Totals}
+use Rattle.ntp_server.specs.declared.server.Server.{Server}
 use Rattle.ntp_server.specs.Rounds.{Round, PartsTell, AreDueInTurn, LooksInTurn, AsksInTurn, given_in, turns_in, waits_in, asked_in, happened_in_round, round_observations}
 
 -- a look was made, which asked with this, and gave something or not
@@ -52,9 +50,9 @@ pub record Waits {P C R O A : Type 0} (before after : Server P C R O A) (t : Par
   pub tended : AsksInTurn t.asked t.tended before.reference after.reference rounds
   pub reported : Shown (map asked_in rounds)
 
--- rounds were made; the last one alone has a turn, which came to this
+-- rounds were made; the last one alone has a turn
 pub record MakesTurn {P C R O A : Type 0} (before after : Server P C R O A) (t : PartsTell P C R O)
-    (Shown : List (Option Moment) → Type 0) (prompt may_drop : Bool) (outcome : TurnOutcome) : Type 0 where
+    (Shown : List (Option Moment) → Type 0) (prompt may_drop : Bool) : Type 0 where
   pub earlier : List Round
   pub round : Round
   pub reference : ReferenceState
@@ -68,13 +66,3 @@ pub record MakesTurn {P C R O A : Type 0} (before after : Server P C R O A) (t :
   pub waits : CountsMore (t.counts before.port).idle_waits (t.counts after.port).idle_waits (length earlier)
   pub reported : Shown (map asked_in (earlier ++ round ∷ []))
   pub port : Makes may_drop (made ∷ []) (t.counts before.port) (t.counts after.port) (t.port before.port) (t.port after.port)
-  pub comes_to : outcome ≡ turn_outcome made
-
--- the totals after a turn
-abbrev pub totals_after : Totals → TurnOutcome → Totals
-totals_after totals NothingReceived = totals
-totals_after totals (Answered arrival answer sending) = record {
-  arrivals = totals.arrivals + 1;
-  sent = totals.sent + (if was_sent sending then 1 else 0);
-  departed = totals.departed + (if was_noted sending then 1 else 0);
-}

@@ -5,4 +5,4 @@ mod reporter;
 mod server;
 
 pub use reporter::{NoReports, Reporter};
-pub use server::{Server, Totals};
+pub use server::Server;

@@ -3,7 +3,6 @@ ghost use Rattle.std.specs.Prelude.{◌≡◌, ◌+◌, ◌-◌, ◌≤◌, ◌<
 ghost use Rattle.std.specs.Result.{result_ok};
 ghost use Rattle.ntp_service.specs.InTurn.{InTurn};
 ghost use Rattle.ntp_port.specs.Port.{most_received_octets, failed_calls, CountsReceive, Receives};
-ghost use Rattle.ntp_server.specs.Steps.{totals_after};
 
 use crate::reporter::Reporter;
 use ntp_admin::apply_lines;
@@ -12,7 +11,7 @@ use ntp_port::{
     CommandsSource, DatagramRoom, MOST_RECEIVED_OCTETS, PortFault, ReferenceSource, TimedPort,
     answer_received,
 };
-use ntp_service::{Arrival, Observer, Sending, Service, TurnOutcome};
+use ntp_service::{Arrival, Observer, Service};
 use std::alloc::Allocator;
 
 // More waits in a turn than a number of 64 bits counts.
@@ -35,17 +34,6 @@ pub struct Server<P, C, R, O, A: Allocator> {
     pub service: Service<A>,
 }
 
-/// What a server did.
-#[derive(Clone, Copy, Debug, PartialEq, Eq)]
-pub struct Totals {
-    /// How many datagrams came.
-    pub arrivals: u64,
-    /// How many replies were sent; those that could not be sent are not counted.
-    pub sent: u64,
-    /// How many departures were noted.
-    pub departed: u64,
-}
-
 impl<
     P: TimedPort,
     C: CommandsSource<A>,
@@ -66,29 +54,18 @@ impl<
     /// received; and whenever a wait ended with none, with nothing, once new commands are carried out and the source of the
     /// clock's state has looked after itself. The reporter sees the server behind a shared reference: what the server does is the
     /// same whatever the reporter does. Behind the last turn it has been shown the server as it is then.
-    pub fn serve<Q: Reporter<Server<P, C, R, O, A>>>(
-        &mut self,
-        turns: u64,
-        reporter: &mut Q,
-    ) -> Totals
+    pub fn serve<Q: Reporter<Server<P, C, R, O, A>>>(&mut self, turns: u64, reporter: &mut Q)
         requires { failed_calls (P.counts self.old.port) + turns < 2 ^ 64 }
         ensures rounds { ServesRounds self.old self.new
             (record { port = P.told; counts = P.counts; looked = C.looked; asked = R.asked; tended = R.tended; heard = O.heard })
-            (InTurn Q.shown reporter.old reporter.new) P.is_prompt P.may_drop turns result }
+            (InTurn Q.shown reporter.old reporter.new) P.is_prompt P.may_drop turns }
         ensures known { 0 < turns → Q.knows reporter.new self.new }
     {
         let mut datagram = [0; MOST_RECEIVED_OCTETS];
-        let mut totals = Totals {
-            arrivals: 0,
-            sent: 0,
-            departed: 0,
-        };
         self.start();
         for _turn in 0..turns {
-            let outcome = self.turn(&mut datagram, reporter);
-            totals.count(&outcome);
+            self.turn(&mut datagram, reporter);
         }
-        totals
     }
 
     // Makes one turn.
@@ -96,11 +73,11 @@ impl<
         &mut self,
         datagram: &mut DatagramRoom,
         reporter: &mut Q,
-    ) -> TurnOutcome
+    )
         requires { failed_calls (P.counts self.old.port) < 2 ^ 64 - 1 }
         ensures made { MakesTurn self.old self.new
             (record { port = P.told; counts = P.counts; looked = C.looked; asked = R.asked; tended = R.tended; heard = O.heard })
-            (InTurn Q.shown reporter.old reporter.new) P.is_prompt P.may_drop result }
+            (InTurn Q.shown reporter.old reporter.new) P.is_prompt P.may_drop }
         ensures known { Q.knows reporter.new self.new }
     {
         let received = self.wait(datagram, reporter);
@@ -116,7 +93,6 @@ impl<
         );
         self.observer.turn(&outcome);
         reporter.report(self, receipt);
-        outcome
     }
 
     // Waits until a datagram has come or could not be received, and carries out what is ordered meanwhile.
@@ -174,27 +150,6 @@ impl<
         };
         self.applied = apply_lines(&mut self.service, &octets, before, &mut self.observer);
         true
-    }
-}
-
-impl Totals {
-    // Counts what was done in a turn.
-    fn count(&mut self, outcome: &TurnOutcome)
-        requires arrivals { self.old.arrivals < 2 ^ 64 - 1 }
-        requires sent { self.old.sent < 2 ^ 64 - 1 }
-        requires departed { self.old.departed < 2 ^ 64 - 1 }
-        ensures { self.new ≡ totals_after self.old outcome.now }
-    {
-        let TurnOutcome::Answered { sending, .. } = outcome else {
-            return;
-        };
-        self.arrivals += 1;
-        if sending.was_sent() {
-            self.sent += 1;
-        }
-        if sending.was_noted() {
-            self.departed += 1;
-        }
     }
 }
 

@@ -6,7 +6,6 @@
 //! key number. Calls without their clauses stand beside them: tests need no clauses.
 #![tactic(auto)]
 
-mod agreeing;
 mod broken;
 mod customer_and_clock;
 mod exchange_lines;
@@ -21,7 +20,6 @@ mod plain_calls;
 mod refusing;
 mod turn_packets;
 
-pub use agreeing::Agreeing;
 pub use broken::Broken;
 pub use customer_and_clock::{CUSTOMER, enrolled_service, moment, reference};
 pub use exchange_lines::{ANSWERS, SCRIPT, events, printed};

@@ -1,16 +1,16 @@
 //! What no contract says: that commands succeed; and worked orders, each with its answer.
 
 use ntp_mac::{Algorithm, Key, KeyFault};
-use ntp_service::{Address, Customer, NumberedKey, Refusal, Register};
+use ntp_service::{Address, Command, Customer, NumberedKey, Refusal, Register, Service};
+use std::num::NonZero;
 use std::process::Abort;
 use std::test::Fail;
-use test_support::Agreeing;
 
 const A: Address = Address([192, 0, 2, 10]);
 
 const B: Address = Address([192, 0, 2, 20]);
 
-// What is ordered of a register.
+// What is ordered of a service.
 #[derive(Clone, Copy)]
 enum Order {
     Enrol,
@@ -19,34 +19,24 @@ enum Order {
     Revoke,
 }
 
-// What an order of an address with a number, which is not 0, is answered. A budget is 10.
-fn answer(
-    rt: &impl Abort,
-    register: &mut Agreeing,
-    order: Order,
-    address: Address,
-    number: u16,
-    key: Key,
-) -> Result<(), Refusal> {
-    assert!(rt; number > 0);
-    match order {
-        Order::Enrol => register.enrol(address, number, key),
-        Order::Rollover => register.rollover(address, number, key),
-        Order::Retire | Order::Revoke => answer_without_key(register, order, address, number),
-    }
-}
-
-// What an order that gives no key is answered: of `Retire`, else of `Revoke`.
-fn answer_without_key(
-    register: &mut Agreeing,
-    order: Order,
-    address: Address,
-    number: u16,
-) -> Result<(), Refusal> {
-    match order {
-        Order::Retire => register.retire(address, number),
-        _ => register.revoke(address),
-    }
+// The command of an order of an address with a number, which is not 0. A budget is 10.
+fn command(order: Order, address: Address, number: u16, key: Key) -> Option<Command> {
+    let number = NonZero::<u16>::new(number)?;
+    Some(match order {
+        Order::Enrol => Command::Enrol {
+            address,
+            number,
+            key,
+            budget: NonZero::<u16>::new(10)?,
+        },
+        Order::Rollover => Command::Rollover {
+            address,
+            number,
+            key,
+        },
+        Order::Retire => Command::Retire { address, number },
+        Order::Revoke => Command::Revoke { address },
+    })
 }
 
 // The number, the key and the budget of a customer, where it is enrolled, and whether it has room for a further key.
@@ -93,10 +83,13 @@ fn key() -> Result<Key, KeyFault> {
 type Row = (Order, Address, u16, Result<(), Refusal>, Option<Address>);
 
 // An order with a key is answered so.
-fn is_answered(rt: &impl Abort, register: &mut Agreeing, key: Key, row: Row) {
+fn is_answered(rt: &impl Abort, service: &mut Service, key: Key, row: Row) {
     let (order, address, number, expected, holder) = row;
-    let answered = answer(rt, register, order, address, number, key);
-    assert_eq!(rt; (answered, register.holder(number)), (expected, holder));
+    let answered = command(order, address, number, key).map(|command| service.command(&command));
+    assert_eq!(rt;
+        (answered, service.holder(number)),
+        (Some(expected), holder)
+    );
 }
 
 // Enrolments and revocations, one behind another.
@@ -115,9 +108,9 @@ const ENROLMENTS: [Row; 9] = [
 #[test]
 fn refusals_come_in_their_order(rt: HostRuntime) -> Result<(), Fail> {
     let key = key()?;
-    let mut register = Agreeing::new(rt.alloc());
+    let mut service = Service::new(rt.alloc());
     for row in ENROLMENTS {
-        is_answered(&rt, &mut register, key, row);
+        is_answered(&rt, &mut service, key, row);
     }
     Ok(())
 }
@@ -144,9 +137,9 @@ const CHANGES: [Row; 15] = [
 #[test]
 fn changes_of_keys_are_refused_in_their_order(rt: HostRuntime) -> Result<(), Fail> {
     let key = key()?;
-    let mut register = Agreeing::new(rt.alloc());
+    let mut service = Service::new(rt.alloc());
     for row in CHANGES {
-        is_answered(&rt, &mut register, key, row);
+        is_answered(&rt, &mut service, key, row);
     }
     Ok(())
 }
@@ -165,22 +158,22 @@ fn a_customer_has_what_it_was_enrolled_with(rt: HostRuntime) -> Result<(), Fail>
 }
 
 // Whether A has these terms and a budget of 10.
-fn has_terms(register: &Agreeing, number: u16, key: Key, has_room: bool) -> bool {
-    terms(register.customer(A)) == Some((number, key, 10, has_room))
+fn has_terms(service: &Service, number: u16, key: Key, has_room: bool) -> bool {
+    terms(service.customer(A)) == Some((number, key, 10, has_room))
 }
 
 // The key of A under a number.
-fn key_of_a(register: &Agreeing, number: u16) -> Option<Key> {
-    key_for(register.customer(A), number)
+fn key_of_a(service: &Service, number: u16) -> Option<Key> {
+    key_for(service.customer(A), number)
 }
 
 // What A holds under a number of a MAC.
-fn held_by_a(register: &Agreeing, number: u32) -> Option<NumberedKey> {
-    held(register.customer(A), number)
+fn held_by_a(service: &Service, number: u32) -> Option<NumberedKey> {
+    held(service.customer(A), number)
 }
 
 // Two keys of A. The newer one stays.
-fn roll_over(rt: &impl Abort, it: &mut Agreeing, key: Key, newer: Key) {
+fn roll_over(rt: &impl Abort, it: &mut Service, key: Key, newer: Key) {
     is_answered(rt, it, key, (Order::Enrol, A, 7, Ok(()), Some(A)));
     is_answered(rt, it, newer, (Order::Rollover, A, 9, Ok(()), Some(A)));
     assert!(rt; it.holder(7) == Some(A));
@@ -197,7 +190,7 @@ fn roll_over(rt: &impl Abort, it: &mut Agreeing, key: Key, newer: Key) {
 #[test]
 fn a_key_comes_and_the_older_one_goes(rt: HostRuntime) -> Result<(), Fail> {
     let newer = Key::new(Algorithm::Sha1, b"newer")?;
-    let mut it = Agreeing::new(rt.alloc());
+    let mut it = Service::new(rt.alloc());
     roll_over(&rt, &mut it, key()?, newer);
     Ok(())
 }

@@ -3,30 +3,27 @@
 use crate::servers::refused::{Refused, command_refused};
 use crate::servers::scant_service::{ScantService, enrol, enrol_answer};
 use ntp_admin::Command;
-use ntp_mac::{Algorithm, Key};
 use ntp_reply::{Answer, Reason};
 use ntp_service::{Address, Service};
 use std::alloc::{Allocator, Global};
 use std::process::Abort;
 use std::test::Fail;
-use test_support::{Agreeing, CUSTOMER, Refusing, answered, moment, ordered, reference};
+use test_support::{CUSTOMER, Refusing, answered, moment, ordered, reference};
 
 const NEIGHBOUR: Address = Address([192, 0, 2, 20]);
 
-/// Enrols the customer in an empty register. Where that was refused, the customer is unknown, and a neighbour can be
+/// Enrols the first customer of a service. Where that was refused, the customer is unknown, and a neighbour can be
 /// enrolled with the number.
 pub(crate) fn first_refused(rt: &impl Abort, alloc: Global, n: u64) -> Result<Refused, Fail> {
-    let key = Key::new(Algorithm::Md5, b"key")?;
-    let other = Key::new(Algorithm::Sha1, b"other")?;
     let memory = Refusing::new(alloc);
-    let mut register = Agreeing::new(&memory);
+    let mut service = Service::new(&memory);
     memory.refuse_nth(n);
-    let end = register.enrol(CUSTOMER, 7, key);
+    let end = enrol_answer(&mut service, CUSTOMER, 7)?;
     memory.refuse_none();
     let is_enrolled = end.is_ok();
-    assert!(rt; register.holder(7).is_some() == is_enrolled);
-    assert!(rt; register.customer(CUSTOMER).is_some() == is_enrolled);
-    assert!(rt; register.enrol(NEIGHBOUR, 7, other).is_err() == is_enrolled);
+    assert!(rt; service.holder(7).is_some() == is_enrolled);
+    assert!(rt; service.customer(CUSTOMER).is_some() == is_enrolled);
+    assert!(rt; enrol_answer(&mut service, NEIGHBOUR, 7)?.is_err() == is_enrolled);
     Ok(command_refused(rt, &memory, end))
 }
 

@@ -6,7 +6,7 @@ use crate::servers::scant_service::{ScantService, enrol};
 use crate::servers::twin::{Twin, address_at};
 use ntp_admin::parse_command;
 use ntp_service::{Refusal, Service};
-use std::alloc::{AllocError, Allocator, Global};
+use std::alloc::{Allocator, Global};
 use std::process::Abort;
 use std::test::Fail;
 use test_support::{Refusing, ordered};
@@ -132,7 +132,7 @@ fn retire_without_memory(
     twin: &mut Twin<&Refusing<Global>>,
     number: u16,
     other: u16,
-) -> Result<(), AllocError> {
+) -> Result<(), Fail> {
     assert!(rt; twin.rollover(address_at(0), NEW)?.is_ok());
     let before = memory.calls();
     memory.refuse_all();

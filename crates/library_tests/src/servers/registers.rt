@@ -1,9 +1,8 @@
-//! Registers beside plain maps: ten thousand customers, and enrolments whose memory is refused.
-ghost use Rattle.std.specs.Prelude.{◌<◌};
+//! Services beside plain maps: ten thousand customers, and enrolments whose memory is refused.
 
 use crate::servers::refused::{Refused, command_refused};
 use crate::servers::twin::{Twin, address_at};
-use std::alloc::{AllocError, Allocator, Global};
+use std::alloc::{Allocator, Global};
 use std::process::Abort;
 use std::test::Fail;
 use test_support::Refusing;
@@ -14,9 +13,7 @@ fn enrol_and_compare(
     twin: &mut Twin<Global>,
     place: u16,
     number: u16,
-) -> Result<(), AllocError>
-    requires { 0 < number }
-{
+) -> Result<(), Fail> {
     assert!(rt; twin.enrol(address_at(place), number)?.is_ok());
     assert!(rt; twin.is_told(address_at(place), number));
     Ok(())
@@ -28,14 +25,14 @@ fn revoke_and_compare(
     twin: &mut Twin<Global>,
     place: u16,
     number: u16,
-) -> Result<(), AllocError> {
+) -> Result<(), Fail> {
     assert!(rt; twin.revoke(address_at(place), number)?.is_ok());
     assert!(rt; twin.is_told(address_at(place), number));
     Ok(())
 }
 
 // Enrols ten thousand addresses, revokes every other one, and enrols these again, each with another number.
-fn ten_thousand(rt: &impl Abort, twin: &mut Twin<Global>) -> Result<(), AllocError> {
+fn ten_thousand(rt: &impl Abort, twin: &mut Twin<Global>) -> Result<(), Fail> {
     for place in 0..10_000u16 {
         enrol_and_compare(rt, twin, place, place + 1)?;
     }
@@ -55,7 +52,7 @@ fn ten_thousand_customers_are_told_as_by_plain_maps(rt: HostRuntime) -> Result<(
     let mut twin = Twin::new(rt.alloc(), rt.alloc())?;
     let end = ten_thousand(&rt, &mut twin);
     assert!(rt; twin.are_told(10_001));
-    Ok(end?)
+    end
 }
 
 // Enrols an address while the nth allocation is refused. Where one was, nothing changed, and the same enrolment then

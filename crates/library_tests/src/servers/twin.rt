@@ -1,14 +1,14 @@
-//! A register beside plain maps.
-ghost use Rattle.std.specs.Prelude.{◌<◌};
+//! A service beside plain maps.
 
+use crate::servers::scant_service::enrol_answer;
 use ntp_mac::{Algorithm, Key};
-use ntp_service::{Address, Refusal};
+use ntp_service::{Address, Command, Refusal, Service};
 use std::alloc::{AllocError, Allocator, Global};
 use std::collections::BTreeMap;
+use std::num::NonZero;
 use std::test::Fail;
-use test_support::Agreeing;
 
-// What is to be in a register.
+// What is to be in a service.
 #[derive(Drop)]
 struct Plain {
     // The number of the older key of each address that was ever enrolled, if it is enrolled now.
@@ -51,10 +51,10 @@ impl Plain {
     }
 }
 
-/// A register, and what is to be in it.
+/// A service, and what is to be in it.
 #[derive(Drop)]
 pub(crate) struct Twin<A: Allocator> {
-    register: Agreeing<A>,
+    service: Service<A>,
     plain: Plain,
     key: Key,
 }
@@ -70,7 +70,7 @@ impl<A: Allocator + Copy> Twin<A> {
     pub(crate) fn new(alloc: A, plain: Global) -> Result<Twin<A>, Fail> {
         let key = Key::new(Algorithm::Md5, b"key")?;
         Ok(Twin {
-            register: Agreeing::new(alloc),
+            service: Service::new(alloc),
             plain: Plain {
                 customers: BTreeMap::new(plain),
                 holders: BTreeMap::new(plain),
@@ -94,15 +94,13 @@ impl<A: Allocator + Copy> Twin<A> {
         Ok(())
     }
 
-    /// Enrols an address in both, if the register has the memory.
+    /// Enrols an address in both, if the service has the memory.
     pub(crate) fn enrol(
         &mut self,
         address: Address,
         number: u16,
-    ) -> Result<Result<(), Refusal>, AllocError>
-        requires { 0 < number }
-    {
-        let end = self.register.enrol(address, number, self.key);
+    ) -> Result<Result<(), Refusal>, Fail> {
+        let end = enrol_answer(&mut self.service, address, number)?;
         if end.is_ok() {
             self.plain.enrol(address, number)?;
         }
@@ -115,7 +113,7 @@ impl<A: Allocator + Copy> Twin<A> {
         address: Address,
         number: u16,
     ) -> Result<Result<(), Refusal>, AllocError> {
-        let end = self.register.revoke(address);
+        let end = self.service.command(&Command::Revoke { address });
         if end.is_ok() {
             self.plain.set_older(address, None)?;
             self.plain.free(number);
@@ -123,15 +121,17 @@ impl<A: Allocator + Copy> Twin<A> {
         Ok(end)
     }
 
-    /// Gives an address a second key in both, if the register has the memory.
+    /// Gives an address a second key in both, if the service has the memory.
     pub(crate) fn rollover(
         &mut self,
         address: Address,
         number: u16,
-    ) -> Result<Result<(), Refusal>, AllocError>
-        requires { 0 < number }
-    {
-        let end = self.register.rollover(address, number, self.key);
+    ) -> Result<Result<(), Refusal>, Fail> {
+        let end = self.service.command(&Command::Rollover {
+            address,
+            number: NonZero::<u16>::new(number).ok_or("no number")?,
+            key: self.key,
+        });
         if end.is_ok() {
             self.plain.set_holder(number, address)?;
         }
@@ -144,8 +144,12 @@ impl<A: Allocator + Copy> Twin<A> {
         address: Address,
         number: u16,
         other: u16,
-    ) -> Result<Result<(), Refusal>, AllocError> {
-        let end = self.register.retire(address, number);
+    ) -> Result<Result<(), Refusal>, Fail> {
+        let taken = NonZero::<u16>::new(number).ok_or("no number")?;
+        let end = self.service.command(&Command::Retire {
+            address,
+            number: taken,
+        });
         if end.is_ok() {
             self.plain.set_older(address, Some(other))?;
             self.plain.free(number);
@@ -155,7 +159,7 @@ impl<A: Allocator + Copy> Twin<A> {
 
     // The number of the older key of an address that was ever enrolled, if it is enrolled now.
     fn number_at(&self, address: Address) -> Option<Option<u16>> {
-        let customer = self.register.customer(address)?;
+        let customer = self.service.customer(address)?;
         if customer.is_enrolled() {
             Some(Some(customer.number()))
         } else {
@@ -170,12 +174,12 @@ impl<A: Allocator + Copy> Twin<A> {
 
     /// Whether who holds a number is told rightly.
     pub(crate) fn is_held(&self, number: u16) -> bool {
-        self.register.holder(number) == self.plain.holder(number)
+        self.service.holder(number) == self.plain.holder(number)
     }
 
     /// Whether an address has a key with a number just where it is to hold that.
     pub(crate) fn has_own_key(&self, address: Address, number: u16) -> bool {
-        let has_key = match self.register.customer(address) {
+        let has_key = match self.service.customer(address) {
             Some(customer) => customer.is_enrolled() && customer.key_for(number).is_some(),
             None => false,
         };
@@ -207,7 +211,7 @@ impl<A: Allocator + Copy> Twin<A> {
     // How many numbers have a holder.
     fn held(&self) -> usize {
         (0..=u16::MAX)
-            .filter(|number| self.register.holder(*number).is_some())
+            .filter(|number| self.service.holder(*number).is_some())
             .count()
     }
 }

@@ -1,6 +1,5 @@
 use Rattle.std.proofs.Common.{arith}
-use Rattle.ntp_port.proofs.Counting.{counts-one, ServeMakes-nil, ServeMakes-turn}
-use Rattle.ntp_port.proofs.{ManyTurns.Makes-few, Taking.takes-turn}
+use Rattle.ntp_port.proofs.{Counting.counts-one, Counting.ServeMakes-nil, Counting.ServeMakes-turn, ManyTurns.Makes-few, Taking.takes-turn}
 use Rattle.ntp_port.proofs.serving.serve.Goals as goal
 
 pub loop-turn-init : goal.loop-turn-init

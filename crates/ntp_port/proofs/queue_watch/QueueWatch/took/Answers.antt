@@ -1,7 +1,6 @@
 use Rattle.std.proofs.Common.{◌≡◌, ap, arith}
 use Rattle.ntp_port.specs.declared.queue_watch.QueueWatch.{QueueWatch}
-use Rattle.ntp_port.proofs.Keeping.{Counts-took}
-use Rattle.ntp_port.proofs.queue_watch.QueueWatch.took.Goals.{then-self-eq1, else-self-eq1}
+use Rattle.ntp_port.proofs.{Keeping.Counts-took, queue_watch.QueueWatch.took.Goals.then-self-eq1, queue_watch.QueueWatch.took.Goals.else-self-eq1}
 use Rattle.ntp_port.proofs.queue_watch.QueueWatch.took.Goals as goal
 
 pub returns-clause-counts : goal.returns-clause-counts

@@ -1,16 +1,16 @@
 //! Changes the customers into those of a file, writes such a file, and writes the commands file anew in fewer lines.
 
-use crate::appending::{Addition, Answers, Manner};
-use crate::commands_file::{HeldFile, Loaded};
+use crate::appending::{Addition, Manner};
+use crate::changing::refused;
+use crate::commands_file::{HeldFile, Loaded, put_in_place, store_name, write_new};
 use crate::customers::judge_daemon;
 use crate::desk::{Clerk, Desk, FoundAt, Stop};
-use crate::replacing::{put_in_place, store_name, write_new};
 use indexmap::IndexMap;
 use labntpd_files::{KeyLines, Text, WantedCustomer, WantedKey, read_wanted, write_wanted};
 use ntp_admin::{Command, Escaped, Status};
 use ntp_clerk::{
-    ByAddress, Dotted, GivenKey, Keys, LeadFault, Terms, Wanted, command_line, commands_to,
-    customers_of, ends_many, fold, have_same_keys, name_line, seen_terms,
+    ByAddress, Dotted, GivenKey, Keys, LeadFault, Seen, Terms, Wanted, command_line, commands_to,
+    customers_of, ends_many, fold, have_same_keys, name_line, seen_at, seen_terms,
 };
 use ntp_host::MOST_COMMANDS_OCTETS;
 use ntp_mac::{Algorithm, Key};
@@ -19,10 +19,6 @@ use std::alloc::{AllocError, Global};
 use std::fmt::Write as _;
 use std::fs;
 use std::io::Write as _;
-
-/// What labntpd does after a fold.
-const RESTART: &str =
-    "labntpd reads the new file at its next start, and carries out no further line before: restart labntpd\n";
 
 /// How a file of customers is applied.
 #[derive(Clone, Copy)]
@@ -58,34 +54,28 @@ struct Work<'a> {
 }
 
 impl<'a> Work<'a> {
-    // Shows the changes, and makes them in the file that is held, if there are any.
+    // Shows the changes, and makes them in the file that is held, if there are any, once the clerk is asked.
     fn make(&self, held: &mut HeldFile) -> Result<(), Stop> {
         let changes = self.changes(&held.loaded)?;
         if changes.shown.is_empty() {
             return Ok(());
         }
-        let addition = self.addition(&mut held.loaded, &changes)?;
-        self.append(held, &addition)
-    }
-
-    // Appends lines to the file that is held, once the clerk is asked.
-    fn append(&self, held: &mut HeldFile, addition: &Addition) -> Result<(), Stop> {
-        let (clerk, application) = (self.clerk, self.application);
-        let answers = Answers::to(clerk, application.manner, addition.numbers)?;
-        if application.asks {
+        let mut addition = self.addition(&mut held.loaded, &changes)?;
+        addition.read_answers()?;
+        if self.application.asks {
             let (commands, names) = (addition.commands.len(), addition.names);
             let what = format_args!("apply {commands} commands and {names} names? [y/N] ");
-            clerk.desk.ask(what)?;
+            self.clerk.desk.ask(what)?;
         }
-        answers.append(held, addition)
+        addition.append(held)
     }
 
     // Returns the lines that make the customers the wanted ones.
-    fn addition(&self, loaded: &mut Loaded, changes: &Changes) -> Result<Addition, Stop> {
+    fn addition(&self, loaded: &mut Loaded, changes: &Changes) -> Result<Addition<'a>, Stop> {
         self.judge_ending(changes)?;
         judge_daemon(self.clerk, loaded)?;
-        let commands = self.commands(loaded)?;
-        Addition::new(self.clerk, loaded, changes.names.as_str(), commands)
+        let (commands, names) = (self.commands(loaded)?, changes.names.as_str());
+        Addition::new(self.clerk, self.application.manner, loaded, names, commands)
     }
 
     // Finds and prints the changes.
@@ -102,7 +92,10 @@ impl<'a> Work<'a> {
     // Finds the changes: of wanted customers in their order, then the enrolments that end.
     fn found_in(&self, loaded: &Loaded) -> Result<Changes, AllocError> {
         let alloc = self.clerk.desk.alloc();
-        let mut there = terms_in(alloc, loaded)?;
+        let mut there = IndexMap::new(alloc);
+        for customer in customers_of(alloc, &loaded.service)?.iter() {
+            there.insert(customer.address, customer.terms)?;
+        }
         let mut changes = Changes {
             shown: String::new(alloc),
             names: String::new(alloc),
@@ -137,24 +130,10 @@ impl<'a> Work<'a> {
     }
 }
 
-// Returns what each customer of a commands file is enrolled with.
-fn terms_in(alloc: Global, loaded: &Loaded) -> Result<ByAddress<Terms>, AllocError> {
-    let mut there = IndexMap::new(alloc);
-    for customer in customers_of(alloc, &loaded.service)?.iter() {
-        there.insert(customer.address, customer.terms)?;
-    }
-    Ok(there)
-}
-
 // Reads the customers of a file, or reports each fault in it.
 fn wanted_at(desk: Desk<'_>, path: &str) -> Result<Vec<WantedCustomer>, Stop> {
     let text = desk.text(path, desk.octets(path, MOST_COMMANDS_OCTETS as u32)?)?;
-    wanted_in(desk, path, text.as_str())
-}
-
-// Returns the customers of a file with this text, or reports each fault in it.
-fn wanted_in(desk: Desk<'_>, path: &str, text: &str) -> Result<Vec<WantedCustomer>, Stop> {
-    match read_wanted(desk.alloc(), text)? {
+    match read_wanted(desk.alloc(), text.as_str())? {
         Ok(wanted) => Ok(wanted.customers),
         Err(found) => {
             for fault in found.iter() {
@@ -165,10 +144,11 @@ fn wanted_in(desk: Desk<'_>, path: &str, text: &str) -> Result<Vec<WantedCustome
     }
 }
 
-/// Reports why no commands lead to wanted customers.
+/// Reports why no commands were found.
 pub fn unled(desk: Desk<'_>, fault: LeadFault) -> Stop {
     match fault {
         LeadFault::NoMemory => Stop::Memory,
+        LeadFault::Refused(refusal) => refused(desk, refusal, Seen::Nothing),
         _ => desk.refusal("no commands lead to these customers: nothing was changed"),
     }
 }
@@ -293,15 +273,12 @@ fn wanted_customer(
     there: &Wanted,
     name: &str,
 ) -> Result<WantedCustomer, AllocError> {
-    let (terms, wanted) = (
-        there.terms,
-        |GivenKey { number, key }| WantedKey { number, key },
-    );
+    let wanted = |GivenKey { number, key }| WantedKey { number, key };
     Ok(WantedCustomer {
         address: there.address,
-        older: wanted(terms.older),
-        newer: terms.newer.map(wanted),
-        budget: terms.budget,
+        older: wanted(there.terms.older),
+        newer: there.terms.newer.map(wanted),
+        budget: there.terms.budget,
         name: match name {
             "" => None,
             name => Some(Text::of(alloc, name)?),
@@ -318,20 +295,19 @@ pub fn fold_commands(clerk: &Clerk<'_>, dry_run: bool) -> Result<(), Stop> {
     }
 }
 
-// Does so with what was read of it.
+// Does so with what was read of it, and prints where the old one is kept.
 fn fold_loaded(clerk: &Clerk<'_>, loaded: &Loaded, dry_run: bool) -> Result<(), Stop> {
+    let (desk, path) = (clerk.desk, clerk.commands());
     match folded(clerk, loaded)? {
-        Some(text) if !dry_run => replace(clerk, text.as_str()),
+        Some(text) if !dry_run => {
+            let kept = put_in_place(desk, path, text.as_str())?;
+            desk.print(format_args!(
+                "kept: {kept}\nlabntpd reads the new file at its next start, and carries out no further line before: restart labntpd\n"
+            ))?;
+            desk.at(path, store_name(desk.rt, path))
+        }
         _ => Ok(()),
     }
-}
-
-// Writes the commands file anew, and prints where the old one is kept.
-fn replace(clerk: &Clerk<'_>, text: &str) -> Result<(), Stop> {
-    let (desk, path) = (clerk.desk, clerk.commands());
-    let kept = put_in_place(desk, path, text)?;
-    desk.print(format_args!("kept: {kept}\n{RESTART}"))?;
-    desk.at(path, store_name(desk.rt, path))
 }
 
 // Checks that the path is no link: a fold would replace the link, and leave the file that it names.
@@ -375,29 +351,15 @@ fn folded(clerk: &Clerk<'_>, loaded: &Loaded) -> Result<Option<String>, Stop> {
 
 // Returns the text of a file with these customers, names and records alone. A record stands in front of all to whom it belongs.
 fn folded_text(alloc: Global, loaded: &Loaded, spare: Key) -> Result<String, LeadFault> {
-    let revoked = revoked_in(alloc, loaded)?;
+    let addresses = loaded.service.addresses()?;
+    let is_revoked = |it: &&Address| seen_at(&loaded.service, **it) == Seen::Revoked;
+    let revoked: Vec<Address> = addresses.iter().filter(is_revoked).copied().collect(alloc)?;
     let commands = fold(alloc, &loaded.service, &revoked, spare)?;
-    Ok(folded_lines(alloc, loaded, &commands)?)
-}
-
-// Returns the addresses that were revoked.
-fn revoked_in(alloc: Global, loaded: &Loaded) -> Result<Vec<Address>, AllocError> {
-    let mut revoked = Vec::new(alloc);
-    for address in loaded.service.addresses()?.iter() {
-        let customer = loaded.service.customer(*address);
-        if customer.is_some_and(|customer| !customer.is_enrolled()) {
-            revoked.push(*address)?;
-        }
-    }
-    Ok(revoked)
+    Ok(lines_for(alloc, loaded, &commands)?)
 }
 
 // Returns the lines of commands with the names and the records of the customers.
-fn folded_lines(
-    alloc: Global,
-    loaded: &Loaded,
-    commands: &[Command],
-) -> Result<String, AllocError> {
+fn lines_for(alloc: Global, loaded: &Loaded, commands: &[Command]) -> Result<String, AllocError> {
     let mut text = String::new(alloc);
     // Whose comment stands there last.
     let mut last: Option<Address> = None;

@@ -1,20 +1,17 @@
 //! Changes one customer, and writes the file for one who gets a key.
 
-use crate::appending::{Addition, Answers, Manner};
+use crate::appending::{Addition, Manner};
 use crate::applying::unled;
-use crate::commands_file::{HeldFile, Loaded};
-use crate::customers::{KeyLine, customer_lines, judge_daemon};
-use crate::desk::{
-    Clerk, Desk, NTP_PORT, Named, SIGNED_FORM, Stop, date, signed_date, whole_seconds,
-};
-use crate::replacing::write_new;
+use crate::commands_file::{HeldFile, Loaded, write_new};
+use crate::customers::{customer_lines, judge_daemon};
+use crate::desk::{Clerk, Desk, Named, SIGNED_FORM, Stop, date, signed_date, whole_seconds};
 use labntpd_files::refusal_meaning;
 use labntpd_start::SeveralAddresses;
 use ntp_admin::{Command, Escaped, words};
 use ntp_clerk::{
-    Dotted, GivenKey, Grant, Keys, LeadFault, Seen, commands_to_move, customer_text,
-    is_read_two_ways, key_named, may_retire, name_line, number_for_a_key, number_to_retire,
-    rollover, seen_at, terms_of,
+    Dotted, GivenKey, Grant, Keys, Seen, commands_to_move, customer_text, is_read_two_ways,
+    key_named, may_retire, name_line, number_for_a_key, number_to_retire, rollover, seen_at,
+    terms_of,
 };
 use ntp_mac::{Algorithm, Key};
 use ntp_query::{KeyFileFault, KeyLineFault, Server, key_in_text, spaced};
@@ -23,9 +20,6 @@ use std::alloc::{AllocError, Global};
 use std::fmt::Write as _;
 use std::io::Write as _;
 use std::num::NonZero;
-
-/// The most octets of a key file.
-const MOST_KEY_FILE_OCTETS: u32 = 65_536;
 
 /// A change that is asked for.
 #[derive(Clone, Copy)]
@@ -82,29 +76,24 @@ pub struct KeyRequest<'a> {
 /// Makes a change, and prints what came of it.
 pub fn make_change(clerk: &Clerk<'_>, request: &ChangeRequest<'_>) -> Result<(), Stop> {
     if request.manner.dry_run {
-        return request.show(clerk, &mut clerk.load()?);
+        let addition = request.addition(clerk, &mut clerk.load()?)?;
+        return clerk.desk.print(format_args!("{addition}\n"));
     }
     let request = request.confirmed(clerk)?;
     request.make(clerk, &mut HeldFile::hold(clerk)?)
 }
 
 impl<'a> ChangeRequest<'a> {
-    // Shows the lines of the change.
-    fn show(&self, clerk: &Clerk<'_>, loaded: &mut Loaded) -> Result<(), Stop> {
-        let addition = self.addition(clerk, loaded)?;
-        clerk.desk.print(format_args!("{addition}\n"))
-    }
-
     // Makes the change in the file that is held, once labntpd has what that came to.
     fn make(&self, clerk: &Clerk<'_>, held: &mut HeldFile) -> Result<(), Stop> {
         judge_daemon(clerk, &held.loaded)?;
         let mut addition = self.addition(clerk, &mut held.loaded)?;
-        let answers = Answers::to(clerk, self.manner, addition.numbers)?;
+        addition.read_answers()?;
         addition.given = self.give(clerk, addition.commands.first())?;
-        answers.append(held, &addition)
+        addition.append(held)
     }
 
-    // Returns the change once the clerk confirms it. Others may append meanwhile.
+    // Returns the change once the clerk confirms it, with the number of a key that is retired. Others may append meanwhile.
     fn confirmed(&self, clerk: &Clerk<'_>) -> Result<ChangeRequest<'a>, Stop> {
         match self.change {
             Change::Retire { asks: true, .. } => self.confirmed_retire(clerk, &mut clerk.load()?),
@@ -112,14 +101,17 @@ impl<'a> ChangeRequest<'a> {
         }
     }
 
-    // Returns the change with the number of the key that is retired, once the clerk confirms it.
+    // Does so where a key is retired, and the clerk is asked.
     fn confirmed_retire(&self, clerk: &Clerk<'_>, loaded: &mut Loaded) -> Result<Self, Stop> {
         let number = match self.addition(clerk, loaded)?.commands.first() {
             Some(Command::Retire { number, .. }) => *number,
             _ => return Ok(*self),
         };
-        let customer = Named(self.address, loaded.name(self.address));
-        ask_first(clerk, customer, number)?;
+        ask_first(
+            clerk,
+            Named(self.address, loaded.name(self.address)),
+            number,
+        )?;
         let change = Change::Retire {
             number: Some(number),
             asks: false,
@@ -128,13 +120,17 @@ impl<'a> ChangeRequest<'a> {
     }
 
     // Returns the lines for a change, once labntpd will do it and the commands file has room. Changes the customers in `loaded`.
-    fn addition(&self, clerk: &Clerk<'_>, loaded: &mut Loaded) -> Result<Addition, Stop> {
+    fn addition(&self, clerk: &'a Clerk<'a>, loaded: &mut Loaded) -> Result<Addition<'a>, Stop> {
+        let alloc = clerk.desk.alloc();
         loaded.judge_room(clerk, 0)?;
         let commands = self.commands(clerk.desk, loaded)?;
-        let names = self.name_lines(clerk.desk.alloc(), loaded)?;
-        let mut addition = Addition::new(clerk, loaded, names.as_str(), commands)?;
+        let names = self.name_lines(alloc, loaded)?;
+        let mut addition = Addition::new(clerk, self.manner, loaded, names.as_str(), commands)?;
         if let Change::Move(to) = self.change {
-            addition.shown = shown_move(clerk.desk.alloc(), self.address, to)?;
+            let (from, to) = (Dotted(self.address), Dotted(to));
+            addition.shown = format!(in alloc;
+                "{from} becomes {to}: its counts and saved exchanges end"
+            )?;
         }
         Ok(addition)
     }
@@ -157,10 +153,7 @@ impl<'a> ChangeRequest<'a> {
     fn commands(&self, desk: Desk<'_>, loaded: &mut Loaded) -> Result<Vec<Command>, Stop> {
         if let Change::Move(to) = self.change {
             let led = commands_to_move(desk.alloc(), &mut loaded.service, self.address, to);
-            return led.map_err(|fault| match fault {
-                LeadFault::Refused(refusal) => refused(desk, refusal, Seen::Nothing),
-                fault => unled(desk, fault),
-            });
+            return led.map_err(|fault| unled(desk, fault));
         }
         let Some(command) = self.command(desk, loaded)? else {
             return Ok(Vec::new(desk.alloc()));
@@ -208,40 +201,20 @@ impl<'a> ChangeRequest<'a> {
         let Some((number, key)) = given else {
             return Ok(None);
         };
-        let (desk, alloc, customer) = (clerk.desk, clerk.desk.alloc(), Dotted(self.address));
-        let text = self.text_for(
-            alloc,
-            server_for(clerk, wanted.server),
-            GivenKey { number, key },
-        )?;
+        let (desk, alloc, customer) = (clerk.desk, clerk.desk.alloc(), self.address);
+        let grant = Grant {
+            customer,
+            server: server_for(clerk, wanted.server),
+            number,
+            key,
+        };
+        let text = customer_text(alloc, &grant)?;
         let path = match wanted.output {
             Some(path) => String::from_str(alloc, path)?,
-            None => format!(in alloc; "{customer}-{number}.keys")?,
+            None => format!(in alloc; "{}-{number}.keys", Dotted(customer))?,
         };
         write_new(desk, path.as_str(), text.as_bytes())?;
         Ok(Some(path))
-    }
-
-    // Returns the text of this file.
-    fn text_for(
-        &self,
-        alloc: Global,
-        server: Option<Server>,
-        given: GivenKey,
-    ) -> Result<String, AllocError> {
-        let customer = format!(in alloc; "{}", Dotted(self.address))?;
-        let name = match server {
-            Some(server) => format!(in alloc; "{}", Dotted(server.address))?,
-            None => String::from_str(alloc, "SERVER")?,
-        };
-        let grant = Grant {
-            customer: customer.as_str(),
-            server: name.as_str(),
-            port: server.map_or(NTP_PORT, |server| server.port),
-            number: given.number,
-            key: given.key,
-        };
-        customer_text(alloc, &grant)
     }
 }
 
@@ -251,16 +224,13 @@ fn server_for(clerk: &Clerk<'_>, named: Option<Server>) -> Option<Server> {
     let listen = clerk.configuration.listen;
     let several = SeveralAddresses::configured(desk.rt, desk.alloc(), listen);
     if let (None, Some(several)) = (server, several) {
-        let config = Escaped(clerk.config);
-        let _ = writeln!(desk.faults(), "warning: {config}: {several}");
+        let _ = writeln!(
+            desk.faults(),
+            "warning: {}: {several}",
+            Escaped(clerk.config)
+        );
     }
     server
-}
-
-// Says what a move comes to.
-fn shown_move(alloc: Global, from: Address, to: Address) -> Result<String, AllocError> {
-    let (from, to) = (Dotted(from), Dotted(to));
-    format!(in alloc; "{from} becomes {to}: its counts and saved exchanges end")
 }
 
 // Asks whether a customer's key is to be retired, once its other key is known to be in use.
@@ -304,24 +274,17 @@ fn used_keys(clerk: &Clerk<'_>, address: Address, said: &mut String) -> Result<V
         .iter()
         .filter(|line| words::address(line.address) == Some(address));
     for key in customer.flat_map(|customer| customer.keys.iter()) {
-        write_use(clerk.desk.alloc(), key, said)?;
-        if key.last_signed.is_some() {
-            used.push(key.number)?;
+        let number = key.number;
+        match key.last_signed {
+            Some(seconds) => {
+                let date = signed_date(clerk.desk.alloc(), seconds)?;
+                write!(said, "key {number} last used {date}, ")?;
+                used.push(number)?;
+            }
+            None => write!(said, "key {number} not used, ")?,
         }
     }
     Ok(used)
-}
-
-// Says when a key was last used.
-fn write_use(alloc: Global, key: &KeyLine<'_>, said: &mut String) -> Result<(), AllocError> {
-    let number = key.number;
-    match key.last_signed {
-        Some(seconds) => {
-            let date = signed_date(alloc, seconds)?;
-            write!(said, "key {number} last used {date}, ")
-        }
-        None => write!(said, "key {number} not used, "),
-    }
 }
 
 // Returns since when labntpd counts, in seconds since 1970, if its statistics file says it.
@@ -332,8 +295,8 @@ fn start_of_counts(clerk: &Clerk<'_>) -> Result<Option<u64>, Stop> {
     Ok(begun.and_then(|seconds| whole_seconds(seconds)))
 }
 
-// Reports why a command is refused for an address that has this.
-fn refused(desk: Desk<'_>, refusal: Refusal, there: Seen) -> Stop {
+/// Reports why a command is refused for an address that has this.
+pub fn refused(desk: Desk<'_>, refusal: Refusal, there: Seen) -> Stop {
     let (word, meaning) = (refusal.word(), refusal_meaning(refusal));
     match (refusal, there) {
         (Refusal::NoMemory, _) => Stop::Memory,
@@ -359,7 +322,7 @@ fn key_for(desk: Desk<'_>, wanted: &KeyRequest<'_>, loaded: &Loaded) -> Result<G
 
 // Reads the key with a number, or the only one, from a key file in the form of chrony.
 fn key_in_file(desk: Desk<'_>, path: &str, number: Option<NonZero<u16>>) -> Result<GivenKey, Stop> {
-    let octets = spaced(desk.alloc(), &desk.octets(path, MOST_KEY_FILE_OCTETS)?)?;
+    let octets = spaced(desk.alloc(), &desk.octets(path, 65_536)?)?;
     let text = desk.text(path, octets)?;
     let number = match number {
         Some(number) => number,

@@ -19,16 +19,10 @@ use std::fmt::{self, Display};
 use std::io::{BufWriter, Stdout, Write};
 use toml::Table;
 
-/// The paths of the files that are checked.
-#[derive(Clone, Copy)]
-pub struct Checked<'a> {
-    /// A commands file, in the place of the configuration.
-    pub commands: Option<&'a str>,
-    /// A file of wanted customers.
-    pub wanted: Option<&'a str>,
-}
+/// The paths of a commands file in the place of the configuration, and of a file of wanted customers.
+pub type Checked<'a> = (Option<&'a str>, Option<&'a str>);
 
-/// Reports every fault of the configuration and its files, or of a commands file in their place, and of wanted customers.
+/// Reports every fault of the configuration and its files, or of a commands file in their place, and of a file of wanted customers.
 pub fn check(desk: Desk<'_>, config: &str, checked: Checked<'_>) -> Result<(), Stop> {
     let mut report = Report {
         desk,
@@ -91,13 +85,8 @@ impl<'a> Report<'a> {
 
     // Reads the text of a small file at a path, or reports why it cannot be read.
     fn small_text(&mut self, path: &str) -> Option<String> {
-        match small_text(self.desk.rt, self.desk.alloc(), path, &mut self.out) {
-            Ok(text) => Some(text),
-            Err(status) => {
-                self.take(status);
-                None
-            }
-        }
+        let text = small_text(self.desk.rt, self.desk.alloc(), path, &mut self.out);
+        text.map_err(|status| self.take(status)).ok()
     }
 
     // Warns if others may read the file at a path.
@@ -109,20 +98,14 @@ impl<'a> Report<'a> {
 
     // Reports every fault of each file.
     fn check_each(&mut self, config: &str, checked: Checked<'_>) -> Result<(), Stop> {
-        let Checked { commands, wanted } = checked;
+        let (commands, wanted) = checked;
         let configured = match commands {
             Some(_) => None,
             None => self.check_configuration(config)?,
         };
         let commands = commands.or(configured.as_ref().map(|path| path.as_str()));
-        let customers = match commands {
-            Some(path) => check_commands(self, path)?,
-            None => 0,
-        };
-        let wanted_customers = match wanted {
-            Some(path) => self.check_wanted(path)?,
-            None => 0,
-        };
+        let customers = commands.map_or(Ok(0), |path| check_commands(self, path))?;
+        let wanted_customers = wanted.map_or(Ok(0), |path| self.check_wanted(path))?;
         if self.status == Status::Done {
             let _ = writeln!(self.out, "ok: {customers} customers");
             if let Some(path) = wanted {
@@ -137,18 +120,11 @@ impl<'a> Report<'a> {
         let Some(octets) = self.octets(path) else {
             return Ok(0);
         };
-        match str::from_utf8(&octets) {
-            Ok(text) => self.check_customers(path, text),
-            Err(_) => {
-                let line = line_without_text(&octets);
-                self.fault(Line(path, line), "this is no UTF-8");
-                Ok(0)
-            }
-        }
-    }
-
-    // Does so with its text.
-    fn check_customers(&mut self, path: &str, text: &str) -> Result<usize, Stop> {
+        let Ok(text) = str::from_utf8(&octets) else {
+            let line = line_without_text(&octets);
+            self.fault(Line(path, line), "this is no UTF-8");
+            return Ok(0);
+        };
         match read_wanted(self.desk.alloc(), text)? {
             Ok(wanted) => {
                 for warning in wanted.warnings.iter() {
@@ -186,10 +162,8 @@ impl<'a> Report<'a> {
         if let Some(key_file) = named.key_file {
             self.check_clock_key(key_file);
         }
-        match named.commands {
-            Some(path) => Ok(Some(String::from_str(alloc, path)?)),
-            None => Ok(None),
-        }
+        let commands = named.commands.map(|path| String::from_str(alloc, path));
+        Ok(commands.transpose()?)
     }
 
     // Reports every fault of a configuration, or warns of 0.0.0.0 where the host has several addresses and it names none for customers.
@@ -260,10 +234,9 @@ impl<'a> Report<'a> {
         if let Some((column, there)) = placed {
             let at = format_args!("{place}: column {column}: faulty {word}");
             match key_wrong(there) {
-                Some(why) if fault == LineFault::KeyText => self.fault(
-                    at,
-                    format_args!("{meaning}; {why}"),
-                ),
+                Some(why) if fault == LineFault::KeyText => {
+                    self.fault(at, format_args!("{meaning}; {why}"));
+                }
                 _ => self.fault(at, format_args!("{meaning}; {}", ShownWord(there))),
             }
         } else if matches!(fault, LineFault::LineLong | LineFault::NotUtf8) {
@@ -291,13 +264,11 @@ impl<'a> Report<'a> {
 // Returns the files that a document names.
 fn named_files<'a>(path: &'a str, document: &'a Table) -> NamedFiles<'a> {
     let clock = document.get("clock").and_then(|clock| clock.as_table());
+    let followed = clock.filter(|clock| !is_fixed(clock));
     NamedFiles {
         configuration: path,
         commands: path_at(document, "commands"),
-        key_file: match clock {
-            Some(clock) if !is_fixed(clock) => path_at(clock, "key_file"),
-            _ => None,
-        },
+        key_file: followed.and_then(|clock| path_at(clock, "key_file")),
         answers: path_at(document, "answers"),
         statistics: path_at(document, "statistics"),
         customers: path_at(document, "customers"),
@@ -343,7 +314,6 @@ struct Line<'a>(&'a str, u64);
 
 impl<'a> Display for Line<'a> {
     fn fmt<W: fmt::Write>(&self, f: &mut fmt::Formatter<W>) -> fmt::Result {
-        let (path, number) = (Escaped(self.0), self.1);
-        write!(f, "{path}: line {number}")
+        write!(f, "{}: line {}", Escaped(self.0), self.1)
     }
 }

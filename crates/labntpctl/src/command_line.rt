@@ -7,7 +7,6 @@ use crate::checking::Checked;
 use crate::customers::Listing;
 use crate::desk::ANY;
 use crate::door::Place;
-use crate::explaining::Explained;
 use clap::builder::ValueParser;
 use clap::error::ErrorKind;
 use clap::parser::ValueSource;
@@ -42,21 +41,14 @@ failed; 4 want of memory.";
 pub enum Task<'a> {
     /// Finds every fault of files.
     Check(Checked<'a>),
-    /// Lists customers.
-    List(Listing<'a>),
-    /// Works by the configuration.
-    Configured(Work<'a>),
-}
-
-/// Work by the configuration.
-#[derive(Clone, Copy)]
-pub enum Work<'a> {
+    /// Lists customers, those of a commands file in the place of the configuration where one is named.
+    List(Option<&'a str>, Listing),
     /// Prints the differences between labntpd's customers and those of the commands file.
     Compare,
-    /// Explains what datagrams would get.
-    Explain(Explained<'a>),
+    /// Explains what a datagram from an address would get, by its hexadecimal digits, or those of the capture file at a path.
+    Explain(&'a str, Option<Address>),
     /// Prints the rules by which the kernel polices the door, with this rate for each customer.
-    Door(Option<Place>, NonZero<u16>),
+    Door(Place, NonZero<u16>),
     /// Changes one customer.
     Change(ChangeRequest<'a>),
     /// Changes the customers into those of a file.
@@ -78,83 +70,67 @@ pub fn parse<'a>(alloc: Global, words: &'a [String]) -> Result<(&'a str, Task<'a
 
 // Returns what the matches ask for, or what is wrong with them.
 fn asked_in<'a>(matches: &ArgMatches<'a>) -> Result<(&'a str, Task<'a>), &'static str> {
-    let Some((name, matches)) = matches.subcommand() else {
-        return Err("a command is wanted");
-    };
+    let (name, matches) = matches.subcommand().ok_or("a command is wanted")?;
     let task = match name {
-        "check" => Task::Check(Checked {
-            commands: matches.get_str("COMMANDS"),
-            wanted: matches.get_str("wanted"),
-        }),
-        "customers" if !matches.get_flag("compare") => Task::List(listing_in(matches)?),
-        _ => Task::Configured(work_in(name, matches)?),
-    };
-    Ok((matches.get_str("config").unwrap_or(USUAL_CONFIG), task))
-}
-
-// Returns the work by the configuration that a command is.
-fn work_in<'a>(name: &str, matches: &ArgMatches<'a>) -> Result<Work<'a>, &'static str> {
-    Ok(match name {
-        "customers" => Work::Compare,
-        "explain" => Work::Explain(explained_in(matches)?),
+        "check" => Task::Check((matches.get_str("COMMANDS"), matches.get_str("wanted"))),
+        "customers" if matches.get_flag("compare") => Task::Compare,
+        "customers" => listing_in(matches)?,
+        "explain" => explained_in(matches)?,
         "door" => {
             let rate = number_in(matches, "rate").ok_or("--rate N is missing")?;
-            Work::Door(place_in(matches)?, rate)
+            Task::Door(place_in(matches)?, rate)
         }
-        "apply" => Work::Apply(Application {
+        "apply" => Task::Apply(Application {
             path: matches.get_str("FILE").ok_or("FILE is missing")?,
             asks: !matches.get_flag("yes"),
             ends_many: matches.get_flag("end-many"),
             manner: manner_in(matches)?,
         }),
-        "export" => Work::Export(matches.get_str("FILE"), keys_in(matches)?),
-        "fold" => Work::Fold(matches.get_flag("dry-run")),
-        _ => Work::Change(ChangeRequest {
+        "export" => Task::Export(matches.get_str("FILE"), keys_in(matches)?),
+        "fold" => Task::Fold(matches.get_flag("dry-run")),
+        _ => Task::Change(ChangeRequest {
             address: address_in(matches, "ADDRESS")?,
             change: change_in(name, matches)?,
             manner: manner_in(matches)?,
         }),
-    })
+    };
+    Ok((matches.get_str("config").unwrap_or(USUAL_CONFIG), task))
 }
 
 // Returns which customers are listed.
-fn listing_in<'a>(matches: &ArgMatches<'a>) -> Result<Listing<'a>, &'static str> {
+fn listing_in<'a>(matches: &ArgMatches<'a>) -> Result<Task<'a>, &'static str> {
     let word = matches.get_str("ADDRESS|COMMANDS");
     let address = word.and_then(|word| words::address(word));
     let commands = word.filter(|_| address.is_none());
     if commands.is_some() && matches.value_source("config") == Some(ValueSource::CommandLine) {
         return Err("COMMANDS stands in the place of --config");
     }
-    Ok(Listing {
-        commands,
-        address,
-        json: matches.get_flag("json"),
-    })
+    let json = matches.get_flag("json");
+    Ok(Task::List(commands, Listing { address, json }))
 }
 
 // Returns the datagrams to be explained.
-fn explained_in<'a>(matches: &ArgMatches<'a>) -> Result<Explained<'a>, &'static str> {
-    let (octets, from) = (matches.get_str("DATAGRAM"), matches.get_str("from"));
-    match (octets, from, matches.get_str("pcap")) {
-        (Some(octets), Some(from), None) => Ok(Explained::Datagram {
-            octets,
-            from: words::address(from).ok_or("--from: an IPv4 address, as 192.0.2.1, is wanted")?,
-        }),
-        (None, None, Some(path)) => Ok(Explained::Capture(path)),
+fn explained_in<'a>(matches: &ArgMatches<'a>) -> Result<Task<'a>, &'static str> {
+    let (digits, from) = (matches.get_str("DATAGRAM"), matches.get_str("from"));
+    match (digits, from, matches.get_str("pcap")) {
+        (Some(digits), Some(from), None) => {
+            let wanted = "--from: an IPv4 address, as 192.0.2.1, is wanted";
+            Ok(Task::Explain(digits, Some(words::address(from).ok_or(wanted)?)))
+        }
+        (None, None, Some(path)) => Ok(Task::Explain(path, None)),
         _ => Err("either DATAGRAM and --from ADDRESS, or --pcap FILE is wanted"),
     }
 }
 
 // Returns where the rules apply, if the words say it.
-fn place_in(matches: &ArgMatches<'_>) -> Result<Option<Place>, &'static str> {
+fn place_in(matches: &ArgMatches<'_>) -> Result<Place, &'static str> {
     let Some(word) = matches.get_str("address") else {
         return Ok(None);
     };
     match server_in(word) {
-        Some(Server { address, port }) if address != ANY => Ok(Some(Place {
-            address,
-            port: word.contains(':').then_some(port),
-        })),
+        Some(Server { address, port }) if address != ANY => {
+            Ok(Some((address, word.contains(':').then_some(port))))
+        }
         _ => Err("--address: an IPv4 address of this host, with a port or without, is wanted"),
     }
 }
@@ -335,44 +311,33 @@ fn subcommand<'a>(alloc: Global, name: &'a str, about: &'a str) -> Result<Comman
 fn argument<'a>(alloc: Global, usage: &'a str, help: &'a str) -> Result<Arg<'a>, AllocError> {
     let (option, value) = usage.split_once(' ').unwrap_or((usage, ""));
     let name = option.trim_matches(['-', '<', '>', '[', ']']);
-    let arg = Arg::new(alloc, name).help(help);
+    let (parser, default, others) = limits_of(name);
+    let is_wanted = option.starts_with('<');
+    let arg = Arg::new(alloc, name).help(help).required(is_wanted);
     let arg = match (option.starts_with("--"), value) {
         (true, "") => arg.long(name).action(ArgAction::SetTrue),
-        (true, value) => arg.long(name).value_name(value),
-        (false, _) => arg.value_name(name).required(option.starts_with('<')),
+        (true, value) => arg.long(name).value_name(value).value_parser(parser),
+        (false, _) => arg.value_name(name).value_parser(parser),
     };
-    let (parser, default) = values_of(name);
-    let arg = match parser {
-        Some(parser) => arg.value_parser(parser),
-        None => arg,
-    };
-    let arg = match default {
-        "" => arg,
-        default => arg.default_value(default),
-    };
-    arg.conflicts_with_all(conflicting(name))
+    arg.default_values(default).conflicts_with_all(others)
 }
 
-// Returns what values of an argument have to be, if not any text, and the value where it is left out, if not an empty one.
-fn values_of(name: &str) -> (Option<ValueParser<'static>>, &'static str) {
-    let number = Some(ValueParser::Unsigned(1, 65_535));
-    match name {
-        "config" => (None, USUAL_CONFIG),
-        "algorithm" => (Some(ValueParser::Names(&["md5", "sha1"])), "sha1"),
-        "wait" => (Some(ValueParser::Float), "5"),
-        "rate" => (number, "200"),
-        "budget" => (number, "10"),
-        "number" | "N" => (number, ""),
-        _ => (None, ""),
-    }
-}
+// Names or values of arguments.
+type Texts = &'static [&'static str];
 
-// Returns the arguments that are not used with an argument.
-fn conflicting(name: &str) -> &'static [&'static str] {
+// Returns what values of an argument have to be, the value where it is left out, and the arguments that are not used with it.
+fn limits_of(name: &str) -> (ValueParser<'static>, Texts, Texts) {
+    let (text, number) = (ValueParser::String, ValueParser::Unsigned(1, 65_535));
     match name {
-        "compare" => &["json", "ADDRESS|COMMANDS"],
-        "COMMANDS" => &["config"],
-        "key-file" => &["algorithm", "text-key"],
-        _ => &[],
+        "config" => (text, &[USUAL_CONFIG], &[]),
+        "algorithm" => (ValueParser::Names(&["md5", "sha1"]), &["sha1"], &[]),
+        "wait" => (ValueParser::Float, &["5"], &[]),
+        "rate" => (number, &["200"], &[]),
+        "budget" => (number, &["10"], &[]),
+        "number" | "N" => (number, &[], &[]),
+        "compare" => (text, &[], &["json", "ADDRESS|COMMANDS"]),
+        "COMMANDS" => (text, &[], &["config"]),
+        "key-file" => (text, &[], &["algorithm", "text-key"]),
+        _ => (text, &[], &[]),
     }
 }

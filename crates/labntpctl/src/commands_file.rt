@@ -1,23 +1,19 @@
-//! Reads the commands file, carries out its lines, and holds it, so that one clerk at a time changes it.
+//! Reads the commands file, carries out its lines, and holds it, so that one clerk at a time changes it. Writes new files, and puts them
+//! in the place of others.
 
 use crate::desk::{Clerk, Desk, Stop};
 use indexmap::IndexMap;
 use labntpd_files::is_name;
+use labntpd_start::directory_of;
 use ntp_admin::{Command, Escaped, apply_lines};
 use ntp_clerk::{ByAddress, name_in};
 use ntp_host::{MOST_COMMANDS_OCTETS, not_regular, pause, read_regular_file};
 use ntp_reports::CustomerCounts;
 use ntp_service::{Address, LineOutcome, Observer, Refusal, Service, TurnOutcome};
 use std::alloc::{AllocError, Global};
-use std::fs::{self, File, OpenOptions, TryLockError};
+use std::fs::{self, File, OpenOptions, Permissions, TryLockError};
 use std::io::{self, ErrorKind, Read, Write};
-use std::os::unix::fs::MetadataExt;
-
-/// How often a clerk asks for the lock.
-const MOST_ASKED: u32 = 500;
-
-/// The milliseconds between two times.
-const ASKED_EACH: i32 = 20;
+use std::os::unix::fs::{MetadataExt, OpenOptionsExt, PermissionsExt, fchown};
 
 /// What the complete lines of a commands file have come to.
 #[derive(Drop)]
@@ -63,14 +59,6 @@ impl Loaded {
         };
         loaded.carry_out(alloc, whole)?;
         Ok(loaded)
-    }
-
-    // Reads an open commands file.
-    fn from_file(desk: Desk<'_>, path: &str, file: &File) -> Result<Loaded, Stop> {
-        let mut octets = Vec::new(desk.alloc());
-        let most = MOST_COMMANDS_OCTETS.saturating_add(1);
-        desk.at(path, file.take(most).read_to_end(&mut octets))?;
-        Ok(Loaded::of(desk.alloc(), &octets)?)
     }
 
     // Carries out complete lines, and notes what they come to.
@@ -194,7 +182,10 @@ impl HeldFile {
             Err(error) if error.kind() == ErrorKind::WouldBlock => return Err(held(desk, path)),
             file => desk.at(path, file)?,
         };
-        let loaded = Loaded::from_file(desk, path, &file)?;
+        let mut octets = Vec::new(desk.alloc());
+        let most = MOST_COMMANDS_OCTETS.saturating_add(1);
+        desk.at(path, (&file).take(most).read_to_end(&mut octets))?;
+        let loaded = Loaded::of(desk.alloc(), &octets)?;
         Ok(HeldFile { file, loaded })
     }
 
@@ -229,16 +220,16 @@ fn comment_octets(octets: &[u8]) -> usize {
     comments.fold(0, |count: usize, line| count.saturating_add(line.len()))
 }
 
-// Opens the file at a path, and holds it.
+// Opens the file at a path, and holds it. Asks for the lock for ten seconds at most.
 fn held_file(rt: &HostRuntime, path: &str) -> io::Result<File> {
-    for _ in 0..MOST_ASKED {
+    for _ in 0..500 {
         // A pipe that is opened for reading and writing is opened at once, whoever holds its other end (fifo(7)).
         let file = OpenOptions::new().read(true).append(true).open(rt, path)?;
         if is_held(rt, &file, path)? {
             return Ok(file);
         }
         drop(file);
-        pause(ASKED_EACH);
+        pause(20);
     }
     Err(io::Error::from(ErrorKind::WouldBlock))
 }
@@ -264,22 +255,18 @@ fn held(desk: Desk<'_>, path: &str) -> Stop {
     desk.failure_at(path, why)
 }
 
-// Returns which process holds the file at a path, by what the system says (proc(5)), if that can be read.
+// Returns which process holds the file at a path, by what the system says (proc(5)), if that can be read: its lines are
+// NUMBER: FLOCK ADVISORY WRITE PROCESS DEVICE:INODE FIRST LAST.
 fn holder(desk: Desk<'_>, path: &str) -> Option<String> {
-    let inode = fs::metadata(desk.rt, path).ok()?.ino();
+    let inode = format!(in desk.alloc(); ":{} ", fs::metadata(desk.rt, path).ok()?.ino()).ok()?;
     let locks = system_text(desk, "/proc/locks")?;
-    let process = process_in(desk.alloc(), locks.as_str(), inode)?;
+    let mut lines = locks.as_str().lines();
+    let line = lines.find(|line| line.contains(inode.as_str()))?;
+    let process = line.split_ascii_whitespace().nth(4)?;
     let name = format!(in desk.alloc(); "/proc/{process}/comm").ok()?;
     let program = system_text(desk, name.as_str())?;
     let program = Escaped(program.as_str().trim_end());
     format!(in desk.alloc(); ": process {process}, {program}").ok()
-}
-
-// Returns the process that holds the file with an inode, by lines NUMBER: FLOCK ADVISORY WRITE PROCESS DEVICE:INODE FIRST LAST.
-fn process_in<'a>(alloc: Global, locks: &'a str, inode: u64) -> Option<&'a str> {
-    let inode = format!(in alloc; ":{inode} ").ok()?;
-    let line = locks.lines().find(|line| line.contains(inode.as_str()))?;
-    line.split_ascii_whitespace().nth(4)
 }
 
 // Reads what the system says at a path.
@@ -309,4 +296,87 @@ fn write_counted(file: &mut File, octets: &[u8], written: &mut usize) -> io::Res
 pub fn is_at(rt: &HostRuntime, file: &File, path: &str) -> io::Result<bool> {
     let (ours, there) = (file.metadata()?, fs::metadata(rt, path)?);
     Ok(ours.dev() == there.dev() && ours.ino() == there.ino())
+}
+
+/// Writes a new file that its owner alone may read, and has the system store it with its name. Leaves none where that fails.
+pub fn write_new(desk: Desk<'_>, path: &str, octets: &[u8]) -> Result<(), Stop> {
+    let rt = desk.rt;
+    let mut file = match new_for_owner(rt, path) {
+        Err(error) if error.kind() == ErrorKind::AlreadyExists => {
+            let why = "a file is there: name a new one, or move it away";
+            return Err(desk.failure_at(path, why));
+        }
+        file => desk.at(path, file)?,
+    };
+    let done = write_stored(&mut file, octets).and_then(|()| store_name(rt, path));
+    desk.at(path, or_removed(rt, path, done))
+}
+
+/// Replaces the file at a path by this text with its owner, group and mode. Keeps it under the name that is returned.
+pub fn put_in_place(desk: Desk<'_>, path: &str, text: &str) -> Result<String, Stop> {
+    let (rt, alloc) = (desk.rt, desk.alloc());
+    let new = format!(in alloc; "{path}.new")?;
+    let new = new.as_str();
+    let time = desk.time("%Y%m%dT%H%M%SZ")?;
+    let kept = format!(in alloc; "{path}.{time}")?;
+    desk.at(new, write_like(rt, new, text, path))?;
+    let linked = fs::hard_link(rt, path, kept.as_str());
+    desk.at(kept.as_str(), or_removed(rt, new, linked))?;
+    let renamed = or_removed(rt, new, fs::rename(rt, new, path));
+    if renamed.is_err() {
+        keep_no_more(rt, path, kept.as_str());
+    }
+    desk.at(path, renamed)?;
+    Ok(kept)
+}
+
+/// Has the system store which file stands at a path.
+pub fn store_name(rt: &HostRuntime, path: &str) -> io::Result<()> {
+    fs::open(rt, directory_of(path))?.sync_all()
+}
+
+// Writes a new file at a path with the owner, the group and the mode of another one. Removes what an earlier run left there.
+fn write_like(rt: &HostRuntime, path: &str, text: &str, like: &str) -> io::Result<()> {
+    match fs::remove_file(rt, path) {
+        Err(error) if error.kind() != ErrorKind::NotFound => return Err(error),
+        _ => {}
+    }
+    let old = fs::metadata(rt, like)?;
+    let mut file = new_for_owner(rt, path)?;
+    let done = fchown(&file, Some(old.uid()), Some(old.gid()))
+        .and_then(|()| file.set_permissions(Permissions::from_mode(old.mode() & 0o7777)))
+        .and_then(|()| write_stored(&mut file, text.as_bytes()));
+    or_removed(rt, path, done)
+}
+
+/// Opens a new file that its owner alone may read, where there is none.
+pub fn new_for_owner(rt: &HostRuntime, path: &str) -> io::Result<File> {
+    OpenOptions::new()
+        .write(true)
+        .create_new(true)
+        .mode(0o600)
+        .open(rt, path)
+}
+
+// Writes octets into a file, and has the system store them.
+fn write_stored(file: &mut File, octets: &[u8]) -> io::Result<()> {
+    file.write_all(octets)?;
+    file.sync_all()
+}
+
+// Returns what came of the work on a new file, and removes the file where that failed.
+fn or_removed(rt: &HostRuntime, path: &str, done: io::Result<()>) -> io::Result<()> {
+    if done.is_err() {
+        let _ = fs::remove_file(rt, path);
+    }
+    done
+}
+
+// Removes the other name of a file that still has its own: a call that failed may have moved it all the same.
+fn keep_no_more(rt: &HostRuntime, path: &str, kept: &str) {
+    if let (Ok(there), Ok(other)) = (fs::metadata(rt, path), fs::metadata(rt, kept)) {
+        if there.dev() == other.dev() && there.ino() == other.ino() {
+            let _ = fs::remove_file(rt, kept);
+        }
+    }
 }

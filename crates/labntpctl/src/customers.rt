@@ -82,7 +82,7 @@ impl<'a> CustomerLine<'a> {
         shown: &mut String,
         line: &str,
         file: Option<&Loaded>,
-        how: Listing<'_>,
+        how: Listing,
     ) -> Result<bool, AllocError> {
         let address = words::address(self.address);
         if how.address.is_some() && how.address != address {
@@ -151,9 +151,7 @@ impl<'a> KeyLine<'a> {
 
 /// Which customers are listed, and how.
 #[derive(Clone, Copy)]
-pub struct Listing<'a> {
-    /// The path of a commands file, in the place of the configuration.
-    pub commands: Option<&'a str>,
+pub struct Listing {
     /// The only customer that is listed.
     pub address: Option<Address>,
     /// Whether they are objects of JSON, and no table.
@@ -181,16 +179,6 @@ pub fn customer_lines<'a>(desk: Desk<'_>, text: &'a str) -> Result<Vec<CustomerL
     Ok(lines)
 }
 
-/// Reads the customers of a text's lines, in their order and without the octets of their keys.
-pub fn reported_in(desk: Desk<'_>, text: &str) -> Result<ByAddress<Seen>, Stop> {
-    let mut customers = IndexMap::new(desk.alloc());
-    for (place, line) in customer_lines(desk, text)?.iter().enumerate() {
-        let (address, seen) = line.reported().ok_or_else(|| no_line(desk, place))?;
-        customers.insert(address, seen)?;
-    }
-    Ok(customers)
-}
-
 // Reports that the line at a place is none of a customer.
 fn no_line(desk: Desk<'_>, place: usize) -> Stop {
     let number = (place as u64).saturating_add(1);
@@ -198,15 +186,7 @@ fn no_line(desk: Desk<'_>, place: usize) -> Stop {
 }
 
 /// Lists labntpd's customers, and reports where the commands file has others. Without the former it lists the latter.
-pub fn list(desk: Desk<'_>, config: &str, listing: Listing<'_>) -> Result<(), Stop> {
-    if let Some(path) = listing.commands {
-        return list_file(desk, path, listing);
-    }
-    list_configured(&Clerk::new(desk, config)?, listing)
-}
-
-// Does so by the configuration.
-fn list_configured(clerk: &Clerk<'_>, listing: Listing<'_>) -> Result<(), Stop> {
+pub fn list(clerk: &Clerk<'_>, listing: Listing) -> Result<(), Stop> {
     clerk.renew_customers()?;
     let reported = clerk.reported(&clerk.configuration.customers)?;
     // That labntpd reads no more bars a change, but no list.
@@ -229,10 +209,10 @@ fn names(alloc: Global, report: &str, address: Option<Address>) -> Result<bool, 
 }
 
 // Lists the customers of labntpd's report, and reports where the commands file has others.
-fn list_reported(clerk: &Clerk<'_>, report: &str, listing: Listing<'_>) -> Result<(), Stop> {
+fn list_reported(clerk: &Clerk<'_>, report: &str, listing: Listing) -> Result<(), Stop> {
     let (desk, loaded) = (clerk.desk, clerk.load());
     write(desk, report, loaded.as_ref().ok(), listing)?;
-    for difference in lasting_differences(clerk, &loaded?)?.iter() {
+    for difference in lasting_differences(clerk, &loaded?)?.values() {
         if listing.address.unwrap_or(difference.address) == difference.address {
             let _ = write!(desk.faults(), "{difference}");
         }
@@ -240,8 +220,8 @@ fn list_reported(clerk: &Clerk<'_>, report: &str, listing: Listing<'_>) -> Resul
     Ok(())
 }
 
-// Lists the customers of the commands file at a path.
-fn list_file(desk: Desk<'_>, path: &str, listing: Listing<'_>) -> Result<(), Stop> {
+/// Lists the customers of the commands file at a path.
+pub fn list_file(desk: Desk<'_>, path: &str, listing: Listing) -> Result<(), Stop> {
     let loaded = Loaded::at(desk, path)?;
     let lines = lines_of(desk.alloc(), &loaded)?;
     write(desk, lines.as_str(), Some(&loaded), listing)
@@ -257,7 +237,7 @@ pub fn compare(clerk: &Clerk<'_>) -> Result<(), Stop> {
     desk.at(path.as_str(), fs::metadata(desk.rt, path.as_str()))?;
     clerk.renew_customers()?;
     let differing = lasting_differences(clerk, &clerk.load()?)?;
-    for difference in differing.iter() {
+    for difference in differing.values() {
         desk.print(*difference)?;
     }
     if differing.is_empty() {
@@ -267,7 +247,7 @@ pub fn compare(clerk: &Clerk<'_>) -> Result<(), Stop> {
 }
 
 // Prints the listed customers of a text with their names, and reports each line that is none of a customer.
-fn write(desk: Desk<'_>, text: &str, file: Option<&Loaded>, how: Listing<'_>) -> Result<(), Stop> {
+fn write(desk: Desk<'_>, text: &str, file: Option<&Loaded>, how: Listing) -> Result<(), Stop> {
     let mut shown = String::new(desk.alloc());
     if !how.json {
         shown.push_str(HEAD)?;
@@ -285,8 +265,7 @@ fn write(desk: Desk<'_>, text: &str, file: Option<&Loaded>, how: Listing<'_>) ->
     }
     match how.address {
         Some(address) if !is_there => {
-            let address = Dotted(address);
-            Err(desk.refusal(format_args!("{address}: no customer")))
+            Err(desk.refusal(format_args!("{}: no customer", Dotted(address))))
         }
         _ => desk.print(shown).and(done),
     }
@@ -324,12 +303,9 @@ fn write_key(alloc: Global, row: &mut String, key: Option<&KeyLine<'_>>) -> Resu
         cell(row, 8, "-")?;
         return cell(row, 29, "-");
     };
+    let word = format_args!("{} {}", Escaped(key.algorithm), key.octets);
     cell(row, 6, key.number)?;
-    cell(
-        row,
-        8,
-        format_args!("{} {}", Escaped(key.algorithm), key.octets),
-    )?;
+    cell(row, 8, word)?;
     match key.last_signed {
         Some(seconds) => cell(row, 29, signed_date(alloc, seconds)?),
         None => cell(row, 29, "-"),
@@ -345,16 +321,22 @@ fn cell<D: Display + Drop>(row: &mut String, width: usize, value: D) -> Result<(
 }
 
 // Returns the differences between labntpd's customers and those of the commands file, first at the addresses of the former.
-fn differences(desk: Desk<'_>, text: &str, loaded: &Loaded) -> Result<Vec<Difference>, Stop> {
-    let mut reported = reported_in(desk, text)?;
+fn differences(desk: Desk<'_>, text: &str, loaded: &Loaded) -> Result<ByAddress<Difference>, Stop> {
+    let mut reported: ByAddress<Seen> = IndexMap::new(desk.alloc());
+    for (place, line) in customer_lines(desk, text)?.iter().enumerate() {
+        let (address, seen) = line.reported().ok_or_else(|| no_line(desk, place))?;
+        reported.insert(address, seen)?;
+    }
     for address in loaded.service.addresses()?.iter() {
         if reported.get(address).is_none() {
             reported.insert(*address, Seen::Nothing)?;
         }
     }
-    let mut differences = Vec::new(desk.alloc());
+    let mut differences: ByAddress<Difference> = IndexMap::new(desk.alloc());
     for (address, daemon) in reported.iter() {
-        differences.extend(differing_at(&loaded.service, *address, *daemon))?;
+        if let Some(difference) = differing_at(&loaded.service, *address, *daemon) {
+            differences.insert(*address, difference)?;
+        }
     }
     Ok(differences)
 }
@@ -366,7 +348,7 @@ pub fn judge_daemon(clerk: &Clerk<'_>, loaded: &Loaded) -> Result<(), Stop> {
     if differing.is_empty() {
         return Ok(());
     }
-    for difference in differing.iter() {
+    for difference in differing.values() {
         let _ = write!(clerk.desk.faults(), "{difference}");
     }
     let why = "labntpd has other customers: restart labntpd, or mend this file, and try again";
@@ -384,25 +366,22 @@ pub fn judge_reading(clerk: &Clerk<'_>) -> Result<(), Stop> {
 }
 
 /// Returns the differences that labntpd's next report will not mend: its last one has what the address had behind no command.
-pub fn lasting_differences(clerk: &Clerk<'_>, loaded: &Loaded) -> Result<Vec<Difference>, Stop> {
+pub fn lasting_differences(
+    clerk: &Clerk<'_>,
+    loaded: &Loaded,
+) -> Result<ByAddress<Difference>, Stop> {
     let alloc = clerk.desk.alloc();
     // The report that is read below is no older.
     let has_all_lines = has_all_lines(clerk).unwrap_or(false);
     let Some(text) = clerk.reported(&clerk.configuration.customers)? else {
-        return Ok(Vec::new(alloc));
+        return Ok(IndexMap::new(alloc));
     };
-    let all = differences(clerk.desk, text.as_str(), loaded)?;
-    if has_all_lines {
-        return Ok(all);
+    let mut differences = differences(clerk.desk, text.as_str(), loaded)?;
+    if !has_all_lines {
+        differences.retain(|_, difference| difference.daemon != Seen::Nothing);
+        remove_mended(&mut Service::new(alloc), loaded, &mut differences)?;
     }
-    let mut open: ByAddress<Difference> = IndexMap::new(alloc);
-    for difference in all.iter() {
-        if difference.daemon != Seen::Nothing {
-            open.insert(difference.address, *difference)?;
-        }
-    }
-    remove_mended(&mut Service::new(alloc), loaded, &mut open)?;
-    Ok(open.values().copied().collect(alloc)?)
+    Ok(differences)
 }
 
 // Removes the differences whose address had behind a command what labntpd reported. The service has no customer at first.

@@ -1,7 +1,6 @@
 //! Gives a clerk the host, the configuration of labntpd, and ways to ask, to print, and to show names, dates and faults.
 
-use crate::commands_file::Loaded;
-use crate::replacing::new_for_owner;
+use crate::commands_file::{Loaded, new_for_owner};
 use jiff::Timestamp;
 use labntpd_files::{Configuration, Endpoint, Found, Listen, Text, is_name};
 use labntpd_start::{StartLines, configuration_at, start_lines};
@@ -22,17 +21,8 @@ use std::{env, fs};
 /// The most octets of a file in which labntpd reports, and of a capture file.
 pub const MOST_REPORTED_OCTETS: u32 = 268_435_456;
 
-/// How often it is looked, each hundredth of a second, whether labntpd has written its customers file anew.
-const MOST_LOOKS: u32 = 150;
-
-/// The most octets of an answer that is a yes, with its line feed.
-const MOST_YES_OCTETS: usize = 16;
-
 /// The address that stands for all addresses of a host.
 pub const ANY: Address = Address([0, 0, 0, 0]);
-
-/// The port of NTP (RFC 5905).
-pub const NTP_PORT: u16 = 123;
 
 /// The characters of a key that is text, one for each value of six bits.
 const CHARACTERS: &[u8; 64] = b"ABCDEFGHIJKLMNOPQRSTUVWXYZabcdefghijklmnopqrstuvwxyz0123456789_-";
@@ -152,26 +142,26 @@ impl<'a> Desk<'a> {
         done.map_err(|_| Stop::Printed(write_status(&mut self.faults())))
     }
 
-    /// Asks a question, and stops the work where the next line of standard input is no yes.
+    /// Asks a question, and stops the work where the next line of standard input is no yes of at most 16 octets, with its line feed.
     pub fn ask<D: Display + Drop>(self, question: D) -> Result<(), Stop> {
         self.print(question)?;
-        let input = self.rt.stdin().take(MOST_YES_OCTETS as u64 + 1);
+        let input = self.rt.stdin().take(17);
         let mut input = self.at("standard input", BufReader::new(self.alloc(), input))?;
         let mut said = Vec::new(self.alloc());
         self.at("standard input", input.read_until(b'\n', &mut said))?;
         match said.as_slice().trim_ascii() {
-            b"y" | b"Y" | b"yes" | b"Yes" if said.len() <= MOST_YES_OCTETS => Ok(()),
+            b"y" | b"Y" | b"yes" | b"Yes" if said.len() <= 16 => Ok(()),
             _ => Err(Stop::Printed(Status::TextFaulty)),
         }
     }
 
-    // Makes a file at `wanted`, and waits until labntpd has written the file at `path` anew.
+    // Makes a file at `wanted`, and waits until labntpd has written the file at `path` anew, for 1.5 seconds at most.
     fn wait_for_renewal(self, path: &str, wanted: &str) {
         let before = node_at(self, path);
         if new_for_owner(self.rt, wanted).is_err() {
             return;
         }
-        for _ in 0..MOST_LOOKS {
+        for _ in 0..150 {
             pause(10);
             if node_at(self, path) != before {
                 break;
@@ -189,8 +179,7 @@ impl<'a> Desk<'a> {
 
     /// Reports what is wrong with the file at a path.
     pub fn refusal_at<D: Display + Drop>(self, path: &str, why: D) -> Stop {
-        let path = Escaped(path);
-        self.refusal(format_args!("{path}: {why}"))
+        self.refusal(format_args!("{}: {why}", Escaped(path)))
     }
 
     /// Reports what failed at the file at a path.
@@ -276,7 +265,7 @@ impl<'a> Clerk<'a> {
     pub fn port(&self) -> u16 {
         match self.configuration.listen {
             Listen::Bound(endpoint) => endpoint.port.get(),
-            Listen::Inherited => NTP_PORT,
+            Listen::Inherited => 123,
         }
     }
 
@@ -342,10 +331,9 @@ pub fn signed_date(alloc: Global, seconds: &str) -> Result<String, AllocError> {
     }
 }
 
-/// Returns a time in seconds since 1970.
-pub fn seconds_of(time: SystemTime) -> Option<u64> {
-    let since = time.duration_since(SystemTime::UNIX_EPOCH).ok()?;
-    Some(since.as_secs())
+// Returns a time in seconds since 1970.
+fn seconds_of(time: SystemTime) -> Option<u64> {
+    Some(time.duration_since(SystemTime::UNIX_EPOCH).ok()?.as_secs())
 }
 
 /// Returns the whole seconds of a count with decimals or without, if it is one.

@@ -9,25 +9,20 @@ use std::alloc::{AllocError, Global};
 use std::fmt::Write;
 use std::num::NonZero;
 
-/// An address at which the server is asked.
-#[derive(Clone, Copy)]
-pub struct Place {
-    pub address: Address,
-    /// The port; nothing where it is that of the configuration.
-    pub port: Option<u16>,
-}
+/// An address at which the server is asked, and the port, if it is not that of the configuration; nothing where the words name none.
+pub type Place = Option<(Address, Option<u16>)>;
 
 /// Prints the rules, as `nft -f` takes them: `rate` datagrams of each customer pass in a second, and twice as many at once.
-pub fn print_door(clerk: &Clerk<'_>, place: Option<Place>, rate: NonZero<u16>) -> Result<(), Stop> {
+pub fn print_door(clerk: &Clerk<'_>, place: Place, rate: NonZero<u16>) -> Result<(), Stop> {
     let (server, loaded) = (server_for(clerk, place)?, clerk.load()?);
     let rules = rules(clerk.desk.alloc(), server, rate.get(), &loaded)?;
     clerk.desk.print(rules.as_str())
 }
 
 // Returns where the rules apply: where the words say it, else where labntpd listens, or else where customers ask.
-fn server_for(clerk: &Clerk<'_>, place: Option<Place>) -> Result<Server, Stop> {
+fn server_for(clerk: &Clerk<'_>, place: Place) -> Result<Server, Stop> {
     match (place, clerk.listening().or(clerk.server())) {
-        (Some(Place { address, port }), _) => Ok(Server {
+        (Some((address, port)), _) => Ok(Server {
             address,
             port: port.unwrap_or(clerk.port()),
         }),

@@ -20,17 +20,8 @@ use std::io::{self, BufWriter, Stdout, Write};
 const HEAD: &str =
     "What labntpd counted so far is not known here: each datagram is taken for the first of a window of 64 seconds.";
 
-/// The datagrams to be explained.
-#[derive(Clone, Copy)]
-pub enum Explained<'a> {
-    /// A datagram, by its octets in hexadecimal digits.
-    Datagram { octets: &'a str, from: Address },
-    /// The datagrams of a capture file at a path.
-    Capture(&'a str),
-}
-
-/// Explains what datagrams would get by the commands file.
-pub fn explain(clerk: &Clerk<'_>, explained: Explained<'_>) -> Result<(), Stop> {
+/// Explains what a datagram from an address would get by the commands file, or those of a capture file.
+pub fn explain(clerk: &Clerk<'_>, word: &str, from: Option<Address>) -> Result<(), Stop> {
     let desk = clerk.desk;
     let mut explainer = Explainer {
         out: desk.buffered_output()?,
@@ -39,9 +30,9 @@ pub fn explain(clerk: &Clerk<'_>, explained: Explained<'_>) -> Result<(), Stop> 
         now: moment_now(&desk.rt),
         explained: 0,
     };
-    match explained {
-        Explained::Datagram { octets, from } => explainer.digits(desk, from, octets),
-        Explained::Capture(path) => explainer.file(clerk, path),
+    match from {
+        Some(from) => explainer.digits(desk, from, word),
+        None => explainer.file(clerk, word),
     }
 }
 

@@ -11,9 +11,8 @@ mod customers;
 mod desk;
 mod door;
 mod explaining;
-mod replacing;
 
-use command_line::{Task, Work, parse};
+use command_line::{Task, parse};
 use desk::{Clerk, Desk, Stop};
 use labntpd_files::command_line::refused_status;
 use ntp_admin::{Status, unread_status, write_status};
@@ -50,20 +49,14 @@ fn words(rt: &HostRuntime) -> io::Result<Vec<String>> {
 fn carry_out(desk: Desk<'_>, config: &str, task: Task<'_>) -> Result<(), Stop> {
     match task {
         Task::Check(checked) => checking::check(desk, config, checked),
-        Task::List(listing) => customers::list(desk, config, listing),
-        Task::Configured(work) => carry_out_configured(&Clerk::new(desk, config)?, work),
-    }
-}
-
-// Does work by the configuration of labntpd.
-fn carry_out_configured(clerk: &Clerk<'_>, work: Work<'_>) -> Result<(), Stop> {
-    match work {
-        Work::Compare => customers::compare(clerk),
-        Work::Explain(explained) => explaining::explain(clerk, explained),
-        Work::Door(place, rate) => door::print_door(clerk, place, rate),
-        Work::Change(request) => changing::make_change(clerk, &request),
-        Work::Apply(application) => applying::apply(clerk, &application),
-        Work::Export(path, keys) => applying::export(clerk, path, keys),
-        Work::Fold(dry_run) => applying::fold_commands(clerk, dry_run),
+        Task::List(Some(path), listing) => customers::list_file(desk, path, listing),
+        Task::List(None, listing) => customers::list(&Clerk::new(desk, config)?, listing),
+        Task::Compare => customers::compare(&Clerk::new(desk, config)?),
+        Task::Explain(word, from) => explaining::explain(&Clerk::new(desk, config)?, word, from),
+        Task::Door(place, rate) => door::print_door(&Clerk::new(desk, config)?, place, rate),
+        Task::Change(request) => changing::make_change(&Clerk::new(desk, config)?, &request),
+        Task::Apply(application) => applying::apply(&Clerk::new(desk, config)?, &application),
+        Task::Export(path, keys) => applying::export(&Clerk::new(desk, config)?, path, keys),
+        Task::Fold(dry_run) => applying::fold_commands(&Clerk::new(desk, config)?, dry_run),
     }
 }

@@ -1,6 +1,5 @@
 -- What is no fault at a customer, but hardly meant.
 use Rattle.std.specs.Prelude.{ℕ, ◌==◌, ◌&&◌, nat_le, nat_lt, if◌then◌else◌, List, [], ◌∷◌, length, Option, None, Some}
-use Rattle.ntp_service.specs.declared.address.Address.{Address}
 use Rattle.ntp_mac.specs.{Key.SymmetricKey, declared.key.Algorithm.Algorithm}
 use Rattle.ntp_mac.specs.declared.key.Algorithm.TheVariants.{Md5, Sha1}
 use Rattle.labntpd_files.specs.declared.hardly_meant.HardlyMeant.{HardlyMeant}
@@ -8,17 +7,14 @@ use Rattle.labntpd_files.specs.declared.hardly_meant.HardlyMeant.TheVariants as 
 
 -- the addresses that no host sends from: 0.0.0.0/8 (RFC 1122, 3.2.1.3), 224.0.0.0/4 (RFC 5771), 240.0.0.0/4 (RFC 1112, 4), and in it
 -- 255.255.255.255 (RFC 919, 7)
-abbrev pub octets_warning : List ℕ → Option HardlyMeant
-octets_warning (a ∷ b ∷ c ∷ d ∷ []) =
+abbrev pub address_warning : List ℕ → Option HardlyMeant
+address_warning (a ∷ b ∷ c ∷ d ∷ []) =
     if a == 0 then Some meant.ThisNetwork
     else if nat_lt a 224 then None
     else if nat_lt a 240 then Some meant.Multicast
     else if a == 255 && b == 255 && c == 255 && d == 255 then Some meant.Broadcast
     else Some meant.Reserved
-octets_warning other = None
-
-abbrev pub address_warning : Address → Option HardlyMeant
-address_warning address = octets_warning address.0
+address_warning other = None
 
 -- a key that is warned of: one of fewer than 16 octets, else one for MD5
 abbrev pub algorithm_warning : Algorithm → Option HardlyMeant

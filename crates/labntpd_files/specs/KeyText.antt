@@ -16,8 +16,7 @@ first_line (octet ∷ next ∷ others) = octet ∷ first_line (next ∷ others)
 abbrev pub key_in_file : List ℕ → Algorithm → Option SymmetricKey
 key_in_file text algorithm = option_map (λ octets. record { algorithm = algorithm; octets = octets }) (key_in (first_line text))
 
--- what is wrong where the first octet that is no digit stands at `place`, or where all `count` octets are digits: an even number from 2 to
--- 64 spells a key
+-- what is wrong where the first octet that is no digit stands at a place, else with the count of digits: even, from 2 to 64
 abbrev pub wrong_behind : Option ℕ → ℕ → Option KeyWrong
 wrong_behind (Some place) count = Some (wrong.NoDigit (suc place))
 wrong_behind None count = if count == 0 || nat_lt 64 count || count % 2 == 1 then Some (wrong.Digits count) else None

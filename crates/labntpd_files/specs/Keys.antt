@@ -22,14 +22,14 @@ is_fixed clock = option_map_or (bytes_eq (codes "fixed")) (get_member (codes "so
 -- the keys of the top level, and those of the table `[clock]`, by its source
 abbrev pub top_keys : List (List ℕ)
 top_keys =
-    codes "listen" ∷ codes "served_as" ∷ codes "commands" ∷ codes "answers" ∷ codes "statistics" ∷ codes "customers" ∷ codes "receive_buffer"
-    ∷ codes "send_buffer" ∷ codes "longest_wait" ∷ codes "spin" ∷ codes "clock" ∷ []
+    map codes ("listen" ∷ "served_as" ∷ "commands" ∷ "answers" ∷ "statistics" ∷ "customers" ∷ "receive_buffer" ∷ "send_buffer"
+    ∷ "longest_wait" ∷ "spin" ∷ "clock" ∷ [])
 
 abbrev pub clock_keys : Members → List (List ℕ)
 clock_keys clock =
-    if is_fixed clock then codes "source" ∷ codes "reference" ∷ []
-    else codes "source" ∷ codes "number" ∷ codes "algorithm" ∷ codes "key_file" ∷ codes "valid_for" ∷ codes "most_root_distance"
-    ∷ codes "most_reference_age" ∷ codes "most_step" ∷ []
+    map codes (if is_fixed clock then "source" ∷ "reference" ∷ []
+    else "source" ∷ "number" ∷ "algorithm" ∷ "key_file" ∷ "valid_for" ∷ "most_root_distance" ∷ "most_reference_age"
+    ∷ "most_step" ∷ [])
 
 -- whether a key is one of the known ones
 abbrev pub is_known : List (List ℕ) → List ℕ → Bool

@@ -6,10 +6,8 @@ use Rattle.toml.specs.Data.{Data, Members, no_items, get_member, as_str, as_bool
 use Rattle.ntp_packet.specs.FirstCase.{◌>>=◌}
 use Rattle.ntp_admin.specs.Words.{address_in, algorithm_in, reference_in}
 use Rattle.ntp_mac.specs.declared.key.Algorithm.TheVariants.{Sha1}
-use Rattle.labntpd_files.specs.declared.configuration.Clock.{Clock}
+use Rattle.labntpd_files.specs.declared.configuration.{Clock.Clock, ClockDaemon.ClockDaemon, Configuration.Configuration}
 use Rattle.labntpd_files.specs.declared.configuration.Clock.TheVariants.{Fixed, Followed}
-use Rattle.labntpd_files.specs.declared.configuration.ClockDaemon.{ClockDaemon}
-use Rattle.labntpd_files.specs.declared.configuration.{Configuration.Configuration, Files.Files}
 use Rattle.labntpd_files.specs.{declared.fault.ConfigurationFault.ConfigurationFault, declared.setting.Kind.Kind}
 use Rattle.labntpd_files.specs.declared.fault.ConfigurationFault.TheVariants as fault
 use Rattle.labntpd_files.specs.declared.setting.Kind.TheVariants as k
@@ -86,26 +84,22 @@ daemon_in clock = do
     most_step = step;
   })
 
--- the table of the clock
-abbrev pub clock_table : Members → Result Members Fault
-clock_table = required (codes "clock", k.Table) as_table
-
 -- the clock: a reference state where its source is fixed, and a daemon otherwise
 abbrev pub clock_in : Members → Result Clock Fault
 clock_in document = do
-  clock ← clock_table document
+  clock ← required (codes "clock", k.Table) as_table document
   if is_fixed clock
       then word (codes "reference", k.Reference) reference_in clock >>= (λ reference. Ok (Fixed reference))
       else daemon_in clock >>= (λ daemon. Ok (Followed daemon))
 
--- the files that a document names
-abbrev pub files_in : Members → Result Files Fault
+-- the files that a document names: of commands, answers, statistics and customers
+abbrev pub files_in : Members → Result (List ℕ × Option (List ℕ) × Option (List ℕ) × Option (List ℕ)) Fault
 files_in document = do
   commands ← required (codes "commands", k.Path) (text_as path_in) document
   answers ← optional (codes "answers", k.OptionalPath) (text_as path_in) document
   statistics ← optional (codes "statistics", k.OptionalPath) (text_as path_in) document
   customers ← optional (codes "customers", k.OptionalPath) (text_as path_in) document
-  Ok (record { commands = commands; answers = answers; statistics = statistics; customers = customers })
+  Ok (commands, answers, statistics, customers)
 
 -- the settings of a document, each in its range, or the first fault in this order
 abbrev pub settings_in : Members → Result Configuration Fault
@@ -121,10 +115,10 @@ settings_in document = do
   Ok (record {
     listen = listen;
     served_as = served_as;
-    commands = files.commands;
-    answers = files.answers;
-    statistics = files.statistics;
-    customers = files.customers;
+    commands = files.0;
+    answers = files.1;
+    statistics = files.2;
+    customers = files.3;
     receive_buffer = receive_buffer;
     send_buffer = send_buffer;
     longest_wait = longest_wait;
@@ -155,7 +149,6 @@ pub record HasDaemonRanges (daemon : ClockDaemon) : Type 0 where
   pub most_reference_age : IfSome daemon.most_reference_age (λ age. (1 ≤ age) × (age ≤ 1000000))
   pub most_step : (1 ≤ daemon.most_step) × (daemon.most_step ≤ 3600 * 10 ^ 9)
 
--- those of a clock
 abbrev pub HasClockRanges : Clock → Type 0
 HasClockRanges (Fixed reference) = Unit {0}
 HasClockRanges (Followed daemon) = HasDaemonRanges daemon
@@ -170,9 +163,9 @@ pub record HasRanges (configuration : Configuration) : Type 0 where
 -- the first key that is none, of the top level before those of the table `[clock]`
 abbrev pub unknown_key : Members → Option Fault
 unknown_key document =
-    option_or
-    (option_map unknown (unknown_in top_keys document))
-    (option_map unknown_of_clock (option_map_or (λ clock. unknown_in (clock_keys clock) clock) (result_ok (clock_table document)) None))
+    let clock = result_ok (required (codes "clock", k.Table) as_table document) in
+    let there = option_map_or (λ table. unknown_in (clock_keys table) table) clock None in
+    option_or (option_map unknown (unknown_in top_keys document)) (option_map unknown_of_clock there)
 
 -- what a document says, or its first fault: a key that is none, else that of the settings
 abbrev pub configuration_in : Members → Result Configuration Fault
@@ -182,10 +175,6 @@ configuration_in document = option_map_or Err (unknown_key document) (settings_i
 abbrev pub IsReadAs : Option Members → Result Configuration ConfigurationFault → Type 0
 IsReadAs None said = (line : ℕ) × (said ≡ Err (fault.Toml line))
 IsReadAs (Some document) said = IsSaid (λ configuration. configuration) (configuration_in document) said
-
--- the path at a key, if one stands there
-abbrev pub path_at : List ℕ → Members → Option (List ℕ)
-path_at key table = result_ok (required (key, k.Path) (text_as path_in) table)
 
 -- what is wrong at a key of a kind, whatever is wrong at the others: the fault that is read there
 abbrev pub wrong_by : Kind → Row → Members → Option Fault
@@ -205,6 +194,3 @@ wrong_by k.Customers r table = result_err (or_default no_items (optional r as_ar
 wrong_by k.Octets r table = result_err (count_in r table)
 wrong_by (k.Seconds units least most) r table = result_err (count_in r table)
 wrong_by text r table = result_err (optional r (text_as (text_of r.1)) table)
-
-abbrev pub wrong_at : Row → Members → Option Fault
-wrong_at r = wrong_by r.1 r

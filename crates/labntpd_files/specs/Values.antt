@@ -4,13 +4,12 @@ use Rattle.std.specs.List.{before_first, after_first, list_any}
 use Rattle.std.specs.{Char.is_control, Option.option_map, Int.w64, Str.bytes_eq, Str.chars}
 use Rattle.std.specs.declared.num.NonZeroU16.{NonZeroU16}
 use Rattle.std.specs.Float.Ieee as Ieee
-use Rattle.std.specs.Float.{Float, binary64, float_round, float_to_unsigned}
+use Rattle.std.specs.Float.{binary64, float_round, float_to_unsigned}
 use Rattle.toml.specs.Data.{Data, integer, float, as_str}
 use Rattle.ntp_admin.specs.Words.{◌>>=◌, address_in, number_in, key_in, non_zero}
 use Rattle.ntp_mac.specs.{Key.SymmetricKey, declared.key.Algorithm.Algorithm}
-use Rattle.labntpd_files.specs.{declared.setting.Kind.Kind, declared.configuration.Endpoint.Endpoint}
+use Rattle.labntpd_files.specs.declared.{setting.Kind.Kind, configuration.Endpoint.Endpoint, configuration.Listen.Listen}
 use Rattle.labntpd_files.specs.declared.setting.Kind.TheVariants as k
-use Rattle.labntpd_files.specs.declared.configuration.Listen.{Listen}
 use Rattle.labntpd_files.specs.declared.configuration.Listen.TheVariants.{Bound, Inherited}
 
 -- an address and a UDP port from 1 to 65,535, with a colon between them
@@ -41,14 +40,11 @@ abbrev pub whole_of : Data → Option ℕ
 whole_of (integer (pos n)) = Some n
 whole_of other = None
 
--- the product of a float and a number of units, as IEEE 754 has it, rounded to a whole number; no number gives 0, and the ends
--- of 64 bits stand for what lies behind them
-abbrev pub rounded : ℕ → Float → ℕ
-rounded units seconds = float_to_unsigned w64 (float_round binary64 (Ieee.mul binary64 seconds (Ieee.of_int binary64 (pos units))))
-
--- how many units a number of seconds has, where a second has `units` units
+-- how many units a number of seconds has, where a second has `units` units: the product, as IEEE 754 has it, rounded; no number
+-- gives 0, and the ends of 64 bits stand for what lies behind them
 abbrev pub units_of : ℕ → Data → Option ℕ
-units_of units (float seconds) = Some (rounded units seconds)
+units_of units (float seconds) =
+    Some (float_to_unsigned w64 (float_round binary64 (Ieee.mul binary64 seconds (Ieee.of_int binary64 (pos units)))))
 units_of units other = option_map (λ seconds. seconds * units) (whole_of other)
 
 -- the number at a key of a kind, in its range: a key number, which is not 0 (RFC 5905, 7.3), or a budget; octets; units of time

@@ -1,8 +1,7 @@
 -- The file of wanted customers.
 use Rattle.std.specs.Prelude.{ℕ, nat_eq, List, [], ◌∷◌, ◌++◌, map, codes, Option, Some, None, Result, Ok}
 use Rattle.std.specs.{List.IsDistinct, List.filter_map, Int.w32, Int.from_be_bytes, Int.NonZero.non_zero_u16_get}
-use Rattle.std.specs.Result.{result_ok}
-use Rattle.std.specs.Option.{ok_or, option_map, option_map_or}
+use Rattle.std.specs.{Option.ok_or, Option.option_map, Option.option_map_or, Result.result_ok}
 use Rattle.toml.specs.Data.{Items, no_items, item, Members, as_array, as_table}
 use Rattle.ntp_packet.specs.FirstCase.{◌>>=◌}
 use Rattle.ntp_admin.specs.Words.{address_in, algorithm_in}
@@ -19,18 +18,13 @@ key_in table = do
   key ← word (codes "key", k.Key) (key_for algorithm) table
   Ok (record { number = number; key = key })
 
--- the newer key, where there is one
-abbrev pub newer_in : Members → Result (Option WantedKey) Fault
-newer_in table = do
-  newer ← optional (codes "newer", k.OptionalTable) as_table table
-  option_map_or (λ second. key_in second >>= (λ key. Ok (Some key))) newer (Ok None)
-
 -- a customer; none where something is wrong
 abbrev pub customer_in : Members → Result WantedCustomer Fault
 customer_in table = do
   address ← word (codes "address", k.Address) address_in table
   older ← key_in table
-  newer ← newer_in table
+  newer_table ← optional (codes "newer", k.OptionalTable) as_table table
+  newer ← option_map_or (λ second. key_in second >>= (λ key. Ok (Some key))) newer_table (Ok None)
   budget ← required (codes "budget", k.Number) number_of table
   name ← optional (codes "name", k.Name) (text_as (text_of k.Name)) table
   Ok (record { address = address; older = older; newer = newer; budget = budget; name = name })

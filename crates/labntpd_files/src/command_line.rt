@@ -18,8 +18,8 @@ pub struct Asked<'a> {
     pub config: &'a str,
 }
 
-/// What the words `labntpd [--check] --config FILE` ask for (the first is the program's name), else the error that tells the user why: a
-/// mistake, a request for the help or the version, or want of memory.
+/// What the words `labntpd [--check] --config FILE` ask for, else a mistake, a request for help or version, or want of memory. The first
+/// is the program's name.
 pub fn parse<'a>(alloc: Global, words: &'a [String]) -> Result<Asked<'a>, Error> {
     let matches = command(alloc)?.try_get_matches_from(words)?;
     // Words without `--config` are refused above already.
@@ -33,23 +33,19 @@ pub fn parse<'a>(alloc: Global, words: &'a [String]) -> Result<Asked<'a>, Error>
     })
 }
 
-/// Tells why words ask for nothing that is to be done, and gives the exit status. The help and the version go to standard output, a mistake
-/// to standard error, want of memory and a failed write to standard output to `faults`. Other failed writes are passed over.
+/// Prints help and version on standard output, a mistake on standard error, and gives the exit status. `faults` gets want of memory, and
+/// that a write to standard output failed.
 pub fn refused_status<F: Write>(rt: &HostRuntime, error: &Error, faults: &mut F) -> Status {
     if error.kind() == ErrorKind::OutOfMemory {
         return memory_status(faults);
     }
-    let printed = error.print(rt);
-    if error.use_stderr() {
-        return Status::UsageRefused;
-    }
-    match printed {
+    match error.print(rt) {
+        _ if error.use_stderr() => Status::UsageRefused,
         Ok(()) => Status::Done,
         Err(_) => write_status(faults),
     }
 }
 
-// The command line, with its help.
 fn command<'a>(alloc: Global) -> Result<Command<'a>, AllocError> {
     let config = Arg::new(alloc, "config")
         .long("config")

@@ -14,22 +14,17 @@ pub fn faulty_place(first: &str, fault: LineFault) -> Option<u64>
         LineFault::Number => Some(2),
         LineFault::Algorithm => Some(3),
         LineFault::KeyText => Some(4),
-        LineFault::Budget if first == "budget" => Some(2),
-        LineFault::Budget => Some(5),
+        LineFault::Budget => Some(if first == "budget" { 2 } else { 5 }),
         _ => None,
     }
 }
 
 /// The word at `place` of a line, counted from 0, behind the column of its first octet, counted from 1. One space stands between two words.
 pub fn word_at(line: &str, place: u64) -> Option<(u64, &str)> {
-    let mut column = 1_u64;
-    for (index, word) in line.split(' ').enumerate() {
-        if index as u64 == place {
-            return Some((column, word));
-        }
-        column = column.saturating_add(word.len() as u64).saturating_add(1);
-    }
-    None
+    let word = line.split(' ').nth(place as usize)?;
+    let before = line.split(' ').take(place as usize);
+    let octets = before.fold(0_u64, |sum, word| sum.saturating_add(word.len() as u64));
+    Some((octets.saturating_add(place).saturating_add(1), word))
 }
 
 /// What the fault of a line means, in a sentence.

@@ -1,23 +1,58 @@
 //! What a configuration file says, and what is wrong with its text.
-ghost use Rattle.std.specs.Prelude.{◌≡◌, ◌⊎◌, Some, None, Err, option_map, IfOk, IfErr, OnOk};
+ghost use Rattle.std.specs.Prelude.{◌≡◌, ◌⊎◌, Some, None, Err, IfOk, IfErr, OnOk};
 ghost use Rattle.toml.specs.{View.table_view, Parse.parse_document};
-ghost use Rattle.labntpd_files.specs.Settings.{clock_in, daemon_in, files_in, settings_in, unknown_key, said_by, HasDaemonRanges, HasClockRanges, HasRanges, IsReadAs, Reads};
+ghost use Rattle.labntpd_files.specs.Settings.{clock_in, daemon_in, files_in, settings_in, unknown_key, said_by, HasClockRanges, HasDaemonRanges, HasRanges, IsReadAs, Reads};
 
-use crate::fault::{Found, Reading, add_faults, add_no_toml, key_lines, place_at};
+use crate::fault::{ConfigurationFault, Found, Reading, add_faults, key_lines, no_toml, place_at};
 use crate::setting::*;
 use crate::values::{
     boolean_at, count_at, count_or, endpoint_in, listen_in, number_at, optional_address,
     optional_text, path_text, table_at, word_at,
 };
-use crate::{ConfigurationFault, Text};
 use ntp_admin::words;
 use ntp_mac::Algorithm;
 use ntp_reply::Reference;
 use ntp_service::Address;
 use std::alloc::{AllocError, Global};
+use std::fmt;
+use std::marker::Model;
 use std::net::{Ipv4Addr, SocketAddrV4};
 use std::num::NonZero;
 use toml::Table;
+
+/// A text that is kept: the path of a file, or a key of a table. Contracts see its octets.
+#[derive(Drop)]
+pub struct Text(String);
+
+impl Model for Text {
+    ghost use Rattle.std.specs.Prelude.{ℕ, List, string_bytes};
+
+    ghost Value = { List ℕ };
+
+    ghost view = { λ text. string_bytes text.0 };
+}
+
+impl Text {
+    /// A copy of a text.
+    pub fn of(alloc: Global, text: &str) -> Result<Text, AllocError>
+        ensures { IfOk result (λ copy. copy ≡ text.now) }
+    {
+        Ok(Text(String::from_str(alloc, text)?))
+    }
+
+    /// The text itself.
+    pub fn as_str(&self) -> &str
+        ensures { result.now ≡ self.now }
+    {
+        self.0.as_str()
+    }
+}
+
+impl fmt::Display for Text {
+    fn fmt<W: fmt::Write>(&self, f: &mut fmt::Formatter<W>) -> fmt::Result {
+        f.write_str(self.as_str())
+    }
+}
 
 /// What a configuration file says. Each number is in the range that its key has.
 #[derive(Drop)]
@@ -74,10 +109,9 @@ pub struct Endpoint {
 }
 
 impl Endpoint {
-    /// The same, as sockets take it.
+    /// Its form for sockets.
     pub fn socket_address(&self) -> SocketAddrV4 {
-        let Address([a, b, c, d]) = self.address;
-        SocketAddrV4::new(Ipv4Addr::new(a, b, c, d), self.port.get())
+        SocketAddrV4::new(Ipv4Addr::from(self.address.0), self.port.get())
     }
 }
 
@@ -102,15 +136,6 @@ pub struct ClockDaemon {
     pub most_step: u64,
 }
 
-// The files that a configuration names.
-#[derive(Drop)]
-struct Files {
-    commands: Text,
-    answers: Option<Text>,
-    statistics: Option<Text>,
-    customers: Option<Text>,
-}
-
 /// What the text of a configuration file says (TOML 1.1), or its first fault.
 pub fn read_configuration(alloc: Global, text: &str) -> Result<Configuration, ConfigurationFault>
     ensures read { (result ≡ Err ConfigurationFault.NoMemory) ⊎ IsReadAs (parse_document text.now) result }
@@ -126,25 +151,21 @@ pub fn read_configuration(alloc: Global, text: &str) -> Result<Configuration, Co
 
 /// Every fault of the text of a configuration file, in the order of its lines; those without a line stand in front.
 pub fn configuration_faults(alloc: Global, text: &str) -> Result<Vec<Found>, AllocError> {
-    let mut found = Vec::new(alloc);
-    match toml::table_from_str(alloc, text) {
-        Err(error) => add_no_toml(&mut found, text, &error)?,
-        Ok(document) => {
-            let lines = key_lines(alloc, text, "")?;
-            add_faults(&mut found, "", Some(&lines), None, &document, &TOP_KEYS)?;
-            if let Ok(clock) = table_at(&document, CLOCK) {
-                let line = lines.get(CLOCK.0).copied();
-                let lines = key_lines(alloc, text, CLOCK.0)?;
-                let keys = clock_keys(clock);
-                add_faults(&mut found, "clock.", Some(&lines), line, clock, keys)?;
-            }
-        }
+    let document = match toml::table_from_str(alloc, text) {
+        Ok(document) => document,
+        Err(error) => return no_toml(alloc, text, &error),
+    };
+    let (mut found, lines) = (Vec::new(alloc), key_lines(alloc, text, "")?);
+    add_faults(&mut found, "", &lines, None, &document, &TOP_KEYS)?;
+    if let Ok(clock) = table_at(&document, CLOCK) {
+        let line = lines.get(CLOCK.0).copied();
+        let lines = key_lines(alloc, text, CLOCK.0)?;
+        add_faults(&mut found, "clock.", &lines, line, clock, clock_keys(clock))?;
     }
     found.sort_by_key(|found| found.line)?;
     Ok(found)
 }
 
-// Refuses keys that are none, of the top level and then of the clock's table.
 fn refuse_unknown_keys(alloc: Global, document: &Table) -> Reading<()>
     ensures known { OnOk result (unknown_key (table_view document.now) ≡ None) }
     ensures fault { IfErr result (λ fault. (fault ≡ ConfigurationFault.NoMemory) ⊎ (unknown_key (table_view document.now) ≡ Some (said_by fault))) }
@@ -152,16 +173,14 @@ fn refuse_unknown_keys(alloc: Global, document: &Table) -> Reading<()>
     if let Some(key) = unknown_in(&TOP_KEYS, document) {
         return Err(ConfigurationFault::Unknown(Text::of(alloc, key)?));
     }
-    let Ok(clock) = table_at(document, CLOCK) else {
-        return Ok(());
-    };
-    match unknown_in(clock_keys(clock), clock) {
-        None => Ok(()),
-        Some(key) => Err(ConfigurationFault::UnknownOfClock(Text::of(alloc, key)?)),
+    if let Ok(clock) = table_at(document, CLOCK)
+        && let Some(key) = unknown_in(clock_keys(clock), clock)
+    {
+        return Err(ConfigurationFault::UnknownOfClock(Text::of(alloc, key)?));
     }
+    Ok(())
 }
 
-// The configuration that a document says, or the first fault in its settings.
 fn configuration_in(alloc: Global, document: &Table) -> Reading<Configuration>
     ensures settings { Reads (settings_in (table_view document.now)) result }
     ensures ranges { IfOk result HasRanges }
@@ -170,14 +189,14 @@ fn configuration_in(alloc: Global, document: &Table) -> Reading<Configuration>
     let [.., receive_buffer, send_buffer, longest_wait, spin, _] = TOP_KEYS;
     let listen = word_at(document, listen, listen_in)?;
     let served_as = optional_address(document, served_as)?;
-    let files = files_in(alloc, document)?;
+    let (commands, answers, statistics, customers) = files_in(alloc, document)?;
     Ok(Configuration {
         listen,
         served_as,
-        commands: files.commands,
-        answers: files.answers,
-        statistics: files.statistics,
-        customers: files.customers,
+        commands,
+        answers,
+        statistics,
+        customers,
         receive_buffer: count_or(document, receive_buffer, 524_288)? as u32,
         send_buffer: count_or(document, send_buffer, 1_048_576)? as u32,
         longest_wait: count_or(document, longest_wait, SECOND / 4)?,
@@ -186,33 +205,32 @@ fn configuration_in(alloc: Global, document: &Table) -> Reading<Configuration>
     })
 }
 
-// The files that a document names.
-fn files_in(alloc: Global, document: &Table) -> Reading<Files>
+fn files_in(
+    alloc: Global,
+    document: &Table,
+) -> Reading<(Text, Option<Text>, Option<Text>, Option<Text>)>
     ensures { Reads (files_in (table_view document.now)) result }
 {
     let [_, _, commands, answers, statistics, customers, ..] = TOP_KEYS;
-    Ok(Files {
-        commands: path_text(alloc, document, commands)?,
-        answers: optional_text(alloc, document, answers)?,
-        statistics: optional_text(alloc, document, statistics)?,
-        customers: optional_text(alloc, document, customers)?,
-    })
+    Ok((
+        path_text(alloc, document, commands)?,
+        optional_text(alloc, document, answers)?,
+        optional_text(alloc, document, statistics)?,
+        optional_text(alloc, document, customers)?,
+    ))
 }
 
-// What the clock's table in a document says.
 fn clock_in(alloc: Global, document: &Table) -> Reading<Clock>
     ensures clock { Reads (clock_in (table_view document.now)) result }
     ensures ranges { IfOk result HasClockRanges }
 {
     let clock = table_at(document, CLOCK)?;
     if is_fixed(clock) {
-        Ok(Clock::Fixed(word_at(clock, REFERENCE, words::reference)?))
-    } else {
-        Ok(Clock::Followed(daemon_in(alloc, clock)?))
+        return Ok(Clock::Fixed(word_at(clock, REFERENCE, words::reference)?));
     }
+    Ok(Clock::Followed(daemon_in(alloc, clock)?))
 }
 
-// What the clock's table says of a daemon.
 fn daemon_in(alloc: Global, clock: &Table) -> Reading<ClockDaemon>
     ensures daemon { Reads (daemon_in (table_view clock.now)) result }
     ensures ranges { IfOk result HasDaemonRanges }

@@ -1,9 +1,8 @@
-//! What is wrong with a configuration file, and at a key of a table; and what is found in a file, in which lines. Keys and tables are
-//! looked for where lines begin, so these are lines for messages alone.
+//! What is wrong with a configuration file, and at a key of a table; and what is found in a file, in which lines.
 
 use crate::command_line::VERSION;
+use crate::key_text::shown;
 use crate::setting::{TOP_KEYS, is_known, value_at};
-use crate::shown::ShownValue;
 use crate::values::wrong_at;
 use crate::{Setting, Text};
 use ConfigurationFault::*;
@@ -13,11 +12,6 @@ use std::collections::BTreeMap;
 use std::fmt::{self, Display};
 use toml::Table;
 use toml::de::Error;
-
-/// What is told of a key that a configuration had once.
-const NO_REGISTER: &str =
-    "customers stand in the commands file alone: `examples/from_register` puts those of a register there, or \
-    `labntpctl apply FILE` if it is empty";
 
 /// The first fault of a configuration file: its text, a key that is none, or a setting, in the order of its table; or want of memory.
 #[derive(Drop)]
@@ -36,7 +30,6 @@ pub enum ConfigurationFault {
     NoMemory,
 }
 
-/// What was read, or the fault.
 pub(crate) type Reading<T> = Result<T, ConfigurationFault>;
 
 impl From<AllocError> for ConfigurationFault {
@@ -50,45 +43,34 @@ impl From<AllocError> for ConfigurationFault {
     }
 }
 
-/// The fault in one line, without a line feed.
+/// The fault in one line, without a line feed; in the alternate form no table stands before its key.
 impl fmt::Display for ConfigurationFault {
     fn fmt<W: fmt::Write>(&self, f: &mut fmt::Formatter<W>) -> fmt::Result {
-        let prefix = match self {
-            UnknownOfClock(_) => "clock.",
-            Missing(setting) | Wanted(setting) if !is_known(&TOP_KEYS, setting.0) => "clock.",
-            _ => "",
-        };
-        write!(f, "{}", Behind(prefix, self))
-    }
-}
-
-/// A fault, told with the key behind a prefix.
-#[derive(Clone, Copy)]
-struct Behind<'a>(&'a str, &'a ConfigurationFault);
-
-impl<'a> fmt::Display for Behind<'a> {
-    fn fmt<W: fmt::Write>(&self, f: &mut fmt::Formatter<W>) -> fmt::Result {
-        let Behind(prefix, fault) = self;
-        match fault {
+        match self {
+            _ if f.alternate() => {}
+            UnknownOfClock(_) => f.write_str("clock.")?,
+            Missing(it) | Wanted(it) if !is_known(&TOP_KEYS, it.0) => f.write_str("clock.")?,
+            _ => {}
+        }
+        match self {
             Toml(line) => write!(f, "line {line}: this is no TOML"),
-            Unknown(key) | UnknownOfClock(key) if key.as_str() == "register" => {
-                write!(f, "{prefix}register: {NO_REGISTER}")
-            }
+            Unknown(key) | UnknownOfClock(key) if key.as_str() == "register" => f.write_str(
+                "register: customers stand in the commands file alone: `examples/from_register` puts those of a register \
+                there, or `labntpctl apply FILE` if it is empty",
+            ),
             Unknown(key) | UnknownOfClock(key) => {
                 let key = Escaped(key.as_str());
-                write!(
-                    f,
-                    "{prefix}{key}: there is no such key in version {VERSION}"
-                )
+                write!(f, "{key}: there is no such key in version {VERSION}")
             }
-            Missing(Setting(key, kind)) => {
-                write!(f, "{prefix}{key}: this key is missing: {kind}")
-            }
-            Wanted(Setting(key, kind)) => write!(f, "{prefix}{key}: {kind}"),
+            Missing(Setting(key, kind)) => write!(f, "{key}: this key is missing: {kind}"),
+            Wanted(Setting(key, kind)) => write!(f, "{key}: {kind}"),
             NoMemory => f.write_str("memory ran out"),
         }
     }
 }
+
+/// The lines, counted from 1, in which keys first stand where lines begin; so these are lines for messages alone.
+pub(crate) type Lines = BTreeMap<String, u64>;
 
 /// What was found in a file.
 #[derive(Drop)]
@@ -99,56 +81,45 @@ pub struct Found {
     pub text: String,
 }
 
-/// Adds what was found in a line.
 pub(crate) fn add<D: Display + Drop>(
     found: &mut Vec<Found>,
     line: Option<u64>,
     what: D,
 ) -> Result<(), AllocError> {
     let text = what.to_string(*found.allocator())?;
-    found.push(Found { line, text })?;
-    Ok(())
+    Ok(found.push(Found { line, text })?)
 }
 
-/// Adds why a text is no TOML, by the error of its reader.
-pub(crate) fn add_no_toml(
-    found: &mut Vec<Found>,
-    text: &str,
-    error: &Error,
-) -> Result<(), AllocError> {
+/// Why a text is no TOML, by the error of its reader.
+pub(crate) fn no_toml(alloc: Global, text: &str, error: &Error) -> Result<Vec<Found>, AllocError> {
     let (line, column) = place_at(text, error.span().ok_or(AllocError)?.start);
-    let message = error.message();
-    let what = format_args!("column {column}: this is no TOML: {message}");
-    add(found, Some(line), what)
+    let text = format!(in alloc; "column {column}: this is no TOML: {}", error.message())?;
+    let line = Some(line);
+    Ok(vec![in alloc; Found { line, text }]?)
 }
 
 /// Adds what is wrong with a table that may have these keys. Each is told behind `prefix`, and in its own line where that is known.
 pub(crate) fn add_faults(
     found: &mut Vec<Found>,
     prefix: &str,
-    lines: Option<&BTreeMap<String, u64>>,
+    lines: &Lines,
     line: Option<u64>,
     table: &Table,
     keys: &[Setting],
 ) -> Result<(), AllocError> {
-    let line_of = |key: &str| lines.and_then(|lines| lines.get(key).copied()).or(line);
+    let line_of = |key: &str| lines.get(key).copied().or(line);
     for setting in keys {
         if let Some(fault) = wrong_at(table, *setting) {
-            let (line, fault) = (line_of(setting.0), Behind(prefix, &fault));
-            match value_at(table, setting.0) {
-                None => add(found, line, fault)?,
-                Some(value) => {
-                    let shown = ShownValue(*setting, value);
-                    add(found, line, format_args!("{fault}; {shown}"))?;
-                }
-            }
+            let there = shown(*found.allocator(), setting.1, value_at(table, setting.0))?;
+            let what = format_args!("{prefix}{fault:#}{there}");
+            add(found, line_of(setting.0), what)?;
         }
     }
     for key in table.keys() {
         let key = key.as_str();
         if !is_known(keys, key) {
             let fault = ConfigurationFault::Unknown(Text::of(*found.allocator(), key)?);
-            add(found, line_of(key), Behind(prefix, &fault))?;
+            add(found, line_of(key), format_args!("{prefix}{fault:#}"))?;
         }
     }
     Ok(())
@@ -162,28 +133,17 @@ pub(crate) fn place_at(text: &str, octet: usize) -> (u64, u64) {
     (lines as u64 + 1, columns as u64 + 1)
 }
 
-/// The lines, counted from 1, in which keys first stand: those of a table, or of the top level, which has no name.
-pub(crate) fn key_lines(
-    alloc: Global,
-    text: &str,
-    table: &str,
-) -> Result<BTreeMap<String, u64>, AllocError> {
-    let mut lines = BTreeMap::new(alloc);
-    let mut is_within = table.is_empty();
-    for (place, line) in text.lines().enumerate() {
+/// The lines of the keys of a table, or of the top level, which has no name.
+pub(crate) fn key_lines(alloc: Global, text: &str, table: &str) -> Result<Lines, AllocError> {
+    let (mut lines, mut is_within) = (BTreeMap::new(alloc), table.is_empty());
+    for (number, line) in (1_u64..).zip(text.lines()) {
         let line = line.trim_start();
         let name = line.trim_start_matches('[');
-        let is_header = name.len() < line.len();
-        if !is_header && !is_within {
-            continue;
-        }
-        let key = name
-            .split(|next: char| !next.is_alphanumeric() && !matches!(next, '_' | '-'))
-            .next()
-            .unwrap_or("");
-        let is_key = !key.is_empty() && (!is_header || table.is_empty());
-        if is_key && !lines.contains_key(key) {
-            lines.insert(String::from_str(alloc, key)?, place as u64 + 1)?;
+        let mut parts = name.split(|it: char| !it.is_alphanumeric() && !matches!(it, '_' | '-'));
+        let (key, is_header) = (parts.next().unwrap_or(""), name.len() < line.len());
+        let is_key = is_header && table.is_empty() || !is_header && is_within;
+        if is_key && !key.is_empty() && !lines.contains_key(key) {
+            lines.insert(String::from_str(alloc, key)?, number)?;
         }
         if is_header {
             is_within = !key.is_empty() && key == table;

@@ -7,9 +7,6 @@ use ntp_mac::{Algorithm, Key};
 use ntp_service::Address;
 use thiserror::Error;
 
-/// Fewer octets than a key should have.
-const FEW_OCTETS: usize = 16;
-
 /// The greatest budget that the rules of `labntpctl door` let pass: 200 datagrams a second for 64 seconds.
 const DOOR_BUDGET: u16 = 12_800;
 
@@ -36,7 +33,7 @@ pub enum HardlyMeant {
 
 /// What is hardly meant with an address: one that no host sends from.
 pub fn address_warning(address: Address) -> Option<HardlyMeant>
-    ensures { result ≡ address_warning address }
+    ensures { result ≡ address_warning address.0 }
 {
     match address.0 {
         [0, _, _, _] => Some(ThisNetwork),
@@ -52,7 +49,7 @@ pub fn key_warning(key: &Key) -> Option<HardlyMeant>
     ensures { result ≡ key_warning key.now }
 {
     match (key.octet_count(), key.algorithm()) {
-        (count, _) if count < FEW_OCTETS => Some(ShortKey(count)),
+        (count, _) if count < 16 => Some(ShortKey(count)),
         (_, Algorithm::Md5) => Some(Md5),
         (_, Algorithm::Sha1) => None,
     }

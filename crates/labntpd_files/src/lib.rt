@@ -1,5 +1,4 @@
-//! The files of the daemon `labntpd`: its configuration, the file of its clock's key, and a file of customers; every fault of these and of
-//! commands, in words that show no key; and what is no fault, but hardly meant.
+//! The files of the daemon `labntpd`; every fault of these and of commands, in words that show no key; and what is hardly meant.
 #![tactic(auto)]
 
 pub mod command_line;
@@ -9,20 +8,17 @@ mod fault;
 mod hardly_meant;
 mod key_text;
 mod setting;
-mod shown;
-mod text;
 mod values;
 mod wanted;
 
 pub use command_words::{fault_meaning, faulty_place, refusal_meaning, word_at};
 pub use configuration::{
-    Clock, ClockDaemon, Configuration, Endpoint, Listen, configuration_faults, read_configuration,
+    Clock, ClockDaemon, Configuration, Endpoint, Listen, Text, configuration_faults,
+    read_configuration,
 };
 pub use fault::{ConfigurationFault, Found};
 pub use hardly_meant::{HardlyMeant, address_warning, budget_warning, key_warning};
-pub use key_text::{KeyWrong, key_in_file, key_wrong};
+pub use key_text::{KeyWrong, ShownWord, key_in_file, key_wrong};
 pub use setting::{Setting, is_fixed};
-pub use shown::ShownWord;
-pub use text::Text;
 pub use values::{is_name, path_at};
 pub use wanted::{KeyLines, Wanted, WantedCustomer, WantedKey, read_wanted, write_wanted};

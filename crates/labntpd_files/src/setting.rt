@@ -12,8 +12,8 @@ use toml::{Table, Value};
 #[derive(Clone, Copy)]
 pub struct Setting(pub(crate) &'static str, pub(crate) Kind);
 
-/// What is wanted at a key. What is optional may be left out, and so may octets, seconds, a boolean, a name and customers. Seconds have how
-/// many units there are in one, and the least and the most of these units.
+/// What is wanted at a key. Beside the optional ones, octets, seconds (units in one, the least, the most), a boolean, a name and customers
+/// may be left out.
 #[derive(Clone, Copy)]
 pub(crate) enum Kind {
     Listen,
@@ -35,17 +35,9 @@ pub(crate) enum Kind {
     Customers,
 }
 
-/// How many nanoseconds a second has.
 const NANOS: u32 = 1_000_000_000;
 
 pub(crate) const SECOND: u64 = 1_000_000_000;
-
-/// The least time for which an answer of the clock's daemon is believed: eight seconds without a question behind a RATE (RFC 5905, 7.4), the
-/// second before it, and one for the answer.
-const LEAST_VALIDITY: u64 = 10 * SECOND;
-
-/// How many units of the short format a second has (RFC 5905, 6).
-const SHORT_UNITS: u32 = 65_536;
 
 pub(crate) const CLOCK: Setting = Setting("clock", Kind::Table);
 
@@ -58,12 +50,6 @@ pub(crate) const NUMBER: Setting = Setting("number", Kind::Number);
 pub(crate) const ALGORITHM: Setting = Setting("algorithm", Kind::Algorithm);
 
 pub(crate) const CUSTOMER: Setting = Setting("customer", Kind::Customers);
-
-pub(crate) const ADDRESS: Setting = Setting("address", Kind::Address);
-
-pub(crate) const KEY: Setting = Setting("key", Kind::Key);
-
-pub(crate) const NEWER: Setting = Setting("newer", Kind::OptionalTable);
 
 /// The keys of the top level of a configuration file, in the order in which they are looked at.
 pub(crate) const TOP_KEYS: [Setting; 11] = [
@@ -80,34 +66,31 @@ pub(crate) const TOP_KEYS: [Setting; 11] = [
     CLOCK,
 ];
 
-/// The keys of a clock whose source is fixed, and of one that a daemon keeps.
-const FIXED: [Setting; 2] = [SOURCE, REFERENCE];
-
+/// The keys of a clock that a daemon keeps.
 pub(crate) const DAEMON_KEYS: [Setting; 8] = [
     SOURCE,
     NUMBER,
     ALGORITHM,
     Setting("key_file", Kind::Path),
-    Setting("valid_for", Seconds(NANOS, LEAST_VALIDITY, 3_600 * SECOND)),
-    Setting("most_root_distance", Seconds(SHORT_UNITS, 1, 1_048_576)),
+    // Eight seconds pass without a question behind a RATE (RFC 5905, 7.4), and there are one before it and one for the answer.
+    Setting("valid_for", Seconds(NANOS, 10 * SECOND, 3_600 * SECOND)),
+    // In units of the short format (RFC 5905, 6).
+    Setting("most_root_distance", Seconds(65_536, 1, 1_048_576)),
     Setting("most_reference_age", Seconds(1, 1, 1_000_000)),
     Setting("most_step", Seconds(NANOS, 1, 3_600 * SECOND)),
 ];
 
-/// The keys of a customer, and of its newer key.
+/// The keys of a customer: those from the second to the fourth are the ones of its newer key.
 pub(crate) const CUSTOMER_KEYS: [Setting; 7] = [
-    ADDRESS,
+    Setting("address", Kind::Address),
     NUMBER,
     ALGORITHM,
-    KEY,
+    Setting("key", Kind::Key),
     Setting("budget", Kind::Number),
     Setting("name", Kind::Name),
-    NEWER,
+    Setting("newer", Kind::OptionalTable),
 ];
 
-pub(crate) const NEWER_KEYS: [Setting; 3] = [NUMBER, ALGORITHM, KEY];
-
-/// What is wanted, in words.
 impl fmt::Display for Kind {
     fn fmt<W: fmt::Write>(&self, f: &mut fmt::Formatter<W>) -> fmt::Result {
         f.write_str(match self {
@@ -120,12 +103,10 @@ impl fmt::Display for Kind {
             Kind::Seconds(units, least, most) => {
                 let [low, high] = [least, most].map(|count| nearest_u64_to_f64(*count)
                     / f64::from(*units));
-                return match least {
-                    1 if *units > 1 => {
-                        write!(f, "a number of seconds above 0 and up to {high} is wanted")
-                    }
-                    _ => write!(f, "a number of seconds from {low} to {high} is wanted"),
-                };
+                if *least == 1 && *units > 1 {
+                    return write!(f, "a number of seconds above 0 and up to {high} is wanted");
+                }
+                return write!(f, "a number of seconds from {low} to {high} is wanted");
             }
             Kind::Boolean => "true or false is wanted",
             Kind::Reference => "the 46 hexadecimal digits of a reference state are wanted",
@@ -141,14 +122,12 @@ impl fmt::Display for Kind {
     }
 }
 
-/// The keys of the table of a clock, by its source.
 pub(crate) fn clock_keys(clock: &Table) -> &'static [Setting]
     ensures { names result.now ≡ clock_keys (table_view clock.now) }
 {
-    if is_fixed(clock) {
-        &FIXED
-    } else {
-        &DAEMON_KEYS
+    match is_fixed(clock) {
+        true => &[SOURCE, REFERENCE],
+        false => &DAEMON_KEYS,
     }
 }
 
@@ -156,13 +135,9 @@ pub(crate) fn clock_keys(clock: &Table) -> &'static [Setting]
 pub fn is_fixed(clock: &Table) -> bool
     ensures { result ≡ is_fixed (table_view clock.now) }
 {
-    matches!(
-        value_at(clock, SOURCE.0).and_then(|source| source.as_str()),
-        Some("fixed")
-    )
+    value_at(clock, SOURCE.0).and_then(|source| source.as_str()) == Some("fixed")
 }
 
-/// The value at a key.
 #[tactic(auto, using(toml::proofs::Views::table_get))]
 pub(crate) fn value_at<'a>(table: &'a Table, key: &str) -> Option<&'a Value>
     ensures { option_map (λ value. view value.now) result ≡ get_member key.now (table_view table.now) }
@@ -170,16 +145,10 @@ pub(crate) fn value_at<'a>(table: &'a Table, key: &str) -> Option<&'a Value>
     table.get(key)
 }
 
-/// Whether a key is one of the known ones.
 pub(crate) fn is_known(known: &[Setting], key: &str) -> bool
     ensures { result ≡ is_known (names known.now) key.now }
 {
-    for setting in known {
-        if key == setting.0 {
-            return true;
-        }
-    }
-    false
+    known.iter().any(|setting| key == setting.0)
 }
 
 /// The first key of a table, in the order of their octets, that is none of these.

@@ -1,12 +1,11 @@
 //! What stands at a key of a table: a value that is wanted there, or a fault.
 ghost use Rattle.std.specs.Prelude.{◌≡◌, ◌≤◌, false, option_map, IfOk, IfSome};
-ghost use Rattle.std.specs.{Char.is_control, List.list_any, Option.ok_or, Str.chars, Bool.then_some};
-ghost use Rattle.std.specs.Fn.{FnOnceReturnsAt};
-ghost use Rattle.toml.specs.Data.{no_items, get_member, as_bool, as_str, as_table, as_array};
+ghost use Rattle.std.specs.{Char.is_control, Fn.FnOnceReturnsAt, List.list_any, Result.result_ok, Str.chars};
+ghost use Rattle.toml.specs.Data.{no_items, as_bool, as_str, as_table, as_array};
 ghost use Rattle.toml.specs.View.{view, table_view, items_view};
 ghost use Rattle.ntp_admin.specs.Words.{address_in};
 ghost use Rattle.labntpd_files.specs.Keys.{row};
-ghost use Rattle.labntpd_files.specs.Settings.{required, optional, or_default, count_in, path_at, wrong_at, said_by, needed, allowed, IsSaid, IsRead, Reads};
+ghost use Rattle.labntpd_files.specs.Settings.{required, optional, or_default, count_in, wrong_by, said_by, needed, allowed, IsSaid, IsRead, Reads};
 ghost use Rattle.labntpd_files.specs.Values.{endpoint_in, listen_in, path_in, text_as, text_of, is_name, whole_of, number_of, units_of, count_of, IsWithin};
 
 use crate::ConfigurationFault::{Missing, Wanted};
@@ -20,12 +19,6 @@ use std::alloc::Global;
 use std::num::{self, NonZero};
 use toml::{Table, Value};
 
-/// How many octets the name of a customer has at most.
-const MOST_NAME_OCTETS: usize = 200;
-
-/// The greatest size that a buffer may have. The kernel doubles what it is asked for, and counts in 31 bits.
-const MOST_BUFFER_OCTETS: u64 = 1_073_741_823;
-
 impl Setting {
     // What was read of the value at this key, if one stood there, has to stand there.
     fn required<T>(self, read: Option<Option<T>>) -> Reading<T>
@@ -34,7 +27,6 @@ impl Setting {
         read.ok_or(Missing(self))?.ok_or(Wanted(self))
     }
 
-    // The same, where it may be left out.
     fn optional<T>(self, read: Option<Option<T>>) -> Reading<Option<T>>
         ensures { IsSaid (λ said. said) (allowed (row self) read) result }
     {
@@ -45,7 +37,6 @@ impl Setting {
     }
 }
 
-// A text that has to stand there.
 fn text_at(table: &Table, setting: Setting) -> Reading<&str>
     ensures { IsSaid (λ text. text.now) (required (row setting) as_str (table_view table.now)) result }
 {
@@ -64,7 +55,6 @@ pub(crate) fn word_at<T, F: FnOnce(&str) -> Option<T>>(
     read(text_at(table, setting)?).ok_or(Wanted(setting))
 }
 
-/// A table that has to stand there.
 pub(crate) fn table_at(table: &Table, setting: Setting) -> Reading<&Table>
     ensures { IsSaid (λ inner. table_view inner.now) (required (row setting) as_table (table_view table.now)) result }
 {
@@ -81,7 +71,7 @@ pub(crate) fn path_text(alloc: Global, table: &Table, setting: Setting) -> Readi
 
 /// The path at a key, where one stands there.
 pub fn path_at<'a>(table: &'a Table, key: &str) -> Option<&'a str>
-    ensures { option_map (λ path. path.now) result ≡ path_at key.now (table_view table.now) }
+    ensures { option_map (λ path. path.now) result ≡ result_ok (required (key.now, Kind.Path) (text_as path_in) (table_view table.now)) }
 {
     text_of(value_at(table, key)?, Kind::Path)
 }
@@ -91,10 +81,8 @@ pub(crate) fn optional_text(alloc: Global, table: &Table, setting: Setting) -> R
     ensures { Reads (optional (row setting) (text_as (text_of setting.1)) (table_view table.now)) result }
 {
     let text = value_at(table, setting.0).map(|value| text_of(value, setting.1));
-    match setting.optional(text)? {
-        None => Ok(None),
-        Some(text) => Ok(Some(Text::of(alloc, text)?)),
-    }
+    let text = setting.optional(text)?.map(|text| Text::of(alloc, text));
+    Ok(text.transpose()?)
 }
 
 // The text of a value, if it is a customer's name, or else a path.
@@ -116,7 +104,6 @@ pub(crate) fn optional_address(table: &Table, setting: Setting) -> Reading<Optio
     setting.optional(value_at(table, setting.0).map(|value| words::address(value.as_str()?)))
 }
 
-/// A boolean: false where none stands there.
 pub(crate) fn boolean_at(table: &Table, setting: Setting) -> Reading<bool>
     ensures { IsSaid (λ said. said) (or_default false (optional (row setting) as_bool (table_view table.now))) result }
 {
@@ -148,19 +135,16 @@ pub(crate) fn number_at(table: &Table, setting: Setting) -> Reading<NonZero<u16>
     setting.required(value_at(table, setting.0).map(number_of))
 }
 
-/// The customers of a document, as they stand there.
 pub(crate) fn customers_at(document: &Table, setting: Setting) -> Reading<&[Value]>
     ensures { IsSaid (λ values. items_view values.now) (or_default no_items (optional (row setting) as_array (table_view document.now))) result }
 {
-    match setting.optional(value_at(document, setting.0).map(|value| value.as_array()))? {
-        None => Ok(&[]),
-        Some(values) => Ok(values.as_slice()),
-    }
+    let values = value_at(document, setting.0).map(|value| Some(value.as_array()?.as_slice()));
+    Ok(setting.optional(values)?.unwrap_or(&[]))
 }
 
 /// What is wrong at a key, whatever is wrong at others. Every algorithm takes the same keys.
 pub(crate) fn wrong_at(table: &Table, setting: Setting) -> Option<ConfigurationFault>
-    ensures { option_map said_by result ≡ wrong_at (row setting) (table_view table.now) }
+    ensures { option_map said_by result ≡ wrong_by setting.1 (row setting) (table_view table.now) }
 {
     let text = value_at(table, setting.0).map(|value| text_of(value, setting.1));
     match setting.1 {
@@ -193,7 +177,6 @@ pub(crate) fn listen_in(text: &str) -> Option<Listen>
     }
 }
 
-/// The address with a port that a text writes.
 pub(crate) fn endpoint_in(text: &str) -> Option<Endpoint>
     ensures { result ≡ endpoint_in text.now }
 {
@@ -208,17 +191,15 @@ pub(crate) fn endpoint_in(text: &str) -> Option<Endpoint>
 pub fn is_name(text: &str) -> bool
     ensures { result ≡ is_name text.now }
 {
-    !text.is_empty() && text.len() <= MOST_NAME_OCTETS && !has_control(text)
+    !text.is_empty() && text.len() <= 200 && !has_control(text)
 }
 
-// Whether a text has a control character.
 fn has_control(text: &str) -> bool
     ensures { result ≡ list_any is_control (chars text.now) }
 {
     text.chars().any(|character| character.is_control())
 }
 
-// A key number or a budget.
 fn number_of(value: &Value) -> Option<NonZero<u16>>
     ensures { result ≡ number_of (view value.now) }
 {
@@ -226,14 +207,14 @@ fn number_of(value: &Value) -> Option<NonZero<u16>>
     NonZero::<u16>::new(whole as u16)
 }
 
-// The number at a key of a kind, where it is in the range.
 fn count_of(value: &Value, kind: Kind) -> Option<u64>
     ensures value { result ≡ count_of kind (view value.now) }
     ensures range { IfSome result (IsWithin kind) }
 {
     let (count, least, most) = match kind {
         Kind::Number => (u128::from(whole_of(value)?), 1, 65_535),
-        Kind::Octets => (u128::from(whole_of(value)?), 65_536, MOST_BUFFER_OCTETS),
+        // The kernel doubles the size that it is asked for, and counts in 31 bits.
+        Kind::Octets => (u128::from(whole_of(value)?), 65_536, 1_073_741_823),
         Kind::Seconds(units, least, most) => (units_of(value, units)?, least, most),
         _ => return None,
     };
@@ -241,15 +222,13 @@ fn count_of(value: &Value, kind: Kind) -> Option<u64>
     (least <= count && count <= most).then_some(count)
 }
 
-// A whole number from 0 on.
 fn whole_of(value: &Value) -> Option<u64>
     ensures { result ≡ whole_of (view value.now) }
 {
     u64::try_from(value.as_integer()?).ok()
 }
 
-// The units of a number of seconds. A float is rounded; one that is no number, or is below 0, gives 0, and one above 2^64 - 1 gives that:
-// neither is in a range.
+// The units of a number of seconds. A float is rounded, and one outside of 64 bits gives 0 or 2^64 - 1: neither is in a range.
 fn units_of(value: &Value, units: u32) -> Option<u128>
     ensures { result ≡ units_of units (view value.now) }
 {

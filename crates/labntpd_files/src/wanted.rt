@@ -2,10 +2,10 @@
 ghost use Rattle.std.specs.Prelude.{◌≡◌, Some, Ok, nat_eq, IfOk, IsTrue};
 ghost use Rattle.std.specs.List.{IsDistinct};
 ghost use Rattle.toml.specs.{Parse.parse_document, View.table_view};
-ghost use Rattle.labntpd_files.specs.Settings.{IsSaid, Reads};
-ghost use Rattle.labntpd_files.specs.Wanted.{key_in, newer_in, customer_in, customers_in, key_numbers, wanted_in, AreDistinct};
+ghost use Rattle.labntpd_files.specs.Settings.{Reads, IsSaid};
+ghost use Rattle.labntpd_files.specs.Wanted.{key_in, customer_in, customers_in, key_numbers, wanted_in, AreDistinct};
 
-use crate::fault::{Found, Reading, add, add_faults, add_no_toml, key_lines};
+use crate::fault::{Found, Lines, Reading, add, add_faults, key_lines, no_toml};
 use crate::setting::*;
 use crate::values::{customers_at, number_at, optional_text, table_at, word_at};
 use crate::{ConfigurationFault, Text, address_warning, budget_warning, key_warning};
@@ -15,6 +15,7 @@ use ntp_service::Address;
 use std::alloc::{AllocError, Global};
 use std::collections::BTreeSet;
 use std::io::{self, Write};
+use std::iter;
 use std::net::Ipv4Addr;
 use std::num::NonZero;
 use toml::Table;
@@ -55,38 +56,21 @@ pub struct Wanted {
 /// What is wrong with an address, or the number of a key, that an earlier customer has, or an earlier key.
 const TWICE: &str = "it stands in the file twice";
 
-/// What the text of a file of wanted customers says (TOML 1.1), or every fault in it, in the order of the lines; those without a line stand
-/// in front.
-///
-/// ```toml
-/// [[customer]]
-/// name = "PTB"
-/// address = "192.0.2.10"
-/// number = 7
-/// algorithm = "sha1"
-/// key = "6b6579"
-/// budget = 10
-/// newer = { number = 9, algorithm = "sha1", key = "6e6577" }
-/// ```
-///
-/// `name` and `newer` may be left out. Without a customer nobody is wanted. A `reference` at the top level is passed over, so a register
-/// file is read too.
+/// What the text of a file of wanted customers says (`docs/FORMATS.md`, section 8), or every fault in it, in the order of lines;
+/// those without a line stand in front. Without a customer nobody is wanted. A `reference` at the top level is skipped.
 pub fn read_wanted(alloc: Global, text: &str) -> Result<Result<Wanted, Vec<Found>>, AllocError>
     ensures customers { IfOk result (λ read. IfOk read (λ wanted. wanted_in (parse_document text.now) ≡ Some wanted.customers.items)) }
     ensures distinct { IfOk result (λ read. IfOk read (λ wanted. AreDistinct wanted.customers.items)) }
 {
-    let mut found = Vec::new(alloc);
     let mut document = match toml::table_from_str(alloc, text) {
         Ok(document) => document,
-        Err(error) => {
-            add_no_toml(&mut found, text, &error)?;
-            return Ok(Err(found));
-        }
+        Err(error) => return Ok(Err(no_toml(alloc, text, &error)?)),
     };
     let customers = customers_in(alloc, &document);
     let _ = document.remove(REFERENCE.0);
-    let (keys, lines) = (key_lines(alloc, text, "")?, customer_lines(alloc, text)?);
-    add_faults(&mut found, "", Some(&keys), None, &document, &[CUSTOMER])?;
+    let (mut found, lines) = (Vec::new(alloc), customer_lines(alloc, text)?);
+    let keys = key_lines(alloc, text, "")?;
+    add_faults(&mut found, "", &keys, None, &document, &[CUSTOMER])?;
     add_customers(&mut found, &document, &lines)?;
     found.sort_by_key(|found| found.line)?;
     let customers = match customers {
@@ -97,7 +81,7 @@ pub fn read_wanted(alloc: Global, text: &str) -> Result<Result<Wanted, Vec<Found
     if !found.is_empty() || !are_distinct(alloc, &customers)? {
         return Ok(Err(found));
     }
-    let warnings = warnings_of(alloc, &customers, &lines)?;
+    let warnings = warnings_of(&customers, &lines)?;
     Ok(Ok(Wanted {
         customers,
         warnings,
@@ -111,29 +95,35 @@ fn customer_lines(alloc: Global, text: &str) -> Result<Vec<u64>, AllocError> {
     headers.map(|(number, _)| number).collect(alloc)
 }
 
-// Adds what is wrong with the customers of a document, which begin in these lines.
-fn add_customers(
-    found: &mut Vec<Found>,
-    document: &Table,
-    lines: &[u64],
-) -> Result<(), AllocError> {
+// Adds what is wrong with the customers of a file, which begin in these lines.
+fn add_customers(found: &mut Vec<Found>, file: &Table, lines: &[u64]) -> Result<(), AllocError> {
     let alloc = *found.allocator();
-    let mut addresses = BTreeSet::new(alloc);
-    let mut numbers = BTreeSet::new(alloc);
-    let customers = customers_at(document, CUSTOMER).unwrap_or(&[]);
+    let (mut addresses, mut numbers) = (BTreeSet::new(alloc), BTreeSet::new(alloc));
+    let ([address, .., newer], no_lines) = (CUSTOMER_KEYS, Lines::new(alloc));
+    let customers = customers_at(file, CUSTOMER).unwrap_or(&[]);
     for (index, customer) in customers.iter().enumerate() {
-        let line = lines.get(index).copied();
-        let table = customer.as_table();
-        let address = table.and_then(|table| word_at(table, ADDRESS, words::address).ok());
-        let who = who_at(alloc, index, address)?;
+        let (line, table) = (lines.get(index).copied(), customer.as_table());
+        let address = table.and_then(|table| word_at(table, address, words::address).ok());
+        let who = match address {
+            None => format!(in alloc; "customer {}: ", index.saturating_add(1)),
+            Some(address) => format!(in alloc; "customer {}: ", Ipv4Addr::from(address.0)),
+        }?;
         let Some(table) = table else {
             add(found, line, format_args!("{who}a table is wanted"))?;
             continue;
         };
-        add_table(found, &mut numbers, &who, line, table, &CUSTOMER_KEYS)?;
-        if let Ok(newer) = table_at(table, NEWER) {
-            let prefix = format!(in alloc; "{who}newer.")?;
-            add_table(found, &mut numbers, &prefix, line, newer, &NEWER_KEYS)?;
+        let newer = match table_at(table, newer) {
+            Ok(newer) => Some(("newer.", newer, &CUSTOMER_KEYS[1..4])),
+            Err(_) => None,
+        };
+        for (part, table, keys) in iter::once(("", table, &CUSTOMER_KEYS[..])).chain(newer) {
+            let prefix = format!(in alloc; "{who}{part}")?;
+            add_faults(found, &prefix, &no_lines, line, table, keys)?;
+            if let Ok(number) = number_at(table, NUMBER)
+                && !numbers.insert(number.get())?
+            {
+                add(found, line, format_args!("{prefix}number: {TWICE}"))?;
+            }
         }
         if let Some(address) = address
             && !addresses.insert(address)?
@@ -144,41 +134,10 @@ fn add_customers(
     Ok(())
 }
 
-// Adds what is wrong with a table that has a key.
-fn add_table(
-    found: &mut Vec<Found>,
-    numbers: &mut BTreeSet<u16>,
-    prefix: &str,
-    line: Option<u64>,
-    table: &Table,
-    keys: &[Setting],
-) -> Result<(), AllocError> {
-    add_faults(found, prefix, None, line, table, keys)?;
-    match number_at(table, NUMBER) {
-        Ok(number) if !numbers.insert(number.get())? => {
-            add(found, line, format_args!("{prefix}number: {TWICE}"))
-        }
-        _ => Ok(()),
-    }
-}
-
-// Who the customer at an index is, by its address where that can be read, with what stands between this and what is said of it.
-fn who_at(alloc: Global, index: usize, address: Option<Address>) -> Result<String, AllocError> {
-    match address {
-        None => format!(in alloc; "customer {}: ", index.saturating_add(1)),
-        Some(address) => format!(in alloc; "customer {}: ", Ipv4Addr::from(address.0)),
-    }
-}
-
-// What is hardly meant at customers, which begin in these lines.
-fn warnings_of(
-    alloc: Global,
-    customers: &[WantedCustomer],
-    lines: &[u64],
-) -> Result<Vec<Found>, AllocError> {
-    let mut found = Vec::new(alloc);
+fn warnings_of(customers: &Vec<WantedCustomer>, lines: &[u64]) -> Result<Vec<Found>, AllocError> {
+    let mut found = Vec::new(*customers.allocator());
     for (index, customer) in customers.iter().enumerate() {
-        let who = who_at(alloc, index, Some(customer.address))?;
+        let address = Ipv4Addr::from(customer.address.0);
         let warnings = [
             address_warning(customer.address),
             key_warning(&customer.older.key),
@@ -186,88 +145,69 @@ fn warnings_of(
             budget_warning(customer.budget.get()),
         ];
         for warning in warnings.into_iter().flatten() {
-            let line = lines.get(index).copied();
-            add(&mut found, line, format_args!("{who}{warning}"))?;
+            let what = format_args!("customer {address}: {warning}");
+            add(&mut found, lines.get(index).copied(), what)?;
         }
     }
     Ok(found)
 }
 
-// The customers of a document, or a fault in one of them.
 fn customers_in(alloc: Global, document: &Table) -> Reading<Vec<WantedCustomer>>
     ensures only { IfOk result (λ customers. customers_in (table_view document.now) ≡ Ok customers.items) }
 {
     let mut customers = Vec::new(alloc);
     for value in customers_at(document, CUSTOMER)? {
-        let table = value
-            .as_table()
-            .ok_or(ConfigurationFault::Wanted(CUSTOMER))?;
+        let table = value.as_table();
+        let table = table.ok_or(ConfigurationFault::Wanted(CUSTOMER))?;
         let customer = customer_in(alloc, table)?;
         customers.push(customer).map_err(AllocError::from)?;
     }
     Ok(customers)
 }
 
-// The customer that a table tells of.
 fn customer_in(alloc: Global, table: &Table) -> Reading<WantedCustomer>
     ensures { Reads (customer_in (table_view table.now)) result }
 {
-    let [address, _, _, _, budget, name, _] = CUSTOMER_KEYS;
+    let [address, .., budget, name, newer] = CUSTOMER_KEYS;
     Ok(WantedCustomer {
         address: word_at(table, address, words::address)?,
         older: key_in(table)?,
-        newer: newer_in(table)?,
+        newer: match value_at(table, newer.0) {
+            None => None,
+            Some(_) => Some(key_in(table_at(table, newer)?)?),
+        },
         budget: number_at(table, budget)?,
         name: optional_text(alloc, table, name)?,
     })
 }
 
-// The key that a table tells of.
 fn key_in(table: &Table) -> Reading<WantedKey>
     ensures { IsSaid (λ key. key) (key_in (table_view table.now)) result }
 {
-    let number = number_at(table, NUMBER)?;
-    let algorithm = word_at(table, ALGORITHM, words::algorithm)?;
-    let key = word_at(table, KEY, |word| words::key(algorithm, word))?;
+    let [_, number, algorithm, key, ..] = CUSTOMER_KEYS;
+    let number = number_at(table, number)?;
+    let algorithm = word_at(table, algorithm, words::algorithm)?;
+    let key = word_at(table, key, |word| words::key(algorithm, word))?;
     Ok(WantedKey { number, key })
 }
 
-// The newer key, where there is one.
-fn newer_in(table: &Table) -> Reading<Option<WantedKey>>
-    ensures { IsSaid (λ newer. newer) (newer_in (table_view table.now)) result }
-{
-    match value_at(table, NEWER.0) {
-        None => Ok(None),
-        Some(_) => Ok(Some(key_in(table_at(table, NEWER)?)?)),
-    }
-}
-
-// Whether no two customers have one address, and no two keys one number.
 fn are_distinct(alloc: Global, customers: &[WantedCustomer]) -> Result<bool, AllocError>
     ensures { IfOk result (λ are. IsTrue are → AreDistinct customers.now) }
 {
-    let addresses = customers
-        .iter()
-        .map(|customer| u32::from_be_bytes(customer.address.0))
-        .collect(alloc)?;
-    Ok(no_two_alike(addresses)? && no_two_alike(key_numbers(alloc, customers)?)?)
+    let addresses = customers.iter().map(|it| u32::from_be_bytes(it.address.0));
+    Ok(no_two_alike(addresses.collect(alloc)?)? && no_two_alike(key_numbers(alloc, customers)?)?)
 }
 
-// The numbers of the keys of customers.
 fn key_numbers(alloc: Global, customers: &[WantedCustomer]) -> Result<Vec<u32>, AllocError>
     ensures { IfOk result (λ numbers. numbers.items ≡ key_numbers customers.now) }
 {
-    let newers = customers.iter().filter_map(|customer| customer
-        .newer
-        .map(|key| u32::from(key.number.get())));
-    customers
+    let olders = customers.iter().map(|it| u32::from(it.older.number.get()));
+    let newers = customers
         .iter()
-        .map(|customer| u32::from(customer.older.number.get()))
-        .chain(newers)
-        .collect(alloc)
+        .filter_map(|it| it.newer.map(|key| u32::from(key.number.get())));
+    olders.chain(newers).collect(alloc)
 }
 
-// Whether no number stands there twice.
 fn no_two_alike(mut numbers: Vec<u32>) -> Result<bool, AllocError>
     ensures { IfOk result (λ are. IsTrue are → IsDistinct nat_eq numbers.items) }
 {
@@ -299,8 +239,7 @@ pub fn write_wanted<W: Write>(
         }
         writeln!(out, "\"")?;
     }
-    let address = Ipv4Addr::from(customer.address.0);
-    writeln!(out, "address = \"{address}\"")?;
+    writeln!(out, "address = \"{}\"", Ipv4Addr::from(customer.address.0))?;
     write_key(out, &customer.older, keys, "\n")?;
     writeln!(out, "\nbudget = {}", customer.budget)?;
     if let Some(newer) = &customer.newer {
@@ -311,7 +250,6 @@ pub fn write_wanted<W: Write>(
     writeln!(out, "")
 }
 
-// Writes what is said of a key, with this between the parts.
 fn write_key<W: Write>(
     out: &mut W,
     wanted: &WantedKey,

@@ -1,6 +1,8 @@
 -- Packets have one reading.
 use Rattle.std.proofs.Common.{◌≡◌, ℕ, ◌+◌, ◌<◌, List, ◌++◌, length, take, drop, ap, sym, ◌∙◌, arith}
+use Rattle.std.specs.List.{IsSplitAt}
 use Rattle.std.proofs.{lemmas.Grind.common_steps, Math.Seq.take-append_seam, Math.Seq.drop-append_seam, lemmas.List.length-append}
+use Rattle.std.proofs.lemmas.List.{take-append-drop}
 use Rattle.ntp_clerk.specs.Capture.{IsIpHead, IsUdpHead, IsDatagram}
 
 -- ---- lists that are taken apart at one place
@@ -14,6 +16,11 @@ same-front xs ys zs ws same long =
 same-rest : (xs ys zs ws : List ℕ) → xs ++ ys ≡ zs ++ ws → length xs ≡ length zs → ys ≡ ws
 same-rest xs ys zs ws same long =
     sym (drop-append_seam xs ys) ∙ ap (drop (length xs)) same ∙ ap (λ n. drop n (zs ++ ws)) long ∙ drop-append_seam zs ws
+
+-- what is split there has two parts, the first as long as is said
+pub split-parts : (xs front back : List ℕ) (count : ℕ) → IsSplitAt xs count front back → (xs ≡ front ++ back) × (length front ≡ count)
+split-parts xs front back count is =
+    (rw (is.1, is.2) (sym (take-append-drop count xs)), is.3)
 
 -- ---- datagrams
 

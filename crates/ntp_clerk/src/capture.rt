@@ -5,15 +5,6 @@ ghost use Rattle.ntp_clerk.specs.Capture.{two_octets, order_of, number_at, link_
 
 use std::fmt;
 
-/// The first four octets of a file in the form pcapng, which is another one.
-const NEXT_GENERATION: u64 = 0x0a0d_0d0a;
-
-/// How many octets the header of a file has.
-const HEAD_OCTETS: usize = 24;
-
-/// How many octets the header of a record has.
-const RECORD_HEAD_OCTETS: usize = 16;
-
 /// The type of protocol of IPv4 (RFC 894).
 const IPV4: u64 = 0x0800;
 
@@ -85,11 +76,11 @@ pub fn capture_in(octets: &[u8]) -> Result<Capture<'_>, CaptureFault>
     ensures next_generation { (result ≡ Err CaptureFault.NextGeneration) ↔ ((24 ≤ length octets.now) × (number_at Order.BigEndian octets.now 0 ≡ 168627466)) }
     ensures link { (number : ℕ) → (result ≡ Err (CaptureFault.Link number)) ↔ ((order : Order) × (24 ≤ length octets.now) × (order_of (number_at Order.BigEndian octets.now 0) ≡ Some order) × (number_at order octets.now 20 ≡ number) × (link_of number ≡ None)) }
 {
-    if octets.len() < HEAD_OCTETS {
+    if octets.len() < 24 {
         return Err(CaptureFault::Head);
     }
     let magic = number_at(Order::BigEndian, octets, 0);
-    if magic == NEXT_GENERATION {
+    if magic == 0x0a0d_0d0a {
         return Err(CaptureFault::NextGeneration);
     }
     let order = order_of(magic).ok_or(CaptureFault::Head)?;
@@ -98,7 +89,7 @@ pub fn capture_in(octets: &[u8]) -> Result<Capture<'_>, CaptureFault>
     Ok(Capture {
         order,
         link,
-        records: &octets[HEAD_OCTETS..],
+        records: &octets[24..],
     })
 }
 
@@ -136,9 +127,9 @@ pub fn next_record(order: Order, octets: &[u8]) -> Option<Record<'_>>
     ensures seconds { IfSome result (λ found. found.seconds ≡ number_at order octets.now 0) }
     ensures none { IfNone result ((frame : List ℕ) (behind : List ℕ) → IsRecord order octets.now frame behind → ⊥) }
 {
-    let (_head, rest) = split(octets, RECORD_HEAD_OCTETS)?;
+    let (_head, rest) = octets.split_at_checked(16)?;
     let (seconds, captured) = (number_at(order, octets, 0), number_at(order, octets, 8));
-    let (frame, behind) = split(rest, captured as usize)?;
+    let (frame, behind) = rest.split_at_checked(captured as usize)?;
     Some(Record {
         seconds,
         frame,
@@ -149,7 +140,6 @@ pub fn next_record(order: Order, octets: &[u8]) -> Option<Record<'_>>
 /// What the frames of a capture file begin with (pcap-linktype(7)).
 #[derive(Clone, Copy, Debug, PartialEq, Eq)]
 pub enum Link {
-    /// A header of Ethernet.
     Ethernet,
     /// A header that Linux makes where each host has another link, in its first form.
     Cooked,
@@ -209,9 +199,9 @@ pub fn datagram_in(packet: &[u8], port: u16) -> Option<Datagram<'_>>
     ensures none { IfNone result ((source : List ℕ) (payload : List ℕ) → IsDatagram packet.now source port payload → ⊥) }
 {
     let (ip, behind) = ip_head(packet)?;
-    let (udp, behind) = split(behind, UDP_HEAD_OCTETS)?;
+    let (udp, behind) = behind.split_at_checked(UDP_HEAD_OCTETS)?;
     let octets = payload_octets(udp, port)?;
-    let (payload, _padding) = split(behind, octets)?;
+    let (payload, _padding) = behind.split_at_checked(octets)?;
     Some(Datagram {
         source: [ip[12], ip[13], ip[14], ip[15]],
         payload,
@@ -227,7 +217,7 @@ fn ip_head(packet: &[u8]) -> Option<(&[u8], &[u8])>
     if first < 69 || first > 79 {
         return None;
     }
-    let (ip, behind) = split(packet, usize::from(first - 64) * 4)?;
+    let (ip, behind) = packet.split_at_checked(usize::from(first - 64) * 4)?;
     (ip[9] == UDP && ip[6] % 64 == 0 && ip[7] == 0).then_some((ip, behind))
 }
 
@@ -248,12 +238,4 @@ fn two_octets(octets: &[u8], at: usize) -> u64
     ensures small { result < 65536 }
 {
     u64::from(octets[at]) * 256 + u64::from(octets[at + 1])
-}
-
-// The first `count` octets, and what stands behind them; nothing where there are fewer.
-fn split(octets: &[u8], count: usize) -> Option<(&[u8], &[u8])>
-    ensures parts { IfSome result (λ split. (octets.now ≡ split.0.now ++ split.1.now) × (length split.0.now ≡ count)) }
-    ensures fewer { IfNone result (length octets.now < count) }
-{
-    octets.split_at_checked(count)
 }

@@ -6,8 +6,11 @@ ghost use Rattle.ntp_query.specs.KeyFile.{key_in_text};
 ghost use Rattle.ntp_clerk.specs.CommandText.{AreKeyOctets, IsNumber};
 ghost use Rattle.ntp_clerk.specs.Grants.{chrony_algorithm, chrony_key, chrony_server, is_text, is_text_octet, key_word, ntpsec_key};
 
-use crate::command_text::{algorithm_word, octet_digits};
+use crate::command_text::{address_word, algorithm_word, octet_digits};
+use crate::seen::Dotted;
 use ntp_mac::{Algorithm, Key};
+use ntp_query::Server;
+use ntp_service::Address;
 use std::alloc::{AllocError, Global};
 use std::num::NonZero;
 
@@ -16,18 +19,19 @@ const MOST_TEXT_OCTETS: usize = 20;
 
 /// A key that a customer gets, and where it asks.
 #[derive(Clone, Copy)]
-pub struct Grant<'a> {
-    /// The customer's address, as text.
-    pub customer: &'a str,
-    /// The server's address, as text.
-    pub server: &'a str,
-    pub port: u16,
+pub struct Grant {
+    /// The customer's address.
+    pub customer: Address,
+    /// The server; without one `SERVER` and port 123 are written.
+    pub server: Option<Server>,
+    /// The key's number.
     pub number: NonZero<u16>,
+    /// The key, a secret.
     pub key: Key,
 }
 
 /// A key file of chrony for a customer, and behind it, in comments, the lines of `chrony.conf`, `ntp.keys` and `ntp.conf`.
-pub fn customer_text(alloc: Global, grant: &Grant<'_>) -> Result<String, AllocError>
+pub fn customer_text(alloc: Global, grant: &Grant) -> Result<String, AllocError>
     ensures { IfOk result (λ text. key_in_text grant.now.number.value (string_bytes text) ≡ Ok grant.now.key) }
 {
     let key = chrony_key(alloc, grant.number, &grant.key)?;
@@ -37,16 +41,16 @@ pub fn customer_text(alloc: Global, grant: &Grant<'_>) -> Result<String, AllocEr
 }
 
 // What stands behind the key.
-fn notes(alloc: Global, grant: &Grant<'_>) -> Result<String, AllocError> {
-    let Grant {
-        customer,
-        server,
-        number,
-        ..
-    } = grant;
-    let chrony = chrony_server(alloc, server, grant.port, *number)?;
+fn notes(alloc: Global, grant: &Grant) -> Result<String, AllocError> {
+    let (customer, number) = (Dotted(grant.customer), grant.number);
+    let server = match grant.server {
+        Some(server) => address_word(alloc, server.address)?,
+        None => String::from_str(alloc, "SERVER")?,
+    };
+    let port = grant.server.map_or(123, |server| server.port);
+    let chrony = chrony_server(alloc, server.as_str(), port, number)?;
     let ntpsec = match grant.key.octet_count() > 10 || text_in(grant.key.octets()).is_some() {
-        true => ntpsec_key(alloc, *number, &grant.key)?,
+        true => ntpsec_key(alloc, number, &grant.key)?,
         false => String::from_str(alloc, "none: its digits would be read as characters")?,
     };
     format!(in alloc;

@@ -1,8 +1,7 @@
 //! The commands that lead from the customers of a service to others.
 ghost use Rattle.std.specs.Prelude.{◌≡◌, ◌≢◌, ◌↔◌, ℕ, ◌++◌, [], ◌∷◌, false, All, Contains, None, Some, Err, IfErr, IfOk, IfSome, IsSome, IsTrue, OnOk, nat_eq, option_map};
 ghost use Rattle.indexmap.specs.{IndexMap.get, IndexSet.contains};
-ghost use Rattle.ntp_service.specs.{Address.address_eq, Commands.address_named, Registry.terms_at, Registry.after_command, Registry.Agrees};
-ghost use Rattle.ntp_service.specs.declared.address.Address.{Address};
+ghost use Rattle.ntp_service.specs.{Address.address_eq, Commands.address_named, Registry.terms_at, Registry.after_command, Registry.Agrees, declared.address.Address.Address};
 ghost use Rattle.ntp_service.specs.declared.command.Command.TheVariants as command;
 ghost use Rattle.ntp_clerk.specs.Leading.{ends, enrolment_among, enrolment_with, key_given, AreApart, AreTwo, HasExactly, HasMoved, HasNumber, Holds, IsNeeded, IsNeededAt, LeadsTo, Makes, NobodyIsForgotten};
 ghost use Rattle.ntp_clerk.specs.Steps.{done_in, rebudgeting, AreDone, CanDo, CanDoAll, Frees, Goes, Notes, NotesOne, Moves, OnlyWanted, Revokes};
@@ -295,10 +294,9 @@ fn freeing_keys(address: Address, held: &Terms, wanted: &Terms) -> Option<Comman
 {
     let has_older = has_key(wanted, &held.older);
     let Some(newer) = held.newer else {
-        return if has_older {
-            None
-        } else {
-            Some(Command::Revoke { address })
+        return match has_older {
+            true => None,
+            false => Some(Command::Revoke { address }),
         };
     };
     match (has_older, has_key(wanted, &newer)) {
@@ -328,19 +326,14 @@ fn enrolling(address: Address, terms: &Terms) -> [Option<Command>; 4]
     ensures named { All (λ c. address_named c ≡ address) (done_in result) }
     ensures goes { Goes None (done_in result) (Some (enrolment_with terms.now)) }
 {
-    let GivenKey { number, key } = terms.older;
     let enrol = Command::Enrol {
         address,
-        number,
-        key,
+        number: terms.older.number,
+        key: terms.older.key,
         budget: terms.budget,
     };
-    [
-        Some(enrol),
-        rollover_if_any(address, &terms.newer),
-        None,
-        None,
-    ]
+    let newer = rollover_if_any(address, &terms.newer);
+    [Some(enrol), newer, None, None]
 }
 
 // What makes the wanted terms of others that have no other keys: the older key is taken once the newer is given.

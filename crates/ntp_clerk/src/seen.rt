@@ -37,9 +37,7 @@ pub struct SeenTerms {
 pub enum Seen {
     /// It was never enrolled.
     Nothing,
-    /// It is revoked.
     Revoked,
-    /// It is enrolled.
     Enrolled(SeenTerms),
 }
 
@@ -81,7 +79,7 @@ fn seen_key(given: &GivenKey) -> SeenKey
 /// An address at which labntpd has something else than the commands file.
 #[derive(Clone, Copy)]
 pub struct Difference {
-    /// Where they differ.
+    /// The customer's address.
     pub address: Address,
     /// What labntpd has.
     pub daemon: Seen,
@@ -109,13 +107,7 @@ pub fn differing_at(service: &Service, address: Address, daemon: Seen) -> Option
 fn are_same(one: &Seen, other: &Seen) -> bool
     ensures { IsTrue result ↔ (one.now ≡ other.now) }
 {
-    match (one, other) {
-        (Seen::Nothing, Seen::Nothing) | (Seen::Revoked, Seen::Revoked) => true,
-        (Seen::Enrolled(one), Seen::Enrolled(other)) => {
-            one.budget == other.budget && have_same_keys(one, other)
-        }
-        _ => false,
-    }
+    one == other
 }
 
 /// Whether the keys of terms are seen alike, whatever their budgets are.
@@ -144,20 +136,17 @@ impl Display for Keys {
     fn fmt<W: fmt::Write>(&self, f: &mut fmt::Formatter<W>) -> fmt::Result {
         let Keys(SeenTerms { older, newer, .. }) = *self;
         match newer {
-            None => write!(f, "key {}", NumberedKey(older)),
-            Some(newer) => write!(f, "keys {} and {}", NumberedKey(older), NumberedKey(newer)),
+            None => write!(f, "key {older}"),
+            Some(newer) => write!(f, "keys {older} and {newer}"),
         }
     }
 }
 
-// A key, without its octets.
-#[derive(Clone, Copy)]
-struct NumberedKey(SeenKey);
-
-impl Display for NumberedKey {
+/// Writes its number, its algorithm and how many octets it has.
+impl Display for SeenKey {
     fn fmt<W: fmt::Write>(&self, f: &mut fmt::Formatter<W>) -> fmt::Result {
-        let (number, octets) = (self.0.number, self.0.octets);
-        let algorithm = algorithm_word(self.0.algorithm);
+        let (number, octets) = (self.number, self.octets);
+        let algorithm = algorithm_word(self.algorithm);
         write!(f, "{number} ({algorithm}, {octets} octets)")
     }
 }

@@ -13,7 +13,9 @@ use std::num::NonZero;
 /// A key with its number.
 #[derive(Clone, Copy, PartialEq, Eq)]
 pub struct GivenKey {
+    /// Its number.
     pub number: NonZero<u16>,
+    /// The key, a secret.
     pub key: Key,
 }
 
@@ -24,6 +26,7 @@ pub struct Terms {
     pub older: GivenKey,
     /// Its newer key, if it has two.
     pub newer: Option<GivenKey>,
+    /// How many signed queries of a window get the time.
     pub budget: NonZero<u16>,
 }
 
@@ -60,8 +63,7 @@ pub(crate) fn terms_at(service: &Service, address: Address) -> Option<Terms>
     ensures terms { option_map enrolment_with result ≡ terms_at service.now address }
     ensures two { IfSome result AreTwo }
 {
-    let customer = service.customer(address)?;
-    terms_of(customer)
+    terms_of(service.customer(address)?)
 }
 
 /// What a customer is enrolled with; nothing where it is revoked.

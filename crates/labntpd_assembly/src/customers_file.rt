@@ -1,7 +1,7 @@
 //! The customers file: what each customer has, what it was answered, and when its keys signed.
 
 use crate::files::FileFault;
-use ntp_host::{new_file, put_in_place};
+use crate::replaced_file::{new_file, put_in_place};
 use ntp_reports::{CustomerCounts, customer_line};
 use ntp_service::Service;
 use std::alloc::{AllocError, Global};

@@ -13,6 +13,7 @@ mod housekeeping;
 mod news;
 mod observers;
 mod parts;
+mod replaced_file;
 mod serving;
 
 pub use daemon_clock::DaemonClock;

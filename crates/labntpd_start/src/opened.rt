@@ -1,7 +1,8 @@
 //! What the daemon works with beside its socket: its commands, who answers them, and where the clock's state comes from.
-ghost use Rattle.std.specs.Prelude.{◌≡◌, []};
+ghost use Rattle.std.specs.Prelude.{◌≡◌, [], IfOk};
 ghost use Rattle.ntp_port.specs.Watch.{Watches, longest_of};
 ghost use Rattle.labntpd_files.specs.declared.configuration.Listen.{Listen};
+ghost use Rattle.labntpd_start.specs.Prepared.{IsSourceOf};
 
 use crate::lines::judged;
 use crate::prepared::PreparedClock;
@@ -34,7 +35,9 @@ pub fn clock_source<'a>(
     rt: &'a HostRuntime,
     clocks: &'a HostClocks,
     clock: PreparedClock,
-) -> Result<ClockSource<SystemClockWire<'a, &'a HostRuntime>>, Status> {
+) -> Result<ClockSource<SystemClockWire<'a, &'a HostRuntime>>, Status>
+    ensures { IfOk result (IsSourceOf clock) }
+{
     match clock {
         PreparedClock::Fixed(reference) => Ok(ClockSource::Fixed(reference)),
         PreparedClock::Followed(source, follower) => {

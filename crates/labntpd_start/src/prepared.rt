@@ -1,4 +1,7 @@
 //! What a server begins with, read from its files.
+ghost use Rattle.std.specs.Prelude.{IfOk};
+ghost use Rattle.labntpd_files.specs.declared.configuration.Clock.{Clock};
+ghost use Rattle.labntpd_start.specs.Prepared.{IsClockOf};
 
 use crate::host_addresses::SeveralAddresses;
 use crate::lines::StartLines;
@@ -51,7 +54,9 @@ pub fn prepare<R: Files, F: Write + Drop>(
     alloc: Global,
     path: &str,
     faults: &mut StartLines<F>,
-) -> Result<Prepared, Status> {
+) -> Result<Prepared, Status>
+    ensures { IfOk result (λ prepared. IsClockOf prepared.configuration.clock prepared.clock) }
+{
     let text = small_text(files, alloc, path, faults)?;
     let configuration = configuration_in(alloc, path, text.as_str(), faults)?;
     let named = NamedFiles::of(path, &configuration);
@@ -111,7 +116,9 @@ fn followed<R: Files, F: Write + Drop>(
     alloc: Global,
     daemon: &ClockDaemon,
     faults: &mut StartLines<F>,
-) -> Result<PreparedClock, Status> {
+) -> Result<PreparedClock, Status>
+    ensures { IfOk result (IsClockOf (Clock.Followed daemon.now)) }
+{
     let path = daemon.key_file.as_str();
     let text = small_text(files, alloc, path, faults)?;
     let Some(key) = key_in_file(&text, daemon.algorithm) else {

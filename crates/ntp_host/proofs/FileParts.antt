@@ -1,8 +1,8 @@
 -- Parts of a file that are read as pieces.
-use Rattle.std.proofs.Common.{◌≡◌, ◌≢◌, ℕ, ◌+◌, ◌-◌, ◌≤◌, ◌<◌, List, [], ◌∷◌, length, take, drop, get_or, ap, sym, ◌++◌, ◌∙◌, inl, inr, refl, arith}
+use Rattle.std.proofs.Common.{◌≡◌, ◌≢◌, ℕ, ◌+◌, ◌-◌, ◌≤◌, ◌<◌, List, [], ◌∷◌, length, take, drop, get_or, ap, sym, ◌++◌, ◌∙◌, inl, inr, arith}
 use Rattle.std.specs.Prelude.{Option, None, Some, IfSome, slice_index, slice_range, min}
 use Rattle.std.proofs.{lemmas.List.take-take, lemmas.List.take-append-le, lemmas.List.take_all, lemmas.List.Edits.get_or-between}
-use Rattle.std.proofs.lemmas.Bool.{cases_lt, le-leb, lt-leb}
+use Rattle.std.proofs.lemmas.Bool.{cases_lt, Decides.nat_tests}
 use Rattle.ntp_host.specs.declared.progress.Progress.{Progress}
 use Rattle.ntp_host.specs.Looking.{next_from, StandsAt, HasNoEnd, GivesPart, GivesEach}
 
@@ -42,12 +42,12 @@ pub no_end_joined : (file : List ℕ) (from mid to : ℕ) → HasNoEnd file from
 no_end_joined file from mid to first second k above below is =
     elim (cases_lt k mid) [ inl before ↦ first k above before is | inr behind ↦ second k behind below is ]
 
--- where the next piece begins: behind what was searched of a line that has no room, or behind what was given
-pub next_from-long : (p : Progress) → p.given + 65536 ≤ p.searched → next_from p ≡ p.searched
-next_from-long p long = rw (le-leb (p.given + 65536) p.searched long) refl
+-- it begins behind what was given only if no line ends in a piece
+pub long_of : (p : Progress) (from : ℕ) → from ≡ next_from p → p.given < from → (p.given + 65536 ≤ p.searched) × (from ≡ p.searched)
+long_of p from is behind = (grind (arith, nat_tests), grind (arith, nat_tests))
 
-pub next_from-short : (p : Progress) → p.searched < p.given + 65536 → next_from p ≡ p.given
-next_from-short p short = rw (lt-leb (p.given + 65536) p.searched short) refl
+pub short_of : (p : Progress) (from : ℕ) → from ≡ next_from p → from ≤ p.given → (p.searched < p.given + 65536) × (from ≡ p.given)
+short_of p from is within = (grind (arith, nat_tests), grind (arith, nat_tests))
 
 -- ---- a piece in the memory that was taken for it
 pub filled : (room rest : List ℕ) (len : ℕ) → length room ≡ len → take len (room ++ rest) ≡ room
@@ -63,6 +63,17 @@ told_so (Some file) A B C a b f = f file a b
 pub stands_so : (told : Option (List ℕ)) (at from : ℕ) (octets room : List ℕ) → at ≡ from → octets ≡ room → IfSome told (λ file. StandsAt file at room)
     → IfSome told (λ file. StandsAt file from octets)
 stands_so told at from octets room where_ same stands = rw (same, ← where_) stands
+
+-- each line in reach is given, where the piece is the next one
+pub each_told : (told : Option (List ℕ)) (p q : Progress) (octets : List ℕ) (end count : ℕ) → length octets ≡ count → (count ≡ 0 → end ≤ p.searched)
+    → (0 < count → count ≡ min (end - next_from p) 65536) → IfSome told (λ file. HasNoEnd file p.given p.searched)
+    → IfSome told (λ file. StandsAt file (next_from p) octets)
+    → ((file : List ℕ) (end : ℕ) → HasNoEnd file p.given p.searched → StandsAt file (next_from p) octets → 0 < length octets
+    → length octets ≡ min (end - next_from p) 65536 → GivesEach file end p q)
+    → IfSome told (λ file. p.searched < end → GivesEach file end p q)
+each_told told p q octets end count long none reach knows stands each = told_so told _ _ _ knows stands (λ file known there more.
+    let some : 0 < count = elim (cases_lt 0 count) [ inl some ↦ some | inr zero ↦ absurd (omega (arith, none (omega arith))) ] in
+    each file end known there (omega arith) (long ∙ reach some))
 
 -- a line that has no room in a piece is cut
 pub cut_of : (file room items : List ℕ) (from to : ℕ) → StandsAt file from room → length room ≡ 4097 → items ≡ room ++ 10 ∷ [] → from + 65536 < to

@@ -1,9 +1,9 @@
 -- The calls of a wire, as a port over it tells them.
-use Rattle.std.proofs.Common.{◌≡◌, ℕ, zero, suc, ◌<◌, min, Bool, true, false, Option, None, Some, Result, Ok, Err, List, [], ◌∷◌, ◌++◌, length, get_or, map, take, drop, refl, sym, ap, ◌∙◌, subst, arith}
+use Rattle.std.proofs.Common.{◌≡◌, ℕ, zero, suc, ◌<◌, min, Bool, true, false, Option, None, Some, Result, Ok, Err, List, [], ◌∷◌, ◌++◌, length, get_or, map, take, drop, refl, sym, ap, ◌∙◌, subst, arith, tests}
 use Rattle.std.proofs.{lemmas.Bool.false≢true, lemmas.List.take_all}
 use Rattle.std.specs.Prelude.{IfSome, IfNone, IsSomeAnd, IsErrAnd, option_map, ◌-◌, ◌^◌, if◌then◌else◌}
 use Rattle.std.specs.declared.io.Error.{Error}
-use Rattle.std.specs.IoError.{error_kind}
+use Rattle.std.specs.{Bool.then_some, Option.option_flatten, IoError.error_kind}
 use Rattle.std.specs.declared.net.socket_addr.SocketAddr.{SocketAddr}
 use Rattle.std.specs.declared.net.socket_addr.SocketAddr.TheVariants.{V4, V6}
 use Rattle.std.specs.declared.net.socket_addr.SocketAddrV4.{SocketAddrV4}
@@ -39,26 +39,36 @@ port-rest [] = refl
 port-rest (turn ∷ coming) = refl
 
 -- ---- a turn begins
-module _ (shown : Option Moment) (sent : Bool) (old : WireTold) where
+-- a send before it does not matter
+departs-anew : (later : Bool) (clock : Readings) → departing None later clock ≡ departing None false clock
+departs-anew false clock = refl
+departs-anew true clock = λ i calls. by calls i
+  where
+    by : (calls : List TurnCall) → departing None true clock calls ≡ departing None false clock calls
+    by [] = refl
+    by (ReadClock ∷ calls) = refl
+    by (TriedSend ∷ calls) = refl
+
+module _ (shown : Option Moment) (sent later : Bool) (old : WireTold) where
   abbrev told : Told
   told = port_told shown sent old
 
   -- this clock is that of the port's turn
   began : (clock : Readings) (r : Result Arrival PortFault) (room : List ℕ)
       → departing None false clock ≡ port_clock (next_turn old).arrival (next_turn old).clock → Arrives (port_turn (next_turn old)).arrival r room
-      → Begins (get_or told.coming 0 no_turn) told (port_told None false (record (begun old) { clock = clock })) r room
-  began clock r room shows arrives = subst (λ turn. Begins turn told (port_told None false (record (begun old) { clock = clock })) r room)
-      (port-next old.coming) (arrives, rw (shows, port-rest old.coming) refl)
+      → Begins (get_or told.coming 0 no_turn) told (port_told None later (record (begun old) { clock = clock })) r room
+  began clock r room shows arrives = subst (λ turn. Begins turn told (port_told None later (record (begun old) { clock = clock })) r room)
+      (port-next old.coming) (arrives, rw (departs-anew later clock, shows, port-rest old.coming) refl)
 
   -- a receive failed
   begins-none : (room : List ℕ) → (next_turn old).arrival ≡ None
-      → Begins (get_or told.coming 0 no_turn) told (port_told None false (begun old)) (Err Receive) room
+      → Begins (get_or told.coming 0 no_turn) told (port_told None later (begun old)) (Err Receive) room
   begins-none room none = began (next_turn old).clock (Err Receive) room (rw none refl) (rw none refl)
 
   -- a datagram was taken, and the clock was read once, or is told as if it had been
   begins-some : (d : WireDatagram) (arrival : Arrival) (room : List ℕ) → (next_turn old).arrival ≡ Some d
       → Arrives (Some (port_datagram (next_turn old).clock d)) (Ok arrival) room
-      → Begins (get_or told.coming 0 no_turn) told (port_told None false (record (begun old) { clock = behind ReadClock (next_turn old).clock }))
+      → Begins (get_or told.coming 0 no_turn) told (port_told None later (record (begun old) { clock = behind ReadClock (next_turn old).clock }))
       (Ok arrival) room
   begins-some d arrival room some arrives = began (behind ReadClock (next_turn old).clock) (Ok arrival) room (rw some refl) (rw some arrives)
 
@@ -80,10 +90,10 @@ not-idle (Ok taken) fails idle = idle
 not-idle (Err error) fails idle = false≢true (sym fails ∙ idle)
 
 -- nothing is told anew where nothing came
-pub stays : {X : Type 0} (A B : Type 0) (r : Option X) (before after first : Option Told) → IfNone r (A × (B × (after ≡ before))) → before ≡ first
+pub stays : {X : Type 0} (A : Type 0) (r : Option X) (before after first : Option Told) → A → IfNone r (after ≡ before) → before ≡ first
     → IfNone r (A × (after ≡ first))
-stays A B None before after first nothing start = (nothing.0, nothing.1.1 ∙ start)
-stays A B (Some x) before after first nothing start = tt
+stays A None before after first is nothing start = (is, nothing ∙ start)
+stays A (Some x) before after first is nothing start = tt
 
 -- ---- the calls, of a wire that tells or not
 -- what the port tells
@@ -101,37 +111,41 @@ module _ (shown : Option Moment) (sent : Bool) where
         ∙ ap (λ z. record (port_told shown sent old) { clock = departing (Some z) false (behind ReadClock old.clock) }) p.0,
   )
 
+  -- what it showed before a send that was tried
+  pub shown-before : (r : Moment) → middle (option_flatten (then_some sent shown)) r ≡ (if sent then middle shown r else r)
+  shown-before r = grind (arith, tests)
+
   -- ---- a receive
-  pub receives-none : (t u : Option WireTold) (r : Result (ℕ × SocketAddr) Error) (room : List ℕ) → Fails r → WireReceives t u r room
-      → ReceiveTells (over shown sent t) (over None false u) (Err Receive) room
-  receives-none None u r room fails p = tt
-  receives-none (Some old) None r room fails p = absurd p
-  receives-none (Some old) (Some new) r room fails p = by_idle (idle_before old) p
+  pub receives-none : (later : Bool) (t u : Option WireTold) (r : Result (ℕ × SocketAddr) Error) (room : List ℕ) → Fails r → WireReceives t u r room
+      → ReceiveTells (over shown sent t) (over None later u) (Err Receive) room
+  receives-none later None u r room fails p = tt
+  receives-none later (Some old) None r room fails p = absurd p
+  receives-none later (Some old) (Some new) r room fails p = by_idle (idle_before old) p
     where
-      by_idle : (n : ℕ) → ReceivesBehind n old new r room → ReceiveTells (over shown sent (Some old)) (over None false (Some new)) (Err Receive) room
-      by_idle zero q = subst (λ w. ReceiveTells (over shown sent (Some old)) (Some (port_told None false w)) (Err Receive) room) (sym q.1)
-          (begins-none shown sent old room (gives-none r room (next_turn old).arrival fails q.0))
+      by_idle : (n : ℕ) → ReceivesBehind n old new r room → ReceiveTells (over shown sent (Some old)) (over None later (Some new)) (Err Receive) room
+      by_idle zero q = subst (λ w. ReceiveTells (over shown sent (Some old)) (Some (port_told None later w)) (Err Receive) room) (sym q.1)
+          (begins-none shown sent later old room (gives-none r room (next_turn old).arrival fails q.0))
       by_idle (suc left) q = absurd (not-idle r fails q.0)
 
   -- a datagram came, and the clock was read
-  pub receives-some : (t u v : Option WireTold) (source : SocketAddrV4) (arrival : Arrival) (room : List ℕ)
+  pub receives-some : (later : Bool) (t u v : Option WireTold) (source : SocketAddrV4) (arrival : Arrival) (room : List ℕ)
       → ipv4_octets (v4_ip source) ≡ arrival.address.0 → v4_port source ≡ arrival.port
       → WireReceives t u (Ok (arrival.length, V4 source)) room → WireShows u v arrival.receipt
-      → ReceiveTells (over shown sent t) (over None false v) (Ok arrival) room
-  receives-some None u v source arrival room address port p q = tt
-  receives-some (Some old) None v source arrival room address port p q = absurd p
-  receives-some (Some old) (Some mid) None source arrival room address port p q = absurd q
-  receives-some (Some old) (Some mid) (Some new) source arrival room address port p q = by_idle (idle_before old) p
+      → ReceiveTells (over shown sent t) (over None later v) (Ok arrival) room
+  receives-some later None u v source arrival room address port p q = tt
+  receives-some later (Some old) None v source arrival room address port p q = absurd p
+  receives-some later (Some old) (Some mid) None source arrival room address port p q = absurd q
+  receives-some later (Some old) (Some mid) (Some new) source arrival room address port p q = by_idle (idle_before old) p
     where
       by_arrival : (a : Option WireDatagram) → (next_turn old).arrival ≡ a → WireGives a (Ok (arrival.length, V4 source)) room → mid ≡ begun old
-          → ReceiveTells (over shown sent (Some old)) (over None false (Some new)) (Ok arrival) room
+          → ReceiveTells (over shown sent (Some old)) (over None later (Some new)) (Ok arrival) room
       by_arrival None is gives begins = absurd gives
       by_arrival (Some d) is gives begins =
           let after : new ≡ record (begun old) { clock = behind ReadClock (next_turn old).clock } =
           q.1 ∙ ap (λ (w : WireTold). record w { clock = behind ReadClock w.clock }) begins in
           let receipt : arrival.receipt ≡ (next_turn old).clock [] = q.0 ∙ ap (λ (w : WireTold). w.clock []) begins in
-          subst (λ w. ReceiveTells (over shown sent (Some old)) (Some (port_told None false w)) (Ok arrival) room) (sym after)
-          (begins-some shown sent old d arrival room is (
+          subst (λ w. ReceiveTells (over shown sent (Some old)) (Some (port_told None later w)) (Ok arrival) room) (sym after)
+          (begins-some shown sent later old d arrival room is (
             ap (λ z. record { 0 = z }) (sym address ∙ gives.0.0),
             sym port ∙ gives.0.1,
             receipt,
@@ -139,7 +153,7 @@ module _ (shown : Option Moment) (sent : Bool) where
           ))
 
       by_idle : (n : ℕ) → ReceivesBehind n old mid (Ok (arrival.length, V4 source)) room
-          → ReceiveTells (over shown sent (Some old)) (over None false (Some new)) (Ok arrival) room
+          → ReceiveTells (over shown sent (Some old)) (over None later (Some new)) (Ok arrival) room
       by_idle zero p = by_arrival (next_turn old).arrival refl p.0 p.1
       by_idle (suc left) p = absurd p.0
 
@@ -170,22 +184,22 @@ module _ (shown : Option Moment) (sent : Bool) where
       )
 
   -- the socket was shut down
-  pub waits-none : (t u : Option WireTold) (room : List ℕ) → WireWaits true t u
-      → ReceiveTells (over shown sent t) (over None false u) (Err Receive) room
-  waits-none None u room p = tt
-  waits-none (Some old) u room p = subst (λ o. ReceiveTells (over shown sent (Some old)) (over None false o) (Err Receive) room) (sym p.1)
-      (begins-none shown sent old room p.0)
+  pub waits-none : (later : Bool) (t u : Option WireTold) (room : List ℕ) → WireWaits true t u
+      → ReceiveTells (over shown sent t) (over None later u) (Err Receive) room
+  waits-none later None u room p = tt
+  waits-none later (Some old) u room p = subst (λ o. ReceiveTells (over shown sent (Some old)) (over None later o) (Err Receive) room) (sym p.1)
+      (begins-none shown sent later old room p.0)
 
   -- a datagram was dropped
-  pub drops : (t u : Option WireTold) → WireDrops true t u → DropTells (over shown sent t) (over None false u) true
-  drops None u p = tt
-  drops (Some old) u p =
+  pub drops : (later : Bool) (t u : Option WireTold) → WireDrops true t u → DropTells (over shown sent t) (over None later u) true
+  drops later None u p = tt
+  drops later (Some old) u p =
       let from = port_datagram (next_turn old).clock p.0 in
       let whole : take (length (received from)) (received from) ≡ received from = take_all (length (received from)) (received from) (omega arith) in (
         arrival_of from,
         received from,
-        subst (λ o. ReceiveTells (over shown sent (Some old)) (over None false o) (Ok (arrival_of from)) (received from)) (sym p.2)
-            (begins-some shown sent old p.0 (arrival_of from) (received from) p.1 (refl, refl, refl, whole)),
+        subst (λ o. ReceiveTells (over shown sent (Some old)) (over None later o) (Ok (arrival_of from)) (received from)) (sym p.2)
+            (begins-some shown sent later old p.0 (arrival_of from) (received from) p.1 (refl, refl, refl, whole)),
       )
 
   -- ---- a send

@@ -1,7 +1,7 @@
 -- How far a commands file is read, and what a look at it does.
 use Rattle.std.specs.Prelude.{◌≡◌, ◌≢◌, ℕ, ◌+◌, ◌-◌, ◌≤◌, ◌<◌, ◌⊎◌, nat_le, if◌then◌else◌, Bool, true, false, IsTrue, Option, None, Some, IfSome, IsSomeAnd, List, [], ◌∷◌, ◌++◌, length, slice_get, slice_index, slice_range, take, drop, min}
 use Rattle.std.specs.Option.{option_map_or}
-use Rattle.ntp_host.specs.declared.{growth.FileState.FileState, progress.Progress.Progress, progress.TheConstants.MOST_COMMANDS_OCTETS}
+use Rattle.ntp_host.specs.declared.{appended_file.FileState.FileState, progress.Progress.Progress, progress.TheConstants.MOST_COMMANDS_OCTETS}
 use Rattle.ntp_host.specs.declared.commands_file.CommandsFault.{CommandsFault}
 use Rattle.ntp_host.specs.declared.commands_file.CommandsFault.TheVariants.{Unreadable, Full}
 

@@ -2,7 +2,7 @@
 use Rattle.std.specs.Prelude.{Option, option_map}
 use Rattle.ntp_port.specs.Port.{Told}
 use Rattle.ntp_host.specs.Wire.{port_told}
-use Rattle.ntp_host.specs.declared.wire.Wire as wire
+use Rattle.ntp_host.specs.declared.system_wire.Wire as wire
 use Rattle.ntp_host.specs.declared.udp_port.UdpPort.{UdpPort}
 
 -- what the wire tells, as the port gives it

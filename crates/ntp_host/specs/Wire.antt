@@ -1,5 +1,5 @@
 -- What a wire that tells its turns answers, a UDP socket with the clock that is read beside it; and what a port over it tells then.
-use Rattle.std.specs.Prelude.{◌≡◌, ◌≢◌, ℕ, zero, suc, ◌-◌, ◌/◌, ◌^◌, ◌==◌, ◌&&◌, nat_le, Bool, true, false, Option, None, Some, option_map, IfSome, IsSomeAnd, Result, Ok, IsOkAnd, IsErrAnd, List, [], ◌∷◌, ◌++◌, length, get_or, map, take, drop, min, if◌then◌else◌}
+use Rattle.std.specs.Prelude.{◌≡◌, ◌≢◌, ℕ, zero, suc, ◌-◌, ◌/◌, ◌^◌, ◌==◌, ◌&&◌, nat_le, Bool, true, false, Option, None, Some, option_map, IfSome, IsSomeAnd, Result, Ok, Err, IsOkAnd, IsErrAnd, List, [], ◌∷◌, ◌++◌, length, get_or, map, take, drop, min, if◌then◌else◌}
 use Rattle.std.specs.IoError.{error_kind}
 use Rattle.std.specs.{declared.io.Error.Error, declared.io.ErrorKind.ErrorKind}
 use Rattle.std.specs.declared.io.ErrorKind.TheVariants.{WouldBlock, TimedOut, Interrupted}
@@ -9,7 +9,8 @@ use Rattle.std.specs.declared.net.socket_addr.SocketAddrV4.{SocketAddrV4}
 use Rattle.std.specs.{Net.Addr.ipv4_octets, Net.Socket.v4_ip, Net.Socket.v4_port}
 use Rattle.ntp_packet.specs.declared.moment.Moment.{Moment}
 use Rattle.ntp_service.specs.declared.address.Address.{Address}
-use Rattle.ntp_port.specs.declared.sent.Sent.{Sent}
+use Rattle.ntp_port.specs.{declared.sent.Sent.Sent, declared.queue_event.QueueEvent.QueueEvent}
+use Rattle.ntp_port.specs.declared.queue_event.QueueEvent.TheVariants.{Held, Taken}
 use Rattle.ntp_port.specs.Port.{most_received_octets, IncomingValue, ReadClock, TriedSend, Readings, behind, TurnValue, no_turn, Told, is_sent}
 
 -- a datagram that is to be received
@@ -79,6 +80,12 @@ ReceivesBehind (suc left) old new r room = IsErrAnd r (λ error. is_idle (error_
 abbrev pub WireReceives : Option WireTold → Option WireTold → Result (ℕ × SocketAddr) Error → List ℕ → Type 0
 WireReceives None u r room = u ≡ None
 WireReceives (Some old) u r room = IsSomeAnd u (λ new. ReceivesBehind (idle_before old) old new r room)
+
+-- what a receive sees of a queue: it took a datagram out of it that came from an IPv4 address, or found it empty; a signal counts as that
+abbrev pub seen_in_receive : Result (ℕ × SocketAddr) Error → ℕ → List QueueEvent
+seen_in_receive (Ok (length, V4 source)) shown = Taken shown ∷ []
+seen_in_receive (Ok other) shown = []
+seen_in_receive (Err error) shown = if is_idle (error_kind error) then Held 0 shown ∷ [] else []
 
 -- a reading of the clock
 abbrev pub WireShows : Option WireTold → Option WireTold → Moment → Type 0

@@ -4,9 +4,8 @@ ghost use Rattle.std.specs.Option.{option_map_or};
 ghost use Rattle.std.proofs.Props.{props};
 ghost use Rattle.ntp_host.specs.Looking.{is_final, next_from, HasNoEnd, GivesPart, GivesEach, LooksAt};
 
-use crate::appended_file::AppendedFile;
-use crate::clock::HostClocks;
-use crate::growth::Growth;
+use crate::appended_file::{AppendedFile, Growth};
+use crate::clock_wire::HostClocks;
 use crate::progress::{MOST_COMMANDS_OCTETS, MOST_PIECE_OCTETS, Progress};
 use ntp_packet::Moment;
 use ntp_port::CommandsSource;
@@ -14,23 +13,19 @@ use std::alloc::Allocator;
 use std::fmt;
 use std::io::{self, Write};
 
-/// The octets from which on a commands file is nearly full: 80 in 100 of the most, rounded up.
-const NEARLY_FULL_OCTETS: u64 = 53_687_092;
-
 /// The octets that are given of a line that has no room in a piece: one more than a line of commands may have.
 const CUT_OCTETS: usize = 4_097;
 
-/// Returns whether a commands file of `octets` octets is nearly full.
+/// Returns whether a commands file of `octets` octets is nearly full: it has 8 in 10 of the most.
 pub fn is_nearly_full(octets: u64) -> bool {
-    octets >= NEARLY_FULL_OCTETS
+    octets >= (MOST_COMMANDS_OCTETS * 8).div_ceil(10)
 }
 
 /// Writes that a commands file of `octets` octets is nearly full. A failed write is passed over.
 pub fn write_nearly_full<W: Write>(out: &mut W, octets: u64) {
-    let most = MOST_COMMANDS_OCTETS;
     let _ = write!(
         out,
-        "has {octets} of at most {most} octets; no line behind these is carried out"
+        "has {octets} of at most {MOST_COMMANDS_OCTETS} octets; no line behind these is carried out"
     );
 }
 
@@ -58,15 +53,13 @@ impl CommandsFault {
     }
 }
 
-/// Writes what the log says of the file.
 impl fmt::Display for CommandsFault {
     fn fmt<W: fmt::Write>(&self, f: &mut fmt::Formatter<W>) -> fmt::Result {
-        let most = MOST_COMMANDS_OCTETS;
         let why = match self {
             CommandsFault::Unreadable(error) => return write!(f, "cannot be read: {error}"),
             CommandsFault::Full => return write!(
                 f,
-                "has more than {most} octets; no line behind these is carried out"
+                "has more than {MOST_COMMANDS_OCTETS} octets; no line behind these is carried out"
             ),
             CommandsFault::Replaced => "another file stands there",
             CommandsFault::Shorter => "it is shorter than what was read of it",
@@ -76,24 +69,21 @@ impl fmt::Display for CommandsFault {
     }
 }
 
-/// The commands file of a server. It stays open, and is read on where its metadata show that it has grown.
-///
-/// Each look reads the metadata of what stands at its path. A file that is written anew and becomes longer looks as one that has grown; one
-/// of the same length, within a tick of the file system's clock, as unchanged.
+/// The commands file of a server. It stays open, and is read on where the metadata of what stands at its path show that it grew.
+/// Written anew, it looks so too if it is longer then, and unchanged at the same length within a tick of the file system's clock.
 #[derive(Drop)]
 pub struct CommandsFile<'a, F: AppendedFile> {
     file: F,
     clocks: &'a HostClocks,
     progress: Progress,
     growth: Growth,
-    // Whether it was read to its end once. Until then what stands at its path does not matter, so that a start carries out one file, and no
-    // part of one.
+    // Until it was read to its end, what stands at its path does not matter: so a start carries out one file, and no part of one.
     was_read: bool,
     fault: Option<CommandsFault>,
     ghost knows: { IfSome (F.octets file) (λ octets. HasNoEnd octets progress.given progress.searched) } by { Prim.hlevel props },
 }
 
-impl<'a, F: AppendedFile + Drop> CommandsFile<'a, F> {
+impl<'a, F: AppendedFile> CommandsFile<'a, F> {
     /// Begins with a file of which nothing was read. `clocks` have the time of each look. The error is the system's.
     pub fn over(mut file: F, clocks: &'a HostClocks) -> io::Result<CommandsFile<'a, F>>
         ensures { IfOk result (λ commands. (F.octets commands.file ≡ F.octets file) × (commands.progress.given ≡ 0)) }
@@ -107,9 +97,7 @@ impl<'a, F: AppendedFile + Drop> CommandsFile<'a, F> {
             fault: None,
         })
     }
-}
 
-impl<'a, F: AppendedFile> CommandsFile<'a, F> {
     /// Returns what was wrong with it at the last look; nothing before the first.
     pub fn fault(&self) -> Option<CommandsFault> {
         self.fault
@@ -132,10 +120,8 @@ impl<'a, F: AppendedFile> CommandsFile<'a, F> {
             self.old.growth.last None (Some fault) None) }
         ensures fault { IfOk result (λ _. IfSome self.new.fault (λ fault. fault ≡ CommandsFault.Full)) }
     {
-        let found = match self.file.state(self.was_read) {
-            Ok(found) => found,
-            Err(error) => return Err(CommandsFault::Unreadable(error)),
-        };
+        let state = self.file.state(self.was_read);
+        let found = state.map_err(CommandsFault::Unreadable)?;
         if !self.growth.is_of_file(found) {
             return Err(CommandsFault::Replaced);
         }
@@ -145,11 +131,9 @@ impl<'a, F: AppendedFile> CommandsFile<'a, F> {
         let now = self.clocks.ticks.get();
         self.growth.see(found, now);
         self.fault = (found.length > MOST_COMMANDS_OCTETS).then_some(CommandsFault::Full);
-        let count = self.progress.next_count(found.length);
-        if count > 0 {
-            return self
-                .lines(alloc, count, found.length)
-                .map_err(CommandsFault::Unreadable);
+        if self.progress.next_count(found.length) > 0 {
+            let lines = self.lines(alloc, found.length);
+            return lines.map_err(CommandsFault::Unreadable);
         }
         self.was_read = true;
         if self.growth.is_rewritten(now) {
@@ -158,16 +142,8 @@ impl<'a, F: AppendedFile> CommandsFile<'a, F> {
         Ok(None)
     }
 
-    // Reads the next piece, which has `count` octets, and returns its lines; nothing where it has none, and a file of this length has
-    // no piece behind it.
-    fn lines<A: Allocator>(
-        &mut self,
-        alloc: A,
-        count: usize,
-        length: u64,
-    ) -> io::Result<Option<Vec<u8, A>>>
-        requires limited { next_from self.old.progress + count ≤ MOST_COMMANDS_OCTETS }
-        requires most { count ≤ 65536 }
+    // Reads the next piece of a file of this length, and returns its lines; nothing where it has none, and is the last one.
+    fn lines<A: Allocator>(&mut self, alloc: A, length: u64) -> io::Result<Option<Vec<u8, A>>>
         ensures most { IfOk result (λ lines. IfSome lines (λ octets. vec_len octets ≤ 65536)) }
         ensures octets { F.octets self.new.file ≡ F.octets self.old.file }
         ensures given { IfOk result (λ lines. IfSome (F.octets self.old.file)
@@ -175,9 +151,10 @@ impl<'a, F: AppendedFile> CommandsFile<'a, F> {
         ensures not_given { IfErr result (λ _. self.new.progress.given ≡ self.old.progress.given) }
         ensures states { F.states self.new.file ≡ F.states self.old.file }
         ensures fault { self.new.fault ≡ self.old.fault }
-        ensures each { IfOk result (λ _. IfSome (F.octets self.old.file) (λ file. (end : ℕ) → 0 < count
-            → count ≡ min (end - next_from self.old.progress) 65536 → GivesEach file end self.old.progress self.new.progress)) }
+        ensures each { IfOk result (λ _. IfSome (F.octets self.old.file) (λ file. self.old.progress.searched < min length MOST_COMMANDS_OCTETS
+            → GivesEach file (min length MOST_COMMANDS_OCTETS) self.old.progress self.new.progress)) }
     {
+        let count = self.progress.next_count(length);
         let mut octets = vec![in alloc; 0; count]?;
         self.file
             .read_behind(self.progress.next_from(), &mut octets)?;
@@ -203,26 +180,21 @@ impl<'a, F: AppendedFile, A: Allocator> CommandsSource<A> for CommandsFile<'a, F
     ghost looked = { λ before after asked given. LooksAt F.octets F.states before.file after.file before.progress after.progress before.growth.last
         before.fault after.fault given };
 
-    /// Returns the complete lines behind those that were given, as far as 65,536 octets of the file have them; of a line that is
-    /// longer its first 4,097 octets, with a line feed. Returns nothing where nothing is to be read, and where there is a fault but
-    /// `Full`; no octets where a part of a longer line was read, and more is to be read.
-    ///
-    /// It takes memory from `alloc` for what it reads. What is not read for want of memory is read at a later look.
+    /// Returns the complete lines behind those that were given, as far as 65,536 octets have them, or a longer line's first 4,097
+    /// octets with a line feed; no octets where a longer line has not ended yet; nothing where nothing is to be read, or at a
+    /// fault but `Full`. What is not read for want of memory is read at a later look.
     fn look(&mut self, alloc: A, receipt: Option<Moment>) -> Option<Vec<u8, A>>
         ensures most { IfSome result (λ octets. vec_len octets ≤ 65536) }
         ensures looks { LooksAt F.octets F.states self.old.file self.new.file self.old.progress self.new.progress self.old.growth.last
             self.old.fault self.new.fault (option_map (λ octets. octets.items) result) }
     {
-        match &self.fault {
-            Some(fault) if fault.is_final() => return None,
-            _ => {}
+        if self.fault.is_some_and(|fault| fault.is_final()) {
+            return None;
         }
-        match self.read_on(alloc) {
-            Ok(lines) => lines,
-            Err(fault) => {
-                self.fault = Some(fault);
-                None
-            }
+        let lines = self.read_on(alloc);
+        if let Err(fault) = &lines {
+            self.fault = Some(*fault);
         }
+        lines.ok().flatten()
     }
 }

@@ -5,39 +5,30 @@ use libc::net::{POLLNVAL, POLLOUT, poll};
 use std::alloc::{AllocError, Global};
 use std::io::Write;
 
-/// Standard output.
 const STANDARD_OUTPUT: i32 = 1;
 
-/// Standard error.
 const STANDARD_ERROR: i32 = 2;
 
 /// How many octets a line has at most: a pipe that can be written to takes as many at once (pipe(7)).
 const MOST_LINE_OCTETS: usize = 4096;
 
-/// How lines of the log begin.
+/// How lines of the log begin: with their words, or with `<N>`, the priority, which the journal takes off again (sd-daemon(3)).
 #[derive(Clone, Copy, PartialEq, Eq)]
 pub enum LogForm {
-    /// With what they tell.
     Plain,
-    /// With `<N>`, their priority, which the journal takes off again (sd-daemon(3)).
     WithPriorities,
 }
 
-/// How much a line of the log matters, as syslog counts it (RFC 5424, 6.2.1).
+/// How much a line of the log matters, as syslog counts it (RFC 5424, 6.2.1). A notice tells that something is well again.
 #[derive(Clone, Copy)]
 pub enum Priority {
-    /// Something fails.
     Error = 3,
-    /// Something may be wrong.
     Warning = 4,
-    /// What was wrong is well again.
     Notice = 5,
-    /// What is told in the ordinary course.
     Information = 6,
 }
 
-/// Writes lines to standard error, each in one piece, where that would take it at once. Where it would not, the line is
-/// dropped and counted.
+/// Writes lines to standard error, each in one piece. One that would have to wait is dropped and counted.
 #[derive(Drop)]
 pub struct Log<W: Write + Drop> {
     out: W,
@@ -77,8 +68,7 @@ impl<W: Write + Drop> Log<W> {
     }
 }
 
-/// Whether standard output and standard error are open. Where one is not, a file or a socket that is opened takes its place,
-/// and would get what is written to it.
+/// Whether standard output and standard error are open: else a file or a socket that is opened would get what is written to them.
 pub fn has_standard_streams() -> bool {
     let is_open = |descriptor| ready(descriptor, 0) & POLLNVAL == 0;
     is_open(STANDARD_OUTPUT) && is_open(STANDARD_ERROR)

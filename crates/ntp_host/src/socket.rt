@@ -15,8 +15,10 @@ use std::os::fd::AsRawFd;
 /// The first descriptor that a service manager hands down (sd_listen_fds(3)).
 const FIRST_INHERITED: i32 = 3;
 
-/// The socket that a service manager has handed down as descriptor 3 (sd_listen_fds(3)): a bound UDP socket of IPv4. The error says what is
-/// wanted, or is the system's.
+/// The most octets of the name of a socket of this host (unix(7)).
+const MOST_NAME_OCTETS: usize = 108;
+
+/// The bound IPv4 UDP socket that was handed down (sd_listen_fds(3)). The error is the system's, or says what is wanted.
 pub fn inherited() -> io::Result<UdpSocket> {
     let socket = unsafe { UdpSocket::from_raw_fd(FIRST_INHERITED) };
     let wanted = match socket.local_addr() {
@@ -32,17 +34,16 @@ pub fn inherited() -> io::Result<UdpSocket> {
     Err(io::Error::new(ErrorKind::InvalidInput, wanted))
 }
 
-/// Asks for a receive buffer of `octets` octets.
+/// Sets the size of the receive buffer to `octets`, of which the kernel makes twice as many (socket(7)).
 pub fn set_receive_buffer(socket: &UdpSocket, octets: u32) -> io::Result<()> {
     set_option(socket, SO_RCVBUF, octets)
 }
 
-/// Asks for a send buffer of `octets` octets.
+/// Sets the size of the send buffer to `octets`, of which the kernel makes twice as many (socket(7)).
 pub fn set_send_buffer(socket: &UdpSocket, octets: u32) -> io::Result<()> {
     set_option(socket, SO_SNDBUF, octets)
 }
 
-// Sets an option of a socket to a number.
 fn set_option(socket: &UdpSocket, name: i32, number: u32) -> io::Result<()>
     requires { SockOption (pos 1) name }
 {
@@ -51,13 +52,11 @@ fn set_option(socket: &UdpSocket, name: i32, number: u32) -> io::Result<()>
     succeeded(unsafe { setsockopt(socket.as_raw_fd(), SOL_SOCKET, name, &value, 4) })
 }
 
-/// The size of the receive buffer, in octets as the kernel counts them: with its own words about each datagram, so twice
-/// what was asked for (socket(7)).
+/// The size of the receive buffer in octets, as the kernel counts them: twice what was asked for (socket(7)).
 pub fn receive_buffer(socket: &UdpSocket) -> io::Result<u32> {
     option_of(socket, SOL_SOCKET, SO_RCVBUF)
 }
 
-// An option of a socket that is a number.
 fn option_of(socket: &UdpSocket, level: i32, name: i32) -> io::Result<u32>
     requires { SockOption level name }
 {
@@ -67,16 +66,12 @@ fn option_of(socket: &UdpSocket, level: i32, name: i32) -> io::Result<u32>
     Ok(u32::from_ne_bytes([value[0], value[1], value[2], value[3]]))
 }
 
-// The system's error, where a call did not return 0.
 fn succeeded(status: i32) -> io::Result<()> {
-    if status != 0 {
-        return Err(io::Error::from_raw_os_error(errno()));
+    match status {
+        0 => Ok(()),
+        _ => Err(io::Error::from_raw_os_error(errno())),
     }
-    Ok(())
 }
-
-/// The most octets of the name of a socket of this host (unix(7)).
-const MOST_NAME_OCTETS: usize = 108;
 
 /// The service manager that started the daemon, which hears of it by datagrams (sd_notify(3)).
 #[derive(Clone, Copy)]
@@ -89,8 +84,7 @@ pub struct ServiceManager {
 }
 
 impl ServiceManager {
-    /// The one that hears at the socket `name`, the word NOTIFY_SOCKET of the environment: a path, or a name behind `@` that is no
-    /// file's; nothing where it is neither, or is too long.
+    /// The one at the socket `name` (NOTIFY_SOCKET): a path, or a name behind `@` that is no file's; nothing if neither, or too long.
     pub fn at(name: &str) -> Option<ServiceManager> {
         let name = name.as_bytes();
         if name.len() > MOST_NAME_OCTETS || !matches!(name.first(), Some(&(b'/' | b'@'))) {
@@ -111,16 +105,9 @@ impl ServiceManager {
 
     /// Sends it what sd_notify(3) has for a state, if that needs no waiting.
     pub fn hear(&self, state: &str) {
+        let (socket, address) = (self.descriptor, &self.address);
         let flags = MSG_NOSIGNAL | MSG_DONTWAIT;
-        unsafe {
-            sendto(
-                self.descriptor,
-                state.as_bytes(),
-                flags,
-                &self.address,
-                self.length,
-            )
-        };
+        unsafe { sendto(socket, state.as_bytes(), flags, address, self.length) };
     }
 }
 
@@ -131,7 +118,6 @@ pub(crate) fn ready(descriptor: i32, events: i16) -> i16 {
     told_by(count, asked[0].revents)
 }
 
-// What poll has told of a descriptor. Where it failed that is no quiet one.
 fn told_by(count: i32, revents: i16) -> i16
     ensures failed { count <ℤ pos 0 → result ≡ POLLERR }
     ensures told { pos 0 ≤ℤ count → result ≡ revents }
@@ -139,7 +125,6 @@ fn told_by(count: i32, revents: i16) -> i16
     if count < 0 { POLLERR } else { revents }
 }
 
-/// A descriptor that is waited for until it is ready for one of these events.
 pub(crate) fn awaited(descriptor: i32, events: i16) -> pollfd {
     pollfd {
         fd: descriptor,

@@ -2,24 +2,23 @@
 ghost use Rattle.std.specs.Prelude.{◌≡◌, ◌+◌, ◌-◌, ◌≤◌, ◌<◌, ◌^◌, None, Err, Some, IfOk, IfErr, IfSome, IfNone, IsSomeAnd, option_map, false, true, if◌then◌else◌};
 ghost use Rattle.std.specs.IoError.{error_kind};
 ghost use Rattle.ntp_port.specs.Port.{most_received_octets, failed_calls, counted_send, CountsWait, ReceiveTells};
+ghost use Rattle.ntp_port.specs.Queue.{TellsEvents, seen_in_wait};
 ghost use Rattle.ntp_host.specs.{Wire.middle, Wire.is_idle, Wire.port_told, Wire.idle_before};
 
-use crate::wire::{QueuedWire, Wire};
+use crate::{QueuedWire, Wire};
 use ntp_packet::{Moment, Stamp};
 use ntp_port::{Arrival, DatagramRoom, Port, PortCounts, PortFault, QueuedPort, TimedPort};
 use ntp_service::Address;
-use std::io::{self, ErrorKind};
+use std::io::ErrorKind;
 use std::net::{Ipv4Addr, SocketAddr, SocketAddrV4};
 
-/// The calls of a port over a wire. It takes no memory.
-///
-/// A source that is no IPv4 address is a `Receive` fault. A reply that would wait for room in the send buffer is not sent, and a `Send`
-/// fault.
+/// A port over a wire. It takes no memory. A source that is no IPv4 address is a `Receive` fault, a reply that would wait for
+/// room in the send buffer a `Send` fault.
 #[derive(Drop)]
 pub struct UdpPort<W: Wire> {
-    /// The wire.
+    /// The wire whose calls it makes.
     pub wire: W,
-    // What the clock showed last in this turn, and whether a send was tried since.
+    // What the clock showed last in this turn, and whether a send was tried since it was read by `now`.
     shown: Option<Moment>,
     has_tried_send: bool,
     counts: PortCounts,
@@ -31,7 +30,7 @@ pub struct UdpPort<W: Wire> {
 impl<W: Wire> UdpPort<W> {
     ghost use Rattle.ntp_host.specs.UdpPort.{told_by};
 
-    /// A port over a wire. It begins with no failure.
+    /// A port over a wire, without a failure.
     pub fn new(wire: W) -> UdpPort<W>
         ensures counts { failed_calls result.counts ≡ 0 }
         ensures turns { told_by result ≡ option_map (port_told None false) (W.turns wire) }
@@ -45,21 +44,22 @@ impl<W: Wire> UdpPort<W> {
         }
     }
 
-    // Takes a datagram, for which it waits as the wire does; nothing where none came in time, or a signal came.
-    fn take(&mut self, datagram: &mut DatagramRoom) -> Option<Result<Arrival, PortFault>>
+    // Takes a datagram, for which it waits as the wire does. Counts a wait in which none came in time, or a signal came.
+    fn take(&mut self, room: &mut DatagramRoom) -> Option<Result<Arrival, PortFault>>
         requires { failed_calls self.old.counts < 2 ^ 64 - 1 }
         ensures length { IfSome result (λ received. IfOk received (λ arrival. arrival.length ≤ most_received_octets)) }
         ensures fault { IfSome result (λ received. IfErr received (λ fault. fault ≡ PortFault.Receive)) }
-        ensures counts { IfSome result (λ _. CountsWait self.old.counts self.new.counts result) }
+        ensures counts { CountsWait self.old.counts self.new.counts result }
         ensures dropped { self.new.counts.dropped ≡ self.old.counts.dropped }
-        ensures turns { IfSome result (λ received. ReceiveTells (told_by self.old) (told_by self.new) received datagram.new) }
-        ensures nothing { IfNone result ((self.new.counts ≡ self.old.counts) × (told_by self.new ≡ told_by self.old)) }
+        ensures turns { IfSome result (λ received. ReceiveTells (told_by self.old) (told_by self.new) received room.new) }
+        ensures nothing { IfNone result (told_by self.new ≡ told_by self.old) }
+        ensures history { TellsEvents (W.seen self.old.wire) (W.seen self.new.wire) (seen_in_wait result) }
         ensures idle { IfNone result (IfSome (W.turns self.old.wire) (λ old. IsSomeAnd (W.turns self.new.wire)
             (λ new. idle_before new < idle_before old))) }
     {
-        match self.wire.receive(datagram) {
+        match self.wire.receive(room) {
             Ok((length, SocketAddr::V4(source))) => {
-                self.begin_turn();
+                self.shown = None;
                 let receipt = self.wire.now();
                 Some(Ok(Arrival {
                     address: Address(source.ip().octets()),
@@ -69,37 +69,28 @@ impl<W: Wire> UdpPort<W> {
                 }))
             }
             Ok((_, SocketAddr::V6(_))) => Some(self.failed()),
-            Err(error) if is_no_failure(&error) => None,
-            Err(_) => Some(self.failed()),
+            Err(error) => match error.kind() {
+                ErrorKind::WouldBlock | ErrorKind::TimedOut | ErrorKind::Interrupted => {
+                    self.counts.idle_waits = self.counts.idle_waits.saturating_add(1);
+                    None
+                }
+                _ => Some(self.failed()),
+            },
         }
     }
 
-    // Forgets what the clock showed in the turn before.
-    fn begin_turn(&mut self)
-        ensures wire { self.new.wire ≡ self.old.wire }
-        ensures shown { self.new.shown ≡ None }
-        ensures unsent { self.new.has_tried_send ≡ false }
-        ensures counts { self.new.counts ≡ self.old.counts }
-    {
-        self.shown = None;
-        self.has_tried_send = false;
-    }
-
-    // Counts a receive that failed, and begins its turn.
     fn failed(&mut self) -> Result<Arrival, PortFault>
         requires { failed_calls self.old.counts < 2 ^ 64 - 1 }
         ensures fault { result ≡ Err PortFault.Receive }
         ensures counts { self.new.counts ≡ record self.old.counts { failed_receives = self.old.counts.failed_receives + 1 } }
         ensures wire { self.new.wire ≡ self.old.wire }
         ensures shown { self.new.shown ≡ None }
-        ensures unsent { self.new.has_tried_send ≡ false }
     {
-        self.begin_turn();
+        self.shown = None;
         self.counts.failed_receives += 1;
         Err(PortFault::Receive)
     }
 
-    // Counts a reply that was not sent, and whether it would have waited for room.
     fn not_sent(&mut self, would_wait: bool) -> Result<(), PortFault>
         requires { failed_calls self.old.counts < 2 ^ 64 - 1 }
         ensures fault { result ≡ Err PortFault.Send }
@@ -112,17 +103,6 @@ impl<W: Wire> UdpPort<W> {
     }
 }
 
-// Whether nothing failed: the time limit passed, or a signal came.
-fn is_no_failure(error: &io::Error) -> bool
-    ensures { result ≡ is_idle (error_kind error.now) }
-{
-    matches!(
-        error.kind(),
-        ErrorKind::WouldBlock | ErrorKind::TimedOut | ErrorKind::Interrupted
-    )
-}
-
-// The middle of two moments of one era, where the second is not the earlier one; else the second.
 fn middle(first: Option<Moment>, second: Moment) -> Moment
     ensures { result ≡ middle first second }
 {
@@ -143,27 +123,22 @@ impl<W: Wire> Port for UdpPort<W> {
     ghost counts = { λ udp. udp.counts };
 
     /// Waits until a datagram comes: a time limit that passes, or a signal, ends no turn.
-    fn receive(&mut self, datagram: &mut DatagramRoom) -> Result<Arrival, PortFault> {
+    fn receive(&mut self, room: &mut DatagramRoom) -> Result<Arrival, PortFault> {
         for _wait in 0..u64::MAX {
-            if let Some(received) = self.take(datagram) {
+            if let Some(received) = self.take(room) {
                 return received;
             }
         }
         self.failed()
     }
 
-    /// What the clock shows; just after a send, the middle between what it showed before and what it shows now, which is nearer to the
-    /// departure than either.
+    /// What the clock shows; just after a send the middle between that and what it showed before, nearer to the departure.
     fn now(&mut self) -> Moment {
         let reading = self.wire.now();
-        let shown = if self.has_tried_send {
-            middle(self.shown, reading)
-        } else {
-            reading
-        };
+        let before = self.has_tried_send.then_some(self.shown).flatten();
         self.shown = Some(reading);
         self.has_tried_send = false;
-        shown
+        middle(before, reading)
     }
 
     fn send(&mut self, address: Address, port: u16, reply: &[u8]) -> Result<(), PortFault> {
@@ -183,19 +158,14 @@ impl<W: Wire> Port for UdpPort<W> {
 
 impl<W: Wire> TimedPort for UdpPort<W> {
     /// Waits for a datagram as long as the wire does. A signal ends the wait too.
-    fn receive_in_time(
-        &mut self,
-        datagram: &mut DatagramRoom,
-    ) -> Option<Result<Arrival, PortFault>> {
-        let received = self.take(datagram);
-        if received.is_none() {
-            self.counts.idle_waits = self.counts.idle_waits.saturating_add(1);
-        }
-        received
+    fn receive_in_time(&mut self, room: &mut DatagramRoom) -> Option<Result<Arrival, PortFault>> {
+        self.take(room)
     }
 }
 
 impl<W: QueuedWire> QueuedPort for UdpPort<W> {
+    ghost history = { λ udp. W.seen udp.wire };
+
     fn ticks(&mut self) -> u64 {
         self.wire.ticks()
     }
@@ -209,17 +179,17 @@ impl<W: QueuedWire> QueuedPort for UdpPort<W> {
     }
 
     /// A wait ends too when that has come which is expected at another socket. It fails at a socket that was shut down.
-    fn take_in_time(&mut self, datagram: &mut DatagramRoom) -> Option<Result<Arrival, PortFault>> {
+    fn take_in_time(&mut self, room: &mut DatagramRoom) -> Option<Result<Arrival, PortFault>> {
         if self.wire.wait() {
             return Some(self.failed());
         }
-        self.receive_in_time(datagram)
+        self.take(room)
     }
 
     fn drop_next(&mut self) -> bool {
         let has_dropped = self.wire.drop_next();
         if has_dropped {
-            self.begin_turn();
+            self.shown = None;
         }
         has_dropped
     }

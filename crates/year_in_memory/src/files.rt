@@ -20,12 +20,20 @@ pub const CUSTOMERS: &str = "/customers";
 /// The path at which the log is written.
 pub const LOG: &str = "/log";
 
+/// Of how many calls for the file at a place one fails.
+const ONE_FAILS_OF: u64 = 37;
+
+/// How many octets one write takes at most.
+const MOST_WRITTEN: usize = 1_000;
+
 /// A place at which a file may stand.
 #[derive(Drop)]
 pub struct Place {
     path: &'static str,
     is_there: Cell<bool>,
     octets: RefCell<Vec<u8>>,
+    // How many calls were made for its file.
+    calls: Cell<u64>,
 }
 
 impl Place {
@@ -35,7 +43,18 @@ impl Place {
             path,
             is_there: Cell::new(false),
             octets: RefCell::new(Vec::new(alloc)),
+            calls: Cell::new(0),
         }
+    }
+
+    // Counts a call for its file, which fails if it is one of those that do.
+    fn call(&self) -> io::Result<()> {
+        let calls = self.calls.get().saturating_add(1);
+        self.calls.set(calls);
+        if calls % ONE_FAILS_OF == 0 {
+            return Err(io::Error::from(ErrorKind::Other));
+        }
+        Ok(())
     }
 
     /// Adds octets to its end.
@@ -123,6 +142,15 @@ impl Disk {
         Ok(MemoryFile { place, at: 0 })
     }
 
+    /// Whether a call has failed for each file that is read, or written anew.
+    pub fn have_all_failed(&self) -> bool {
+        let mut places = self.places.iter();
+        places.all(|place| {
+            matches!(place.path, STATISTICS | CUSTOMERS | ANSWERS | LOG)
+                || place.calls.get() >= ONE_FAILS_OF
+        })
+    }
+
     /// The text of the file at a path.
     pub fn text(&self, path: &str) -> io::Result<String> {
         let octets = self.file(path)?.take(self.alloc)?;
@@ -136,6 +164,7 @@ impl Disk {
     pub fn open<'a>(&'a self, how: &OpenOptions, path: &str) -> io::Result<MemoryFile<'a>> {
         how.check()?;
         let place = self.place(path)?;
+        place.call()?;
         if how.asks_create_new() && place.is_there.get() {
             return Err(io::Error::from(ErrorKind::AlreadyExists));
         }
@@ -150,13 +179,16 @@ impl Disk {
 
     /// What is known of the file at a path beside its octets.
     pub fn metadata(&self, path: &str) -> io::Result<Metadata> {
-        Ok(Metadata::of_file(self.file(path)?.length()?))
+        let place = self.file(path)?;
+        place.call()?;
+        Ok(Metadata::of_file(place.length()?))
     }
 
     /// Gives the file at a path another one.
     pub fn rename(&self, from: &str, to: &str) -> io::Result<()> {
-        let octets = self.file(from)?.take(self.alloc)?;
-        self.place(to)?.put(octets)?;
+        let place = self.file(from)?;
+        place.call()?;
+        self.place(to)?.put(place.take(self.alloc)?)?;
         Ok(())
     }
 
@@ -176,6 +208,7 @@ pub struct MemoryFile<'a> {
 
 impl<'a> Read for MemoryFile<'a> {
     fn read(&mut self, octets: &mut [u8]) -> io::Result<usize> {
+        self.place.call()?;
         let Ok(all) = self.place.octets.try_borrow() else {
             return Err(io::Error::from(ErrorKind::ResourceBusy));
         };
@@ -188,9 +221,14 @@ impl<'a> Read for MemoryFile<'a> {
 }
 
 impl<'a> Write for MemoryFile<'a> {
+    // What the log and the answers have shall be whole, so no write to them fails.
     fn write(&mut self, octets: &[u8]) -> io::Result<usize> {
-        self.place.append(octets)?;
-        Ok(octets.len())
+        if self.place.path != ANSWERS && self.place.path != LOG {
+            self.place.call()?;
+        }
+        let taken = &octets[..octets.len().min(MOST_WRITTEN)];
+        self.place.append(taken)?;
+        Ok(taken.len())
     }
 
     fn flush(&mut self) -> io::Result<()> {

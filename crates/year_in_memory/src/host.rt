@@ -15,13 +15,24 @@ pub const SECOND: u64 = 1_000_000_000;
 /// When the year begins, in seconds since 1970: 2026-01-01 at 00:00 UTC. Windows of 64 seconds begin with each day.
 const YEAR_BEGIN: u64 = 1_767_225_600;
 
-/// The moment `nanos` nanoseconds after the beginning of the year.
+/// After how many seconds of the year the clock is set back, and by how many: on day 180 by a day, so that it shows the same moments again.
+const SET_BACK: (u64, u64) = (15_552_000, 86_400);
+
+// What the clock shows `nanos` nanoseconds after the beginning of the year, in whole seconds since 1970.
+fn seconds_at(nanos: u64) -> u64 {
+    let (when, by) = SET_BACK;
+    let passed = nanos / SECOND;
+    let shown = if passed < when { passed } else { passed - by };
+    YEAR_BEGIN.saturating_add(shown)
+}
+
+/// The moment that the clock shows `nanos` nanoseconds after the beginning of the year.
 pub fn moment_at(nanos: u64) -> Result<Moment, Fail> {
-    let seconds = i128::from(YEAR_BEGIN) + i128::from(nanos / SECOND);
+    let seconds = i128::from(seconds_at(nanos));
     Ok(Moment::from_unix(seconds, (nanos % SECOND) as u32)?)
 }
 
-/// Files in memory, and clocks that show `nanos` nanoseconds of the year.
+/// Files in memory, and clocks that show `nanos` nanoseconds of the year; that of the day is set back once.
 #[derive(Drop)]
 pub struct MemoryHost<'a> {
     /// The files.
@@ -36,8 +47,9 @@ impl<'a> Clock for MemoryHost<'a> {
     }
 
     fn since_1970(&self) -> io::Result<Duration> {
-        let nanos = Duration::from_nanos(self.nanos.get());
-        Ok(Duration::from_secs(YEAR_BEGIN).saturating_add(nanos))
+        let nanos = self.nanos.get();
+        let rest = Duration::from_nanos(nanos % SECOND);
+        Ok(Duration::from_secs(seconds_at(nanos)).saturating_add(rest))
     }
 }
 

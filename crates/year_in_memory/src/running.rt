@@ -1,12 +1,12 @@
 //! The assembly of the daemon, run over parts in memory.
-ghost use Rattle.std.specs.Prelude.{◌≡◌};
+ghost use Rattle.std.specs.Prelude.{◌≡◌, IfOk};
 ghost use Rattle.ntp_port.specs.Port.{failed_calls};
 
 use crate::files::{ANSWERS, COMMANDS, Disk, LOG, MemoryFile};
 use crate::host::MemoryHost;
 use crate::judging::Expected;
-use crate::queue::YearQueue;
-use crate::script::{DueLine, Given, Script};
+use crate::script::{Given, Script};
+use crate::wire::{Coming, YearWire};
 use labntpd_assembly::{
     Assembly, DaemonClock, DaemonObserver, DaemonPort, Host, Parts, ReportingObserver, ServeFault,
     StartupFacts,
@@ -14,9 +14,9 @@ use labntpd_assembly::{
 use labntpd_files::read_configuration;
 use ntp_host::{
     BoundAt, ClockSource, CommandsFile, HostClocks, HostFile, Log, LogForm, SystemClockWire,
-    emptied_file,
+    UdpPort, emptied_file,
 };
-use ntp_port::{FreshPort, Port, QueueWatch};
+use ntp_port::{FreshPort, QueueWatch};
 use ntp_reply::Reference;
 use ntp_reports::{AnswerLines, Counts, CustomerCounts};
 use std::alloc::Global;
@@ -26,7 +26,7 @@ use std::io::{self, LineWriter, Write};
 use std::net::{Ipv4Addr, SocketAddrV4};
 use std::test::Fail;
 use std::time::Clock;
-use test_support::{MemoryPort, MemoryQueue};
+use test_support::MemoryWire;
 
 /// The configuration of the daemon. What it names of the host beside files is not there.
 const CONFIGURATION: &str = "listen = \"192.0.2.1:123\"\n\
@@ -53,7 +53,7 @@ pub struct Found {
 
 // The parts of the daemon.
 type YearParts<'a, 'd> = Parts<
-    YearQueue<'a, 'd>,
+    UdpPort<YearWire<'a, 'd>>,
     CommandsFile<'a, HostFile<'a, MemoryHost<'d>>>,
     ClockSource<SystemClockWire<'a, &'a MemoryHost<'d>>>,
     ReportingObserver<'a, MemoryFile<'d>, LineWriter<MemoryFile<'d>>>,
@@ -82,39 +82,38 @@ pub fn run(alloc: Global, disk: &Disk, script: Script, expected: &Expected) -> R
         readings,
         lines,
     } = given;
-    let count = readings.len();
-    let memory = MemoryPort::new(alloc, turns)?;
-    let queue = MemoryQueue::new(alloc, memory, due, readings, 0)?;
     let host = Host {
         rt: &memory_host,
         alloc,
         clocks: &clocks,
         configuration: &configuration,
     };
-    judged(host, &lines, queue, count, reference, expected)
+    let coming = Coming::new(due, readings);
+    let wire = YearWire::new(
+        MemoryWire::new(alloc, turns)?,
+        coming,
+        host.rt,
+        host.clocks,
+        &lines,
+    );
+    judged(host, wire, reference, expected)
 }
 
 // What is found when the script is over.
 fn judged<'a, 'd>(
     host: Host<'a, MemoryHost<'d>>,
-    lines: &'a [DueLine],
-    queue: MemoryQueue,
-    readings: usize,
+    wire: YearWire<'a, 'd>,
     reference: Reference,
     expected: &Expected,
 ) -> Result<Found, Fail> {
-    let queue = YearQueue::new(queue, host.rt, host.clocks, lines, readings);
-    let parts = year_parts(&host, queue, reference)?;
-    if parts.port.failures() != 0 {
-        return Err(Fail::new("a call has failed by now"));
-    }
+    let parts = year_parts(&host, wire, reference)?;
     let startup = known_at_start();
     let Ok(assembly) = served(host, parts, startup, expected.turns) else {
         return Err(Fail::new("the daemon does not begin to serve"));
     };
     let daemon = &assembly.daemon;
     Ok(Found {
-        are_replies_right: expected.are_sent(daemon.port.port().sent()),
+        are_replies_right: expected.are_sent(daemon.port.port().wire.sent()),
         counts: *daemon.observer.counts(),
         stale: daemon.port.stale(),
         applied: daemon.applied,
@@ -143,15 +142,17 @@ where
     Ok(assembly)
 }
 
-// The parts of the daemon, over a queue.
+// The parts of the daemon, over a wire.
 fn year_parts<'a, 'd>(
     host: &Host<'a, MemoryHost<'d>>,
-    queue: YearQueue<'a, 'd>,
+    wire: YearWire<'a, 'd>,
     reference: Reference,
-) -> Result<YearParts<'a, 'd>, Fail> {
+) -> Result<YearParts<'a, 'd>, Fail>
+    ensures { IfOk result (λ parts. failed_calls parts.port.counts ≡ 0) }
+{
     let watch = QueueWatch::new(host.configuration.longest_wait);
     Ok(Parts {
-        port: FreshPort::new(queue, watch),
+        port: FreshPort::new(UdpPort::new(wire), watch),
         commands: commands_at(host)?,
         reference: ClockSource::Fixed(reference),
         observer: year_observer(host.alloc, host.rt, host.clocks)?,

@@ -245,7 +245,7 @@ impl Script {
             Answer::Silent(_) => Ok(None),
             Answer::Rate(reply) | Answer::Deny(reply) | Answer::Nak(reply) => Ok(Some(reply)),
             Answer::Time { reply, saved } => {
-                let moment = moment_at(at.saturating_add(DEPARTED))?;
+                let moment = departure_at(at)?;
                 self.plan.departed(address, saved, moment);
                 self.made.events.push(Event::Departed {
                     address,
@@ -256,6 +256,17 @@ impl Script {
             }
         }
     }
+}
+
+// The departure of the reply to a datagram that came at a moment: the middle of what the clock shows before and behind its send.
+fn departure_at(at: u64) -> Result<Moment, Fail> {
+    let before = moment_at(at.saturating_add(TRANSMITTED))?;
+    let behind = moment_at(at.saturating_add(DEPARTED))?;
+    let between = behind.stamp.0.saturating_sub(before.stamp.0);
+    Ok(Moment {
+        era: behind.era,
+        stamp: Stamp(behind.stamp.0.saturating_sub(between / 2)),
+    })
 }
 
 /// The moment of a turn without a datagram.

@@ -74,7 +74,7 @@ fn steady_asks(script: &mut Script, day: u16) -> Result<(), Fail> {
     asker.ask(script, at, day % 50 != 49)
 }
 
-// Six queries each day at once. The budget allows fewer.
+// Six queries each day at once. The budget allows fewer, and none on the day on which the clock shows the moments of the one before.
 fn eager_asks(script: &mut Script, day: u16) -> Result<(), Fail> {
     let mut asker = Asker::new(EAGER, 8, Algorithm::Sha1, b"other")?;
     script.wait_before(time(day, 11 * HOUR, 0))?;

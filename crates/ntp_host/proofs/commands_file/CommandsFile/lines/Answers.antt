@@ -1,7 +1,7 @@
-use Rattle.std.proofs.Common.{◌≡◌, ◌<◌, ◌≤◌, ◌+◌, ◌-◌, ◌++◌, ◌∷◌, [], min, ap, sym, subst, ◌∙◌, length, take, arith}
+use Rattle.std.proofs.Common.{◌≡◌, ◌<◌, ◌≤◌, ◌+◌, ◌-◌, ◌++◌, ◌∷◌, [], ap, sym, subst, ◌∙◌, length, take, arith}
 use Rattle.std.specs.Prelude.{IfSome}
-use Rattle.ntp_host.specs.Looking.{StandsAt, HasNoEnd, GivesPart, GivesEach, next_from}
-use Rattle.ntp_host.proofs.FileParts.{filled, told_so, cut_of, stands_so}
+use Rattle.ntp_host.specs.Looking.{StandsAt, HasNoEnd, GivesPart}
+use Rattle.ntp_host.proofs.FileParts.{filled, told_so, each_told, cut_of, stands_so}
 use Rattle.ntp_host.proofs.commands_file.CommandsFile.lines.Goals as goal
 
 pub invariant_of-self-then-given-gt-MOST_PIECE_OCTETS : goal.invariant_of-self-then-given-gt-MOST_PIECE_OCTETS
@@ -45,13 +45,22 @@ returns-clause-given g c =
     let within : q.given ≤ p.given + 65536 = omega (arith, c.if-given-gt-MOST_PIECE_OCTETS.false) in
     told_so told _ _ _ stands stands (λ file there again. subst (GivesPart file p.given q.given) (sym cut) (c.behind-next.ensures.short within file there))
 
+pub returns-then-given-gt-MOST_PIECE_OCTETS-clause-each : goal.returns-then-given-gt-MOST_PIECE_OCTETS-clause-each
+returns-then-given-gt-MOST_PIECE_OCTETS-clause-each g c =
+    let told = g.F.AppendedFile.octets c.args.self.now.file in
+    let read = c.deref.ensures.value ∙ filled _ _ _ (omega (arith, c.read_behind.auto.room, c.deref_mut.ensures.len)) in
+    let stands = stands_so told _ _ _ _ c.next_from.ensures read c.in_ok-read_behind.ensures.read in
+    let long : length c.deref.result.now ≡ c.next_count-count.result =
+    omega (arith, ap length read, c.read_behind.auto.room, c.deref_mut.ensures.len, c.in_ok-octets.ensures.len) in
+    each_told told c.args.self.now.progress c.behind-next.result _ _ _ long c.next_count-count.ensures.none.0 c.next_count-count.ensures.reach
+    c.args.self.now.knows stands c.behind-next.ensures.each
+
 pub returns-clause-each : goal.returns-clause-each
 returns-clause-each g c =
     let told = g.F.AppendedFile.octets c.args.self.now.file in
     let read = c.deref.ensures.value ∙ filled _ _ _ (omega (arith, c.read_behind.auto.room, c.deref_mut.ensures.len)) in
     let stands = stands_so told _ _ _ _ c.next_from.ensures read c.in_ok-read_behind.ensures.read in
-    let long : length c.deref.result.now ≡ c.args.count =
+    let long : length c.deref.result.now ≡ c.next_count-count.result =
     omega (arith, ap length read, c.read_behind.auto.room, c.deref_mut.ensures.len, c.in_ok-octets.ensures.len) in
-    let p = c.args.self.now.progress in
-    told_so told _ _ _ c.args.self.now.knows stands (λ file known there end. subst
-    (λ n. 0 < n → n ≡ min (end - next_from p) 65536 → GivesEach file end p c.behind-next.result) long (c.behind-next.ensures.each file end known there))
+    each_told told c.args.self.now.progress c.behind-next.result _ _ _ long c.next_count-count.ensures.none.0 c.next_count-count.ensures.reach
+    c.args.self.now.knows stands c.behind-next.ensures.each

@@ -1,6 +1,6 @@
 use Rattle.std.proofs.Common.{◌≢◌, ℕ, ◌≤◌, ◌<◌, length}
 use Rattle.std.specs.Prelude.{slice_index}
-use Rattle.ntp_host.proofs.progress.ended_length.Given as goal
+use Rattle.ntp_host.proofs.progress.Progress.behind.Given as goal
 
 abbrev pub invariant-loop-count : goal.invariant-loop-count
 invariant-loop-count l = record {

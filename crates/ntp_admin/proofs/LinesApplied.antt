@@ -1,8 +1,9 @@
 -- Lines carried out one after another.
-use Rattle.std.proofs.Common.{◌≡◌, ℕ, ◌+◌, ◌<◌, ◌≤◌, ◌^◌, false, List, [], ◌∷◌, ◌++◌, length, None, Some, Ok, Err, arith, refl, sym, ap, ◌∙◌, subst, append_assoc, append-nil}
+use Rattle.std.proofs.Common.{◌≡◌, ℕ, ◌+◌, ◌<◌, ◌≤◌, ◌^◌, false, List, [], ◌∷◌, ◌++◌, length, drop, None, Some, Ok, Err, arith, refl, sym, ap, ◌∙◌, subst, append_assoc, append-nil}
 use Rattle.std.specs.Prelude.{Result, IfOk, IfErr, IsUtf8}
 use Rattle.std.proofs.{lemmas.Bool.false_from_ne_true, lemmas.Bool.Decides.nat_tests}
 use Rattle.std.proofs.{lemmas.Str.is_utf8-from_IsUtf8, lemmas.Str.IsUtf8-from_is_utf8, lemmas.List.length-append}
+use Rattle.std.proofs.lemmas.List.{length-drop, drop_all}
 use Rattle.ntp_service.specs.{declared.refusal.Refusal.Refusal, Registry.Registry, declared.command.Command.Command}
 use Rattle.ntp_service.specs.{declared.event.Event.Event, declared.line_fault.LineFault.LineFault}
 use Rattle.ntp_service.specs.{declared.line_fault.LineFault.TheVariants.NotUtf8, declared.observation.LineOutcome.LineOutcome}
@@ -12,9 +13,10 @@ use Rattle.ntp_service.specs.declared.observation.Observation.TheVariants.{Line}
 use Rattle.ntp_service.specs.declared.observation.LineOutcome.TheVariants.{Faulty}
 use Rattle.ntp_service.proofs.PublicLaws.{Tells-nil, Tells-one}
 use Rattle.ntp_service.specs.Headline.{StandsFor, Tells, TellsOne, command_outcome}
-use Rattle.ntp_admin.specs.{Words.words, Spells.command_in, Spells.is_passed_over, FileText.IsText}
+use Rattle.ntp_admin.specs.{Words.words, Spells.command_in, Spells.is_passed_over, FileText.IsText, FileText.most_file_octets}
 use Rattle.ntp_admin.specs.CommandsFile.{complete_lines, line_reading, count_on, carried_out, CarriesOut, CarriesOutDue}
-use Rattle.ntp_admin.specs.Applying.{AppliesLine, AppliesText}
+use Rattle.ntp_admin.specs.Applying.{AppliesLine}
+use Rattle.ntp_admin.proofs.LinesCut.{complete_lines-few}
 use Rattle.ntp_admin.proofs.LinesTaken.{count_on-none, CarriesOut-none, CarriesOut-more}
 
 -- ---- what a line is read as
@@ -102,17 +104,29 @@ module _ (A : Type 0) (most before : ℕ) (old new : Registry) (Heard : List Obs
   Applied-lines = subst (λ ls. CarriesOut A most before ls old new Heard) all-done a.carried
 
 -- ---- octets of a file
--- those of a text, whoever heard of them
-pub Due-text : (A : Type 0) (applied after : ℕ) (octets : List ℕ) (old new : Registry) (Heard : List Observation → Type 0) → IsText octets
-    → AppliesText A applied octets after old new Heard → CarriesOutDue A applied octets after old new
-Due-text A applied after octets old new Heard text applies =
-    let c = applies.1 in
+-- those of a text, whose lines behind the applied ones are those of `rest`, whoever heard of them
+pub Due-text : (A : Type 0) (applied after : ℕ) (octets rest : List ℕ) (old new : Registry) (Heard : List Observation → Type 0) → IsText octets
+    → (applied ≤ length (complete_lines octets)) × (complete_lines rest ≡ drop applied (complete_lines octets))
+    → after ≡ count_on applied (length (complete_lines rest))
+    → CarriesOut A most_file_octets applied (complete_lines rest) old new Heard → CarriesOutDue A applied octets after old new
+Due-text A applied after octets rest old new Heard text due count c =
+    let all = complete_lines octets in
     record {
-      lines = _;
-      text = λ yes. (refl, applies.0);
+      lines = complete_lines rest;
+      text = λ yes. (due.1, omega (arith, count, due.0, ap length due.1, length-drop applied all, complete_lines-few octets, text.within));
       other = λ no. absurd (no text);
       carried = record { taken = c.taken; these = c.these; observed = tt; tells = c.tells };
     }
+
+-- those of a text that has fewer lines
+pub Due-fewer : (A : Type 0) (applied : ℕ) (octets : List ℕ) (s : Registry) → IsText octets → length (complete_lines octets) < applied
+    → CarriesOutDue A applied octets applied s s
+Due-fewer A applied octets s text fewer = record {
+  lines = [];
+  text = λ yes. (sym (drop_all applied (complete_lines octets) (omega (arith, fewer))), omega (arith, fewer));
+  other = λ no. absurd (no text);
+  carried = CarriesOut-none A _ applied s _ tt;
+}
 
 -- those that are no text
 pub Due-none : (A : Type 0) (applied : ℕ) (octets : List ℕ) (s : Registry) → (IsText octets → ⊥) → CarriesOutDue A applied octets applied s s

@@ -2,13 +2,13 @@
 ghost use Rattle.std.specs.Prelude.{◌≡◌, ◌<◌, ◌≤◌, ◌==◌, [], ◌∷◌, length, drop, position, IfSome, IfNone, MatchOption};
 ghost use Rattle.ntp_service.specs.InTurn.{InTurn};
 ghost use Rattle.ntp_admin.specs.FileText.{IsText};
-ghost use Rattle.ntp_admin.specs.CommandsFile.{most_line_octets, complete_lines, line_reading, count_on, carried_out, CarriesOut, CarriesOutDue};
-ghost use Rattle.ntp_admin.specs.Applying.{AppliesText, AppliesLine};
+ghost use Rattle.ntp_admin.specs.CommandsFile.{most_line_octets, complete_lines, line_reading, count_on, CarriesOut, CarriesOutDue};
+ghost use Rattle.ntp_admin.specs.Applying.{AppliesLine};
 
 use crate::fault_lines::FaultLines;
 use crate::file_text::{MOST_FILE_OCTETS, text_of};
 use crate::{is_passed_over, parse_command};
-use ntp_service::{Command, LineFault, LineOutcome, Observer, Refusal, Service};
+use ntp_service::{Command, LineFault, LineOutcome, Observer, Service};
 use std::alloc::Allocator;
 use std::io::Write;
 
@@ -56,24 +56,14 @@ pub fn commands_step<A: Allocator + Copy, W: Write>(
     ensures due { CarriesOutDue A applied octets.now result service.old service.new }
     ensures nothing { ¬ IsText octets.now → (result ≡ applied) × (service.new ≡ service.old) × (faults.new ≡ faults.old) }
 {
-    match text_of(octets) {
-        Some(_) => apply_text(service, octets, applied, &mut FaultLines::new(faults)),
-        None => applied,
+    if text_of(octets).is_none() {
+        return applied;
     }
-}
-
-// Carries out the lines of a text that are due, and returns how many lines are applied by now.
-fn apply_text<A: Allocator + Copy, O: Observer>(
-    service: &mut Service<A>,
-    text: &[u8],
-    applied: u64,
-    observer: &mut O,
-) -> u64
-    requires { IsText text.now }
-    ensures { AppliesText A applied text.now result service.old service.new (InTurn O.heard observer.old observer.new) }
-{
-    match behind(text, applied) {
-        Some(due) => carry_out_lines(service, due, MOST_FILE_OCTETS, applied, observer),
+    match behind(octets, applied) {
+        Some(due) => {
+            let mut lines = FaultLines::new(faults);
+            carry_out_lines(service, due, MOST_FILE_OCTETS, applied, &mut lines)
+        }
         None => applied,
     }
 }
@@ -144,7 +134,8 @@ fn carry_out_line<A: Allocator + Copy, O: Observer>(
 {
     match read_line(line, most) {
         Some(Ok(command)) => {
-            let outcome = outcome_of(service.command(&command));
+            let result = service.command(&command);
+            let outcome = result.map_or_else(LineOutcome::Refused, |()| LineOutcome::Done);
             observer.line(number, Some(&command), outcome);
         }
         Some(Err(fault)) => observer.line(number, None, LineOutcome::Faulty(fault)),
@@ -165,15 +156,5 @@ fn read_line(line: &[u8], most: usize) -> Option<Result<Command, LineFault>>
     match str::from_utf8(line) {
         Ok(text) => Some(parse_command(text)),
         Err(_) => Some(Err(LineFault::NotUtf8)),
-    }
-}
-
-// What becomes of a line with a command.
-fn outcome_of(answer: Result<(), Refusal>) -> LineOutcome
-    ensures { result ≡ carried_out answer }
-{
-    match answer {
-        Ok(()) => LineOutcome::Done,
-        Err(refusal) => LineOutcome::Refused(refusal),
     }
 }

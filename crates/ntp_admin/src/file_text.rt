@@ -18,10 +18,8 @@ pub(crate) fn text_of(octets: &[u8]) -> Option<&str>
 
 /// The number of the first line, counted from 1, that is no UTF-8; that of the last one where all are.
 pub fn line_without_text(octets: &[u8]) -> u64 {
-    let valid = match str::from_utf8(octets) {
-        Ok(_) => octets.len(),
-        Err(error) => error.valid_up_to(),
-    };
+    let fault = str::from_utf8(octets).err();
+    let valid = fault.map_or(octets.len(), |fault| fault.valid_up_to());
     let line_feeds = octets.iter().take(valid).filter(|octet| **octet == b'\n');
     line_feeds.count() as u64 + 1
 }

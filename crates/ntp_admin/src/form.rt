@@ -1,8 +1,8 @@
 //! The form of a register file: its keys, and the types of their values.
-ghost use Rattle.std.specs.Prelude.{◌≡◌, codes, option_map};
+ghost use Rattle.std.specs.Prelude.{◌≡◌, option_map};
 ghost use Rattle.toml.specs.Data.{get_member};
 ghost use Rattle.toml.specs.View.{view, items_view, table_view};
-ghost use Rattle.ntp_admin.specs.Form.{key_count, text_at, whole_at, customers_from, top_of, values_in, entry_of};
+ghost use Rattle.ntp_admin.specs.Form.{key_count, text_at, whole_at, top_of, entry_of};
 
 use std::marker::Model;
 use toml::{Table, Value};
@@ -45,21 +45,16 @@ pub(crate) fn top_of(table: &Table) -> Option<Top<'_>>
         ≡ top_of (table_view table.now) }
 {
     let reference = text_at(table, "reference")?;
-    let customers = customers_of(table)?;
-    Some(Top {
-        reference,
-        customers,
-    })
-}
-
-// The customers. That no further key stands there is told by how many keys there are.
-fn customers_of(table: &Table) -> Option<&[Value]>
-    ensures { option_map (λ customers. items_view customers.now) result
-        ≡ customers_from (key_count (table_view table.now)) (get_member (codes "customer") (table_view table.now)) }
-{
+    // The number of keys says that no further key stands there.
     match (key_count(table), value_at(table, "customer")) {
-        (1, None) => Some(&[]),
-        (2, Some(customers)) => Some(customers.as_array()?.as_slice()),
+        (1, None) => Some(Top {
+            reference,
+            customers: &[],
+        }),
+        (2, Some(customers)) => Some(Top {
+            reference,
+            customers: customers.as_array()?.as_slice(),
+        }),
         _ => None,
     }
 }
@@ -69,17 +64,9 @@ pub(crate) fn entry_of(customer: &Value) -> Option<Entry<'_>>
     ensures { result ≡ entry_of (view customer.now) }
 {
     let table = customer.as_table()?;
-    if key_count(table) == 5 {
-        values_in(table)
-    } else {
-        None
+    if key_count(table) != 5 {
+        return None;
     }
-}
-
-// What stands at the keys of a customer.
-fn values_in(table: &Table) -> Option<Entry<'_>>
-    ensures { result ≡ values_in (table_view table.now) }
-{
     Some(Entry {
         address: text_at(table, "address")?,
         number: whole_at(table, "number")?,

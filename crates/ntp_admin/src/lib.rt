@@ -3,7 +3,6 @@
 #![tactic(auto)]
 
 mod commands;
-mod customers;
 mod escaped;
 mod fault;
 mod fault_lines;
@@ -19,7 +18,6 @@ mod status;
 pub mod words;
 
 pub use commands::{MOST_LINE_OCTETS, apply_lines, commands_step};
-pub use customers::customer_in;
 pub use escaped::Escaped;
 pub use fault::RegisterFault;
 pub use fault_lines::FaultLines;
@@ -28,7 +26,7 @@ pub use loading::{LoadFault, Loaded, load_register};
 pub use ntp_service::{Command, Event, LineFault, NoMemory, Octets, Outcome};
 pub use parsing::{is_passed_over, parse_command, parse_event};
 pub use printing::print_answer;
-pub use register_reader::{read_reference, read_register};
+pub use register_reader::{customer_in, read_reference, read_register};
 pub use starting::load_status;
 pub use status::{
     Status, failed_status, memory_status, socket_status, unread_status, usage_status, write_status,

@@ -12,10 +12,7 @@ use std::alloc::Allocator;
 pub fn is_passed_over(line: &[u8]) -> bool
     ensures { result ≡ is_passed_over line.now }
 {
-    match line {
-        [] => true,
-        [first, ..] => *first == b'#',
-    }
+    matches!(line, [] | [b'#', ..])
 }
 
 /// The command that a line says. A line is words with one space between each two, in one of these forms:

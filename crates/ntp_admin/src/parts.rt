@@ -42,16 +42,12 @@ impl<'a> TextParts<'a> {
         ensures { MatchOption result ((self.old ≡ []) × (self.new ≡ [])) (λ part. self.old ≡ part.now ∷ self.new) }
     {
         let rest = self.rest?;
-        match rest.split_once(self.separator) {
-            Some((part, rest)) => {
-                self.rest = Some(rest);
-                Some(part)
-            }
-            None => {
-                self.rest = None;
-                Some(rest)
-            }
-        }
+        let Some((part, others)) = rest.split_once(self.separator) else {
+            self.rest = None;
+            return Some(rest);
+        };
+        self.rest = Some(others);
+        Some(part)
     }
 
     /// Takes the next word off. `Count` where none is left.

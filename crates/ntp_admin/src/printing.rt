@@ -1,10 +1,10 @@
 //! Outcomes to lines.
 ghost use Rattle.std.specs.Prelude.{◌≡◌, ◌++◌, IfOk, codes, string_bytes};
 ghost use Rattle.hex.specs.Hex.{encode_lower};
-ghost use Rattle.ntp_admin.specs.Answers.{malformed_text, reason_text, answer_text, stamp_text, outcome_text};
+ghost use Rattle.ntp_admin.specs.Answers.{malformed_text, reason_text, answer_text, outcome_text};
 
 use ntp_mac::Reply;
-use ntp_packet::{Malformed, Stamp};
+use ntp_packet::Malformed;
 use ntp_reply::{Answer, Reason};
 use ntp_service::{NoMemory, Outcome, Refusal};
 use std::alloc::{AllocError, Allocator};
@@ -16,56 +16,30 @@ pub fn print_answer<A: Allocator + Copy>(alloc: A, outcome: &Outcome) -> Result<
     ensures { IfOk result (λ text. string_bytes text ≡ outcome_text outcome.now) }
 {
     let line = match outcome {
-        Outcome::Datagram(answer) => {
-            let answer = answer_text(alloc, answer)?;
-            format!(in alloc; "{answer}\n")?
-        }
+        Outcome::Datagram(answer) => format!(in alloc; "{}\n", answer_text(alloc, answer)?)?,
         Outcome::Noted => String::from_str(alloc, "noted\n")?,
         Outcome::NotNoted => String::from_str(alloc, "not-noted\n")?,
         Outcome::Done => String::from_str(alloc, "done\n")?,
-        Outcome::Refused(refusal) => {
-            let refusal = refusal.word();
-            format!(in alloc; "refused {refusal}\n")?
-        }
+        Outcome::Refused(refusal) => format!(in alloc; "refused {}\n", refusal.word())?,
     };
     Ok(line)
 }
 
-// The answer to a datagram.
+// The answer to a datagram: the time with the receive stamp that was saved, in 16 digits.
 fn answer_text<A: Allocator + Copy>(alloc: A, answer: &Answer) -> Result<String<A>, AllocError>
     ensures { IfOk result (λ text. string_bytes text ≡ answer_text answer.now) }
 {
     match answer {
-        Answer::Time { reply, saved } => time_text(alloc, reply, *saved),
+        Answer::Time { reply, saved } => {
+            let saved = hex::encode(alloc, saved.0.to_be_bytes())?;
+            let reply = hex::encode(alloc, reply.octets())?;
+            format!(in alloc; "time {saved} {reply}")
+        }
         Answer::Rate(reply) => reply_text(alloc, "rate", reply),
         Answer::Deny(reply) => reply_text(alloc, "deny", reply),
         Answer::Nak(reply) => reply_text(alloc, "nak", reply),
-        Answer::Silent(reason) => {
-            let reason = reason_text(alloc, *reason)?;
-            format!(in alloc; "silent {reason}")
-        }
+        Answer::Silent(reason) => format!(in alloc; "silent {}", reason_text(alloc, *reason)?),
     }
-}
-
-// A time reply, with the receive stamp that was saved.
-fn time_text<A: Allocator + Copy>(
-    alloc: A,
-    reply: &Reply,
-    saved: Stamp,
-) -> Result<String<A>, AllocError>
-    ensures { IfOk result (λ text. string_bytes text ≡ answer_text (Answer.Time reply.now saved)) }
-{
-    let saved = stamp_text(alloc, saved)?;
-    let reply = hex::encode(alloc, reply.octets())?;
-    format!(in alloc; "time {saved} {reply}")
-}
-
-// A stamp in 16 digits.
-#[tactic(auto, unfolding(crate::specs::Answers::stamp_text))]
-fn stamp_text<A: Allocator + Copy>(alloc: A, stamp: Stamp) -> Result<String<A>, AllocError>
-    ensures { IfOk result (λ text. string_bytes text ≡ stamp_text stamp) }
-{
-    hex::encode(alloc, stamp.0.to_be_bytes())
 }
 
 // A reply of another kind.

@@ -20,8 +20,7 @@ pub fn load_status<F: Write>(fault: LoadFault, faults: &mut F) -> Status
         }
         LoadFault::Register(fault) => register_status(fault, faults),
         LoadFault::Refused { place, refusal } => {
-            let word = refusal.word();
-            let _ = writeln!(faults, "register: customer {place}: {word}");
+            let _ = writeln!(faults, "register: customer {place}: {}", refusal.word());
             match refusal {
                 Refusal::NoMemory => Status::MemoryOut,
                 _ => Status::TextFaulty,
@@ -34,27 +33,20 @@ pub fn load_status<F: Write>(fault: LoadFault, faults: &mut F) -> Status
 fn register_status<F: Write>(fault: RegisterFault, faults: &mut F) -> Status
     ensures { status_code result ≡ load_status (LoadFault.Register fault) }
 {
-    match fault {
-        RegisterFault::Toml => text_status("toml", faults),
-        RegisterFault::Shape => text_status("shape", faults),
-        RegisterFault::Reference => text_status("reference", faults),
-        RegisterFault::NoMemory => memory_status(faults),
-        RegisterFault::Entry {
-            place: _,
+    let word = match fault {
+        RegisterFault::Toml => "toml",
+        RegisterFault::Shape => "shape",
+        RegisterFault::Reference => "reference",
+        RegisterFault::NoMemory
+        | RegisterFault::Entry {
             fault: LineFault::NoMemory,
-        } => memory_status(faults),
+            ..
+        } => return memory_status(faults),
         RegisterFault::Entry { place, fault } => {
-            let word = fault.word();
-            let _ = writeln!(faults, "register: customer {place}: {word}");
-            Status::TextFaulty
+            let _ = writeln!(faults, "register: customer {place}: {}", fault.word());
+            return Status::TextFaulty;
         }
-    }
-}
-
-// Tells the word for a fault of a register file, and gives the exit status.
-fn text_status<F: Write>(word: &str, faults: &mut F) -> Status
-    ensures { result ≡ Status.TextFaulty }
-{
+    };
     let _ = writeln!(faults, "register: {word}");
     Status::TextFaulty
 }

@@ -1,7 +1,7 @@
 //! What each kind of word says.
 ghost use Rattle.std.specs.Prelude.{◌≡◌, ◌+◌, ◌≤◌, ◌⊎◌, length, IfOk, IfErr, IfSome, None};
 ghost use Rattle.std.specs.{Char.is_ascii_digit, List.list_all, List.slice_range, Option.option_map};
-ghost use Rattle.ntp_admin.specs.Words.{is_decimal, decimal_in, address_in, number_in, algorithm_in, key_in, octets_in, short_of, stamp_of, stamp_in, moment_in, reference_in};
+ghost use Rattle.ntp_admin.specs.Words.{is_decimal, decimal_in, address_in, number_in, algorithm_in, key_in, octets_in, stamp_in, moment_in, reference_in};
 
 use crate::parts::TextParts;
 use hex::{FromHex, FromHexError};
@@ -39,19 +39,7 @@ pub fn decimal(word: &str, least: u32, most: u32) -> Option<u32>
         return None;
     }
     let number = word.parse::<u32>().ok()?;
-    if least <= number && number <= most {
-        Some(number)
-    } else {
-        None
-    }
-}
-
-// A number of an address.
-fn octet(word: &str) -> Option<u8>
-    ensures { result ≡ decimal_in 0 255 word.now }
-{
-    let number = decimal(word, 0, 255)?;
-    Some(number as u8)
+    (least <= number && number <= most).then_some(number)
 }
 
 /// An address: four numbers from 0 to 255 with dots between them.
@@ -59,14 +47,14 @@ pub fn address(word: &str) -> Option<Address>
     ensures { result ≡ address_in word.now }
 {
     let mut parts = TextParts::new(word, '.');
-    let first = octet(parts.next()?)?;
-    let second = octet(parts.next()?)?;
-    let third = octet(parts.next()?)?;
-    let fourth = octet(parts.next()?)?;
-    match parts.next() {
-        None => Some(Address([first, second, third, fourth])),
-        Some(_) => None,
-    }
+    let first = decimal(parts.next()?, 0, 255)? as u8;
+    let second = decimal(parts.next()?, 0, 255)? as u8;
+    let third = decimal(parts.next()?, 0, 255)? as u8;
+    let fourth = decimal(parts.next()?, 0, 255)? as u8;
+    parts
+        .next()
+        .is_none()
+        .then_some(Address([first, second, third, fourth]))
 }
 
 /// A key number or a budget: from 1 to 65,535.
@@ -116,9 +104,7 @@ pub(crate) fn moment(word: &str) -> Option<Moment>
     let mut parts = TextParts::new(word, ':');
     let era = parts.next()?;
     let within = parts.next()?;
-    if parts.next().is_some() {
-        return None;
-    }
+    parts.end().ok()?;
     Some(Moment {
         era: decimal(era, 0, u32::MAX)?,
         stamp: stamp(within)?,
@@ -135,40 +121,22 @@ pub fn reference(word: &str) -> Option<Reference>
         leap: octets[0],
         stratum: octets[1],
         precision: octets[2].cast_signed(),
-        root_delay: short_at(&octets, 3),
-        root_dispersion: short_at(&octets, 7),
-        reference_id: four_at(&octets, 11),
-        reference: stamp_at(&octets, 15),
+        root_delay: Short(u32::from_be_bytes(octets_at(&octets, 3))),
+        root_dispersion: Short(u32::from_be_bytes(octets_at(&octets, 7))),
+        reference_id: octets_at(&octets, 11),
+        reference: Stamp(u64::from_be_bytes(octets_at(&octets, 15))),
     })
     .ok()
 }
 
-// The short format at a place.
-fn short_at(octets: &[u8], at: usize) -> Short
-    requires { at + 4 ≤ length octets.now }
-    ensures { result ≡ short_of (slice_range octets.now at (at + 4)) }
+// The `N` octets from a place on.
+fn octets_at<const N: usize>(octets: &[u8], at: usize) -> [u8; N]
+    requires { at + N ≤ length octets.now }
+    ensures { result ≡ slice_range octets.now at (at + N) }
 {
-    Short(u32::from_be_bytes(four_at(octets, at)))
-}
-
-// The stamp at a place.
-fn stamp_at(octets: &[u8], at: usize) -> Stamp
-    requires { at + 8 ≤ length octets.now }
-    ensures { result ≡ stamp_of (slice_range octets.now at (at + 8)) }
-{
-    let part = &octets[at..at + 8];
-    Stamp(u64::from_be_bytes([
-        part[0], part[1], part[2], part[3], part[4], part[5], part[6], part[7],
-    ]))
-}
-
-// The four octets from a place on.
-fn four_at(octets: &[u8], at: usize) -> [u8; 4]
-    requires { at + 4 ≤ length octets.now }
-    ensures { result ≡ slice_range octets.now at (at + 4) }
-{
-    let part = &octets[at..at + 4];
-    [part[0], part[1], part[2], part[3]]
+    let mut part = [0; N];
+    part.copy_from_slice(&octets[at..at + N]);
+    part
 }
 
 /// The octets of a datagram: an even number of hexadecimal digits, at least 2, or `-` for none. `Hex` where

@@ -13,12 +13,16 @@ use Rattle.ntp_reports.specs.Kinds.{kinds_of, answer_kind, sending_kinds}
 pub Adds-append : (a b c : Counts) (xs ys : List Kind) → Adds a b xs → Adds b c ys → Adds a c (xs ++ ys)
 Adds-append a b c xs ys first then = grind (arith, sum_by-append)
 
+-- no kind was counted
+pub Adds-none : (counts : Counts) → Adds counts counts []
+Adds-none counts = grind arith
+
 -- the kinds of an observation were counted
 pub counted-Adds : (old new : Counts) (more : Observation) → Adds old new (kinds_of more) → CountsOneMore old new more
 counted-Adds old new more adds = grind (arith, flat_map-append, sum_by-append)
 
 -- an answer was counted, and then what became of the reply
-pub counted-answer : (old mid new : Counts) (arrival : Arrival) (a : Answer) (sending : Sending) (k : Kind) → k ≡ answer_kind a
-    → Adds old mid (k ∷ []) → Adds mid new (sending_kinds sending) → CountsOneMore old new (observation.Turn (Answered arrival a sending))
-counted-answer old mid new arrival a sending k is first then =
-    counted-Adds old new _ (rw (← is) (Adds-append old mid new (k ∷ []) (sending_kinds sending) first then))
+pub counted-answer : (old mid new : Counts) (arrival : Arrival) (a : Answer) (sending : Sending) (k : Kind) (ks : List Kind)
+    → k ≡ answer_kind a → ks ≡ sending_kinds sending → Adds old mid (k ∷ []) → Adds mid new ks → CountsOneMore old new (observation.Turn (Answered arrival a sending))
+counted-answer old mid new arrival a sending k ks is these first then =
+    counted-Adds old new _ (rw (← is, ← these) (Adds-append old mid new (k ∷ []) ks first then))

@@ -7,6 +7,7 @@ use Rattle.std.proofs.KnownBytes.{Appends-trans}
 use Rattle.ntp_packet.proofs.PublicLaws.{four-cells}
 use Rattle.ntp_service.specs.{declared.address.Address.Address, declared.command.Command.Command}
 use Rattle.ntp_service.specs.declared.observation.LineOutcome.{LineOutcome}
+use Rattle.ntp_service.specs.{Commands.address_named, Commands.number_named, Vocabulary.command_word}
 use Rattle.ntp_admin.specs.Words.{address_text, number_behind}
 use Rattle.ntp_reports.specs.{AnswerText.line_outcome_text, Logging.logged_command, Logging.logged_line}
 
@@ -53,6 +54,12 @@ pub with-none : (old new : Option (List ℕ)) (word : List ℕ) (a : Address) (o
     → Appends old new (written word a (58 ∷ 32 ∷ []))
     → Appends old new (word ++ codes " " ++ address_text a ++ number_behind o ++ codes ": ")
 with-none old new word a o four is e = subst (λ text. Appends old new text) (whole word a o [] four (ap number_behind is)) e
+
+-- what is told of a command, by its word, its address and its number
+pub of-command : (old new : Option (List ℕ)) (c : Command) (word : List ℕ) (a : Address) (o : Option NonZeroU16) → word ≡ command_word c
+    → a ≡ address_named c → o ≡ number_named c
+    → Appends old new (word ++ codes " " ++ address_text a ++ number_behind o ++ codes ": ") → Appends old new (logged_command c)
+of-command old new c word a o e f g written = rw (e, f, g) at written
 
 -- ---- a line: its beginning, its command or none, and what became of it
 abbrev pub beginning : ℕ → List ℕ

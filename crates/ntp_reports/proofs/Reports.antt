@@ -7,13 +7,13 @@ use Rattle.ntp_packet.specs.declared.moment.Moment.{Moment}
 use Rattle.ntp_service.specs.{declared.address.Address.Address, Address.address_eq, declared.observation.Arrival.Arrival}
 use Rattle.ntp_service.specs.{declared.observation.Observation.Observation, declared.observation.Observation.TheVariants.Turn}
 use Rattle.ntp_service.specs.{declared.observation.Sending.Sending, declared.observation.TurnOutcome.TurnOutcome}
-use Rattle.ntp_service.specs.declared.observation.TurnOutcome.TheVariants.{Answered}
+use Rattle.ntp_service.specs.declared.observation.TurnOutcome.TheVariants.{Answered, NothingReceived}
 use Rattle.ntp_reply.specs.declared.answers.Answer.{Answer}
 use Rattle.ntp_reports.specs.{declared.signing.Signing.Signing, declared.customer_report.KeyUse.KeyUse}
 use Rattle.ntp_reports.specs.declared.customer_report.CustomerReport.{CustomerReport}
 use Rattle.ntp_reports.specs.{declared.customer_counts.CustomerCounts.CustomerCounts, Counted.AreCounts, Signing.signing_in}
 use Rattle.ntp_reports.specs.Customers.{used_by, key_numbered, Takes}
-use Rattle.ntp_reports.specs.Reported.{comes_from, told_of, signed_at, report_at, IfThere, TakesTurn, CountsOf, SignsAs}
+use Rattle.ntp_reports.specs.Reported.{comes_from, told_of, signed_at, report_at, IfThere, TakesTurn, CountsOf, SignsAs, ReportsTurn}
 
 -- the last signing under a number: the first one from the newest observation back
 abbrev last_signed : ℕ → List Observation → Option Moment
@@ -188,3 +188,25 @@ module _ {A : Type 0} (old new : CustomerCounts A) where
 
     pub some-turn : (address : Address) → is_some (report_at new address) ≡ is_some (report_at old address)
     some-turn address = some-by address (address_eq arrival.address address) refl
+
+-- a turn of an address was reported
+pub reports-turn : {A : Type 0} (old new : CustomerCounts A) (turn : TurnOutcome) (arrival : Arrival) (a : Answer) (sending : Sending)
+    → turn ≡ Answered arrival a sending → TakesTurn turn arrival.address old new → new.has_missed ≡ old.has_missed
+    → ReportsTurn turn old new
+reports-turn old new turn arrival a sending is takes missed =
+    subst (λ o. TakesTurn o arrival.address old new → ReportsTurn o old new) (sym is)
+    (λ takes. record {
+      counts = counts-turn old new arrival a sending takes;
+      signings = signs-turn old new arrival a sending takes;
+      customers = some-turn old new arrival a sending takes;
+      missed = missed;
+    }) takes
+
+-- a turn in which nothing was received leaves all as it was
+pub reports-nothing : {A : Type 0} (counts : CustomerCounts A) (turn : TurnOutcome) → turn ≡ NothingReceived → ReportsTurn turn counts counts
+reports-nothing counts turn is = subst (λ o. ReportsTurn o counts counts) (sym is) (record {
+  counts = λ address seen. counts-other counts counts address (Turn NothingReceived) seen refl refl;
+  signings = λ address number seen. signs-other counts counts address number (Turn NothingReceived) seen refl refl;
+  customers = λ address. refl;
+  missed = refl;
+})

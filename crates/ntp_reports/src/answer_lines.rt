@@ -38,16 +38,11 @@ impl<W: Write> AnswerLines<W> {
         ensures written { OnOk result (Appends (W.contents self.old.answers) (W.contents self.new.answers) (answer_line number outcome)) }
         ensures kept { self.new.fault ≡ self.old.fault }
     {
+        let out = &mut self.answers;
         match outcome {
-            LineOutcome::Done => writeln!(self.answers, "{number} done"),
-            LineOutcome::Refused(refusal) => {
-                let word = refusal.word();
-                writeln!(self.answers, "{number} refused {word}")
-            }
-            LineOutcome::Faulty(fault) => {
-                let word = fault.word();
-                writeln!(self.answers, "{number} faulty {word}")
-            }
+            LineOutcome::Done => writeln!(out, "{number} done"),
+            LineOutcome::Refused(refusal) => writeln!(out, "{number} refused {}", refusal.word()),
+            LineOutcome::Faulty(fault) => writeln!(out, "{number} faulty {}", fault.word()),
         }
     }
 

@@ -1,7 +1,6 @@
 //! How many turns and lines of commands of each kind there were.
 ghost use Rattle.std.specs.Prelude.{◌≡◌, ℕ, Option, List, [], ◌∷◌};
 ghost use Rattle.ntp_service.specs.{declared.command.Command.Command, declared.observation.Observation.Observation};
-ghost use Rattle.ntp_reports.specs.Kinds.{sending_kinds};
 ghost use Rattle.ntp_reports.specs.Counted.{count_at, nothing_counted, AreCounts, CountsOneMore, Adds};
 
 use crate::kind::{KINDS, Kind};
@@ -45,7 +44,11 @@ impl Counts {
                 ..
             } => {
                 self.add(answer_kind(answer));
-                self.add_sending(*sending);
+                match sending {
+                    Sending::NotSent => self.add(Kind::NotSent),
+                    Sending::Noted => self.add(Kind::Noted),
+                    Sending::NoReply | Sending::Sent | Sending::NotNoted => {}
+                }
             }
         }
     }
@@ -56,17 +59,6 @@ impl Counts {
             → CountsOneMore self.old self.new (Observation.Line number command outcome) }
     {
         self.add(line_kind(outcome));
-    }
-
-    // Counts what became of a reply, where it is counted.
-    fn add_sending(&mut self, sending: Sending)
-        ensures { Adds self.old self.new (sending_kinds sending) }
-    {
-        match sending {
-            Sending::NotSent => self.add(Kind::NotSent),
-            Sending::Noted => self.add(Kind::Noted),
-            Sending::NoReply | Sending::Sent | Sending::NotNoted => {}
-        }
     }
 
     // Counts one of a kind.

@@ -1,8 +1,8 @@
 //! What is reported of each customer.
-ghost use Rattle.std.specs.Prelude.{◌≡◌, false, Some, None, option_copied, option_map, OnOk, OnErr, length, slice_get};
+ghost use Rattle.std.specs.Prelude.{◌≡◌, false, None, option_copied, option_map, OnOk, OnErr, length, slice_get};
 ghost use Rattle.std.specs.{Map.Iter.deref_pair, Bool.OnFalse};
 ghost use Rattle.ntp_service.specs.{declared.address.Address.Address, Commands.address_named};
-ghost use Rattle.ntp_reports.specs.Reported.{report_at, AreSame, HasReport, CarriedOut, ReportsLine, TakesTurn, ReportsTurn};
+ghost use Rattle.ntp_reports.specs.Reported.{report_at, AreSame, CarriedOut, ReportsLine, ReportsTurn};
 
 use crate::customer_report::{CustomerReport, report_after};
 use indexmap::IndexMap;
@@ -87,13 +87,13 @@ impl<A: Allocator + Copy> CustomerCounts<A> {
     pub fn turn(&mut self, outcome: &TurnOutcome)
         ensures { ReportsTurn outcome.now self.old self.new }
     {
-        if let TurnOutcome::Answered { arrival, .. } = outcome {
-            self.take(arrival.address, outcome);
+        if let TurnOutcome::Answered { arrival, .. } = outcome
+            && let Some(report) = self.reports.get_mut(&arrival.address)
+        {
+            report.take(outcome);
         }
     }
-}
 
-impl<A: Allocator + Copy> CustomerCounts<A> {
     // Reports that a command was carried out by a line.
     fn carried_out(&mut self, command: &Command, line: u64) -> Result<(), AllocError>
         ensures ok { OnOk result (CarriedOut self.old self.new command.now line) }
@@ -103,30 +103,9 @@ impl<A: Allocator + Copy> CustomerCounts<A> {
     {
         let address = command.address();
         let before = self.report(address).copied();
-        match report_after(before, command, line) {
-            Some(report) => self.put(address, report),
-            None => Ok(()),
+        if let Some(report) = report_after(before, command, line) {
+            self.reports.insert(address, report)?;
         }
-    }
-
-    // Puts the report of an address, where it has one or has none.
-    fn put(&mut self, address: Address, report: CustomerReport) -> Result<(), AllocError>
-        ensures ok { OnOk result (HasReport self.old self.new address (Some report)) }
-        ensures absent { OnErr result (report_at self.old address ≡ None) }
-        ensures err { OnErr result (AreSame self.old self.new) }
-        ensures missed { self.new.has_missed ≡ self.old.has_missed }
-    {
-        self.reports.insert(address, report)?;
         Ok(())
-    }
-
-    // Reports a turn with a datagram from an address, where the address has a report.
-    fn take(&mut self, address: Address, outcome: &TurnOutcome)
-        ensures reports { TakesTurn outcome.now address self.old self.new }
-        ensures missed { self.new.has_missed ≡ self.old.has_missed }
-    {
-        if let Some(report) = self.reports.get_mut(&address) {
-            report.take(outcome);
-        }
     }
 }

@@ -1,5 +1,5 @@
 //! What is reported of one customer.
-ghost use Rattle.std.specs.Prelude.{◌≡◌, [], ◌∷◌, ◌==◌, None, not, filter, option_to_list, option_map, option_and_then};
+ghost use Rattle.std.specs.Prelude.{◌≡◌, [], ◌∷◌, ◌==◌, option_map, option_and_then};
 ghost use Rattle.ntp_reports.specs.Customers.{new_key, enrolled_again, rolled_over, retired, report_after, key_numbered, used_by, Takes};
 
 use crate::counts::Counts;
@@ -83,12 +83,8 @@ impl CustomerReport {
 fn enrolled(before: Option<CustomerReport>, number: u16, line: u64) -> CustomerReport
     ensures { result ≡ enrolled_again before number line }
 {
-    let counts = match before {
-        Some(report) => report.counts,
-        None => Counts::new(),
-    };
     CustomerReport {
-        counts,
+        counts: before.map_or_else(Counts::new, |report| report.counts),
         line,
         first: Some(new_key(number)),
         second: None,
@@ -115,21 +111,14 @@ pub(crate) fn report_after(
 {
     match command {
         Command::Enrol { number, .. } => Some(enrolled(before, number.get(), line)),
-        Command::Revoke { .. } => Some(revoked(before?)),
+        Command::Revoke { .. } => Some(CustomerReport {
+            first: None,
+            second: None,
+            ..before?
+        }),
         Command::Rollover { number, .. } => Some(rolled_over(before?, number.get())),
         Command::Retire { number, .. } => Some(retired(before?, number.get())),
         _ => before,
-    }
-}
-
-// A customer that was revoked has no key.
-fn revoked(report: CustomerReport) -> CustomerReport
-    ensures { result ≡ record report { first = None; second = None } }
-{
-    CustomerReport {
-        first: None,
-        second: None,
-        ..report
     }
 }
 
@@ -138,16 +127,10 @@ fn rolled_over(report: CustomerReport, number: u16) -> CustomerReport
     ensures { result ≡ rolled_over report number }
 {
     let key = Some(new_key(number));
-    if report.first.is_none() {
-        CustomerReport {
-            first: key,
-            ..report
-        }
-    } else {
-        CustomerReport {
-            second: key,
-            ..report
-        }
+    CustomerReport {
+        first: report.first.or(key),
+        second: report.first.and(key).or(report.second),
+        ..report
     }
 }
 
@@ -155,28 +138,12 @@ fn rolled_over(report: CustomerReport, number: u16) -> CustomerReport
 fn retired(report: CustomerReport, number: u16) -> CustomerReport
     ensures { result ≡ retired report number }
 {
-    let second = unless_named(report.second, number);
-    match unless_named(report.first, number) {
-        Some(first) => CustomerReport {
-            first: Some(first),
-            second,
-            ..report
-        },
-        None => CustomerReport {
-            first: second,
-            second: None,
-            ..report
-        },
-    }
-}
-
-// A key, unless it has this number.
-fn unless_named(key: Option<KeyUse>, number: u16) -> Option<KeyUse>
-    ensures { option_to_list result ≡ filter (λ key. not (key.number == number)) (option_to_list key) }
-{
-    match key {
-        Some(key) if key.number != number => Some(key),
-        _ => None,
+    let first = report.first.filter(|key| key.number != number);
+    let second = report.second.filter(|key| key.number != number);
+    CustomerReport {
+        first: first.or(second),
+        second: first.and(second),
+        ..report
     }
 }
 

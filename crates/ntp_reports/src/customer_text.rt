@@ -5,6 +5,7 @@ ghost use Rattle.ntp_customer.specs.Customer.{enrolment_at, is_enrolled};
 use crate::counted_kinds::answers;
 use crate::counts::Counts;
 use crate::customer_report::CustomerReport;
+use crate::statistics::SECOND_NANOS;
 use ntp_mac::Algorithm;
 use ntp_packet::Moment;
 use ntp_service::{Address, Customer};
@@ -16,9 +17,6 @@ const UNIX_EPOCH: u64 = 2_208_988_800;
 
 /// The word of an answer to an address that was never enrolled.
 const UNREGISTERED: &str = "unregistered";
-
-/// How many nanoseconds a second has.
-const SECOND_NANOS: u64 = 1_000_000_000;
 
 // What is written of a customer, in this order.
 #[derive(Drop, Serialize)]
@@ -103,11 +101,7 @@ fn line_with<'a, A: Allocator + Copy>(
         address,
         state: if is_enrolled { "enrolled" } else { "revoked" },
         keys,
-        budget: if is_enrolled {
-            Some(customer.budget())
-        } else {
-            None
-        },
+        budget: is_enrolled.then(|| customer.budget()),
         line: report.line(),
         answers: AnswerCounts {
             counts: *report.counts(),
@@ -127,26 +121,19 @@ fn key_lines<A: Allocator + Copy>(
     }
     for number in report.numbers().into_iter().flatten() {
         if let Some(held) = customer.held(u32::from(number)) {
+            let last_signed = report.last_signed(number);
             lines.push(KeyLine {
                 number,
-                algorithm: algorithm_word(held.key.algorithm()),
-                octets: held.key.octet_count(),
-                last_signed: match report.last_signed(number) {
-                    Some(moment) => Some(seconds_text(alloc, moment)?),
-                    None => None,
+                algorithm: match held.key.algorithm() {
+                    Algorithm::Md5 => "md5",
+                    Algorithm::Sha1 => "sha1",
                 },
+                octets: held.key.octet_count(),
+                last_signed: last_signed.map(|it| seconds_text(alloc, it)).transpose()?,
             })?;
         }
     }
     Ok(lines)
-}
-
-// The word of an algorithm.
-fn algorithm_word(algorithm: Algorithm) -> &'static str {
-    match algorithm {
-        Algorithm::Md5 => "md5",
-        Algorithm::Sha1 => "sha1",
-    }
 }
 
 // A moment as seconds since 1970 with nine decimals, rounded down. One before 1970 is as 1970.

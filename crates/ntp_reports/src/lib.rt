@@ -12,7 +12,6 @@ mod kinds;
 mod line_allowance;
 mod logging;
 mod signing;
-mod stamps;
 mod statistics;
 
 pub use answer_lines::AnswerLines;

@@ -1,6 +1,6 @@
 //! How many lines of a kind may be written.
 ghost use Rattle.std.specs.Prelude.{◌≡◌, ◌↔◌, ℕ, false, List, [], ◌∷◌};
-ghost use Rattle.ntp_reports.specs.Allowing.{ask_answer, first_answer, IsLeftBy};
+ghost use Rattle.ntp_reports.specs.Allowing.{ask_answer, IsLeftBy};
 
 /// How many lines of a kind are written in a minute.
 pub const MOST_LINES: u64 = 10;
@@ -49,13 +49,13 @@ impl LineAllowance {
         ensures answer { (asks : List ℕ) → IsLeftBy asks self.old → result ≡ ask_answer asks minute }
         ensures left { (asks : List ℕ) → IsLeftBy asks self.old → IsLeftBy (minute ∷ asks) self.new }
     {
-        let LineAllowance {
-            minute: last,
-            asked,
-        } = *self;
+        let (last, asked) = (self.minute, self.asked);
         if minute != last {
             *self = LineAllowance { minute, asked: 1 };
-            return first_answer(asked.saturating_sub(MOST_LINES));
+            return match asked.saturating_sub(MOST_LINES) {
+                0 => Ask::Say,
+                held => Ask::SayWithMore(held),
+            };
         }
         self.asked = asked.saturating_add(1);
         if asked < MOST_LINES {
@@ -63,16 +63,5 @@ impl LineAllowance {
         } else {
             Ask::Hold
         }
-    }
-}
-
-// The answer to the first ask of a minute: `held` lines were held before it.
-fn first_answer(held: u64) -> Ask
-    ensures { result ≡ first_answer held }
-{
-    if held > 0 {
-        Ask::SayWithMore(held)
-    } else {
-        Ask::Say
     }
 }

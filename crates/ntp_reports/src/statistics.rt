@@ -12,7 +12,7 @@ use ntp_packet::Short;
 use std::io::{self, Write};
 
 /// How many nanoseconds a second has.
-const SECOND_NANOS: u64 = 1_000_000_000;
+pub(crate) const SECOND_NANOS: u64 = 1_000_000_000;
 
 /// Whether the state that the host's clock daemon tells is believed, and why not.
 #[derive(Clone, Copy, Debug, PartialEq, Eq)]
@@ -194,14 +194,7 @@ pub fn write_statistics<W: Write>(
 ) -> io::Result<()>
     ensures { OnOk result (WritesStatistics counts.now gauges.now (W.contents out.old) (W.contents out.new)) }
 {
-    write_metrics(out, counts, &metrics(counts, gauges))
-}
-
-// Writes metrics, one behind another.
-fn write_metrics<W: Write>(out: &mut W, counts: &Counts, metrics: &[Metric<'_>]) -> io::Result<()>
-    ensures { OnOk result (Appends (W.contents out.old) (W.contents out.new) (flat_map (metric_text counts.now) metrics.now)) }
-{
-    for metric in metrics {
+    for metric in &metrics(counts, gauges) {
         write_metric(out, counts, metric)?;
     }
     Ok(())
@@ -284,14 +277,9 @@ fn metrics<'a>(counts: &Counts, gauges: &Gauges<'a>) -> [Metric<'a>; 32]
 fn write_metric<W: Write>(out: &mut W, counts: &Counts, metric: &Metric<'_>) -> io::Result<()>
     ensures { OnOk result (Appends (W.contents out.old) (W.contents out.new) (metric_text counts.now metric.now)) }
 {
-    let Metric {
-        sort,
-        name,
-        samples,
-        help,
-    } = *metric;
+    let (name, help, sort) = (metric.name, metric.help, metric.sort);
     write!(out, "# HELP {name} {help}\n# TYPE {name} {sort}\n")?;
-    write_samples(out, counts, name, samples)
+    write_samples(out, counts, name, metric.samples)
 }
 
 // Writes the samples of a metric.
@@ -306,10 +294,10 @@ fn write_samples<W: Write>(
     match samples {
         Samples::Number(number) => writeln!(out, "{name} {number}"),
         Samples::Seconds(Some(nanos)) => write_seconds(out, name, "", nanos),
-        Samples::SignedSeconds(Some(nanos)) if nanos < 0 => {
-            write_seconds(out, name, "-", nanos.unsigned_abs())
+        Samples::SignedSeconds(Some(nanos)) => {
+            let sign = if nanos < 0 { "-" } else { "" };
+            write_seconds(out, name, sign, nanos.unsigned_abs())
         }
-        Samples::SignedSeconds(Some(nanos)) => write_seconds(out, name, "", nanos.unsigned_abs()),
         Samples::Seconds(None) | Samples::SignedSeconds(None) => writeln!(out, "{name} NaN"),
         Samples::Answers => write_labelled(out, name, &answers(counts)),
         Samples::Commands => write_labelled(out, name, &commands(counts)),

@@ -1,12 +1,13 @@
-use Rattle.ntp_reports.proofs.Reports.{counts-turn, signs-turn, some-turn}
+use Rattle.std.proofs.Common.{refl, rules}
+use Rattle.ntp_reports.proofs.Reports.{reports-turn, reports-nothing}
+use Rattle.ntp_reports.proofs.customer_counts.CustomerCounts.turn.Goals.{in_default-via-in-NothingReceived-1, in_default-via-in-Answered+in-None-1}
 use Rattle.ntp_reports.proofs.customer_counts.CustomerCounts.turn.Goals as goal
 
-pub returns-in-Answered : goal.returns-in-Answered
-returns-in-Answered g c =
-    let takes = rw c.in-Answered.is at c.take.ensures.reports in
-    rw c.in-Answered.is (record {
-      counts = counts-turn _ _ _ _ _ takes;
-      signings = signs-turn _ _ _ _ _ takes;
-      customers = some-turn _ _ _ _ _ takes;
-      missed = c.take.ensures.missed;
-    })
+pub returns-in-Some : goal.returns-in-Some
+returns-in-Some g c = reports-turn _ _ _ _ _ _ c.in-Answered.is (search rules) refl
+
+pub returns-in_default : goal.returns-in_default
+returns-in_default g c = elim c.in_default.branch [
+  | in_default-via-in-NothingReceived-1 w ↦ rw w.self-is (search (rules, reports-nothing))
+  | in_default-via-in-Answered+in-None-1 w ↦ rw w.self-is (reports-turn _ _ _ _ _ _ w.in-Answered.is (search rules) refl)
+]

@@ -1,6 +1,10 @@
 use Rattle.std.proofs.Common.{rules, [], ◌∷◌}
 use Rattle.ntp_reports.proofs.line_allowance.LineAllowance.ask.Goals as goal
 
-pub returns-then-minute-last-clause-left : goal.returns-then-minute-last-clause-left
-returns-then-minute-last-clause-left c [] left = search rules
-returns-then-minute-last-clause-left c (last ∷ asks) left = search rules
+pub returns-in-0-clause-left : goal.returns-in-0-clause-left
+returns-in-0-clause-left c [] left = search rules
+returns-in-0-clause-left c (last ∷ asks) left = search rules
+
+pub returns-in_default-clause-left : goal.returns-in_default-clause-left
+returns-in_default-clause-left c [] left = search rules
+returns-in_default-clause-left c (last ∷ asks) left = search rules

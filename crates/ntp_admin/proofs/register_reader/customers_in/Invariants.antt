@@ -2,7 +2,7 @@ use Rattle.std.proofs.Common.{◌≡◌, drop}
 use Rattle.toml.specs.View.{items_view}
 use Rattle.ntp_admin.specs.RegisterFile.{customers_in}
 use Rattle.ntp_admin.proofs.FileOrder.{behind}
-use Rattle.ntp_admin.proofs.customers.customers_in.Given as goal
+use Rattle.ntp_admin.proofs.register_reader.customers_in.Given as goal
 
 abbrev pub invariant-loop-place : goal.invariant-loop-place
 invariant-loop-place l =

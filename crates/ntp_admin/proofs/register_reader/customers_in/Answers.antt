@@ -2,7 +2,7 @@ use Rattle.std.proofs.Common.{◌≡◌, ◌∷◌, [], ◌++◌, Ok, sym, ◌�
 use Rattle.toml.specs.View.{view}
 use Rattle.ntp_admin.specs.RegisterFile.{customer_in}
 use Rattle.ntp_admin.proofs.FileOrder.{behind-next}
-use Rattle.ntp_admin.proofs.customers.customers_in.Goals as goal
+use Rattle.ntp_admin.proofs.register_reader.customers_in.Goals as goal
 
 pub loop-place-preserved : goal.loop-place-preserved
 loop-place-preserved c =

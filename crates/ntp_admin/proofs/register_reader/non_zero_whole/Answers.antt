@@ -1,7 +1,7 @@
 use Rattle.std.proofs.Common.{w64}
 use Rattle.std.proofs.lemmas.Int.{to_z-of_z}
 use Rattle.ntp_admin.proofs.Wholes.{non_zero_whole-read}
-use Rattle.ntp_admin.proofs.customers.non_zero_whole.Goals as goal
+use Rattle.ntp_admin.proofs.register_reader.non_zero_whole.Goals as goal
 
 pub returns : goal.returns
 returns c =
